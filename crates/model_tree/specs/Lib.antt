@@ -1,0 +1,6 @@
+pub mod Label
+pub mod Tree
+pub mod TreeCode
+pub mod TreeOrder
+pub mod Formula
+pub mod FormulaCode
