@@ -5,12 +5,14 @@
 #![tactic(auto)]
 
 mod files;
+mod place;
 mod sink;
 mod text;
 mod texts;
 mod writer;
 
 pub use files::FileTexts;
+pub use place::Pos;
 pub use sink::{MemSink, PutFault, Sink, SureSink};
 use std::alloc::{AllocError, AllocFailed};
 pub use text::Text;
