@@ -4,3 +4,4 @@ pub mod TreeCode
 pub mod TreeOrder
 pub mod Formula
 pub mod FormulaCode
+pub mod Signature
