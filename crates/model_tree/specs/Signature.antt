@@ -1,5 +1,6 @@
 -- Tree types: which trees have one.
-use Rattle.std.specs.Prelude.{ℕ, Bool, true, false, ◌&&◌, ◌==◌, List, [], ◌∷◌, ◌+◌, length, nat_lt, get_or}
+use Rattle.std.specs.Prelude.{ℕ, Bool, true, false, ◌&&◌, ◌==◌, List, [], ◌∷◌, ◌+◌, length, nat_lt, get_or, ◌^◌, pos, negsuc}
+use Rattle.std.specs.List.{list_all}
 use Rattle.model_tree.specs.Label.{Field, whole, truth, text, Label, row, pair}
 use Rattle.model_tree.specs.Tree.{Tree, node, Trees, no_trees, tree, LabelTree}
 
@@ -51,3 +52,22 @@ module _ (signature : Signature) where
     pub are_typed : Trees Label → Bool
     are_typed no_trees = true
     are_typed (tree t ts) = is_typed t && are_typed ts
+
+-- a label that a program may read, keep and print: its numbers are from -2^63 to 2^63 - 1
+abbrev pub is_kept_field : Field → Bool
+is_kept_field (whole (pos n)) = nat_lt n (2 ^ 63)
+is_kept_field (whole (negsuc n)) = nat_lt n (2 ^ 63)
+is_kept_field (truth b) = true
+is_kept_field (text t) = true
+
+abbrev pub is_kept_label : Label → Bool
+is_kept_label (row values) = list_all is_kept_field values
+is_kept_label (pair left right) = is_kept_label left && is_kept_label right
+
+abbrev mutual
+  pub is_kept : LabelTree → Bool
+  is_kept (node c l ts) = is_kept_label l && are_kept ts
+
+  pub are_kept : Trees Label → Bool
+  are_kept no_trees = true
+  are_kept (tree t ts) = is_kept t && are_kept ts
