@@ -1,2 +1,4 @@
 pub mod Lexeme
 pub mod Syntax
+pub mod Reads
+pub mod Grammar
