@@ -7,6 +7,7 @@
 mod code;
 mod files;
 mod memory;
+mod place;
 mod refusal;
 mod sink;
 mod status;
@@ -17,7 +18,8 @@ mod writer;
 pub use code::Code;
 pub use files::FileTexts;
 pub use memory::Memory;
-pub use refusal::{Pos, Refusal};
+pub use place::Pos;
+pub use refusal::Refusal;
 pub use sink::{MemSink, PutFault, Sink, SureSink};
 pub use status::Status;
 pub use text::Text;

@@ -7,3 +7,5 @@ pub mod Spellings
 pub mod Syntax
 pub mod Names
 pub mod WellFormed
+pub mod Reads
+pub mod Grammar
