@@ -68,12 +68,18 @@ is_lang_well_formed types langs l =
 abbrev pub is_claim_well_formed : List LangItem → Claim → Bool
 is_claim_well_formed langs claim = is_some (find_lang langs (language_of claim))
 
--- Types and languages have different names, each item is well-formed, and there are 10,000 items at most.
+-- Types have different names, and each is well-formed.
+abbrev pub are_types_in_order : List TypeItem → Bool
+are_types_in_order types = are_distinct (map (λ t. t.name) types) && list_all is_type_well_formed types
+
+-- Languages have different names, and each is well-formed.
+abbrev pub are_langs_in_order : List TypeItem → List LangItem → Bool
+are_langs_in_order types langs = are_distinct (map (λ l. l.name) langs) && list_all (is_lang_well_formed types langs) langs
+
+-- Types, languages and statements that may stand together.
+abbrev pub are_in_order : List TypeItem → List LangItem → List Claim → Bool
+are_in_order types langs claims = are_types_in_order types && are_langs_in_order types langs && list_all (is_claim_well_formed langs) claims
+
+-- What a program declares and states is in order, and it has 10,000 items at most.
 abbrev pub is_well_formed : List Item → Bool
-is_well_formed items =
-    are_distinct (map (λ t. t.name) (types_of items))
-    && list_all is_type_well_formed (types_of items)
-    && are_distinct (map (λ l. l.name) (langs_of items))
-    && list_all (is_lang_well_formed (types_of items) (langs_of items)) (langs_of items)
-    && list_all (is_claim_well_formed (langs_of items)) (claims_of items)
-    && nat_le (length items) 10000
+is_well_formed items = are_in_order (types_of items) (langs_of items) (claims_of items) && nat_le (length items) 10000
