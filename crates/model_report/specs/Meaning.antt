@@ -5,24 +5,26 @@ use Rattle.std.specs.Option.{option_map_or}
 use Rattle.model_tree.specs.Label.{Field, whole, truth, text, Label, row, pair}
 use Rattle.model_tree.specs.Label as model
 use Rattle.model_tree.specs.Tree.{Tree, node, Trees, no_trees, tree, LabelTree, node_count, depth}
-use Rattle.model_tree.specs.Signature.{Sort, int, bool, string, Ctor, Signature, is_typed, ctor_at, is_kept}
+use Rattle.model_tree.specs.Signature.{Sort, wholes, truths, texts, PlainSignature, names_of, HasType}
+use Rattle.model_tree.specs.Kept.{is_kept}
 use Rattle.model_program.specs.Syntax.{Name, Expr, field, negation, FieldItem, CtorItem, TypeItem, Demand, Rule, LangItem, X, named, Claim, empty, Item}
 use Rattle.model_program.specs.Syntax as syntax
 use Rattle.model_program.specs.Names.{same_text, types_of, langs_of, language_of, find_type, find_lang}
 use Rattle.model_program.specs.WellFormed.{is_bool}
 
--- A type's sorts and constructors, which are numbered in their order.
+-- A type as it is declared. Its constructors are numbered in their order.
 abbrev pub sort_of : Name → Sort
-sort_of sort = cond (same_text sort.text (codes "Int")) int (cond (is_bool sort) bool string)
+sort_of sort = cond (same_text sort.text (codes "Int")) wholes (cond (is_bool sort) truths texts)
 
 abbrev pub rank_of : ℤ → ℕ
 rank_of (pos n) = n
 rank_of (negsuc n) = 0
 
-abbrev pub signature_of : TypeItem → Signature
+abbrev pub signature_of : TypeItem → PlainSignature
 signature_of t = record {
-  sorts = map (λ f. sort_of f.sort) t.fields;
-  ctors = map (λ c. record { name = c.name.text; rank = rank_of c.rank }) t.ctors;
+  name = t.name.text;
+  fields = map (λ f. record { name = f.name.text; sort = sort_of f.sort }) t.fields;
+  constructors = map (λ c. record { name = c.name.text; rank = rank_of c.rank }) t.ctors;
 }
 
 -- The value of a label expression at the values of the fields.
@@ -62,7 +64,7 @@ module _ (items : List Item) where
     -- it demands of them.
     pub is_in : LabelTree → List ℕ → Bool
     is_in (node c l ts) name =
-        list_any (λ r. same_text (ctor_at (signature_of (type_of name)) c).name r.ctor.text && (guard_holds (type_of name).fields r.guard l && are_in ts r.vars r.given)) (rules_of name)
+        list_any (λ r. same_text (get_or (names_of (signature_of (type_of name))) c []) r.ctor.text && (guard_holds (type_of name).fields r.guard l && are_in ts r.vars r.given)) (rules_of name)
 
     -- Each child is in every language that is demanded of its variable.
     pub are_in : Trees Label → List Name → List Demand → Bool
@@ -72,7 +74,7 @@ module _ (items : List Item) where
 
 -- A tree of the language's type that is in the language.
 pub record IsTreeOf (items : List Item) (name : List ℕ) (t : LabelTree) : Type 0 where
-  pub typed : is_typed (signature_of (type_of items name)) t ≡ true
+  pub typed : HasType (signature_of (type_of items name)) t
   pub inside : is_in items t name ≡ true
 
 -- The statement that a language is empty: no tree is in it.

@@ -1,8 +1,8 @@
 -- What an item of a program gives, and its line.
-use Rattle.std.specs.Prelude.{◌≡◌, ℕ, Bool, true, false, not, List, [], ◌∷◌, ◌++◌, codes, decimal}
+use Rattle.std.specs.Prelude.{◌≡◌, ℕ, Bool, true, false, not, List, [], ◌∷◌, ◌++◌, codes, decimal, encode_utf8_all}
 use Rattle.fast_fault.specs.declared.place.Pos.{Pos}
 use Rattle.model_tree.specs.Tree.{LabelTree}
-use Rattle.model_tree.specs.Signature.{Signature}
+use Rattle.model_tree.specs.Signature.{PlainSignature, names_of}
 use Rattle.model_tree.specs.Printed.{printed_tree}
 use Rattle.model_program.specs.Syntax.{sorts, lang, assertion, Body, AssertItem, Item}
 use Rattle.model_program.specs.Names.{language_of}
@@ -13,7 +13,7 @@ use Rattle.model_report.specs.Meaning.{IsTrue, IsShownBy, signature_of, type_of}
 pub data Outcome : Type 0 where
   silent : Outcome
   true_verdict : ℕ → Bool → Outcome
-  false_verdict : ℕ → Bool → Signature → LabelTree → Outcome
+  false_verdict : ℕ → Bool → PlainSignature → LabelTree → Outcome
 
 -- The outcomes that an assertion may have. It passes where the statement has the asserted truth.
 abbrev pub IsVerdict : List Item → ℕ → AssertItem → Outcome → Type 0
@@ -45,7 +45,7 @@ verdict false = codes " fail"
 abbrev pub line_of : Outcome → List ℕ
 line_of silent = []
 line_of (true_verdict n passes) = codes "assert " ++ (decimal n ++ (verdict passes ++ codes "\n"))
-line_of (false_verdict n passes signature t) = codes "assert " ++ (decimal n ++ (verdict passes ++ (codes " " ++ (printed_tree signature t ++ codes "\n"))))
+line_of (false_verdict n passes signature t) = codes "assert " ++ (decimal n ++ (verdict passes ++ (codes " " ++ (encode_utf8_all (printed_tree (names_of signature) t) ++ codes "\n"))))
 
 abbrev pub lines_of : List Outcome → List ℕ
 lines_of [] = []

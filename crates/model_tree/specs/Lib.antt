@@ -5,3 +5,5 @@ pub mod TreeOrder
 pub mod Formula
 pub mod FormulaCode
 pub mod Signature
+pub mod Printed
+pub mod Kept
