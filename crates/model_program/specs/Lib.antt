@@ -9,3 +9,4 @@ pub mod Names
 pub mod WellFormed
 pub mod Reads
 pub mod Grammar
+pub mod Texts
