@@ -51,13 +51,16 @@ values_of (pair left right) = []
 abbrev pub guard_holds : List FieldItem → Option Expr → Label → Bool
 guard_holds fields guard l = option_map_or (expr_truth fields (values_of l)) guard true
 
+abbrev pub no_type : TypeItem
+no_type = record { name = record { text = []; place = record { line = 1; column = 1 } }; fields = []; ctors = [] }
+
 module _ (items : List Item) where
   abbrev pub rules_of : List ℕ → List Rule
   rules_of name = option_map_or (λ l. l.rules) (find_lang (langs_of items) name) []
 
   -- the type of whose trees a language is
   abbrev pub type_of : List ℕ → TypeItem
-  type_of name = unwrap_or (option_and_then (λ l. find_type (types_of items) l.of.text) (find_lang (langs_of items) name)) (record { name = record { text = []; place = record { line = 1; column = 1 } }; fields = []; ctors = [] })
+  type_of name = unwrap_or (option_and_then (λ l. find_type (types_of items) l.of.text) (find_lang (langs_of items) name)) no_type
 
   abbrev mutual
     -- Some rule of the language has the tree's constructor, its guard holds of the label, and the children are in what
