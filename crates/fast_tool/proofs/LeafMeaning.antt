@@ -25,7 +25,7 @@ use Rattle.fast_tool.proofs.Guards.{guard_uniform, guard_nowhere}
 rules_are : (items : List Item) (name : List ℕ) (l : LangItem) → find_lang (langs_of items) name ≡ Some l → rules_of items name ≡ l.rules
 rules_are items name l e = ap (λ found. option_map_or (λ k. k.rules) found []) e
 
-type_is : (items : List Item) (name : List ℕ) (l : LangItem) (t : TypeItem) → find_lang (langs_of items) name ≡ Some l → find_type (types_of items) l.of.text ≡ Some t → type_of items name ≡ t
+pub type_is : (items : List Item) (name : List ℕ) (l : LangItem) (t : TypeItem) → find_lang (langs_of items) name ≡ Some l → find_type (types_of items) l.of.text ≡ Some t → type_of items name ≡ t
 type_is items name l t e h =
     ap (λ found. unwrap_or (option_and_then (λ k. find_type (types_of items) k.of.text) found) no_type) e ∙ ap (λ found. unwrap_or found no_type) h
 

@@ -2,3 +2,4 @@ pub mod Elements
 pub mod Numbers
 pub mod Guards
 pub mod LeafMeaning
+pub mod Declarations

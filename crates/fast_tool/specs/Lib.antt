@@ -1,2 +1,4 @@
 pub mod Leaf
 pub mod Signatures
+pub mod Declarations
+pub mod Decided

@@ -5,12 +5,12 @@ ghost use Rattle.std.specs.List.{list_all};
 ghost use Rattle.model_tree.specs.Tree.{relabel};
 ghost use Rattle.model_tree.specs.Label.{truth, row};
 ghost use Rattle.fast_tree.specs.Entries.{label_meaning};
-ghost use Rattle.fast_syntax.specs.View.{plain_expr, plain_guard, plain_ctor, plain_rule, plain_type};
+ghost use Rattle.fast_syntax.specs.View.{plain_expr, plain_guard, plain_ctor, plain_rule, plain_type, plain_lang};
 ghost use Rattle.model_program.specs.Names.{find_ctor};
 ghost use Rattle.fast_tool.specs.Leaf.{uniform_truth, uniform_guard, uniform_leaf, IsNumbered, never_holds, has_ctor, IsLeafOf, IsLeafBy};
 
 use fast_fault::{Memory, Text};
-use fast_syntax::{CtorItem, Expr, Node, Rule, TypeItem};
+use fast_syntax::{CtorItem, Expr, LangItem, Node, Rule, TypeItem};
 use fast_tree::{Label, Tree, Value};
 use std::alloc::Global;
 
@@ -103,16 +103,16 @@ fn leaf_by(alloc: Global, item: &TypeItem, rule: &Rule) -> Result<Option<Tree<La
     }
 }
 
-/// A leaf by one of the rules, if there is one.
+/// A leaf of the type by one of the language's rules, if there is one.
 pub fn find_leaf(
     alloc: Global,
     item: &TypeItem,
-    rules: &[Rule],
+    lang: &LangItem,
 ) -> Result<Option<Tree<Label>>, Memory>
-    requires { list_all (has_ctor (plain_type item.now)) (map plain_rule rules.now) ≡ true }
-    ensures { IfOk result (λ found. MatchOption found (list_all never_holds (map plain_rule rules.now) ≡ true) (λ leaf. IsLeafBy (plain_type item.now) (map plain_rule rules.now) (relabel label_meaning leaf))) }
+    requires { list_all (has_ctor (plain_type item.now)) (plain_lang lang.now).rules ≡ true }
+    ensures { IfOk result (λ found. MatchOption found (list_all never_holds (plain_lang lang.now).rules ≡ true) (λ leaf. IsLeafBy (plain_type item.now) (plain_lang lang.now).rules (relabel label_meaning leaf))) }
 {
-    'rules: for rule in rules {
+    'rules: for rule in &lang.rules {
         if let Some(leaf) = leaf_by(alloc, item, rule)? {
             return Ok(Some(leaf));
         }

@@ -4,7 +4,11 @@
 #![tactic(auto)]
 
 mod leaves;
+mod lines;
 mod signatures;
+mod verdicts;
 
 pub use leaves::find_leaf;
+pub use lines::{false_line, true_line};
 pub use signatures::signature_of;
+pub use verdicts::{Declared, Shown};
