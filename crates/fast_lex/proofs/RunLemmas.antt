@@ -1,11 +1,12 @@
 -- How pieces of a text follow one another.
-use Rattle.std.proofs.Common.{◌≡◌, ◌≢◌, ℕ, ◌+◌, ◌-◌, ◌≤◌, ◌<◌, Bool, true, false, List, [], ◌∷◌, ◌++◌, length, refl, sym, ap, ◌∙◌, subst, append_assoc, arith}
+use Rattle.std.proofs.Common.{◌≡◌, ◌≢◌, ℕ, ◌+◌, ◌-◌, ◌≤◌, ◌<◌, Bool, true, false, List, [], ◌∷◌, ◌++◌, length, take, refl, sym, ap, ◌∙◌, subst, append_assoc, arith}
 use Rattle.std.specs.Prelude.{encode_utf8, encode_utf8_all}
-use Rattle.std.specs.Str.{chars}
+use Rattle.std.specs.Str.{chars, IsCharBoundary, IsUtf8}
 use Rattle.std.proofs.lemmas.List.{append-nil, length-append}
-use Rattle.std.proofs.lemmas.Str.{encodes-append, length-encode, len_utf8_bounds}
+use Rattle.std.proofs.lemmas.Str.{encodes-append, length-encode, len_utf8_bounds, IsCharBoundary-at_seam, chars_from_encodes, IsUtf8-past_char, IsUtf8-take}
+use Rattle.std.proofs.Math.Seq.{take-append_seam}
 use Rattle.model_program.specs.Characters.{AllIn, LeavesOff}
-use Rattle.fast_lex.specs.Runs.{IsBehind, IsRun}
+use Rattle.fast_lex.specs.Runs.{IsBehind, IsRun, IsSuffix}
 
 -- the characters of the class that have been passed
 pub record IsRunning (class : ℕ → Bool) (text rest : List ℕ) : Type 0 where
@@ -51,3 +52,24 @@ run_ends class text rest so_far ended = record { front = so_far.front; behind = 
 
 pub char_shorter : (rest after : List ℕ) (c : ℕ) → rest ≡ encode_utf8 c ++ after → length after < length rest
 char_shorter rest after c bytes = let e = ap length bytes ∙ length-append (encode_utf8 c) after in let f = length-encode c in let g = (len_utf8_bounds c).0 in omega arith
+
+behind_bytes : (text rest front : List ℕ) → IsBehind front text rest → length (encode_utf8_all front) ≡ length text - length rest
+behind_bytes text rest front behind = let e = ap length behind.bytes ∙ length-append (encode_utf8_all front) rest in omega arith
+
+-- the text may be cut before what ends it
+pub cut_before : (text rest : List ℕ) → IsSuffix text rest → IsUtf8 rest → IsCharBoundary text (length text - length rest)
+cut_before text rest suffix utf8 = subst (IsCharBoundary text) (behind_bytes text rest suffix.front suffix.behind) (IsCharBoundary-at_seam text (encode_utf8_all suffix.front) rest suffix.behind.bytes utf8)
+
+-- what stands there has the characters of the front
+pub front_chars : (text rest slice front : List ℕ) → IsUtf8 text → IsUtf8 rest → slice ≡ take (length text - length rest) text → IsBehind front text rest → chars slice ≡ front
+front_chars text rest slice front utf8 utf8_rest is_slice behind =
+    let suffix : IsSuffix text rest = record { front = front; behind = behind } in
+    let slice_utf8 = subst IsUtf8 (sym is_slice) (IsUtf8-take text (length text - length rest) utf8 (cut_before text rest suffix utf8_rest)) in
+    sym (chars_from_encodes front slice slice_utf8 (sym (is_slice ∙ ap (λ n. take n text) (sym (behind_bytes text rest front behind)) ∙ ap (λ l. take (length (encode_utf8_all front)) l) behind.bytes ∙ take-append_seam (encode_utf8_all front) rest)))
+
+pub utf8_behind : (front rest after : List ℕ) → IsUtf8 rest → rest ≡ encode_utf8_all front ++ after → IsUtf8 after
+utf8_behind [] rest after utf8 same = subst IsUtf8 same utf8
+utf8_behind (c ∷ front) rest after utf8 same = utf8_behind front (encode_utf8_all front ++ after) after (IsUtf8-past_char rest (encode_utf8_all front ++ after) c utf8 (same ∙ append_assoc (encode_utf8 c) (encode_utf8_all front) after)) refl
+
+pub run_suffix : (class : ℕ → Bool) (text rest : List ℕ) → IsRun class text rest → IsSuffix text rest
+run_suffix class text rest run = record { front = run.front; behind = run.behind }

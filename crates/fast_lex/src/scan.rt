@@ -1,8 +1,8 @@
 //! Characters, and runs of them, off the front of a text.
 
-ghost use Rattle.std.specs.Prelude.{◌≡◌, [], ◌∷◌, ◌++◌, MatchOption, encode_utf8};
+ghost use Rattle.std.specs.Prelude.{◌≡◌, ℕ, List, [], ◌∷◌, ◌++◌, MatchOption, encode_utf8};
 ghost use Rattle.std.specs.Str.{chars};
-ghost use Rattle.fast_lex.specs.Runs.{class_of, IsRun};
+ghost use Rattle.fast_lex.specs.Runs.{class_of, IsRun, IsBehind, IsSuffix};
 
 /// The characters of which a run is made.
 #[derive(Clone, Copy)]
@@ -46,4 +46,14 @@ pub(crate) fn run_end<'t>(text: &'t str, class: Class) -> &'t str
         rest = after;
     }
     rest
+}
+
+// What stands before `rest`, which ends the text.
+pub(crate) fn front<'t>(text: &'t str, rest: &str) -> &'t str
+    requires { IsSuffix text.now rest.now }
+    ensures bytes { text.now ≡ result.now ++ rest.now }
+    ensures chars { (front : List ℕ) → IsBehind front text.now rest.now → chars result.now ≡ front }
+{
+    let (front, _) = text.split_at(text.len() - rest.len());
+    front
 }

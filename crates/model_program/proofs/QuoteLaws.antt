@@ -8,10 +8,10 @@ use Rattle.model_program.specs.Characters.{AllIn, is_hexadecimal, in_quotes}
 use Rattle.model_program.specs.Quotes.{IsBraced, IsUnit, plain, short, long, AreUnits, no_units, unit, IsQuoted, escape, amount, plain_from, escape_from, braced_from, led_by, quoted_value}
 use Rattle.model_program.proofs.Runs.{same_run}
 
-not_plain : (c d : ℕ) → in_quotes c ≡ true → c ≡ d → in_quotes d ≡ false → ⊥
+pub not_plain : (c d : ℕ) → in_quotes c ≡ true → c ≡ d → in_quotes d ≡ false → ⊥
 not_plain c d is same other = let e : true ≡ false = sym is ∙ ap in_quotes same ∙ other in cc
 
-braces_open : (cs a : List ℕ) (value : ℕ) (is : IsBraced cs value) → cs ++ a ≡ 123 ∷ is.digits ++ 125 ∷ a
+pub braces_open : (cs a : List ℕ) (value : ℕ) (is : IsBraced cs value) → cs ++ a ≡ 123 ∷ is.digits ++ 125 ∷ a
 braces_open cs a value is = ap (λ l. l ++ a) is.braces ∙ ap (λ l. 123 ∷ l) (append_assoc is.digits (125 ∷ []) a)
 
 pub same_braced : (cs ds a b : List ℕ) (v w : ℕ) → IsBraced cs v → IsBraced ds w → cs ++ a ≡ ds ++ b → (v ≡ w) × (a ≡ b) × (length cs ≡ length ds)

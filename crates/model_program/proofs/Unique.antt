@@ -66,7 +66,7 @@ all_middle : (left right : List ℕ) → AllIn in_name (left ++ 45 ∷ right) �
 all_middle [] right all = let e : false ≡ true = all.0 in cc
 all_middle (c ∷ left) right all = all_middle left right all.1
 
-name_all : (cs : List ℕ) → IsName cs → AllIn in_name cs
+pub name_all : (cs : List ℕ) → IsName cs → AllIn in_name cs
 name_all [] is = absurd is
 name_all (c ∷ cs) is = (begins_goes_on c is.0, is.1)
   where

@@ -1,12 +1,13 @@
 use Rattle.std.proofs.Common.{refl}
+use lib.Utf8.{encode}
 use Rattle.std.specs.Str.{chars, bytes_eq}
 use Rattle.model_program.specs.Spellings.{spelled, keywords, hyphenated, signs}
 use Rattle.model_program.proofs.Spelled.{spelled_as, spelled_none}
 use Rattle.fast_lex.proofs.words.hyphenated_of.Goals as goal
 
 pub returns-in_default : goal.returns-in_default
-unfolding hyphenated
-returns-in_default c = spelled_none hyphenated _ c.utf8.text (c.in_default.not-text, c.in_default.not-text-2, c.in_default.not-text-3, c.in_default.not-text-4, c.in_default.not-text-5, c.in_default.not-text-6, c.in_default.not-text-7, tt)
+unfolding hyphenated encode
+returns-in_default c = spelled_none hyphenated _ c.utf8.text (c.in_default.not-text, (c.in_default.not-text-2, (c.in_default.not-text-3, (c.in_default.not-text-4, (c.in_default.not-text-5, (c.in_default.not-text-6, (c.in_default.not-text-7, tt)))))))
 
 pub returns-in-text : goal.returns-in-text
 unfolding chars spelled hyphenated

@@ -1,12 +1,13 @@
 use Rattle.std.proofs.Common.{refl}
+use lib.Utf8.{encode}
 use Rattle.std.specs.Str.{chars, bytes_eq}
 use Rattle.model_program.specs.Spellings.{spelled, keywords, hyphenated, signs}
 use Rattle.model_program.proofs.Spelled.{spelled_as, spelled_none}
 use Rattle.fast_lex.proofs.words.keyword_of.Goals as goal
 
 pub returns-in_default : goal.returns-in_default
-unfolding keywords
-returns-in_default c = spelled_none keywords _ c.utf8.text (c.in_default.not-type, c.in_default.not-tree, c.in_default.not-lang, c.in_default.not-trans, c.in_default.not-def, c.in_default.not-where, c.in_default.not-given, c.in_default.not-to, c.in_default.not-intersect, c.in_default.not-union, c.in_default.not-complement, c.in_default.not-difference, c.in_default.not-minimize, c.in_default.not-domain, c.in_default.not-compose, c.in_default.not-restrict, c.in_default.not-apply, c.in_default.not-in, c.in_default.not-and, c.in_default.not-or, c.in_default.not-not, c.in_default.not-true, c.in_default.not-false, tt)
+unfolding keywords encode
+returns-in_default c = spelled_none keywords _ c.utf8.text (c.in_default.not-type, (c.in_default.not-tree, (c.in_default.not-lang, (c.in_default.not-trans, (c.in_default.not-def, (c.in_default.not-where₀, (c.in_default.not-given, (c.in_default.not-to, (c.in_default.not-intersect, (c.in_default.not-union, (c.in_default.not-complement, (c.in_default.not-difference, (c.in_default.not-minimize, (c.in_default.not-domain, (c.in_default.not-compose, (c.in_default.not-restrict, (c.in_default.not-apply, (c.in_default.not-in, (c.in_default.not-and, (c.in_default.not-or, (c.in_default.not-not, (c.in_default.not-true, (c.in_default.not-false, tt)))))))))))))))))))))))
 
 pub returns-in-type : goal.returns-in-type
 unfolding chars spelled keywords

@@ -1,12 +1,13 @@
 use Rattle.std.proofs.Common.{refl}
+use lib.Utf8.{encode}
 use Rattle.std.specs.Str.{chars, bytes_eq}
 use Rattle.model_program.specs.Spellings.{spelled, keywords, hyphenated, signs}
 use Rattle.model_program.proofs.Spelled.{spelled_as, spelled_none}
 use Rattle.fast_lex.proofs.words.sign_of.Goals as goal
 
 pub returns-in_default : goal.returns-in_default
-unfolding signs
-returns-in_default c = spelled_none signs _ c.utf8.text (c.in_default.not-text, c.in_default.not-text-2, c.in_default.not-text-3, c.in_default.not-text-4, c.in_default.not-text-5, c.in_default.not-text-6, c.in_default.not-text-7, c.in_default.not-text-8, c.in_default.not-text-9, c.in_default.not-text-10, c.in_default.not-text-11, c.in_default.not-text-12, c.in_default.not-text-13, c.in_default.not-text-14, c.in_default.not-text-15, c.in_default.not-text-16, c.in_default.not-text-17, c.in_default.not-text-18, c.in_default.not-text-19, c.in_default.not-text-20, c.in_default.not-text-21, c.in_default.not-text-22, c.in_default.not-text-23, tt)
+unfolding signs encode
+returns-in_default c = spelled_none signs _ c.utf8.text (c.in_default.not-text, (c.in_default.not-text-2, (c.in_default.not-text-3, (c.in_default.not-text-4, (c.in_default.not-text-5, (c.in_default.not-text-6, (c.in_default.not-text-7, (c.in_default.not-text-8, (c.in_default.not-text-9, (c.in_default.not-text-10, (c.in_default.not-text-11, (c.in_default.not-text-12, (c.in_default.not-text-13, (c.in_default.not-text-14, (c.in_default.not-text-15, (c.in_default.not-text-16, (c.in_default.not-text-17, (c.in_default.not-text-18, (c.in_default.not-text-19, (c.in_default.not-text-20, (c.in_default.not-text-21, (c.in_default.not-text-22, (c.in_default.not-text-23, tt)))))))))))))))))))))))
 
 pub returns-in-text : goal.returns-in-text
 unfolding chars spelled signs
