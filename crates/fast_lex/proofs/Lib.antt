@@ -5,3 +5,4 @@ pub mod RunLemmas
 pub mod Spellings
 pub mod TokenLemmas
 pub mod UnitLemmas
+pub mod ValueLemmas

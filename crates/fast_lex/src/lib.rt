@@ -15,6 +15,7 @@ mod piece;
 mod place;
 mod quoted;
 mod scan;
+mod values;
 mod words;
 
 use fast_fault::Pos;
@@ -26,6 +27,7 @@ use piece::piece;
 use place::place_behind;
 use scan::{front, next_char};
 use std::alloc::Global;
+pub use values::{number_value, quoted_value};
 
 /// A token: which word it is, its text, and the byte and the place at which it starts.
 #[derive(Clone, Copy)]
@@ -134,3 +136,6 @@ pub fn tokens<'t>(alloc: Global, text: &'t str) -> Lexed<'t>
     }
     Lexed::Tokens(found)
 }
+
+#[cfg(test)]
+mod tests;
