@@ -1,0 +1,5 @@
+pub mod Families
+pub mod QuoteLaws
+pub mod Runs
+pub mod Spelled
+pub mod Unique
