@@ -1,0 +1,49 @@
+-- Forms of one token.
+use Rattle.std.proofs.Common.{◌≡◌, ℕ, List, [], ◌∷◌, ◌++◌, refl, sym, ap, ◌∙◌, subst, ◌⊎◌, inl, inr, ⊎_elim}
+use Rattle.model_program.specs.declared.Word.{Word}
+use Rattle.model_program.specs.declared.Word.TheVariants.{Comma}
+use Rattle.model_program.specs.Lexeme.{Lexeme}
+use Rattle.model_program.specs.Reads.{GoesOnAs, Stops, IsRead, IsRefused, IsNext, IsOther, StartsIn, Nothing, closed}
+use Rattle.model_program.specs.Grammar.{IsWord, IsSign, IsComma, sign}
+use Rattle.model_program.proofs.Forms.{HasSample, AllStartIn, Makes, remade, stands, left_out, stops_other, elsewhere}
+
+-- a token of a word
+abbrev pub sample_token : Word → Lexeme
+sample_token w = record { word = w; text = []; start = 0; place = record { line = 1; column = 1 } }
+
+pub next_of : (w : Word) (t : Lexeme) (tokens rest : List Lexeme) → tokens ≡ t ∷ rest → t.word ≡ w → IsNext w tokens
+next_of w t tokens rest here is_word = subst (λ (l : List Lexeme). IsNext w l) (sym here) is_word
+
+-- the next token is the word
+pub word_read : (w : Word) (t : Lexeme) (tokens rest : List Lexeme) → tokens ≡ t ∷ rest → t.word ≡ w → IsRead (IsWord w) closed tokens t rest
+word_read w t tokens rest here is_word = record {
+  part = t ∷ [];
+  split = here;
+  spelled = (refl, is_word);
+  only = λ more other after v as_rest same is_form stops.
+      let first : t ∷ more ≡ v ∷ after = same ∙ ap (λ l. l ++ after) is_form.0 in (cc, cc);
+}
+
+-- no token but the word begins the word
+pub word_refused : (w : Word) (tokens : List Lexeme) → IsOther w tokens → IsRefused (IsWord w) closed tokens tokens
+word_refused w tokens other_word = record {
+  part = [];
+  split = refl;
+  value = sample_token w;
+  later = sample_token w ∷ [];
+  begins = (refl, refl);
+  none = λ more other after v as_rest same is_word stops. elsewhere (λ u. u ≡ w) tokens more (stops_other w tokens other_word) as_rest
+      (subst (λ (l : List Lexeme). StartsIn (λ u. u ≡ w) l) (sym (same ∙ ap (λ l. l ++ after) is_word.0)) is_word.1);
+}
+
+pub word_starts : (w : Word) → AllStartIn (λ v. v ≡ w) (IsWord w)
+word_starts w = record { starts = λ t ts is_word. subst (λ (l : List Lexeme). StartsIn (λ v. v ≡ w) l) (sym is_word.0) is_word.1 }
+
+pub sign_starts : (w : Word) → AllStartIn (λ v. v ≡ w) (IsSign w)
+sign_starts w = record { starts = λ u ts is_sign. (word_starts w).starts is_sign.0 ts is_sign.1 }
+
+pub sample_sign : (w : Word) → HasSample (IsSign w)
+sample_sign w = record { value = tt; tokens = sample_token w ∷ []; spelled = (sample_token w, (refl, refl)) }
+
+pub sign_makes : (w : Word) (goes_on : Word → Type 0) (tokens : List Lexeme) → Makes (IsWord w) (IsSign w) (λ _. tt) goes_on tokens
+sign_makes w goes_on tokens = remade (λ t ts is_word. (t, is_word)) (λ _ ts is_sign. (is_sign.0, is_sign.1, refl))
