@@ -255,3 +255,22 @@ alternative others tokens into back stops = record {
 pub remade : {A B : Type 0} {p : A → List Lexeme → Type 0} {q : B → List Lexeme → Type 0} {to : A → B} {goes_on : Word → Type 0} {tokens : List Lexeme}
     → ((a : A) (ts : List Lexeme) → p a ts → q (to a) ts) → ((b : B) (ts : List Lexeme) → q b ts → (a : A) × p a ts × (b ≡ to a)) → Makes p q to goes_on tokens
 remade into back = record { into = into; back = λ b other after as_tokens spelled stops. back b other spelled }
+
+-- a form that ends by itself does so whatever stands behind it
+pub closed_read : {A : Type 0} {form : A → List Lexeme → Type 0} {goes_on : Word → Type 0} {tokens rest : List Lexeme} {a : A} → IsRead form closed tokens a rest → IsRead form goes_on tokens a rest
+closed_read read = record { part = read.part; split = read.split; spelled = read.spelled; only = λ more other after w as_rest same spelled stops. read.only more other after w as_rest same spelled (stops_closed after) }
+
+pub closed_fails : {A : Type 0} {form : A → List Lexeme → Type 0} {goes_on : Word → Type 0} {tokens : List Lexeme} (bad : Option (List Lexeme)) → Fails form closed tokens bad → Fails form goes_on tokens bad
+closed_fails None fails = record { why = tt }
+closed_fails (Some bad) fails = let r = fails.why in record { why = record { part = r.part; split = r.split; value = r.value; later = r.later; begins = r.begins; none = λ more other after w as_bad same spelled stops. r.none more other after w as_bad same spelled (stops_closed after) } }
+
+-- every word but one
+abbrev pub other_than : Word → Word → Type 0
+other_than w v = v ≡ w → ⊥
+
+pub stops_other_than : (w : Word) (tokens : List Lexeme) → IsNext w tokens → Stops (other_than w) tokens
+stops_other_than w tokens is_next = stops_next w (other_than w) tokens is_next (λ h. h refl)
+
+-- the same value
+pub read_at : {A : Type 0} {form : A → List Lexeme → Type 0} {goes_on : Word → Type 0} {tokens rest : List Lexeme} {a b : A} → a ≡ b → IsRead form goes_on tokens a rest → IsRead form goes_on tokens b rest
+read_at {A} {form} {goes_on} {tokens} {rest} same read = subst (λ (x : A). IsRead form goes_on tokens x rest) same read

@@ -4,13 +4,9 @@ use Rattle.model_program.specs.declared.Word.{Word}
 use Rattle.model_program.specs.declared.Word.TheVariants.{Id, Comma}
 use Rattle.model_program.specs.Lexeme.{Lexeme}
 use Rattle.model_program.specs.Reads.{◌⌢◌, Joined, GoesOnAs, Stops, IsRead, Fails, IsNext, IsOther, StartsIn, Nothing, closed}
-use Rattle.model_program.specs.Grammar.{IsWord, IsSign, sign, IsComma, Further, Items, Any, Many}
-use Rattle.model_program.proofs.Forms.{◌⊗◌, Ends, Makes, HasSample, AllStartIn, as_read, as_fails, then_read, then_fails, first_fails, ends_closed, regroup, starts_joined, starts_append, starts_wider, starts_pair, stops_next, stops_other, stops_of, sample_pair, left_out, stands, alternative, remade, elsewhere, ends_starting}
-use Rattle.model_program.proofs.Words.{sign_starts, sample_sign}
-
--- the word by which a comma that may be left out goes on
-abbrev pub comma : Word → Type 0
-comma w = w ≡ Comma
+use Rattle.model_program.specs.Grammar.{IsWord, IsSign, sign, IsComma, comma, Further, Items, Any, Many}
+use Rattle.model_program.proofs.Forms.{◌⊗◌, Ends, Makes, HasSample, AllStartIn, as_read, as_fails, then_read, then_fails, first_fails, ends_closed, regroup, starts_joined, starts_append, starts_wider, starts_pair, stops_next, stops_other, stops_of, sample_pair, other_than, left_out, stands, alternative, remade, elsewhere, ends_starting}
+use Rattle.model_program.proofs.Words.{sign_starts, sample_sign, word_other}
 
 -- what is read of what is left is read of the whole
 pub record IsPartWay {A B : Type 0} (whole : A → List Lexeme → Type 0) (left : B → List Lexeme → Type 0) (goes_on : Word → Type 0) (to : B → A) (tokens rest : List Lexeme) : Type 0 where
@@ -24,9 +20,6 @@ tail_of between form close = Further between form ⊗ IsSign close
 -- what is left while a list is read: its tail, put behind what has been read
 abbrev pub behind : {A : Type 0} → List A → List A × Unit {0} → List A
 behind all v = all ++ v.0
-
-abbrev pub other_than : Word → Word → Type 0
-other_than close w = w ≡ close → ⊥
 
 -- What stands between two items, and the items, are told apart from the closing sign by their first words.
 pub record IsListed {A : Type 0} (between : Unit {0} → List Lexeme → Type 0) (between_goes_on : Word → Type 0) (form : A → List Lexeme → Type 0) (goes_on : Word → Type 0) (close : Word) : Type 0 where
@@ -194,6 +187,24 @@ list_ends {A} {whole = whole} between form close {tokens} {rest} {after} all lis
 pub list_end_fails : {A : Type 0} {between_goes_on goes_on : Word → Type 0} {whole : List A → List Lexeme → Type 0} (between : Unit {0} → List Lexeme → Type 0) (form : A → List Lexeme → Type 0) (close : Word) {tokens rest : List Lexeme} (all : List A) (bad : Option (List Lexeme)) → IsListed between between_goes_on form goes_on close
     → IsPartWay whole (tail_of between form close) closed (behind all) tokens rest → IsNext close rest → Fails (IsSign close) closed rest bad → Fails whole closed tokens bad
 list_end_fails between form close {rest = rest} all bad listed so_far is_next end = so_far.fails bad (as_fails bad (tail_ends between form close listed rest is_next) end)
+
+-- Items that end by themselves and start with a name, with commas between them that may be left out.
+pub comma_listed : {A : Type 0} (form : A → List Lexeme → Type 0) (close : Word) → AllStartIn (λ w. w ≡ Id) form → (close ≡ Comma → ⊥) → (close ≡ Id → ⊥) → IsListed IsComma comma form closed close
+comma_listed {A} form close starts no_comma no_name = record {
+  apart = λ x ts joined. apart x ts joined;
+  first_apart = record { starts = λ x ts spelled. item x ts spelled };
+  item_ends = ends_closed (tail_of IsComma form close) closed;
+  between_ends = ends_starting (form ⊗ tail_of IsComma form close) closed (λ w is_id is_comma. let e : Id ≡ Comma = sym is_id ∙ is_comma in cc) (starts_pair (tail_of IsComma form close) starts);
+}
+  where
+    item : (x : A) (ts : List Lexeme) → form x ts → StartsIn (other_than close) ts
+    item x ts spelled = starts_wider (λ w. w ≡ Id) (other_than close) ts (λ w is_id is_close. no_name (sym is_close ∙ is_id)) (starts.starts x ts spelled)
+
+    apart : (x : A) (ts : List Lexeme) → (IsComma tt ⌢ form x) ts → StartsIn (other_than close) ts
+    apart x ts joined = elim joined.at_front [
+        | inl none ↦ subst (λ (l : List Lexeme). StartsIn (other_than close) l) (sym (joined.split ∙ ap (λ l. l ++ joined.back) none)) (item x joined.back joined.at_back)
+        | inr is_sign ↦ subst (λ (l : List Lexeme). StartsIn (other_than close) l) (sym joined.split) (starts_append (other_than close) joined.front joined.back (word_other close Comma is_sign.0 joined.front (λ e. no_comma (sym e)) is_sign.1))
+      ]
 
 -- A list without separators, of items that end by themselves: where a word comes by which it goes on, an item comes.
 pub many_make : {A : Type 0} (form : A → List Lexeme → Type 0) {goes_on : Word → Type 0} (tokens : List Lexeme) → StartsIn goes_on tokens → Makes (form ⊗ Many form) (Many form) (λ v. v.0 ∷ v.1) goes_on tokens

@@ -4,8 +4,8 @@ use Rattle.model_program.specs.declared.Word.{Word}
 use Rattle.model_program.specs.declared.Word.TheVariants.{Comma}
 use Rattle.model_program.specs.Lexeme.{Lexeme}
 use Rattle.model_program.specs.Reads.{GoesOnAs, Stops, IsRead, IsRefused, IsNext, IsOther, StartsIn, Nothing, closed}
-use Rattle.model_program.specs.Grammar.{IsWord, IsSign, IsComma, sign}
-use Rattle.model_program.proofs.Forms.{HasSample, AllStartIn, Makes, remade, stands, left_out, stops_other, elsewhere}
+use Rattle.model_program.specs.Grammar.{IsWord, IsSign, IsAt, IsComma, comma, sign}
+use Rattle.model_program.proofs.Forms.{HasSample, AllStartIn, Makes, as_read, remade, stands, left_out, stops_other, starts_next, elsewhere, other_than, sample_as}
 
 -- a token of a word
 abbrev pub sample_token : Word → Lexeme
@@ -15,7 +15,7 @@ pub next_of : (w : Word) (t : Lexeme) (tokens rest : List Lexeme) → tokens ≡
 next_of w t tokens rest here is_word = subst (λ (l : List Lexeme). IsNext w l) (sym here) is_word
 
 -- the next token is the word
-pub word_read : (w : Word) (t : Lexeme) (tokens rest : List Lexeme) → tokens ≡ t ∷ rest → t.word ≡ w → IsRead (IsWord w) closed tokens t rest
+pub word_read : {goes_on : Word → Type 0} (w : Word) (t : Lexeme) (tokens rest : List Lexeme) → tokens ≡ t ∷ rest → t.word ≡ w → IsRead (IsWord w) goes_on tokens t rest
 word_read w t tokens rest here is_word = record {
   part = t ∷ [];
   split = here;
@@ -47,3 +47,36 @@ sample_sign w = record { value = tt; tokens = sample_token w ∷ []; spelled = (
 
 pub sign_makes : (w : Word) (goes_on : Word → Type 0) (tokens : List Lexeme) → Makes (IsWord w) (IsSign w) (λ _. tt) goes_on tokens
 sign_makes w goes_on tokens = remade (λ t ts is_word. (t, is_word)) (λ _ ts is_sign. (is_sign.0, is_sign.1, refl))
+
+pub word_other : (w v : Word) (t : Lexeme) (ts : List Lexeme) → (v ≡ w → ⊥) → IsWord v t ts → StartsIn (other_than w) ts
+word_other w v t ts apart is_word = subst (λ (l : List Lexeme). StartsIn (other_than w) l) (sym is_word.0) (λ e. apart (sym is_word.1 ∙ e))
+
+pub sample_word : (w : Word) → HasSample (IsWord w)
+sample_word w = record { value = sample_token w; tokens = sample_token w ∷ []; spelled = (refl, refl) }
+
+-- a keyword at its place
+pub at_makes : (w : Word) (goes_on : Word → Type 0) (tokens : List Lexeme) → Makes (IsWord w) (IsAt w) (λ t. t.place) goes_on tokens
+at_makes w goes_on tokens = remade (λ t ts is_word. (t, is_word, refl)) (λ _ ts is_at. (is_at.0, is_at.1, is_at.2))
+
+pub at_read : {goes_on : Word → Type 0} (w : Word) (t : Lexeme) (tokens rest : List Lexeme) → tokens ≡ t ∷ rest → t.word ≡ w → IsRead (IsAt w) goes_on tokens t.place rest
+at_read w t tokens rest here is_word = as_read (at_makes w _ tokens) (word_read w t tokens rest here is_word)
+
+pub sample_at : (w : Word) → HasSample (IsAt w)
+sample_at w = sample_as (λ t. t.place) (λ t ts is_word. (t, is_word, refl)) (sample_word w)
+
+-- a comma that may be left out, where it stands
+pub comma_stands : (t : Lexeme) (tokens rest : List Lexeme) → tokens ≡ t ∷ rest → t.word ≡ Comma → IsRead IsComma comma tokens tt rest
+comma_stands t tokens rest here is_comma = as_read (stands tokens (λ _ ts is_sign. inr is_sign) (λ _ ts spelled. either ts spelled) (starts_next Comma comma tokens (next_of Comma t tokens rest here is_comma) refl))
+    (as_read (sign_makes Comma comma tokens) (word_read Comma t tokens rest here is_comma))
+  where
+    either : (ts : List Lexeme) → IsComma tt ts → (ts ≡ []) ⊎ ((u : Unit {0}) × IsSign Comma u ts × ((let v : Unit {0} = tt in v) ≡ u))
+    either ts (inl none) = inl none
+    either ts (inr is_sign) = inr (tt, is_sign, refl)
+
+-- and where none stands
+pub comma_left_out : (tokens : List Lexeme) → IsOther Comma tokens → IsRead IsComma comma tokens tt tokens
+comma_left_out tokens is_other = left_out comma tokens tt (inl refl) (λ _ ts spelled. either ts spelled) (stops_other Comma tokens is_other)
+  where
+    either : (ts : List Lexeme) → IsComma tt ts → (((let v : Unit {0} = tt in v) ≡ (let v : Unit {0} = tt in v)) × (ts ≡ [])) ⊎ StartsIn comma ts
+    either ts (inl none) = inl (refl, none)
+    either ts (inr is_sign) = inr ((sign_starts Comma).starts tt ts is_sign)

@@ -42,6 +42,10 @@ IsNumber n tokens = (t : Lexeme) × IsWord Number t tokens × IsDigits t.text ×
 abbrev pub IsComma : Unit {0} → List Lexeme → Type 0
 IsComma _ tokens = Nothing tokens ⊎ sign Comma tokens
 
+-- the word by which a comma that may be left out goes on
+abbrev pub comma : Word → Type 0
+comma w = w ≡ Comma
+
 -- further items, each behind a separator
 abbrev pub Further : {A : Type 0} → (Unit {0} → List Lexeme → Type 0) → (A → List Lexeme → Type 0) → List A → List Lexeme → Type 0
 Further between form [] = Nothing
@@ -88,6 +92,10 @@ abbrev pub IsGuard : Option Expr → List Lexeme → Type 0
 IsGuard None = Nothing
 IsGuard (Some e) = sign Where ⌢ IsE e
 
+-- the word by which a guard goes on
+abbrev pub where_word : Word → Type 0
+where_word w = w ≡ Where
+
 -- (given Demand+)?
 abbrev pub IsGiven : List Demand → List Lexeme → Type 0
 IsGiven [] = Nothing
@@ -96,6 +104,10 @@ IsGiven (d ∷ ds) = sign Given ⌢ Many IsDemand (d ∷ ds)
 -- LRule ::= ID ( Vars? ) (where E)? (given Demand+)?
 abbrev pub IsRule : Rule → List Lexeme → Type 0
 IsRule r = IsName r.ctor ⌢ AreVars r.vars ⌢ IsGuard r.guard ⌢ IsGiven r.given
+
+-- the words by which a rule goes on
+abbrev pub rule_words : Word → Type 0
+rule_words w = (w ≡ Where) ⊎ ((w ≡ Given) ⊎ (w ≡ RoundOpen))
 
 -- Ctor ::= ID ( NUMBER )
 abbrev pub IsCtor : CtorItem → List Lexeme → Type 0
@@ -122,6 +134,10 @@ AreFields fields = sign SquareOpen ⌢ Any IsComma IsField fields ⌢ sign Squar
 -- Fields?
 abbrev pub AreFieldsOrNone : List FieldItem → List Lexeme → Type 0
 AreFieldsOrNone fields tokens = ((fields ≡ []) × Nothing tokens) ⊎ AreFields fields tokens
+
+-- the word by which the fields go on that may be left out
+abbrev pub square_word : Word → Type 0
+square_word w = w ≡ SquareOpen
 
 -- { Ctor (,? Ctor)* }
 abbrev pub AreCtors : List CtorItem → List Lexeme → Type 0
