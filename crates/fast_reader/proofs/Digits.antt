@@ -3,8 +3,10 @@ use mir.Syntax.{w128}
 use Rattle.std.proofs.Common.{◌≡◌, ℕ, ℤ, pos, FitsSigned, ◌+◌, ◌*◌, ◌^◌, ◌<◌, ◌≤◌, List, [], ◌∷◌, length, refl, sym, ap, ◌∙◌, subst, add-one, arith}
 use Rattle.std.specs.Char.{digit_value}
 use Rattle.std.specs.Str.Parse.{AllDigits, IsNumeral, digits_value, digits_value_after}
-use Rattle.std.proofs.Math.Nat.{pow-suc, pow-le-pow_right}
-use Rattle.model_program.specs.Grammar.{IsDigits}
+use Rattle.std.proofs.Math.Nat.{pow-suc, pow-succ', pow-le-pow_right, mul-le-mul_right, mul_assoc}
+use Rattle.model_program.specs.Lexeme.{Lexeme}
+use Rattle.model_program.specs.Reads.{IsRead, closed}
+use Rattle.model_program.specs.Grammar.{IsDigits, IsNumber}
 
 -- so many of the characters are digits, and write the value; the rest are left
 pub record IsCounting (all rest : List ℕ) (value count : ℕ) : Type 0 where
@@ -59,3 +61,25 @@ counting_room all rest value count so_far not_most =
 
 pub fits_below : (z : ℤ) (n : ℕ) → z ≡ pos n → n < 10 ^ 38 → FitsSigned w128 z
 fits_below z n z_is below = subst (λ (y : ℤ). FitsSigned w128 y) (sym z_is) (omega (arith, below))
+
+through : (a b c : ℕ) → a ≤ b → b ≤ c → a ≤ c
+through a b c ab bc = omega arith
+
+digits_below : (before : ℕ) (cs : List ℕ) → AllDigits 10 cs → digits_value_after 10 before cs + 1 ≤ (before + 1) * 10 ^ length cs
+digits_below before [] h = omega arith
+digits_below before (c ∷ cs) h =
+    let d = h.0 in
+    let step : (before * 10 + digit_value c + 1) * 10 ^ length cs ≤ (before + 1) * 10 * 10 ^ length cs = mul-le-mul_right (10 ^ length cs) (omega (arith, d)) in
+    subst (λ (m : ℕ). digits_value_after 10 (before * 10 + digit_value c) cs + 1 ≤ m) (mul_assoc (before + 1) 10 (10 ^ length cs) ∙ ap (λ p. (before + 1) * p) (sym (pow-succ' 10 (length cs))))
+    (through (digits_value_after 10 (before * 10 + digit_value c) cs + 1) ((before * 10 + digit_value c + 1) * 10 ^ length cs) ((before + 1) * 10 * 10 ^ length cs) (digits_below (before * 10 + digit_value c) cs h.1) step)
+
+-- the number that a token writes fits
+pub digits_small : (text : List ℕ) → IsDigits text → digits_value 10 text < 10 ^ 38
+digits_small text digits =
+    let b = digits_below 0 text digits.0.1 in
+    let p : 10 ^ length text ≤ 10 ^ 38 = pow-le-pow_right (omega arith) digits.1 in
+    let one : (0 + 1) * 10 ^ length text ≡ 10 ^ length text = omega arith in
+    omega (arith, b, p, one)
+
+pub number_fits : (n : ℤ) (tokens rest : List Lexeme) → IsRead IsNumber closed tokens n rest → FitsSigned w128 n
+number_fits n tokens rest read = let s = read.spelled in fits_below n (digits_value 10 s.0.text) s.3 (digits_small s.0.text s.2)

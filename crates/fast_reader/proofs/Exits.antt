@@ -1,11 +1,12 @@
 -- What is returned at the exit of a `?`.
-use Rattle.std.proofs.Common.{◌≡◌, List, Result, Ok, Err}
+use Rattle.std.proofs.Common.{◌≡◌, ◌<◌, ◌≤◌, List, [], ◌∷◌, ◌++◌, length, ap, arith, Result, Ok, Err}
+use Rattle.std.proofs.lemmas.List.{length-append, length-map}
 use Rattle.std.specs.Prelude.{IsErrAnd}
 use Rattle.std.proofs.lemmas.Result.{err_from_is_err_and}
 use Rattle.model_program.specs.declared.Word.{Word}
 use Rattle.model_program.specs.Lexeme.{Lexeme}
-use Rattle.model_program.specs.Reads.{Fails}
-use Rattle.model_program.proofs.Forms.{Makes, as_read, as_fails}
+use Rattle.model_program.specs.Reads.{IsRead, Fails, StartsIn}
+use Rattle.model_program.proofs.Forms.{Makes, AllStartIn, as_read, as_fails}
 use Rattle.fast_reader.specs.declared.words.Token.{Token}
 use Rattle.fast_reader.specs.declared.stop.Stop.{Stop}
 use Rattle.fast_reader.specs.Results.{lexemes, bad_of, Reads}
@@ -17,3 +18,14 @@ exit tokens view e r is fails = let p = err_from_is_err_and r is in rw (p.1, p.2
 pub reads_as : {A X : Type 0} {p q : A → List Lexeme → Type 0} {goes_on : Word → Type 0} (tokens : List Token) (view : X → A × List Lexeme) (r : Result X Stop) → Makes p q (λ a. a) goes_on (lexemes tokens) → Reads p goes_on tokens view r → Reads q goes_on tokens view r
 reads_as tokens view (Ok x) makes read = as_read makes read
 reads_as tokens view (Err e) makes fails = as_fails _ makes fails
+
+-- what is left is shorter
+pub not_longer : {A : Type 0} {form : A → List Lexeme → Type 0} {goes_on : Word → Type 0} {a : A} (tokens rest : List Token) → IsRead form goes_on (lexemes tokens) a (lexemes rest) → length rest ≤ length tokens
+not_longer tokens rest read = omega (arith, simp (length-append, length-map) at (ap length read.split))
+
+pub shorter : {A : Type 0} {form : A → List Lexeme → Type 0} {goes_on : Word → Type 0} {a : A} (words : Word → Type 0) (tokens rest : List Token) → AllStartIn words form → IsRead form goes_on (lexemes tokens) a (lexemes rest) → length rest < length tokens
+shorter words tokens rest starts read = some read.part (starts.starts _ read.part read.spelled) read.split
+  where
+    some : (part : List Lexeme) → StartsIn words part → lexemes tokens ≡ part ++ lexemes rest → length rest < length tokens
+    some [] starts split = absurd starts
+    some (t ∷ ts) starts split = omega (arith, simp (length-append, length-map) at (ap length split))

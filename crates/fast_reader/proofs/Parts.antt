@@ -8,9 +8,9 @@ use Rattle.model_program.specs.Lexeme.{Lexeme}
 use Rattle.model_program.specs.Syntax.{Name, Expr, field, truth, negation, FieldItem, CtorItem, TypeItem, Demand, Rule, LangItem, X, named, Claim, empty, AssertItem, Body, sorts, lang, assertion, Item}
 use Rattle.model_program.specs.Reads.{◌⌢◌, Joined, Stops, IsRead, IsRefused, Fails, IsNext, IsOther, StartsIn, GoesOnAs, Nothing, closed, anything}
 use Rattle.model_program.specs.Grammar.{IsWord, IsSign, IsAt, sign, name_of, IsName, IsNumber, IsDigits, IsComma, comma, Further, Items, Any, Many, IsAtom, IsE, IsDemand, AreVars, IsGuard, where_word, IsGiven, IsRule, rule_words, IsCtor, sort_text, IsSort, IsField, AreFields, AreFieldsOrNone, square_word, AreCtors, IsTypeItem, AreRules, IsLangItem, IsX, IsClaim, assert_word, IsBody, IsItem, IsProgram}
-use Rattle.model_program.proofs.Forms.{◌⊗◌, Ends, Makes, HasSample, AllStartIn, as_read, as_fails, then_read, then_fails, sample_pair, sample_as, remade, alternative, stands, left_out, ends_left_out, ends_starting, ends_closed, starts_joined, starts_pair, starts_append, starts_wider, starts_next, stops_other, stops_both, stops_other_than, stops_of, other_than, elsewhere}
+use Rattle.model_program.proofs.Forms.{◌⊗◌, Ends, Makes, HasSample, AllStartIn, as_read, as_fails, then_read, then_fails, first_fails, sample_pair, sample_as, remade, alternative, stands, left_out, ends_left_out, ends_starting, ends_closed, starts_joined, starts_pair, starts_append, starts_wider, starts_next, stops_other, stops_both, stops_other_than, stops_of, other_than, elsewhere}
 use Rattle.model_program.proofs.Words.{sample_word, sample_sign, sample_at, sample_token, word_starts, sign_starts, word_other}
-use Rattle.model_program.proofs.Lists.{IsPartWay, IsListed, comma_listed, tail_of, sample_tail, sample_any, sample_many, items_to, any_to, opened, items_make}
+use Rattle.model_program.proofs.Lists.{IsPartWay, IsListed, comma_listed, tail_of, sample_tail, sample_any, sample_many, many_make, many_ends, many_end, items_to, any_to, opened, items_make}
 
 -- Names, sorts and numbers.
 
@@ -420,3 +420,28 @@ item_starts = record { starts = λ i ts spelled. each i.body i.place ts spelled 
     each (sorts t) place ts spelled = starts_some TypeWord place _ ts spelled
     each (lang l) place ts spelled = starts_some Lang place _ ts spelled
     each (assertion a) place ts spelled = starts_some (assert_word a.wanted) place _ ts spelled
+
+-- A program.
+
+-- where a token comes, an item comes
+pub program_first : {tokens rest : List Lexeme} {x : Item} (all : List Item) → IsRead IsItem closed tokens x rest → all ≡ x ∷ [] → IsPartWay IsProgram (Many IsItem) anything (λ b. all ++ b) tokens rest
+program_first {tokens} {rest} all item is_first = subst (λ (l : List Item). IsPartWay IsProgram (Many IsItem) anything (λ b. l ++ b) tokens rest) (sym is_first) (record {
+  read = λ b end more. as_read (many_make IsItem tokens (item_comes item)) (then_read (ends_closed (Many IsItem) anything) item more);
+  fails = λ bad more. as_fails bad (many_make IsItem tokens (item_comes item)) (then_fails bad (ends_closed (Many IsItem) anything) item more);
+})
+  where
+    item_comes : {x : Item} → IsRead IsItem closed tokens x rest → StartsIn anything tokens
+    item_comes read = subst (λ (l : List Lexeme). StartsIn anything l) (sym read.split) (starts_append anything read.part rest (item_starts.starts _ read.part read.spelled))
+
+pub some_token : (tokens : List Lexeme) → (tokens ≡ [] → ⊥) → StartsIn anything tokens
+some_token [] not_end = absurd (not_end refl)
+some_token (t ∷ ts) not_end = tt
+
+pub program_first_fails : (tokens : List Lexeme) (bad : Option (List Lexeme)) → (tokens ≡ [] → ⊥) → Fails IsItem closed tokens bad → Fails IsProgram anything tokens bad
+program_first_fails tokens bad not_end fails = as_fails bad (many_make IsItem tokens (some_token tokens not_end)) (first_fails bad (ends_closed (Many IsItem) anything) (sample_many IsItem) fails)
+
+pub program_ends : {tokens rest : List Lexeme} (all : List Item) → IsPartWay IsProgram (Many IsItem) anything (λ b. all ++ b) tokens rest → rest ≡ [] → IsRead IsProgram anything tokens all []
+program_ends {tokens} {rest} all so_far ended = subst (λ (l : List Lexeme). IsRead IsProgram anything tokens all l) ended (many_ends IsItem (λ l. l) all item_starts so_far (subst (λ (l : List Lexeme). Stops anything l) (sym ended) tt))
+
+pub no_program : {tokens : List Lexeme} → tokens ≡ [] → IsRead IsProgram anything tokens [] []
+no_program ended = subst (λ (l : List Lexeme). IsRead IsProgram anything l [] []) (sym ended) (many_end IsItem [] item_starts tt)

@@ -67,7 +67,11 @@ fn read_program<'t>(alloc: Global, tokens: &'t [Token<'t>]) -> Result<Vec<Item>,
     ensures { Reads IsProgram anything tokens.now (λ v. (map plain_item v.items, [])) result }
 {
     let mut all = Vec::new(alloc);
-    let mut rest = tokens;
+    if tokens.is_empty() {
+        return Ok(all);
+    }
+    let (first, mut rest) = read_item(alloc, tokens)?;
+    all.push(first)?;
     'items: while !rest.is_empty() {
         let (next, after) = read_item(alloc, rest)?;
         all.push(next)?;

@@ -1,10 +1,11 @@
-use Rattle.std.proofs.Common.{map, ap, ◌∙◌, ◌++◌, ◌∷◌, []}
+use Rattle.std.proofs.Common.{map, ap, arith, ◌∙◌, ◌++◌, ◌∷◌, []}
 use Rattle.std.proofs.lemmas.List.{map-append}
 use Rattle.model_program.specs.declared.Word.TheVariants.{Bar, CurlyClose, CurlyOpen}
 use Rattle.model_program.specs.Grammar.{IsRule, IsSign}
 use Rattle.model_program.proofs.Lists.{items_to, items_make, open_fails, opened_fails, list_first_fails, list_first, list_between_fails, list_more_fails, list_more, list_end_fails, list_ends}
 use Rattle.fast_syntax.specs.View.{plain_rule}
-use Rattle.fast_reader.proofs.Exits.{exit}
+use Rattle.fast_reader.proofs.Exits.{exit, shorter, not_longer}
+use Rattle.model_program.proofs.Words.{sign_starts}
 use Rattle.fast_reader.proofs.Parts.{rules_listed, sample_items, sample_rule}
 use Rattle.fast_reader.proofs.rules.read_rules.Goals as goal
 
@@ -31,3 +32,6 @@ returns-in_err-rest c = exit _ _ _ c.from_residual-in_err-rest.result c.from_res
 
 pub returns : goal.returns
 returns c = list_ends (IsSign Bar) IsRule CurlyClose _ rules_listed c.items.invariant (c.is_next.ensures.yes c.items-test.false) c.in_ok-rest.ensures
+
+pub items-smaller : goal.items-smaller
+items-smaller c = let a = shorter _ _ _ (sign_starts Bar) c.in_ok-behind.ensures in let b = not_longer _ _ c.in_ok-next.ensures in omega (arith, a, b)
