@@ -1,5 +1,5 @@
 -- What is returned at the exit of a `?`.
-use Rattle.std.proofs.Common.{◌≡◌, ◌<◌, ◌≤◌, List, [], ◌∷◌, ◌++◌, length, ap, arith, Result, Ok, Err}
+use Rattle.std.proofs.Common.{◌≡◌, ◌<◌, ◌≤◌, List, [], ◌∷◌, ◌++◌, length, refl, ap, arith, Result, Ok, Err}
 use Rattle.std.proofs.lemmas.List.{length-append, length-map}
 use Rattle.std.specs.Prelude.{IsErrAnd}
 use Rattle.std.proofs.lemmas.Result.{err_from_is_err_and}
@@ -29,3 +29,12 @@ shorter words tokens rest starts read = some read.part (starts.starts _ read.par
     some : (part : List Lexeme) → StartsIn words part → lexemes tokens ≡ part ++ lexemes rest → length rest < length tokens
     some [] starts split = absurd starts
     some (t ∷ ts) starts split = omega (arith, simp (length-append, length-map) at (ap length split))
+
+-- whether tokens are left
+pub none_left : (tokens : List Token) → length tokens ≡ 0 → lexemes tokens ≡ []
+none_left [] e = refl
+none_left (t ∷ ts) e = absurd (omega arith)
+
+pub some_left : (tokens : List Token) → (length tokens ≡ 0 → ⊥) → lexemes tokens ≡ [] → ⊥
+some_left [] not_none e = not_none refl
+some_left (t ∷ ts) not_none e = cc
