@@ -1,4 +1,12 @@
+pub mod Characters
+pub mod Cuts
 pub mod Lexeme
+pub mod Pieces
+pub mod Quotes
+pub mod Spellings
 pub mod Syntax
+pub mod Names
+pub mod WellFormed
 pub mod Reads
 pub mod Grammar
+pub mod Texts

@@ -98,3 +98,13 @@ module _ {A B : Type 0} (f : A → B) where
   -- a tree that is made of relabelled parts of another
   pub rebuilt : (t u : Tree A) (c : ℕ) (l : A) (ts : List (Tree A)) → u ≡ node c l (trees_of ts) → c ≡ constructor_of t → f l ≡ f (label_of t) → map (relabel f) ts ≡ map (relabel f) (list_of (children_of t)) → relabel f u ≡ relabel f t
   rebuilt t u c l ts e ec el em = ap (relabel f) e ∙ (λ i. node (ec i) (el i) ((relabel_all_of_list ts ∙ ap trees_of em) i)) ∙ sym (relabel_parts t)
+
+module _ {A B C : Type 0} (g : B → C) (f : A → B) where
+  mutual
+    -- two relabellings are one
+    pub relabel_twice : (t : Tree A) → relabel g (relabel f t) ≡ relabel (λ a. g (f a)) t
+    relabel_twice (node c l ts) = ap (node c (g (f l))) (relabel_all_twice ts)
+
+    pub relabel_all_twice : (ts : Trees A) → relabel_all g (relabel_all f ts) ≡ relabel_all (λ a. g (f a)) ts
+    relabel_all_twice no_trees = refl
+    relabel_all_twice (tree t ts) = λ i. tree (relabel_twice t i) (relabel_all_twice ts i)

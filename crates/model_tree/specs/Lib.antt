@@ -4,3 +4,6 @@ pub mod TreeCode
 pub mod TreeOrder
 pub mod Formula
 pub mod FormulaCode
+pub mod Signature
+pub mod Printed
+pub mod Kept

@@ -1,7 +1,7 @@
 use Rattle.std.proofs.Common.{◌≡◌, ◌≤◌, length, drop}
 use Rattle.model_tree.specs.Tree.{trees_of}
 use Rattle.model_tree.specs.TreeOrder.{trees_cmp}
-use Rattle.fast_tree.proofs.Tree.+compare.Given as goal
+use Rattle.fast_tree.proofs.tree.Tree.+compare.Given as goal
 
 abbrev pub invariant-loop-child : goal.invariant-loop-child
 invariant-loop-child g l =

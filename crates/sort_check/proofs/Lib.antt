@@ -1,0 +1,4 @@
+pub mod Distinct
+pub mod Conditions
+pub mod Views
+pub mod Finds
