@@ -7,7 +7,7 @@ use Rattle.model_program.specs.declared.Word.{Word}
 use Rattle.model_program.specs.Lexeme.{Lexeme}
 use Rattle.model_program.specs.Reads.{IsRead, Fails, StartsIn}
 use Rattle.model_program.proofs.Forms.{Makes, AllStartIn, as_read, as_fails}
-use Rattle.fast_reader.specs.declared.words.Token.{Token}
+use Rattle.fast_lex.specs.declared.Token.{Token}
 use Rattle.fast_reader.specs.declared.stop.Stop.{Stop}
 use Rattle.fast_reader.specs.Results.{lexemes, bad_of, Reads}
 

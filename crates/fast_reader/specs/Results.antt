@@ -1,15 +1,12 @@
 -- What a reader of tokens returns.
 use Rattle.std.specs.Prelude.{List, map, Option, Some, None, Result, Ok, Err}
-use Rattle.std.specs.Str.{chars}
 use Rattle.model_program.specs.declared.Word.{Word}
 use Rattle.model_program.specs.Lexeme.{Lexeme}
 use Rattle.model_program.specs.Reads.{IsRead, Fails}
-use Rattle.fast_reader.specs.declared.words.Token.{Token}
+use Rattle.fast_lex.specs.declared.Token.{Token}
+use Rattle.fast_lex.specs.Tokens.{lexeme}
 use Rattle.fast_reader.specs.declared.stop.Stop.{Stop}
 use Rattle.fast_reader.specs.declared.stop.Stop.TheVariants.{Memory, At}
-
-abbrev pub lexeme : Token → Lexeme
-lexeme t = record { word = t.word; text = chars t.text.now; start = t.start; place = t.place }
 
 abbrev pub lexemes : List Token → List Lexeme
 lexemes tokens = map lexeme tokens

@@ -6,10 +6,10 @@ ghost use Rattle.fast_reader.specs.Results.{lexemes, Reads};
 ghost use Rattle.fast_syntax.specs.View.{plain_expr};
 
 use crate::Stop;
-use crate::words::{Token, next_if, read_name};
+use crate::words::{next_if, read_name};
 use fast_fault::Pos;
 use fast_syntax::{Expr, Node};
-use model_program::Word;
+use fast_lex::{Token, Word};
 use std::alloc::Global;
 
 /// A name or a truth value.

@@ -9,9 +9,9 @@ ghost use Rattle.fast_syntax.specs.View.{plain_x, plain_claim, plain_lang, plain
 use crate::Stop;
 use crate::rules::read_rules;
 use crate::types::read_type_item;
-use crate::words::{Token, next_if, read_name, read_sign, read_word};
+use crate::words::{next_if, read_name, read_sign, read_word};
 use fast_syntax::{AssertItem, Body, Claim, Item, LangItem, X};
-use model_program::Word;
+use fast_lex::{Token, Word};
 use std::alloc::Global;
 
 fn read_lang_item<'t>(alloc: Global, tokens: &'t [Token<'t>]) -> Result<(LangItem, &'t [Token<'t>]), Stop<'t>>

@@ -13,4 +13,3 @@ mod types;
 mod words;
 
 pub use stop::Stop;
-pub use words::Token;

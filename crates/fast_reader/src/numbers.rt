@@ -8,8 +8,8 @@ ghost use Rattle.model_program.specs.Grammar.{IsNumber, IsDigits};
 ghost use Rattle.fast_reader.specs.Results.{lexemes, Reads};
 
 use crate::Stop;
-use crate::words::{Token, next_if};
-use model_program::Word;
+use crate::words::{next_if};
+use fast_lex::{Token, Word};
 
 /// The first character, and what follows it.
 fn next_char<'t>(text: &'t str) -> Option<(char, &'t str)>

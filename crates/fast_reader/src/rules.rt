@@ -8,9 +8,9 @@ ghost use Rattle.fast_syntax.specs.View.{plain_name, plain_demand, plain_guard, 
 
 use crate::Stop;
 use crate::expressions::read_expr;
-use crate::words::{Token, is_next, read_name, read_sign, skip_comma};
+use crate::words::{is_next, read_name, read_sign, skip_comma};
 use fast_syntax::{Demand, Expr, Name, Rule};
-use model_program::Word;
+use fast_lex::{Token, Word};
 use std::alloc::Global;
 
 fn read_demand<'t>(alloc: Global, tokens: &'t [Token<'t>]) -> Result<(Demand, &'t [Token<'t>]), Stop<'t>>

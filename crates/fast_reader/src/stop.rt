@@ -2,7 +2,7 @@
 
 ghost use Rattle.std.specs.Prelude.{◌≡◌};
 
-use crate::Token;
+use fast_lex::Token;
 use fast_fault::Memory;
 use std::alloc::{AllocError, AllocFailed};
 

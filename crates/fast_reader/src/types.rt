@@ -9,9 +9,9 @@ ghost use Rattle.fast_syntax.specs.View.{plain_name, plain_field, plain_ctor, pl
 
 use crate::Stop;
 use crate::numbers::read_number;
-use crate::words::{Token, is_next, read_name, read_sign, read_word, skip_comma};
+use crate::words::{is_next, read_name, read_sign, read_word, skip_comma};
 use fast_syntax::{CtorItem, FieldItem, Name, Text, TypeItem};
-use model_program::Word;
+use fast_lex::{Token, Word};
 use std::alloc::Global;
 
 /// The sort's name, with a capital.

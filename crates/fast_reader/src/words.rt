@@ -3,23 +3,14 @@
 ghost use Rattle.std.specs.Prelude.{◌≡◌, ◌∷◌, true, false, MatchOption};
 ghost use Rattle.model_program.specs.Reads.{IsRead, closed, IsNext, IsOther};
 ghost use Rattle.model_program.specs.Grammar.{IsWord, IsSign, IsName, IsComma, comma};
-ghost use Rattle.fast_reader.specs.Results.{lexeme, lexemes, Reads};
+ghost use Rattle.fast_lex.specs.Tokens.{lexeme};
+ghost use Rattle.fast_reader.specs.Results.{lexemes, Reads};
 ghost use Rattle.fast_syntax.specs.View.{plain_name};
 
 use crate::Stop;
-use fast_fault::Pos;
 use fast_syntax::{Name, Text};
-use model_program::Word;
+use fast_lex::{Token, Word};
 use std::alloc::Global;
-
-#[derive(Clone, Copy)]
-pub struct Token<'t> {
-    pub word: Word,
-    pub text: &'t str,
-    pub start: u32,
-    pub place: Pos,
-}
-
 
 fn is_same(a: Word, b: Word) -> bool
     ensures yes { result ≡ true → a ≡ b }

@@ -1,5 +1,6 @@
 -- What stands at a place of a text: a token, a blank or a comment.
 use Rattle.std.specs.Prelude.{◌≡◌, ℕ, ◌≤◌, true, List, [], ◌∷◌, ◌++◌, length, codes, Option, Some, None}
+use Rattle.std.specs.Option.{unwrap_or}
 use Rattle.model_program.specs.declared.Word.{Word}
 use Rattle.model_program.specs.declared.Word.TheVariants.{Id, Number, Quoted}
 use Rattle.model_program.specs.Characters.{AllIn, LeavesOff, begins_name, in_name, is_digit, is_blank, in_line}
@@ -56,13 +57,9 @@ pub record IsLongest (kind : PieceKind) (cs behind : List ℕ) : Type 0 where
 abbrev pub HasNoPiece : List ℕ → Type 0
 HasNoPiece text = (kind : PieceKind) (front rest : List ℕ) → text ≡ front ++ rest → IsPiece kind front rest → ⊥
 
-abbrev pub or_id : Option Word → Word
-or_id None = Id
-or_id (Some w) = w
-
 -- The word that a piece is, if it is a token. A name that is spelled as a keyword is that keyword.
 abbrev pub word_of : PieceKind → List ℕ → Option Word
-word_of Name cs = Some (or_id (spelled keywords cs))
+word_of Name cs = Some (unwrap_or (spelled keywords cs) Id)
 word_of Hyphenated cs = spelled hyphenated cs
 word_of Digits cs = Some Number
 word_of Text cs = Some Quoted

@@ -16,11 +16,21 @@ number_value digits = amount 10 0 digits
 abbrev pub escape : ℕ → Option ℕ
 escape c = if c == 34 then Some 34 else if c == 92 then Some 92 else if c == 110 then Some 10 else if c == 116 then Some 9 else None
 
+-- `{`, 1 to 6 hexadecimal digits and `}`, and the character whose number they write
+pub record IsBraced (cs : List ℕ) (value : ℕ) : Type 0 where
+  pub digits : List ℕ
+  pub braces : cs ≡ 123 ∷ digits ++ 125 ∷ []
+  pub hexadecimal : AllIn is_hexadecimal digits
+  pub some : 1 ≤ length digits
+  pub few : length digits ≤ 6
+  pub amounts : value ≡ amount 16 0 digits
+  pub scalar : IsScalar value
+
 -- A character between quotes or an escape, and the character that it stands for.
 pub data IsUnit : List ℕ → ℕ → Type 0 where
   plain : (c : ℕ) → in_quotes c ≡ true → IsUnit (c ∷ []) c
   short : (c value : ℕ) → escape c ≡ Some value → IsUnit (92 ∷ c ∷ []) value
-  braced : (digits : List ℕ) → AllIn is_hexadecimal digits → 1 ≤ length digits → length digits ≤ 6 → IsScalar (amount 16 0 digits) → IsUnit (92 ∷ 117 ∷ 123 ∷ digits ++ 125 ∷ []) (amount 16 0 digits)
+  long : (braced : List ℕ) (value : ℕ) → IsBraced braced value → IsUnit (92 ∷ 117 ∷ braced) value
 
 pub data AreUnits : List ℕ → List ℕ → Type 0 where
   no_units : AreUnits [] []

@@ -64,17 +64,17 @@ spelling Percent = codes "%"
 spelling Element = 8712 ∷ []
 
 -- the keywords that are spelled as a name could be
-abbrev pub keywords : List Word
+unfoldable pub keywords : List Word
 keywords = TypeWord ∷ Tree ∷ Lang ∷ Trans ∷ Def ∷ Where ∷ Given ∷ To ∷ Intersect ∷ Union ∷ Complement ∷ Difference ∷ Minimize ∷ Domain ∷ Compose ∷ Restrict ∷ Apply ∷ In ∷ And ∷ Or ∷ Not ∷ True ∷ False ∷ []
 
 -- those with a hyphen
-abbrev pub hyphenated : List Word
+unfoldable pub hyphenated : List Word
 hyphenated = AssertTrue ∷ AssertFalse ∷ PreImage ∷ RestrictOut ∷ GetWitness ∷ IsEmpty ∷ TypeCheck ∷ []
 
-abbrev pub signs : List Word
+unfoldable pub signs : List Word
 signs = RoundOpen ∷ RoundClose ∷ SquareOpen ∷ SquareClose ∷ CurlyOpen ∷ CurlyClose ∷ Comma ∷ Bar ∷ Colon ∷ Assign ∷ Arrow ∷ Same ∷ Equal ∷ NotEqual ∷ AtMost ∷ AtLeast ∷ Less ∷ Greater ∷ Plus ∷ Minus ∷ Star ∷ Percent ∷ Element ∷ []
 
 -- the one of these words that is spelled so
-abbrev pub spelled : List Word → List ℕ → Option Word
+unfoldable pub spelled : List Word → List ℕ → Option Word
 spelled [] cs = None
 spelled (w ∷ ws) cs = if bytes_eq (spelling w) cs then Some w else spelled ws cs

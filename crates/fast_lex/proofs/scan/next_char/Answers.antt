@@ -1,0 +1,6 @@
+use Rattle.std.proofs.Common.{rules}
+use Rattle.std.proofs.lemmas.Str.{chars_past_char}
+use Rattle.fast_lex.proofs.scan.next_char.Goals as goal
+
+pub returns-clause-chars : goal.returns-clause-chars
+returns-clause-chars c = chars_past_char _ _ _ c.utf8.text (search rules)
