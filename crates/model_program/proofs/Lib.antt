@@ -1,3 +1,6 @@
+pub mod Forms
+pub mod Lists
+pub mod Words
 pub mod Families
 pub mod QuoteLaws
 pub mod Runs

@@ -32,12 +32,19 @@ abbrev pub IsName : Name → List Lexeme → Type 0
 IsName n tokens = (t : Lexeme) × IsWord Id t tokens × (n ≡ name_of t)
 
 -- NUMBER
+abbrev pub IsDigits : List ℕ → Type 0
+IsDigits text = IsNumeral 10 text × (length text ≤ 38)
+
 abbrev pub IsNumber : ℤ → List Lexeme → Type 0
-IsNumber n tokens = (t : Lexeme) × (IsWord Number t tokens × IsNumeral 10 t.text × (length t.text ≤ 38)) × (n ≡ pos (digits_value 10 t.text))
+IsNumber n tokens = (t : Lexeme) × IsWord Number t tokens × IsDigits t.text × (n ≡ pos (digits_value 10 t.text))
 
 -- ,?
 abbrev pub IsComma : Unit {0} → List Lexeme → Type 0
 IsComma _ tokens = Nothing tokens ⊎ sign Comma tokens
+
+-- the word by which a comma that may be left out goes on
+abbrev pub comma : Word → Type 0
+comma w = w ≡ Comma
 
 -- further items, each behind a separator
 abbrev pub Further : {A : Type 0} → (Unit {0} → List Lexeme → Type 0) → (A → List Lexeme → Type 0) → List A → List Lexeme → Type 0
@@ -53,6 +60,11 @@ Items between form (x ∷ xs) = form x ⌢ Further between form xs
 abbrev pub Any : {A : Type 0} → (Unit {0} → List Lexeme → Type 0) → (A → List Lexeme → Type 0) → List A → List Lexeme → Type 0
 Any between form [] = Nothing
 Any between form (x ∷ xs) = Items between form (x ∷ xs)
+
+-- items, one behind the other
+abbrev pub Many : {A : Type 0} → (A → List Lexeme → Type 0) → List A → List Lexeme → Type 0
+Many form [] = Nothing
+Many form (x ∷ xs) = form x ⌢ Many form xs
 
 -- E ::= Atom | not Atom
 -- Atom ::= ID | true | false
@@ -70,28 +82,32 @@ IsE atom = IsAtom atom
 abbrev pub IsDemand : Demand → List Lexeme → Type 0
 IsDemand d = sign RoundOpen ⌢ IsName d.language ⌢ IsName d.child ⌢ sign RoundClose
 
+-- ( Vars? )
 -- Vars ::= ID (,? ID)*
 abbrev pub AreVars : List Name → List Lexeme → Type 0
-AreVars vars = Any IsComma IsName vars
+AreVars vars = sign RoundOpen ⌢ Any IsComma IsName vars ⌢ sign RoundClose
 
 -- (where E)?
 abbrev pub IsGuard : Option Expr → List Lexeme → Type 0
 IsGuard None = Nothing
 IsGuard (Some e) = sign Where ⌢ IsE e
 
--- Demand*
-abbrev pub AreDemands : List Demand → List Lexeme → Type 0
-AreDemands [] = Nothing
-AreDemands (d ∷ ds) = IsDemand d ⌢ AreDemands ds
+-- the word by which a guard goes on
+abbrev pub where_word : Word → Type 0
+where_word w = w ≡ Where
 
 -- (given Demand+)?
 abbrev pub IsGiven : List Demand → List Lexeme → Type 0
 IsGiven [] = Nothing
-IsGiven (d ∷ ds) = sign Given ⌢ IsDemand d ⌢ AreDemands ds
+IsGiven (d ∷ ds) = sign Given ⌢ Many IsDemand (d ∷ ds)
 
 -- LRule ::= ID ( Vars? ) (where E)? (given Demand+)?
 abbrev pub IsRule : Rule → List Lexeme → Type 0
-IsRule r = IsName r.ctor ⌢ (sign RoundOpen ⌢ AreVars r.vars ⌢ sign RoundClose) ⌢ IsGuard r.guard ⌢ IsGiven r.given
+IsRule r = IsName r.ctor ⌢ AreVars r.vars ⌢ IsGuard r.guard ⌢ IsGiven r.given
+
+-- the words by which a rule goes on
+abbrev pub rule_words : Word → Type 0
+rule_words w = (w ≡ Where) ⊎ ((w ≡ Given) ⊎ (w ≡ RoundOpen))
 
 -- Ctor ::= ID ( NUMBER )
 abbrev pub IsCtor : CtorItem → List Lexeme → Type 0
@@ -119,13 +135,25 @@ AreFields fields = sign SquareOpen ⌢ Any IsComma IsField fields ⌢ sign Squar
 abbrev pub AreFieldsOrNone : List FieldItem → List Lexeme → Type 0
 AreFieldsOrNone fields tokens = ((fields ≡ []) × Nothing tokens) ⊎ AreFields fields tokens
 
+-- the word by which the fields go on that may be left out
+abbrev pub square_word : Word → Type 0
+square_word w = w ≡ SquareOpen
+
+-- { Ctor (,? Ctor)* }
+abbrev pub AreCtors : List CtorItem → List Lexeme → Type 0
+AreCtors ctors = sign CurlyOpen ⌢ Items IsComma IsCtor ctors ⌢ sign CurlyClose
+
 -- ID Fields? { Ctor (,? Ctor)* }
 abbrev pub IsTypeItem : TypeItem → List Lexeme → Type 0
-IsTypeItem t = IsName t.name ⌢ AreFieldsOrNone t.fields ⌢ sign CurlyOpen ⌢ Items IsComma IsCtor t.ctors ⌢ sign CurlyClose
+IsTypeItem t = IsName t.name ⌢ AreFieldsOrNone t.fields ⌢ AreCtors t.ctors
+
+-- { LRule (BAR LRule)* }
+abbrev pub AreRules : List Rule → List Lexeme → Type 0
+AreRules rules = sign CurlyOpen ⌢ Items (IsSign Bar) IsRule rules ⌢ sign CurlyClose
 
 -- ID : ID { LRule (BAR LRule)* }
 abbrev pub IsLangItem : LangItem → List Lexeme → Type 0
-IsLangItem l = IsName l.name ⌢ sign Colon ⌢ IsName l.of ⌢ sign CurlyOpen ⌢ Items (IsSign Bar) IsRule l.rules ⌢ sign CurlyClose
+IsLangItem l = IsName l.name ⌢ sign Colon ⌢ IsName l.of ⌢ AreRules l.rules
 
 -- X ::= ID
 abbrev pub IsX : X → List Lexeme → Type 0
@@ -150,8 +178,7 @@ IsItem item = IsBody item.body item.place
 
 -- Program ::= Item*
 abbrev pub IsProgram : List Item → List Lexeme → Type 0
-IsProgram [] = Nothing
-IsProgram (item ∷ items) = IsItem item ⌢ IsProgram items
+IsProgram items = Many IsItem items
 
 -- some program's tokens begin with these
 pub record Starts (tokens : List Lexeme) : Type 0 where

@@ -1,0 +1,4 @@
+pub mod Exits
+pub mod Parts
+pub mod Sorts
+pub mod Digits

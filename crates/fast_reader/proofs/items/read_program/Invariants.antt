@@ -1,0 +1,13 @@
+use Rattle.std.proofs.Common.{length, map, ◌++◌}
+use Rattle.model_program.specs.Reads.{anything}
+use Rattle.model_program.specs.Grammar.{IsItem, IsProgram, Many}
+use Rattle.model_program.proofs.Lists.{IsPartWay}
+use Rattle.fast_syntax.specs.View.{plain_item}
+use Rattle.fast_reader.specs.Results.{lexemes}
+use Rattle.fast_reader.proofs.items.read_program.Given as goal
+
+abbrev pub invariant-items : goal.invariant-items
+invariant-items l = IsPartWay IsProgram (Many IsItem) anything (λ b. map plain_item l.all.items ++ b) (lexemes l.fn.tokens) (lexemes l.rest)
+
+abbrev pub decreases-items : goal.decreases-items
+decreases-items l = length l.rest

@@ -1,0 +1,6 @@
+use Rattle.model_program.proofs.Words.{word_refused}
+use Rattle.fast_reader.proofs.words.read_word.Goals as goal
+
+pub returns-in-None : goal.returns-in-None
+returns-in-None c = record { why = word_refused _ _ c.in-None.ensures }
+

@@ -1,0 +1,15 @@
+//! Programs, read from the bytes of a text.
+//!
+//! Its promise: what is read is what the text spells, and the only program that it spells; a refusal comes exactly where
+//! its condition holds, at the place that it tells.
+#![tactic(auto)]
+
+mod expressions;
+mod items;
+mod numbers;
+mod rules;
+mod stop;
+mod types;
+mod words;
+
+pub use stop::Stop;
