@@ -1,13 +1,15 @@
 -- What a well-formed program that is built says of the language and the type of a name.
-use Rattle.std.proofs.Common.{◌≡◌, ℕ, Bool, true, false, cond, ◌&&◌, ◌==◌, List, [], ◌∷◌, Option, Some, None, map, length, refl, sym, ap, ◌∙◌}
+use Rattle.std.proofs.Common.{◌≡◌, ℕ, Bool, true, false, cond, ◌&&◌, ◌==◌, List, [], ◌∷◌, ◌++◌, Option, Some, None, map, length, refl, sym, ap, ◌∙◌}
 use Rattle.std.specs.Prelude.{find, is_some, nat_le}
 use Rattle.std.specs.List.{list_all}
 use Rattle.std.specs.Option.{option_map_or}
-use Rattle.model_program.specs.Syntax.{TypeItem, LangItem, Rule, Claim, Item}
-use Rattle.model_program.specs.Names.{types_of, langs_of, claims_of, language_of, find_type, find_lang, find_ctor}
+use Rattle.model_program.specs.Syntax.{TypeItem, LangItem, Rule, Claim, Body, sorts, lang, assertion, Item}
+use Rattle.fast_fault.specs.declared.place.Pos.{Pos}
+use Rattle.model_program.specs.Names.{types_of, langs_of, own_claims, claims_of, language_of, find_type, find_lang, find_ctor}
 use Rattle.model_program.specs.WellFormed.{is_bool, is_rank, is_guard, are_distinct, is_rank_in_range, is_sort, is_type_well_formed, is_demand_well_formed, is_rule_well_formed, is_lang_well_formed, is_claim_well_formed, are_types_in_order, are_langs_in_order, are_in_order, is_well_formed}
 use Rattle.model_report.specs.Report.{is_built}
 use Rattle.fast_tool.specs.Leaf.{has_ctor}
+use Rattle.fast_tool.specs.Declarations.{may_judge}
 use Rattle.fast_tool.proofs.Elements.{first_true, second_true, all_contained}
 
 passes_by : {A : Type 0} (p : A → Bool) (y x : A) (rest : Bool) (later : Option A) (b : Bool) → (p y && rest) ≡ true → (rest ≡ true → later ≡ Some x → p x ≡ true) → cond b (Some y) later ≡ Some x → p x ≡ true
@@ -65,3 +67,18 @@ truths_all items name t e h = found_passes (λ s. list_all (λ f. is_bool f.sort
 
 pub bare_all : (items : List Item) (name : List ℕ) (l : LangItem) → is_built items ≡ true → find_lang (langs_of items) name ≡ Some l → list_all (λ r. length r.vars == 0) l.rules ≡ true
 bare_all items name l e h = found_passes (λ k. list_all (λ r. length r.vars == 0) k.rules) _ (langs_of items) l (second_true (list_all (λ t. list_all (λ f. is_bool f.sort) t.fields) (types_of items)) _ e) h
+
+may_by : (langs : List LangItem) (body : Body) (place : Pos) (rest : List Claim) (m : Bool) → list_all (is_claim_well_formed langs) (own_claims (record { place = place; body = body }) ++ rest) ≡ true → (list_all (is_claim_well_formed langs) rest ≡ true → m ≡ true)
+    → (may_judge langs (record { place = place; body = body }) && m) ≡ true
+may_by langs (sorts t) place rest m e later = later e
+may_by langs (lang l) place rest m e later = later e
+may_by langs (assertion a) place rest m e later =
+    both (is_claim_well_formed langs a.claim) m true true (first_true (is_claim_well_formed langs a.claim) (list_all (is_claim_well_formed langs) rest) e) (later (second_true (is_claim_well_formed langs a.claim) (list_all (is_claim_well_formed langs) rest) e))
+
+claims_may : (langs : List LangItem) (items : List Item) → list_all (is_claim_well_formed langs) (claims_of items) ≡ true → list_all (may_judge langs) items ≡ true
+claims_may langs [] e = refl
+claims_may langs (item ∷ items) e = may_by langs item.body item.place (claims_of items) (list_all (may_judge langs) items) e (claims_may langs items)
+
+-- each assertion of a well-formed program speaks of a language that is declared
+pub all_may : (items : List Item) → is_well_formed items ≡ true → list_all (may_judge (langs_of items)) items ≡ true
+all_may items e = claims_may (langs_of items) items (claims_ok items e)

@@ -2,3 +2,5 @@ pub mod Leaf
 pub mod Signatures
 pub mod Declarations
 pub mod Decided
+pub mod Runs
+pub mod Commands

@@ -3,12 +3,14 @@
 //! Its promise is the clause of `run`: what was written is, with the status, a legal report.
 #![tactic(auto)]
 
+mod built;
 mod leaves;
 mod lines;
 mod signatures;
+mod top;
 mod verdicts;
+mod words;
 
-pub use leaves::find_leaf;
-pub use lines::{false_line, true_line};
-pub use signatures::signature_of;
-pub use verdicts::{Declared, Shown};
+pub use built::are_built;
+pub use verdicts::{Declared, Verdict, judge};
+pub use words::{Command, read_words};

@@ -3,22 +3,22 @@
 ghost use Rattle.std.specs.Prelude.{◌≡◌, IfOk, MatchOption, Some, None, is_some, true};
 ghost use Rattle.model_tree.specs.Tree.{relabel};
 ghost use Rattle.fast_tree.specs.Entries.{label_meaning};
-ghost use Rattle.fast_syntax.specs.View.{plain_name, plain_type, plain_lang, plain_assert, plain_claim};
+ghost use Rattle.fast_syntax.specs.View.{plain_name, plain_type, plain_lang, plain_assert, plain_claim, plain_item};
 ghost use Rattle.model_program.specs.Syntax.{empty, named};
 ghost use Rattle.model_program.specs.Names.{langs_of, types_of, find_lang, find_type};
 ghost use Rattle.std.specs.List.{list_all};
 ghost use Rattle.model_tree.specs.Signature.{HasType};
 ghost use Rattle.model_program.specs.WellFormed.{is_rank_in_range, is_claim_well_formed};
 ghost use Rattle.model_report.specs.Meaning.{IsTrue, signature_of};
-ghost use Rattle.model_report.specs.Outcomes.{IsVerdict, true_verdict, false_verdict};
-ghost use Rattle.fast_tool.specs.Declarations.{MayRun, items_of};
+ghost use Rattle.model_report.specs.Outcomes.{IsVerdict, IsOutcome, silent, true_verdict, false_verdict};
+ghost use Rattle.fast_tool.specs.Declarations.{MayRun, items_of, may_judge};
 ghost use Rattle.fast_tool.specs.Decided.{IsDecided, SaysOf, IsSaid};
 
 use crate::leaves::find_leaf;
 use crate::lines::{false_line, true_line};
 use crate::signatures::signature_of;
 use fast_fault::{Memory, Text};
-use fast_syntax::{AssertItem, Claim, LangItem, Name, Program, TypeItem, X};
+use fast_syntax::{AssertItem, Body, Claim, Item, LangItem, Name, Program, TypeItem, X};
 use fast_tree::{Label, Tree};
 use sort_check::{find_lang, find_type};
 use std::alloc::Global;
@@ -123,5 +123,20 @@ fn judge_assertion(
     match decide(alloc, declared, name)? {
         Some(shown) => false_verdict(alloc, line, !assertion.wanted, &shown),
         None => true_verdict(alloc, line, assertion.wanted),
+    }
+}
+
+/// What an item gives: the verdict of an assertion, and of other items nothing.
+pub fn judge(alloc: Global, declared: &Declared, item: &Item) -> Result<Option<Verdict>, Memory>
+    requires stands { MayRun declared.now }
+    requires there { may_judge (langs_of (items_of declared.now)) (plain_item item.now) ≡ true }
+    ensures { IfOk result (λ v. MatchOption v (IsOutcome (items_of declared.now) (plain_item item.now) silent) (λ w. IsSaid (IsOutcome (items_of declared.now) (plain_item item.now)) w)) }
+{
+    match &item.body {
+        Body::Assert(assertion) => {
+            let verdict = judge_assertion(alloc, declared, item.place.line, assertion)?;
+            Ok(Some(verdict))
+        }
+        Body::Sorts(_) | Body::Lang(_) => Ok(None),
     }
 }

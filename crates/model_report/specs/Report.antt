@@ -9,7 +9,7 @@ use Rattle.fast_fault.specs.declared.status.Status.{Status}
 use Rattle.fast_fault.specs.declared.status.Status.TheVariants.{Hold, Fails, Words, TextRefused, RunRefused, TextFault, SinkFault, Memory}
 use Rattle.fast_fault.specs.Codes.{number_of, name_of}
 use Rattle.fast_fault.specs.Written.{Appends}
-use Rattle.model_program.specs.Syntax.{Rule, LangItem, Item}
+use Rattle.model_program.specs.Syntax.{TypeItem, Rule, LangItem, Item}
 use Rattle.model_program.specs.Names.{types_of, langs_of}
 use Rattle.model_program.specs.WellFormed.{is_well_formed, is_bool}
 use Rattle.model_program.specs.Texts.{IsProgramText, IsBadUtf8At}
@@ -17,10 +17,17 @@ use Rattle.model_report.specs.Words.{Form, run_form, IsForm, file_of}
 use Rattle.model_report.specs.Outcomes.{Outcome, AreOutcomes, lines_of, says_fail}
 
 -- What is built so far: fields are truth values, and a rule's constructor has no children.
+abbrev pub has_truths : TypeItem → Bool
+has_truths t = list_all (λ f. is_bool f.sort) t.fields
+
+abbrev pub has_leaves : LangItem → Bool
+has_leaves l = list_all (λ r. length r.vars == 0) l.rules
+
+abbrev pub are_built : List TypeItem → List LangItem → Bool
+are_built types langs = list_all has_truths types && list_all has_leaves langs
+
 abbrev pub is_built : List Item → Bool
-is_built items =
-    list_all (λ t. list_all (λ f. is_bool f.sort) t.fields) (types_of items)
-    && list_all (λ l. list_all (λ r. length r.vars == 0) l.rules) (langs_of items)
+is_built items = are_built (types_of items) (langs_of items)
 
 -- The bytes are a text of these items, which are a well-formed program that is built.
 pub record IsProgram (bytes : List ℕ) (items : List Item) : Type 0 where
@@ -56,12 +63,12 @@ IsFinished (run_form file) bytes Fails report = IsWholeRun bytes true report
 IsFinished (run_form file) bytes TextRefused report = (code : Code) × (place : Pos) × IsRefused bytes code place × (report ≡ refusal_line code file place)
 IsFinished form bytes status report = ⊥
 
--- An unfinished report: a front of a whole one, or of the lines of the first items.
+-- An unfinished report: nothing, a front of a whole one, or a front of the lines of the first items.
 abbrev pub IsUnfinished : Form → List ℕ → List ℕ → Type 0
 IsUnfinished form bytes begun =
-    (back : List ℕ)
-    × (((status : Status) × IsFinished form bytes status (begun ++ back))
-    ⊎ ((items : List Item) × (count : ℕ) × (outcomes : List Outcome) × IsProgram bytes items × AreOutcomes items (take count items) outcomes × (begun ++ back ≡ lines_of outcomes)))
+    (begun ≡ [])
+    ⊎ ((back : List ℕ) × (status : Status) × IsFinished form bytes status (begun ++ back))
+    ⊎ ((back : List ℕ) × (items : List Item) × (count : ℕ) × (outcomes : List Outcome) × IsProgram bytes items × AreOutcomes items (take count items) outcomes × (begun ++ back ≡ lines_of outcomes))
 
 -- What a form of words may report over what its file holds, where that is told. After a fault or for want of memory the
 -- report is an unfinished one; where the text couldn't be taken, nothing is written.

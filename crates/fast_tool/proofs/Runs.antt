@@ -1,0 +1,163 @@
+-- What was appended so far, and what that makes of the report at each end.
+use Rattle.std.proofs.Common.{ℕ, ◌≡◌, ◌<◌, ◌+◌, ◌≤◌, List, [], ◌∷◌, ◌++◌, Option, Some, None, IfSome, Bool, true, false, length, get_or, take, arith, append_assoc, append-nil, add-one, zero, suc, ap, ◌∙◌, sym, subst, inl, inr, ◌⊎◌, refl, ◌||◌}
+use Rattle.std.specs.List.{list_any}
+use Rattle.std.proofs.lemmas.List.Folds.{list_any-append}
+use Rattle.std.proofs.Math.Seq.{take-suc}
+use Rattle.fast_fault.specs.Written.{Appends, AppendsPrefix}
+use Rattle.fast_fault.specs.Taken.{IsGiven}
+use Rattle.fast_fault.specs.declared.place.Pos.{Pos}
+use Rattle.fast_fault.specs.declared.code.Code.{Code}
+use Rattle.fast_fault.specs.declared.status.Status.{Status}
+use Rattle.fast_fault.specs.declared.status.Status.TheVariants.{Hold, Fails, Words, TextRefused, RunRefused, TextFault, SinkFault, Memory}
+use Rattle.model_program.specs.Syntax.{Item}
+use Rattle.model_report.specs.Words.{Form, run_form, file_of, IsForm}
+use Rattle.model_report.specs.Outcomes.{Outcome, silent, IsOutcome, AreOutcomes, line_of, lines_of, says_fail}
+use Rattle.model_report.specs.Report.{IsProgram, IsRefused, refusal_line, usage_line, IsFinished, IsUnfinished, FormReport, UsageReport, IsReport, Reports}
+use Rattle.fast_tool.specs.Runs.{IsFault, EndsWith, Past, IsBegun, AreLines, ItemsReport, IsProgramOf, TextAnswer}
+
+pub appends_both : (before middle after : Option (List ℕ)) (xs ys : List ℕ) → Appends before middle xs → Appends middle after ys → Appends before after (xs ++ ys)
+appends_both None middle after xs ys a b = tt
+appends_both (Some z) middle after xs ys a b = rw (← append_assoc) (subst (λ m. Appends m after ys) a b)
+
+pub appends_none : (before : Option (List ℕ)) → Appends before before []
+appends_none None = tt
+appends_none (Some z) = ap (λ xs. Some xs) (sym (append-nil z))
+
+-- one outcome more
+outcomes_more : (program items : List Item) (outcomes : List Outcome) (item : Item) (outcome : Outcome) → AreOutcomes program items outcomes → IsOutcome program item outcome → AreOutcomes program (items ++ item ∷ []) (outcomes ++ outcome ∷ [])
+outcomes_more program [] [] item outcome so_far is = (is, tt)
+outcomes_more program [] (o ∷ os) item outcome so_far is = absurd so_far
+outcomes_more program (x ∷ xs) [] item outcome so_far is = absurd so_far
+outcomes_more program (x ∷ xs) (o ∷ os) item outcome so_far is = (so_far.0, outcomes_more program xs os item outcome so_far.1 is)
+
+lines_more : (outcomes : List Outcome) (outcome : Outcome) → lines_of (outcomes ++ outcome ∷ []) ≡ lines_of outcomes ++ line_of outcome
+lines_more [] outcome = append-nil (line_of outcome)
+lines_more (o ∷ os) outcome = ap (λ z. line_of o ++ z) (lines_more os outcome) ∙ sym (append_assoc (line_of o) (lines_of os) (line_of outcome))
+
+fails_more : (outcomes : List Outcome) (outcome : Outcome) → list_any says_fail (outcomes ++ outcome ∷ []) ≡ (list_any says_fail outcomes || says_fail outcome)
+fails_more outcomes outcome = list_any-append says_fail outcomes (outcome ∷ []) ∙ ap (λ b. list_any says_fail outcomes || b) (alone (says_fail outcome))
+  where
+    alone : (b : Bool) → (b || false) ≡ b
+    alone true = refl
+    alone false = refl
+
+first_more : (items : List Item) (k : ℕ) (item : Item) → k < length items → item ≡ get_or items k item → take (k + 1) items ≡ take k items ++ item ∷ []
+first_more items k item h e = ap (λ n. take n items) (add-one k) ∙ take-suc items k item h ∙ ap (λ x. take k items ++ x ∷ []) (sym e)
+
+outcomes_next : (items : List Item) (k : ℕ) (outcomes : List Outcome) (item : Item) (outcome : Outcome) → k < length items → item ≡ get_or items k item → AreOutcomes items (take k items) outcomes → IsOutcome items item outcome → AreOutcomes items (take (k + 1) items) (outcomes ++ outcome ∷ [])
+outcomes_next items k outcomes item outcome h e so_far is = subst (λ (xs : List Item). AreOutcomes items xs (outcomes ++ outcome ∷ [])) (sym (first_more items k item h e)) (outcomes_more items (take k items) outcomes item outcome so_far is)
+
+-- over the items
+pub begin : (items : List Item) (before : Option (List ℕ)) → Past items 0 false before before
+begin items before = ([], tt, refl, appends_none before)
+
+pub step : (items : List Item) (k : ℕ) (failed : Bool) (before now after : Option (List ℕ)) (item : Item) (outcome : Outcome) → Past items k failed before now → k < length items → item ≡ get_or items k item → IsOutcome items item outcome → Appends now after (line_of outcome)
+    → Past items (k + 1) (failed || says_fail outcome) before after
+step items k failed before now after item outcome (outcomes, so_far, fails, a) h e is b =
+    (outcomes ++ outcome ∷ [], outcomes_next items k outcomes item outcome h e so_far is, fails_more outcomes outcome ∙ ap (λ f. f || says_fail outcome) fails,
+    subst (λ z. Appends before after z) (sym (lines_more outcomes outcome)) (appends_both before now after _ _ a b))
+
+-- the front of a line, behind the lines of the first items
+pub begun : (items : List Item) (k : ℕ) (failed : Bool) (before now after : Option (List ℕ)) (item : Item) (outcome : Outcome) → Past items k failed before now → k < length items → item ≡ get_or items k item → IsOutcome items item outcome → AppendsPrefix now after (line_of outcome)
+    → (report : List ℕ) × IsBegun items report × Appends before after report
+begun items k failed before now after item outcome (outcomes, so_far, fails, a) h e is (front, back, joined, b) =
+    (lines_of outcomes ++ front,
+    (back, k + 1, outcomes ++ outcome ∷ [], outcomes_next items k outcomes item outcome h e so_far is, append_assoc (lines_of outcomes) front back ∙ ap (λ z. lines_of outcomes ++ z) joined ∙ sym (lines_more outcomes outcome)),
+    appends_both before now after _ _ a b)
+
+fault_begun : (items : List Item) (report : List ℕ) (status : Status) → IsFault status → IsBegun items report → ItemsReport items status report
+fault_begun items report status (inl e) u = rw e u
+fault_begun items report status (inr e) u = rw e u
+
+pub stops : (items : List Item) (k : ℕ) (failed : Bool) (before now after : Option (List ℕ)) (item : Item) (outcome : Outcome) (status : Status) → Past items k failed before now → k < length items → item ≡ get_or items k item → IsOutcome items item outcome → AppendsPrefix now after (line_of outcome) → IsFault status
+    → Reports (ItemsReport items) status before after
+stops items k failed before now after item outcome status past h e is front fault =
+    let r = begun items k failed before now after item outcome past h e is front in
+    (r.0, fault_begun items r.0 status fault r.1, r.2)
+
+-- want of memory between two lines
+pub no_memory : (items : List Item) (k : ℕ) (failed : Bool) (before now : Option (List ℕ)) → Past items k failed before now → Reports (ItemsReport items) Memory before now
+no_memory items k failed before now (outcomes, so_far, fails, a) = (lines_of outcomes, ([], k, outcomes, so_far, append-nil (lines_of outcomes)), a)
+
+take_all : (items : List Item) → take (length items) items ≡ items
+take_all [] = refl
+take_all (x ∷ xs) = ap (λ ys. x ∷ ys) (take_all xs)
+
+pub holds : (items : List Item) (before now : Option (List ℕ)) → Past items (length items) false before now → Reports (ItemsReport items) Hold before now
+holds items before now (outcomes, so_far, fails, a) = (lines_of outcomes, (outcomes, subst (λ (xs : List Item). AreOutcomes items xs outcomes) (take_all items) so_far, sym fails, refl), a)
+
+pub fails_some : (items : List Item) (before now : Option (List ℕ)) → Past items (length items) true before now → Reports (ItemsReport items) Fails before now
+fails_some items before now (outcomes, so_far, fails, a) = (lines_of outcomes, (outcomes, subst (λ (xs : List Item). AreOutcomes items xs outcomes) (take_all items) so_far, sym fails, refl), a)
+
+pub ruleset on_runs = (begin, no_memory, holds, fails_some)
+
+-- a form over its text, told or not
+begun_unfinished : (form : Form) (bytes : List ℕ) (items : List Item) (report : List ℕ) → IsProgram bytes items → IsBegun items report → IsUnfinished form bytes report
+begun_unfinished form bytes items report program (back, count, outcomes, so_far, e) = inr (inr (back, items, count, outcomes, program, so_far, e))
+
+items_form : (file bytes : List ℕ) (items : List Item) (status : Status) (report : List ℕ) → IsProgram bytes items → ItemsReport items status report → FormReport (run_form file) (Some bytes) status report
+items_form file bytes items Hold report program (outcomes, are, fails, e) = (items, outcomes, program, are, fails, e)
+items_form file bytes items Fails report program (outcomes, are, fails, e) = (items, outcomes, program, are, fails, e)
+items_form file bytes items SinkFault report program u = begun_unfinished (run_form file) bytes items report program u
+items_form file bytes items Memory report program u = begun_unfinished (run_form file) bytes items report program u
+items_form file bytes items Words report program u = absurd u
+items_form file bytes items TextRefused report program u = absurd u
+items_form file bytes items RunRefused report program u = absurd u
+items_form file bytes items TextFault report program u = absurd u
+
+items_untold : (file : List ℕ) (items : List Item) (status : Status) (report : List ℕ) → ItemsReport items status report → FormReport (run_form file) None status report
+items_untold file items Hold report u = tt
+items_untold file items Fails report u = tt
+items_untold file items SinkFault report u = tt
+items_untold file items Memory report u = tt
+items_untold file items Words report u = absurd u
+items_untold file items TextRefused report u = absurd u
+items_untold file items RunRefused report u = absurd u
+items_untold file items TextFault report u = absurd u
+
+pub ran_form : (file : List ℕ) (held : Option (List ℕ)) (items : List Item) (status : Status) (before after : Option (List ℕ)) → IsProgramOf held items → Reports (ItemsReport items) status before after → Reports (FormReport (run_form file) held) status before after
+ran_form file None items status before after program (r, l, a) = (r, items_untold file items status r l, a)
+ran_form file (Some bytes) items status before after program (r, l, a) = (r, items_form file bytes items status r program l, a)
+
+-- the text is refused
+fault_report : (form : Form) (bytes report : List ℕ) (status : Status) → IsFault status → IsUnfinished form bytes report → FormReport form (Some bytes) status report
+fault_report form bytes report status (inl e) u = rw e u
+fault_report form bytes report status (inr e) u = rw e u
+
+fault_untold : (form : Form) (report : List ℕ) (status : Status) → IsFault status → FormReport form None status report
+fault_untold form report status (inl e) = rw e tt
+fault_untold form report status (inr e) = rw e tt
+
+pub refused_text : (file : List ℕ) (held : Option (List ℕ)) (code : Code) (place : Pos) (status : Status) (before after : Option (List ℕ)) → IfSome held (λ bytes. IsRefused bytes code place) → EndsWith before after (refusal_line code file place) TextRefused status → TextAnswer file held before after status
+refused_text file None code place status before after refused (inl (e, b)) (run_form own) same = rw e (_, tt, b)
+refused_text file None code place status before after refused (inr (f, (front, back, e, b))) (run_form own) same = (front, fault_untold (run_form own) front status f, b)
+refused_text file (Some bytes) code place status before after refused (inl (e, b)) (run_form own) same = rw e (refusal_line code file place, (code, place, refused, ap (λ z. refusal_line code z place) (sym same)), b)
+refused_text file (Some bytes) code place status before after refused (inr (f, (front, back, e, b))) (run_form own) same =
+    (front, fault_report (run_form own) bytes front status f (inr (inl (back, TextRefused, (code, place, refused, e ∙ ap (λ z. refusal_line code z place) (sym same))))), b)
+
+-- memory ran out before anything was written, whatever the text is
+nothing_yet : (form : Form) (held : Option (List ℕ)) → FormReport form held Memory []
+nothing_yet form None = tt
+nothing_yet form (Some bytes) = inl refl
+
+pub no_text_memory : (file : List ℕ) (held before : Option (List ℕ)) → TextAnswer file held before before Memory
+no_text_memory file held before form e = ([], nothing_yet form held, appends_none before)
+
+pub no_text : (file : List ℕ) (held before : Option (List ℕ)) → TextAnswer file held before before TextFault
+no_text file held before form e = ([], refl, appends_none before)
+
+pub ruleset on_texts = (no_text_memory, no_text)
+
+-- the words
+pub with_form : (words : List (List ℕ)) (held : List ℕ → Option (List ℕ)) (form : Form) (status : Status) (before after : Option (List ℕ)) → IsForm words form → Reports (FormReport form (held (file_of form))) status before after → Reports (IsReport words held) status before after
+with_form words held form status before after i (r, l, a) = (r, inl (form, i, l), a)
+
+fault_usage : (report back : List ℕ) (status : Status) → IsFault status → report ++ back ≡ usage_line → UsageReport status report
+fault_usage report back status (inl f) e = rw f (back, e)
+fault_usage report back status (inr f) e = rw f (back, e)
+
+pub without_form : (words : List (List ℕ)) (held : List ℕ → Option (List ℕ)) (status : Status) (before after : Option (List ℕ)) → ((form : Form) → ¬ (IsForm words form)) → EndsWith before after usage_line Words status → Reports (IsReport words held) status before after
+without_form words held status before after none (inl (e, b)) = rw e (usage_line, inr (none, refl), b)
+without_form words held status before after none (inr (f, (front, back, e, b))) = (front, inr (none, fault_usage front back status f e), b)
+
+pub ruleset on_words = (with_form, without_form)

@@ -1,0 +1,44 @@
+-- How a run goes on, and how it ends.
+use Rattle.std.specs.Prelude.{◌≡◌, ℕ, Bool, true, false, List, [], ◌++◌, Option, Some, None, IfSome, ◌⊎◌, take}
+use Rattle.std.specs.List.{list_any}
+use Rattle.fast_fault.specs.declared.status.Status.{Status}
+use Rattle.fast_fault.specs.declared.status.Status.TheVariants.{Hold, Fails, SinkFault, Memory}
+use Rattle.fast_fault.specs.Written.{Appends, AppendsPrefix}
+use Rattle.model_program.specs.Syntax.{Item}
+use Rattle.model_report.specs.Outcomes.{Outcome, AreOutcomes, lines_of, says_fail}
+use Rattle.model_report.specs.Report.{IsProgram, FormReport, Reports}
+use Rattle.model_report.specs.Words.{Form, file_of}
+
+abbrev pub IsFault : Status → Type 0
+IsFault status = (status ≡ SinkFault) ⊎ (status ≡ Memory)
+
+-- a line was put whole, with the status that was to end the report, or a front of it, with a fault
+abbrev pub EndsWith : Option (List ℕ) → Option (List ℕ) → List ℕ → Status → Status → Type 0
+EndsWith before after line status answer = ((answer ≡ status) × Appends before after line) ⊎ (IsFault answer × AppendsPrefix before after line)
+
+-- the lines of the first items were appended
+abbrev pub Past : List Item → ℕ → Bool → Option (List ℕ) → Option (List ℕ) → Type 0
+Past items count failed before now = (outcomes : List Outcome) × AreOutcomes items (take count items) outcomes × (list_any says_fail outcomes ≡ failed) × Appends before now (lines_of outcomes)
+
+-- a front of the lines of the first items
+abbrev pub IsBegun : List Item → List ℕ → Type 0
+IsBegun items begun = (back : List ℕ) × (count : ℕ) × (outcomes : List Outcome) × AreOutcomes items (take count items) outcomes × (begun ++ back ≡ lines_of outcomes)
+
+abbrev pub AreLines : List Item → Bool → List ℕ → Type 0
+AreLines items fails report = (outcomes : List Outcome) × AreOutcomes items items outcomes × (fails ≡ list_any says_fail outcomes) × (report ≡ lines_of outcomes)
+
+-- what a run of the items may report
+abbrev pub ItemsReport : List Item → Status → List ℕ → Type 0
+ItemsReport items Hold report = AreLines items false report
+ItemsReport items Fails report = AreLines items true report
+ItemsReport items SinkFault report = IsBegun items report
+ItemsReport items Memory report = IsBegun items report
+ItemsReport items status report = ⊥
+
+-- the items are a program that the bytes are, where these are told
+abbrev pub IsProgramOf : Option (List ℕ) → List Item → Type 0
+IsProgramOf held items = IfSome held (λ bytes. IsProgram bytes items)
+
+-- what a run that ends at its text reports
+abbrev pub TextAnswer : List ℕ → Option (List ℕ) → Option (List ℕ) → Option (List ℕ) → Status → Type 0
+TextAnswer file held before after status = (form : Form) → file_of form ≡ file → Reports (FormReport form held) status before after
