@@ -1,5 +1,5 @@
 -- Printed texts, piece by piece.
-use Rattle.std.proofs.Common.{◌≡◌, ℕ, ◌+◌, suc, drop, drop-cons, add-one, ℤ, ◌^◌, ◌/◌, ◌%◌, ◌⊎◌, inl, inr, false, ◌<◌, ◌≤◌, List, [], ◌∷◌, ◌++◌, length, get_or, map, refl, ap, sym, ◌∙◌, append_assoc, append-nil, arith, rules}
+use Rattle.std.proofs.Common.{◌≡◌, ℕ, ◌+◌, suc, drop, drop-cons, add-one, ℤ, ◌^◌, ◌/◌, ◌%◌, inl, inr, false, ◌<◌, ◌≤◌, List, [], ◌∷◌, ◌++◌, length, get_or, map, refl, ap, sym, ◌∙◌, append_assoc, append-nil, arith}
 use Rattle.std.specs.Prelude.{codes}
 use Rattle.std.specs.List.{flat_map}
 use Rattle.std.specs.Str.{encode_utf8_all}
@@ -14,7 +14,7 @@ use Rattle.std.proofs.Math.ListN.{get_or-map}
 use Rattle.std.specs.Fmt.{digits, digit_glyph, signed_decimal}
 use Rattle.std.proofs.lemmas.List.Concat.{flat_map-append}
 use Rattle.model_tree.specs.Label.{Label}
-use Rattle.model_tree.specs.Tree.{Tree, node, Trees, constructor_of, label_of, children_of, list_of, trees_of, relabel, relabel_all}
+use Rattle.model_tree.specs.Tree.{Tree, node, constructor_of, label_of, children_of, list_of, trees_of, relabel, relabel_all}
 use Rattle.model_tree.specs.TreeCode.{trees_of-list_of}
 use Rattle.model_tree.specs.Signature.{PlainConstructor, PlainSignature, HasType, EachHasType, ranks_of, names_of}
 use Rattle.fast_tree.specs.declared.signature.Signature.{Signature}
