@@ -8,7 +8,8 @@ use Rattle.model_tree.specs.Printed.{printed_tree, printed_children, printed_lab
 use Rattle.model_tree.proofs.Trees.{depth_of_children, depth_of_child}
 use Rattle.fast_tree.specs.Entries.{label_meaning}
 use Rattle.fast_tree.specs.Signatures.{plain_signature}
-use Rattle.fast_tree.proofs.Printing.{drop_at, child_more, node_written, name_at, typed_number, typed_children, printed_parts}
+use Rattle.fast_tree.proofs.Printing.{drop_at, child_more, node_written, name_at, typed_number}
+use Rattle.model_tree.proofs.Typed.{typed_children, printed_parts}
 use Rattle.fast_tree.proofs.print.+print.Goals as goal
 
 pub append_children-append_tree-requires : goal.append_children-append_tree-requires
