@@ -1,5 +1,5 @@
 -- The plain form of a signature.
-use Rattle.std.specs.Prelude.{List, map}
+use Rattle.std.specs.Prelude.{map}
 use Rattle.model_tree.specs.Signature.{wholes, truths, texts, PlainField, PlainConstructor, PlainSignature}
 use Rattle.model_tree.specs.Signature as model
 use Rattle.fast_tree.specs.declared.signature.Sort.{Sort}

@@ -3,7 +3,7 @@ use Rattle.std.specs.Prelude.{ℕ, Bool, true, false, ◌||◌, ◌==◌, nat_lt
 use Rattle.std.specs.List.{flat_map}
 use Rattle.std.specs.Fmt.{digits, signed_decimal}
 use Rattle.model_tree.specs.Label.{Field, whole, truth, text, Label, row, pair}
-use Rattle.model_tree.specs.Tree.{Tree, node, Trees, no_trees, tree, LabelTree}
+use Rattle.model_tree.specs.Tree.{node, Trees, no_trees, tree, LabelTree}
 
 -- the pieces with the separator between each two
 abbrev pub joined : List ℕ → List (List ℕ) → List ℕ

@@ -1,7 +1,7 @@
 -- Tree types as plain data, and the trees that have a type.
 use Rattle.std.specs.Prelude.{◌≡◌, ℕ, ◌<◌, List, map, length, get_or}
 use Rattle.model_tree.specs.Label.{Field, whole, truth, text, Label, row, pair}
-use Rattle.model_tree.specs.Tree.{Tree, node, Trees, no_trees, tree, list_of, LabelTree}
+use Rattle.model_tree.specs.Tree.{node, Trees, no_trees, tree, list_of, LabelTree}
 
 -- what the values of a field are
 pub data Sort : Type 0 where

@@ -1,4 +1,4 @@
-//! Labels, trees and formulas of the meaning, as plain data for contracts.
+//! Labels, trees, tree types and formulas of the meaning, as plain data for contracts, and the printed text of trees.
 //!
 //! A contract above this crate speaks of these values and never of how a tree lies in memory. The crate promises
 //! nothing that runs: its laws are laws of the definitions.

@@ -1,4 +1,4 @@
-use Rattle.std.proofs.Common.{◌≡◌, ◌+◌, ◌++◌, ◌∷◌, [], drop, get_or, length, ap, sym, subst, ◌∙◌, arith}
+use Rattle.std.proofs.Common.{◌≡◌, ◌+◌, ◌++◌, [], drop, get_or, ap, sym, subst, ◌∙◌, arith}
 use Rattle.std.specs.Prelude.{codes}
 use Rattle.std.specs.Str.{encode_utf8_all}
 use Rattle.fast_tree.specs.declared.signature.CtorOf.{CtorOf}
@@ -8,7 +8,8 @@ use Rattle.model_tree.specs.Printed.{printed_tree, printed_children, printed_lab
 use Rattle.model_tree.proofs.Trees.{depth_of_children, depth_of_child}
 use Rattle.fast_tree.specs.Entries.{label_meaning}
 use Rattle.fast_tree.specs.Signatures.{plain_signature}
-use Rattle.fast_tree.proofs.Printing.{drop_at, child_more, node_written, name_at, typed_number, typed_children, printed_parts}
+use Rattle.fast_tree.proofs.Printing.{drop_at, child_more, node_written, name_at, typed_number}
+use Rattle.model_tree.proofs.Typed.{typed_children, printed_parts}
 use Rattle.fast_tree.proofs.print.+print.Goals as goal
 
 pub append_children-append_tree-requires : goal.append_children-append_tree-requires
@@ -40,11 +41,11 @@ append_tree-returns t c =
     let number = typed_number label_meaning c.args.signature.now c.args.tree.now c.requires in
     let named : get_or (names_of (plain_signature c.args.signature.now)) (constructor_of c.args.tree.now) [] ≡ constructor.name = name_at c.args.signature.now (constructor_of c.args.tree.now) constructor number ∙ ap (λ (x : CtorOf). x.name) (sym (c.index-constructor.ensures ∙ ap (λ n. get_or c.args.signature.now.constructors.items n constructor) c.constructor.ensures)) in
     node_written c.args.out.now.items constructor.name labelled below
-      c.in_ok-push.ensures.items
-      (c.in_ok-extend_from_slice.ensures.items ∙ ap (λ xs. c.push.new.self.items ++ xs) bytes)
-      c.in_ok-extend_from_slice-2.ensures.items
-      (c.in_ok-append_label.ensures ∙ ap (λ l. c.extend_from_slice-2.new.self.items ++ encode_utf8_all (printed_label (label_meaning l))) c.label.ensures)
-      c.in_ok-push-2.ensures.items
-      (c.in_ok-append_children.ensures ∙ ap (λ ts. c.push-2.new.self.items ++ encode_utf8_all (printed_children (names_of (plain_signature c.args.signature.now)) (relabel_all label_meaning (trees_of ts)))) c.children.ensures)
-      c.in_ok-push-3.ensures.items
+    c.in_ok-push.ensures.items
+    (c.in_ok-extend_from_slice.ensures.items ∙ ap (λ xs. c.push.new.self.items ++ xs) bytes)
+    c.in_ok-extend_from_slice-2.ensures.items
+    (c.in_ok-append_label.ensures ∙ ap (λ l. c.extend_from_slice-2.new.self.items ++ encode_utf8_all (printed_label (label_meaning l))) c.label.ensures)
+    c.in_ok-push-2.ensures.items
+    (c.in_ok-append_children.ensures ∙ ap (λ ts. c.push-2.new.self.items ++ encode_utf8_all (printed_children (names_of (plain_signature c.args.signature.now)) (relabel_all label_meaning (trees_of ts)))) c.children.ensures)
+    c.in_ok-push-3.ensures.items
     ∙ ap (λ xs. c.args.out.now.items ++ encode_utf8_all xs) (ap (λ name. codes "(" ++ (name ++ (codes " [" ++ (labelled ++ (codes "]" ++ (below ++ codes ")")))))) (sym named) ∙ sym (printed_parts label_meaning (names_of (plain_signature c.args.signature.now)) c.args.tree.now))

@@ -1,6 +1,5 @@
 use Rattle.std.proofs.Common.{◌≡◌, ◌+◌, ◌∷◌, ◌++◌, drop, ap, sym, ◌∙◌, append-nil, rules, arith}
 use Rattle.std.proofs.lemmas.List.{drop_all}
-use Rattle.std.specs.Prelude.{codes}
 use Rattle.std.specs.Str.{encode_utf8_all}
 use Rattle.model_tree.specs.Printed.{printed_field}
 use Rattle.fast_tree.specs.Entries.{entries_of, field_of}

@@ -1,4 +1,4 @@
-use Rattle.std.proofs.Common.{◌≡◌, ◌∷◌, [], ◌++◌, ap, sym, ◌∙◌, map-id}
+use Rattle.std.proofs.Common.{◌∷◌, [], ◌++◌, ap, sym, ◌∙◌, map-id}
 use Rattle.std.specs.Str.{encode_utf8_all}
 use Rattle.std.specs.List.{flat_map}
 use Rattle.std.proofs.lemmas.Iterator.{YieldsList-from_chars}
