@@ -1,16 +1,18 @@
 //! Items, and whole programs.
 
-ghost use Rattle.std.specs.Prelude.{map, []};
+ghost use Rattle.std.specs.Prelude.{◌≡◌, map, [], List, IfOk};
 ghost use Rattle.model_program.specs.Reads.{closed, anything};
-ghost use Rattle.model_program.specs.Grammar.{IsX, IsClaim, IsLangItem, IsItem, IsProgram};
+ghost use Rattle.model_program.specs.Grammar.{IsX, IsClaim, IsLangItem, IsItem, IsProgram, IsFirstWrong};
+ghost use Rattle.model_program.specs.Syntax as plain;
 ghost use Rattle.fast_reader.specs.Results.{lexemes, Reads};
-ghost use Rattle.fast_syntax.specs.View.{plain_x, plain_claim, plain_lang, plain_item};
+ghost use Rattle.fast_reader.specs.Refusals.{IfWrong};
+ghost use Rattle.fast_syntax.specs.View.{plain_x, plain_claim, plain_lang, plain_item, plain_program};
 
 use crate::Stop;
 use crate::rules::read_rules;
 use crate::types::read_type_item;
 use crate::words::{next_if, read_name, read_sign, read_word};
-use fast_syntax::{AssertItem, Body, Claim, Item, LangItem, X};
+use fast_syntax::{AssertItem, Body, Claim, Item, LangItem, Program, X};
 use fast_lex::{Token, Word};
 use std::alloc::Global;
 
@@ -78,4 +80,27 @@ fn read_program<'t>(alloc: Global, tokens: &'t [Token<'t>]) -> Result<Vec<Item>,
         rest = after;
     }
     Ok(all)
+}
+
+/// Why no items were read: the first wrong token, by the number of the tokens before it, or want of memory.
+#[derive(Debug, Drop)]
+pub enum ReadItemsStop {
+    Wrong(usize),
+    Memory,
+}
+
+/// The program that the tokens spell.
+pub fn read_items<'t>(alloc: Global, tokens: &'t [Token<'t>]) -> Result<Program, ReadItemsStop>
+    // What is read is spelled so.
+    ensures found { IfOk result (λ program. IsProgram (plain_program program) (lexemes tokens.now)) }
+    // The tokens spell no other program.
+    ensures only { IfOk result (λ program. (other : List plain.Item) → IsProgram other (lexemes tokens.now) → other ≡ plain_program program) }
+    // Where they spell none, the first wrong token is told.
+    ensures refused { IfWrong result (IsFirstWrong (lexemes tokens.now)) }
+{
+    match read_program(alloc, tokens) {
+        Ok(items) => Ok(Program { items }),
+        Err(Stop::Memory) => Err(ReadItemsStop::Memory),
+        Err(Stop::At(bad)) => Err(ReadItemsStop::Wrong(tokens.len() - bad.len())),
+    }
 }
