@@ -1,5 +1,5 @@
 -- What reading a program says of all of the tokens, and of the bytes.
-use Rattle.std.proofs.Common.{◌≡◌, ℕ, ◌+◌, ◌-◌, ◌≤◌, ◌<◌, List, [], ◌∷◌, ◌++◌, length, take, drop, refl, sym, ap, ◌∙◌, subst, append_assoc, append-nil, arith, ◌⊎◌, inl, inr, ⊎_elim}
+use Rattle.std.proofs.Common.{◌≡◌, ℕ, Option, ◌+◌, ◌-◌, ◌≤◌, ◌<◌, List, [], ◌∷◌, ◌++◌, length, take, drop, refl, sym, ap, ◌∙◌, subst, append_assoc, append-nil, arith, ◌⊎◌, inl, inr, ⊎_elim}
 use Rattle.std.proofs.lemmas.List.{length-append, length-map, length-drop, length-take-le, take-append-drop}
 use Rattle.std.proofs.Math.Seq.{take-append_seam, take-append-add}
 use Rattle.std.specs.Char.{IsScalar, encode_utf8}
@@ -14,7 +14,9 @@ use Rattle.model_program.specs.Cuts.{AreTokens, StopsAt, place_after}
 use Rattle.model_program.specs.Texts.{IsProgramText, IsBadUtf8At}
 use Rattle.model_program.proofs.Unique.{same_tokens, stops_or_whole}
 use Rattle.fast_lex.specs.declared.Token.{Token}
+use Rattle.fast_syntax.specs.declared.Program.{Program}
 use Rattle.fast_reader.specs.Results.{lexemes}
+use Rattle.fast_reader.specs.Refusals.{IsProgramOf}
 
 -- a program that was read is the whole of the tokens, and the only one
 pub whole_read : (tokens : List Lexeme) (items : List Item) → IsRead IsProgram anything tokens items [] → IsProgram items tokens
@@ -108,3 +110,7 @@ bad_utf8 bytes n place valid is = record {
         let front : take (length (take n bytes ++ encode_utf8 c)) bytes ≡ take n bytes ++ encode_utf8 c = ap (λ l. take (length (take n bytes ++ encode_utf8 c)) l) whole ∙ take-append_seam (take n bytes ++ encode_utf8 c) more in
         valid.longest (length (take n bytes ++ encode_utf8 c)) (further c)
         (subst (λ (l : List ℕ). IsUtf8 l) (sym front) (IsUtf8-append (take n bytes) (encode_utf8 c) valid.front (IsUtf8-encode c scalar)))
+
+-- the same bytes, and the same answer
+pub program_of : (text bytes : List ℕ) (found wanted : Option Program) → text ≡ bytes → found ≡ wanted → IsProgramOf text found → IsProgramOf bytes wanted
+program_of text bytes found wanted same is holds = subst (λ (b : List ℕ). IsProgramOf b wanted) same (subst (λ (f : Option Program). IsProgramOf text f) is holds)
