@@ -62,9 +62,9 @@ bad_in_range tokens bad refused = omega (arith, simp (length-append, length-map)
 -- tokens of which one is the first wrong one spell no program
 pub wrong_spells_none : (tokens : List Lexeme) (k : ℕ) → IsFirstWrong tokens k → (program : List Item) → IsProgram program tokens → ⊥
 wrong_spells_none tokens k wrong program spelled = elim (below_or_at k (length tokens) wrong.in_range) [
-    | inl below ↦ wrong.with_it below (record { program = program; more = drop (k + 1) tokens; spelled = subst (λ (l : List Lexeme). IsProgram program l) (sym (take-append-drop (k + 1) tokens)) spelled })
-    | inr at_end ↦ wrong.at_end at_end program spelled
-  ]
+  | inl below ↦ wrong.with_it below (record { program = program; more = drop (k + 1) tokens; spelled = subst (λ (l : List Lexeme). IsProgram program l) (sym (take-append-drop (k + 1) tokens)) spelled })
+  | inr at_end ↦ wrong.at_end at_end program spelled
+]
   where
     below_or_at : (a b : ℕ) → a ≤ b → (a < b) ⊎ (a ≡ b)
     below_or_at a b le = grind arith

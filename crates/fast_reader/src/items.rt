@@ -12,11 +12,14 @@ use crate::Stop;
 use crate::rules::read_rules;
 use crate::types::read_type_item;
 use crate::words::{next_if, read_name, read_sign, read_word};
-use fast_syntax::{AssertItem, Body, Claim, Item, LangItem, Program, X};
 use fast_lex::{Token, Word};
+use fast_syntax::{AssertItem, Body, Claim, Item, LangItem, Program, X};
 use std::alloc::Global;
 
-fn read_lang_item<'t>(alloc: Global, tokens: &'t [Token<'t>]) -> Result<(LangItem, &'t [Token<'t>]), Stop<'t>>
+fn read_lang_item<'t>(
+    alloc: Global,
+    tokens: &'t [Token<'t>],
+) -> Result<(LangItem, &'t [Token<'t>]), Stop<'t>>
     ensures { Reads IsLangItem closed tokens.now (λ x. (plain_lang x.0, lexemes x.1.now)) result }
 {
     let (name, rest) = read_name(alloc, tokens)?;
@@ -33,7 +36,10 @@ fn read_x<'t>(alloc: Global, tokens: &'t [Token<'t>]) -> Result<(X, &'t [Token<'
     Ok((X::Named(name), rest))
 }
 
-fn read_claim<'t>(alloc: Global, tokens: &'t [Token<'t>]) -> Result<(Claim, &'t [Token<'t>]), Stop<'t>>
+fn read_claim<'t>(
+    alloc: Global,
+    tokens: &'t [Token<'t>],
+) -> Result<(Claim, &'t [Token<'t>]), Stop<'t>>
     ensures { Reads IsClaim closed tokens.now (λ x. (plain_claim x.0, lexemes x.1.now)) result }
 {
     let rest = read_sign(tokens, Word::RoundOpen)?;
@@ -43,26 +49,59 @@ fn read_claim<'t>(alloc: Global, tokens: &'t [Token<'t>]) -> Result<(Claim, &'t 
     Ok((Claim::Empty(x), rest))
 }
 
-fn read_item<'t>(alloc: Global, tokens: &'t [Token<'t>]) -> Result<(Item, &'t [Token<'t>]), Stop<'t>>
+fn read_item<'t>(
+    alloc: Global,
+    tokens: &'t [Token<'t>],
+) -> Result<(Item, &'t [Token<'t>]), Stop<'t>>
     ensures { Reads IsItem closed tokens.now (λ x. (plain_item x.0, lexemes x.1.now)) result }
 {
     if let Some((first, rest)) = next_if(tokens, Word::TypeWord) {
         let (item, rest) = read_type_item(alloc, rest)?;
-        return Ok((Item { place: first.place, body: Body::Sorts(item) }, rest));
+        return Ok((
+            Item {
+                place: first.place,
+                body: Body::Sorts(item),
+            },
+            rest,
+        ));
     }
     if let Some((first, rest)) = next_if(tokens, Word::Lang) {
         let (item, rest) = read_lang_item(alloc, rest)?;
-        return Ok((Item { place: first.place, body: Body::Lang(item) }, rest));
+        return Ok((
+            Item {
+                place: first.place,
+                body: Body::Lang(item),
+            },
+            rest,
+        ));
     }
     if let Some((first, rest)) = next_if(tokens, Word::AssertTrue) {
         let (claim, rest) = read_claim(alloc, rest)?;
-        let body = Body::Assert(AssertItem { wanted: true, claim });
-        return Ok((Item { place: first.place, body }, rest));
+        let body = Body::Assert(AssertItem {
+            wanted: true,
+            claim,
+        });
+        return Ok((
+            Item {
+                place: first.place,
+                body,
+            },
+            rest,
+        ));
     }
     let (first, rest) = read_word(tokens, Word::AssertFalse)?;
     let (claim, rest) = read_claim(alloc, rest)?;
-    let body = Body::Assert(AssertItem { wanted: false, claim });
-    Ok((Item { place: first.place, body }, rest))
+    let body = Body::Assert(AssertItem {
+        wanted: false,
+        claim,
+    });
+    Ok((
+        Item {
+            place: first.place,
+            body,
+        },
+        rest,
+    ))
 }
 
 fn read_program<'t>(alloc: Global, tokens: &'t [Token<'t>]) -> Result<Vec<Item>, Stop<'t>>

@@ -14,8 +14,8 @@ mod types;
 mod words;
 
 pub use items::{ReadItemsStop, read_items};
-pub use text::{ReadStop, read};
 use stop::Stop;
+pub use text::{ReadStop, read};
 
 #[cfg(test)]
 mod tests;

@@ -7,7 +7,8 @@ use std::test::Fail;
 /// Whether the bytes are refused so.
 fn is_refused(alloc: Global, bytes: &[u8], code: Code, line: u32, column: u32) -> bool {
     match read(alloc, bytes) {
-        Err(ReadStop::Refused(refusal)) => refusal.code == code && refusal.place == Pos { line, column },
+        Err(ReadStop::Refused(refusal)) => refusal.code == code
+            && refusal.place == Pos { line, column },
         _ => false,
     }
 }
@@ -25,7 +26,8 @@ fn asserts_a_tree(body: &Body, name: &str) -> bool {
 
 #[test]
 fn reads_three_items(rt: HostRuntime) -> Result<(), Fail> {
-    let text = "type F[b : Bool]{l(0), n(2)}\nlang f : F { l() where not b }\nassert-false (is-empty f)";
+    let text =
+        "type F[b : Bool]{l(0), n(2)}\nlang f : F { l() where not b }\nassert-false (is-empty f)";
     match read(rt.alloc(), text.as_bytes()) {
         Ok(program) => {
             assert!(rt; program.items.len() == 3);

@@ -68,15 +68,24 @@ pub fn read(alloc: Global, bytes: &[u8]) -> Result<Program, ReadStop>
     ensures refused { IfRefused result (λ refusal. IsRefusal bytes.now refusal.code refusal.place) }
 {
     if bytes.len() > 1_048_576 {
-        return Err(ReadStop::Refused(Refusal { code: Code::TooLong, place: start() }));
+        return Err(ReadStop::Refused(Refusal {
+            code: Code::TooLong,
+            place: start(),
+        }));
     }
     let text = match text_of(bytes) {
         Ok(text) => text,
-        Err(place) => return Err(ReadStop::Refused(Refusal { code: Code::NotUtf8, place })),
+        Err(place) => return Err(ReadStop::Refused(Refusal {
+            code: Code::NotUtf8,
+            place,
+        })),
     };
     match read_text(alloc, text) {
         Ok(Some(program)) => Ok(program),
-        Ok(None) => Err(ReadStop::Refused(Refusal { code: Code::NotYet, place: start() })),
+        Ok(None) => Err(ReadStop::Refused(Refusal {
+            code: Code::NotYet,
+            place: start(),
+        })),
         Err(Memory) => Err(ReadStop::Memory),
     }
 }
