@@ -1,5 +1,5 @@
 -- What reading a text answers.
-use Rattle.std.specs.Prelude.{◌≡◌, ℕ, ◌≤◌, ◌<◌, List, Option, Some, None, Result, Ok, Err, length}
+use Rattle.std.specs.Prelude.{◌≡◌, ℕ, ◌≤◌, ◌<◌, List, Option, Some, None, Result, Err, length}
 use Rattle.std.specs.Str.{IsUtf8}
 use Rattle.fast_fault.specs.declared.place.Pos.{Pos}
 use Rattle.fast_fault.specs.declared.code.Code.{Code}

@@ -27,6 +27,12 @@ fn start() -> Pos
     Pos { line: 1, column: 1 }
 }
 
+fn refused(code: Code, place: Pos) -> ReadStop
+    ensures { result ≡ ReadStop.Refused (record { code = code; place = place }) }
+{
+    ReadStop::Refused(Refusal { code, place })
+}
+
 /// The text that the bytes are, or the place at which they are no characters.
 fn text_of<'t>(bytes: &'t [u8]) -> Result<&'t str, Pos>
     requires { length bytes.now ≤ 1048576 }
@@ -68,24 +74,15 @@ pub fn read(alloc: Global, bytes: &[u8]) -> Result<Program, ReadStop>
     ensures refused { IfRefused result (λ refusal. IsRefusal bytes.now refusal.code refusal.place) }
 {
     if bytes.len() > 1_048_576 {
-        return Err(ReadStop::Refused(Refusal {
-            code: Code::TooLong,
-            place: start(),
-        }));
+        return Err(refused(Code::TooLong, start()));
     }
     let text = match text_of(bytes) {
         Ok(text) => text,
-        Err(place) => return Err(ReadStop::Refused(Refusal {
-            code: Code::NotUtf8,
-            place,
-        })),
+        Err(place) => return Err(refused(Code::NotUtf8, place)),
     };
     match read_text(alloc, text) {
         Ok(Some(program)) => Ok(program),
-        Ok(None) => Err(ReadStop::Refused(Refusal {
-            code: Code::NotYet,
-            place: start(),
-        })),
+        Ok(None) => Err(refused(Code::NotYet, start())),
         Err(Memory) => Err(ReadStop::Memory),
     }
 }
