@@ -1,8 +1,8 @@
 -- Well-formed programs.
-use Rattle.std.specs.Prelude.{ℕ, ℤ, pos, negsuc, Bool, true, false, ◌&&◌, ◌||◌, ◌==◌, List, [], ◌∷◌, map, length, nat_le, is_some, codes, not}
+use Rattle.std.specs.Prelude.{ℕ, ℤ, pos, negsuc, Bool, true, false, ◌&&◌, ◌||◌, ◌==◌, List, [], ◌∷◌, Option, Some, None, map, length, nat_le, is_some, codes, not}
 use Rattle.std.specs.List.{list_any, list_all}
 use Rattle.std.specs.Option.{option_map_or}
-use Rattle.model_program.specs.Syntax.{Name, Expr, field, truth, negation, FieldItem, TypeItem, Demand, Rule, LangItem, Claim, Item}
+use Rattle.model_program.specs.Syntax.{Name, Expr, field, truth, negation, FieldItem, CtorItem, TypeItem, Demand, Rule, LangItem, Claim, Item}
 use Rattle.model_program.specs.Names.{same_text, types_of, langs_of, claims_of, language_of, find_type, find_lang, find_ctor}
 
 abbrev pub texts_of : List Name → List (List ℕ)
