@@ -24,7 +24,7 @@ pub use laws::{
 };
 pub use model_program::Word;
 use piece::piece;
-use place::place_behind;
+pub use place::place_behind;
 use scan::{front, next_char};
 use std::alloc::Global;
 pub use values::{number_value, quoted_value};

@@ -26,7 +26,7 @@ fn next_place(place: Pos, c: char) -> Pos
 }
 
 /// The place behind the characters of `passed`.
-pub(crate) fn place_behind(from: Pos, passed: &str) -> Pos
+pub fn place_behind(from: Pos, passed: &str) -> Pos
     requires line { from.line + length passed.now < 2 ^ 32 }
     requires column { from.column + 1 + length passed.now < 2 ^ 32 }
     ensures { result ≡ place_behind from (chars passed.now) }

@@ -1,16 +1,16 @@
 -- What each form is made of, where it stands.
 use Rattle.std.specs.Str.Parse.{digits_value}
-use Rattle.std.proofs.Common.{◌≡◌, ℕ, ℤ, pos, Bool, true, false, List, [], ◌∷◌, ◌++◌, refl, sym, ap, ◌∙◌, subst, Option, Some, None, ◌⊎◌, inl, inr, ⊎_elim, arith}
+use Rattle.std.proofs.Common.{◌≡◌, ℕ, ℤ, pos, Bool, true, false, List, [], ◌∷◌, ◌++◌, refl, sym, ap, ◌∙◌, subst, Option, Some, None, ◌⊎◌, inl, inr, arith}
 use Rattle.fast_fault.specs.declared.place.Pos.{Pos}
 use Rattle.model_program.specs.declared.Word.{Word}
-use Rattle.model_program.specs.declared.Word.TheVariants.{TypeWord, Lang, Where, Given, Not, True, False, AssertTrue, AssertFalse, IsEmpty, Id, Number, RoundOpen, RoundClose, SquareOpen, SquareClose, CurlyOpen, CurlyClose, Comma, Bar, Colon}
+use Rattle.model_program.specs.declared.Word.TheVariants.{TypeWord, Lang, Where, Given, Not, True, False, AssertTrue, AssertFalse, IsEmpty, Id, Number, RoundOpen, RoundClose, SquareOpen, SquareClose, CurlyOpen, CurlyClose, Bar, Colon}
 use Rattle.model_program.specs.Lexeme.{Lexeme}
-use Rattle.model_program.specs.Syntax.{Name, Expr, field, truth, negation, FieldItem, CtorItem, TypeItem, Demand, Rule, LangItem, X, named, Claim, empty, AssertItem, Body, sorts, lang, assertion, Item}
-use Rattle.model_program.specs.Reads.{◌⌢◌, Joined, Stops, IsRead, IsRefused, Fails, IsNext, IsOther, StartsIn, GoesOnAs, Nothing, closed, anything}
-use Rattle.model_program.specs.Grammar.{IsWord, IsSign, IsAt, sign, name_of, IsName, IsNumber, IsDigits, IsComma, comma, Further, Items, Any, Many, IsAtom, IsE, IsDemand, AreVars, IsGuard, where_word, IsGiven, IsRule, rule_words, IsCtor, sort_text, IsSort, IsField, AreFields, AreFieldsOrNone, square_word, AreCtors, IsTypeItem, AreRules, IsLangItem, IsX, IsClaim, assert_word, IsBody, IsItem, IsProgram}
-use Rattle.model_program.proofs.Forms.{◌⊗◌, Ends, Makes, HasSample, AllStartIn, as_read, as_fails, then_read, then_fails, first_fails, sample_pair, sample_as, remade, alternative, stands, left_out, ends_left_out, ends_starting, ends_closed, starts_joined, starts_pair, starts_append, starts_wider, starts_next, stops_other, stops_both, stops_other_than, stops_of, other_than, elsewhere}
-use Rattle.model_program.proofs.Words.{sample_word, sample_sign, sample_at, sample_token, word_starts, sign_starts, word_other}
-use Rattle.model_program.proofs.Lists.{IsPartWay, IsListed, comma_listed, tail_of, sample_tail, sample_any, sample_many, many_make, many_ends, many_end, items_to, any_to, opened, items_make}
+use Rattle.model_program.specs.Syntax.{Name, Expr, field, truth, negation, FieldItem, CtorItem, TypeItem, Demand, Rule, LangItem, X, named, Claim, empty, Body, sorts, lang, assertion, Item}
+use Rattle.model_program.specs.Reads.{◌⌢◌, Stops, IsRead, IsRefused, Fails, IsNext, IsOther, StartsIn, GoesOnAs, closed, anything}
+use Rattle.model_program.specs.Grammar.{IsWord, IsSign, IsAt, sign, name_of, IsName, IsNumber, IsDigits, IsComma, comma, Further, Many, IsAtom, IsE, IsDemand, AreVars, IsGuard, where_word, IsGiven, IsRule, rule_words, IsCtor, sort_text, IsSort, IsField, AreFields, AreFieldsOrNone, square_word, AreCtors, IsTypeItem, AreRules, IsLangItem, IsX, IsClaim, assert_word, IsBody, IsItem, IsProgram}
+use Rattle.model_program.proofs.Forms.{◌⊗◌, Ends, Makes, HasSample, AllStartIn, as_read, as_fails, then_read, then_fails, first_fails, sample_pair, sample_as, remade, alternative, stands, left_out, ends_left_out, ends_starting, ends_closed, starts_joined, starts_append, starts_wider, starts_next, stops_other, stops_both, stops_other_than, other_than, elsewhere}
+use Rattle.model_program.proofs.Words.{sample_word, sample_sign, sample_token, word_starts, sign_starts, word_other}
+use Rattle.model_program.proofs.Lists.{IsPartWay, IsListed, comma_listed, tail_of, sample_tail, sample_any, sample_many, many_make, many_ends, many_end, items_to, items_make}
 
 -- Names, sorts and numbers.
 

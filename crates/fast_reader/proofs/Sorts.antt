@@ -1,5 +1,5 @@
 -- The names of sorts.
-use Rattle.std.proofs.Common.{◌≡◌, ℕ, Bool, true, false, List, [], ◌∷◌, refl, sym, ap, ◌∙◌, subst}
+use Rattle.std.proofs.Common.{◌≡◌, ℕ, Bool, true, false, List, refl, sym, ap, ◌∙◌, subst}
 use lib.Utf8.{encode}
 use Rattle.std.specs.Prelude.{codes}
 use Rattle.std.specs.Str.{chars, IsUtf8, bytes_eq, encode_utf8_all}

@@ -9,7 +9,13 @@ mod items;
 mod numbers;
 mod rules;
 mod stop;
+mod text;
 mod types;
 mod words;
 
-pub use stop::Stop;
+pub use items::{ReadItemsStop, read_items};
+use stop::Stop;
+pub use text::{ReadStop, read};
+
+#[cfg(test)]
+mod tests;

@@ -8,7 +8,7 @@ ghost use Rattle.model_program.specs.Grammar.{IsNumber, IsDigits};
 ghost use Rattle.fast_reader.specs.Results.{lexemes, Reads};
 
 use crate::Stop;
-use crate::words::{next_if};
+use crate::words::next_if;
 use fast_lex::{Token, Word};
 
 /// The first character, and what follows it.

@@ -9,11 +9,14 @@ ghost use Rattle.fast_syntax.specs.View.{plain_name, plain_demand, plain_guard, 
 use crate::Stop;
 use crate::expressions::read_expr;
 use crate::words::{is_next, read_name, read_sign, skip_comma};
-use fast_syntax::{Demand, Expr, Name, Rule};
 use fast_lex::{Token, Word};
+use fast_syntax::{Demand, Expr, Name, Rule};
 use std::alloc::Global;
 
-fn read_demand<'t>(alloc: Global, tokens: &'t [Token<'t>]) -> Result<(Demand, &'t [Token<'t>]), Stop<'t>>
+fn read_demand<'t>(
+    alloc: Global,
+    tokens: &'t [Token<'t>],
+) -> Result<(Demand, &'t [Token<'t>]), Stop<'t>>
     ensures { Reads IsDemand closed tokens.now (λ x. (plain_demand x.0, lexemes x.1.now)) result }
 {
     let rest = read_sign(tokens, Word::RoundOpen)?;
@@ -23,7 +26,10 @@ fn read_demand<'t>(alloc: Global, tokens: &'t [Token<'t>]) -> Result<(Demand, &'
     Ok((Demand { language, child }, rest))
 }
 
-fn read_vars<'t>(alloc: Global, tokens: &'t [Token<'t>]) -> Result<(Vec<Name>, &'t [Token<'t>]), Stop<'t>>
+fn read_vars<'t>(
+    alloc: Global,
+    tokens: &'t [Token<'t>],
+) -> Result<(Vec<Name>, &'t [Token<'t>]), Stop<'t>>
     ensures { Reads AreVars closed tokens.now (λ x. (map plain_name x.0.items, lexemes x.1.now)) result }
 {
     let start = read_sign(tokens, Word::RoundOpen)?;
@@ -43,7 +49,10 @@ fn read_vars<'t>(alloc: Global, tokens: &'t [Token<'t>]) -> Result<(Vec<Name>, &
     Ok((all, rest))
 }
 
-fn read_guard<'t>(alloc: Global, tokens: &'t [Token<'t>]) -> Result<(Option<Expr>, &'t [Token<'t>]), Stop<'t>>
+fn read_guard<'t>(
+    alloc: Global,
+    tokens: &'t [Token<'t>],
+) -> Result<(Option<Expr>, &'t [Token<'t>]), Stop<'t>>
     ensures { Reads IsGuard where_word tokens.now (λ x. (plain_guard x.0, lexemes x.1.now)) result }
 {
     if !is_next(tokens, Word::Where) {
@@ -54,7 +63,10 @@ fn read_guard<'t>(alloc: Global, tokens: &'t [Token<'t>]) -> Result<(Option<Expr
     Ok((Some(guard), rest))
 }
 
-fn read_given<'t>(alloc: Global, tokens: &'t [Token<'t>]) -> Result<(Vec<Demand>, &'t [Token<'t>]), Stop<'t>>
+fn read_given<'t>(
+    alloc: Global,
+    tokens: &'t [Token<'t>],
+) -> Result<(Vec<Demand>, &'t [Token<'t>]), Stop<'t>>
     ensures { Reads IsGiven rule_words tokens.now (λ x. (map plain_demand x.0.items, lexemes x.1.now)) result }
 {
     let mut all = Vec::new(alloc);
@@ -72,17 +84,31 @@ fn read_given<'t>(alloc: Global, tokens: &'t [Token<'t>]) -> Result<(Vec<Demand>
     Ok((all, rest))
 }
 
-fn read_rule<'t>(alloc: Global, tokens: &'t [Token<'t>]) -> Result<(Rule, &'t [Token<'t>]), Stop<'t>>
+fn read_rule<'t>(
+    alloc: Global,
+    tokens: &'t [Token<'t>],
+) -> Result<(Rule, &'t [Token<'t>]), Stop<'t>>
     ensures { Reads IsRule rule_words tokens.now (λ x. (plain_rule x.0, lexemes x.1.now)) result }
 {
     let (ctor, rest) = read_name(alloc, tokens)?;
     let (vars, rest) = read_vars(alloc, rest)?;
     let (guard, rest) = read_guard(alloc, rest)?;
     let (given, rest) = read_given(alloc, rest)?;
-    Ok((Rule { ctor, vars, guard, given }, rest))
+    Ok((
+        Rule {
+            ctor,
+            vars,
+            guard,
+            given,
+        },
+        rest,
+    ))
 }
 
-pub(crate) fn read_rules<'t>(alloc: Global, tokens: &'t [Token<'t>]) -> Result<(Vec<Rule>, &'t [Token<'t>]), Stop<'t>>
+pub(crate) fn read_rules<'t>(
+    alloc: Global,
+    tokens: &'t [Token<'t>],
+) -> Result<(Vec<Rule>, &'t [Token<'t>]), Stop<'t>>
     ensures { Reads AreRules closed tokens.now (λ x. (map plain_rule x.0.items, lexemes x.1.now)) result }
 {
     let start = read_sign(tokens, Word::CurlyOpen)?;

@@ -2,8 +2,8 @@
 
 ghost use Rattle.std.specs.Prelude.{◌≡◌};
 
-use fast_lex::Token;
 use fast_fault::Memory;
+use fast_lex::Token;
 use std::alloc::{AllocError, AllocFailed};
 
 /// Memory ran out, or the tokens from here on are refused.

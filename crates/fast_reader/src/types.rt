@@ -10,8 +10,8 @@ ghost use Rattle.fast_syntax.specs.View.{plain_name, plain_field, plain_ctor, pl
 use crate::Stop;
 use crate::numbers::read_number;
 use crate::words::{is_next, read_name, read_sign, read_word, skip_comma};
-use fast_syntax::{CtorItem, FieldItem, Name, Text, TypeItem};
 use fast_lex::{Token, Word};
+use fast_syntax::{CtorItem, FieldItem, Name, Text, TypeItem};
 use std::alloc::Global;
 
 /// The sort's name, with a capital.
@@ -26,15 +26,27 @@ fn sort_name<'t>(text: &'t str) -> &'t str
     }
 }
 
-fn read_sort<'t>(alloc: Global, tokens: &'t [Token<'t>]) -> Result<(Name, &'t [Token<'t>]), Stop<'t>>
+fn read_sort<'t>(
+    alloc: Global,
+    tokens: &'t [Token<'t>],
+) -> Result<(Name, &'t [Token<'t>]), Stop<'t>>
     ensures { Reads IsSort closed tokens.now (λ x. (plain_name x.0, lexemes x.1.now)) result }
 {
     let (id, rest) = read_word(tokens, Word::Id)?;
     let text = Text::of(alloc, sort_name(id.text))?;
-    Ok((Name { text, place: id.place }, rest))
+    Ok((
+        Name {
+            text,
+            place: id.place,
+        },
+        rest,
+    ))
 }
 
-fn read_field<'t>(alloc: Global, tokens: &'t [Token<'t>]) -> Result<(FieldItem, &'t [Token<'t>]), Stop<'t>>
+fn read_field<'t>(
+    alloc: Global,
+    tokens: &'t [Token<'t>],
+) -> Result<(FieldItem, &'t [Token<'t>]), Stop<'t>>
     ensures { Reads IsField closed tokens.now (λ x. (plain_field x.0, lexemes x.1.now)) result }
 {
     let (name, rest) = read_name(alloc, tokens)?;
@@ -43,7 +55,10 @@ fn read_field<'t>(alloc: Global, tokens: &'t [Token<'t>]) -> Result<(FieldItem, 
     Ok((FieldItem { name, sort }, rest))
 }
 
-fn read_fields<'t>(alloc: Global, tokens: &'t [Token<'t>]) -> Result<(Vec<FieldItem>, &'t [Token<'t>]), Stop<'t>>
+fn read_fields<'t>(
+    alloc: Global,
+    tokens: &'t [Token<'t>],
+) -> Result<(Vec<FieldItem>, &'t [Token<'t>]), Stop<'t>>
     ensures { Reads AreFields closed tokens.now (λ x. (map plain_field x.0.items, lexemes x.1.now)) result }
 {
     let start = read_sign(tokens, Word::SquareOpen)?;
@@ -63,7 +78,10 @@ fn read_fields<'t>(alloc: Global, tokens: &'t [Token<'t>]) -> Result<(Vec<FieldI
     Ok((all, rest))
 }
 
-fn read_fields_or_none<'t>(alloc: Global, tokens: &'t [Token<'t>]) -> Result<(Vec<FieldItem>, &'t [Token<'t>]), Stop<'t>>
+fn read_fields_or_none<'t>(
+    alloc: Global,
+    tokens: &'t [Token<'t>],
+) -> Result<(Vec<FieldItem>, &'t [Token<'t>]), Stop<'t>>
     ensures { Reads AreFieldsOrNone square_word tokens.now (λ x. (map plain_field x.0.items, lexemes x.1.now)) result }
 {
     if !is_next(tokens, Word::SquareOpen) {
@@ -73,7 +91,10 @@ fn read_fields_or_none<'t>(alloc: Global, tokens: &'t [Token<'t>]) -> Result<(Ve
     Ok((fields, rest))
 }
 
-fn read_ctor<'t>(alloc: Global, tokens: &'t [Token<'t>]) -> Result<(CtorItem, &'t [Token<'t>]), Stop<'t>>
+fn read_ctor<'t>(
+    alloc: Global,
+    tokens: &'t [Token<'t>],
+) -> Result<(CtorItem, &'t [Token<'t>]), Stop<'t>>
     ensures { Reads IsCtor closed tokens.now (λ x. (plain_ctor x.0, lexemes x.1.now)) result }
 {
     let (name, rest) = read_name(alloc, tokens)?;
@@ -83,7 +104,10 @@ fn read_ctor<'t>(alloc: Global, tokens: &'t [Token<'t>]) -> Result<(CtorItem, &'
     Ok((CtorItem { name, rank }, rest))
 }
 
-fn read_ctors<'t>(alloc: Global, tokens: &'t [Token<'t>]) -> Result<(Vec<CtorItem>, &'t [Token<'t>]), Stop<'t>>
+fn read_ctors<'t>(
+    alloc: Global,
+    tokens: &'t [Token<'t>],
+) -> Result<(Vec<CtorItem>, &'t [Token<'t>]), Stop<'t>>
     ensures { Reads AreCtors closed tokens.now (λ x. (map plain_ctor x.0.items, lexemes x.1.now)) result }
 {
     let start = read_sign(tokens, Word::CurlyOpen)?;
@@ -99,11 +123,21 @@ fn read_ctors<'t>(alloc: Global, tokens: &'t [Token<'t>]) -> Result<(Vec<CtorIte
     Ok((all, rest))
 }
 
-pub(crate) fn read_type_item<'t>(alloc: Global, tokens: &'t [Token<'t>]) -> Result<(TypeItem, &'t [Token<'t>]), Stop<'t>>
+pub(crate) fn read_type_item<'t>(
+    alloc: Global,
+    tokens: &'t [Token<'t>],
+) -> Result<(TypeItem, &'t [Token<'t>]), Stop<'t>>
     ensures { Reads IsTypeItem closed tokens.now (λ x. (plain_type x.0, lexemes x.1.now)) result }
 {
     let (name, rest) = read_name(alloc, tokens)?;
     let (fields, rest) = read_fields_or_none(alloc, rest)?;
     let (ctors, rest) = read_ctors(alloc, rest)?;
-    Ok((TypeItem { name, fields, ctors }, rest))
+    Ok((
+        TypeItem {
+            name,
+            fields,
+            ctors,
+        },
+        rest,
+    ))
 }

@@ -8,8 +8,8 @@ ghost use Rattle.fast_reader.specs.Results.{lexemes, Reads};
 ghost use Rattle.fast_syntax.specs.View.{plain_name};
 
 use crate::Stop;
-use fast_syntax::{Name, Text};
 use fast_lex::{Token, Word};
+use fast_syntax::{Name, Text};
 use std::alloc::Global;
 
 fn is_same(a: Word, b: Word) -> bool
@@ -31,7 +31,10 @@ pub(crate) fn is_next(tokens: &[Token], word: Word) -> bool
 }
 
 /// The next token and those behind it, where it is the word.
-pub(crate) fn next_if<'t>(tokens: &'t [Token<'t>], word: Word) -> Option<(Token<'t>, &'t [Token<'t>])>
+pub(crate) fn next_if<'t>(
+    tokens: &'t [Token<'t>],
+    word: Word,
+) -> Option<(Token<'t>, &'t [Token<'t>])>
     ensures { MatchOption result (IsOther word (lexemes tokens.now)) (λ x. (lexemes tokens.now ≡ lexeme x.0 ∷ lexemes x.1.now) × (x.0.word ≡ word)) }
 {
     match tokens.split_first() {
@@ -40,7 +43,10 @@ pub(crate) fn next_if<'t>(tokens: &'t [Token<'t>], word: Word) -> Option<(Token<
     }
 }
 
-pub(crate) fn read_word<'t>(tokens: &'t [Token<'t>], word: Word) -> Result<(Token<'t>, &'t [Token<'t>]), Stop<'t>>
+pub(crate) fn read_word<'t>(
+    tokens: &'t [Token<'t>],
+    word: Word,
+) -> Result<(Token<'t>, &'t [Token<'t>]), Stop<'t>>
     ensures { Reads (IsWord word) closed tokens.now (λ x. (lexeme x.0, lexemes x.1.now)) result }
 {
     match next_if(tokens, word) {
@@ -49,19 +55,31 @@ pub(crate) fn read_word<'t>(tokens: &'t [Token<'t>], word: Word) -> Result<(Toke
     }
 }
 
-pub(crate) fn read_sign<'t>(tokens: &'t [Token<'t>], word: Word) -> Result<&'t [Token<'t>], Stop<'t>>
+pub(crate) fn read_sign<'t>(
+    tokens: &'t [Token<'t>],
+    word: Word,
+) -> Result<&'t [Token<'t>], Stop<'t>>
     ensures { Reads (IsSign word) closed tokens.now (λ rest. (tt, lexemes rest.now)) result }
 {
     let (_, rest) = read_word(tokens, word)?;
     Ok(rest)
 }
 
-pub(crate) fn read_name<'t>(alloc: Global, tokens: &'t [Token<'t>]) -> Result<(Name, &'t [Token<'t>]), Stop<'t>>
+pub(crate) fn read_name<'t>(
+    alloc: Global,
+    tokens: &'t [Token<'t>],
+) -> Result<(Name, &'t [Token<'t>]), Stop<'t>>
     ensures { Reads IsName closed tokens.now (λ x. (plain_name x.0, lexemes x.1.now)) result }
 {
     let (id, rest) = read_word(tokens, Word::Id)?;
     let text = Text::of(alloc, id.text)?;
-    Ok((Name { text, place: id.place }, rest))
+    Ok((
+        Name {
+            text,
+            place: id.place,
+        },
+        rest,
+    ))
 }
 
 pub(crate) fn skip_comma<'t>(tokens: &'t [Token<'t>]) -> &'t [Token<'t>]

@@ -1,5 +1,5 @@
 -- The program tree of the code as plain data.
-use Rattle.std.specs.Prelude.{ℕ, ℤ, List, map, Option, Some, None}
+use Rattle.std.specs.Prelude.{List, map, Option, Some, None}
 use Rattle.fast_fault.specs.declared.place.Pos.{Pos}
 use Rattle.fast_syntax.specs.declared.Name.{Name}
 use Rattle.fast_syntax.specs.declared.Program.{Program}

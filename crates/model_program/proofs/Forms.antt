@@ -1,8 +1,8 @@
 -- How what was read of the parts of a form joins into what was read of the whole.
-use Rattle.std.proofs.Common.{◌≡◌, List, [], ◌∷◌, ◌++◌, refl, sym, ap, ◌∙◌, subst, append_assoc, append-nil, Option, Some, None, ◌⊎◌, inl, inr, ⊎_elim}
+use Rattle.std.proofs.Common.{◌≡◌, List, [], ◌∷◌, ◌++◌, refl, sym, ap, ◌∙◌, subst, append_assoc, Option, Some, None, ◌⊎◌, inl, inr}
 use Rattle.model_program.specs.declared.Word.{Word}
 use Rattle.model_program.specs.Lexeme.{Lexeme}
-use Rattle.model_program.specs.Reads.{◌⌢◌, Joined, GoesOnAs, Stops, IsRead, IsRefused, Why, Fails, IsNext, IsOther, StartsIn, Nothing, closed}
+use Rattle.model_program.specs.Reads.{◌⌢◌, GoesOnAs, Stops, IsRead, IsRefused, Fails, IsNext, IsOther, StartsIn, closed}
 
 -- a pair of values, spelled one behind the other
 infixr 30 ◌⊗◌

@@ -1,11 +1,11 @@
 -- Lists of items, with separators or without, to the token that ends them.
-use Rattle.std.proofs.Common.{◌≡◌, List, [], ◌∷◌, ◌++◌, refl, sym, ap, ◌∙◌, subst, append_assoc, append-nil, Option, Some, None, ◌⊎◌, inl, inr, ⊎_elim}
+use Rattle.std.proofs.Common.{◌≡◌, List, [], ◌∷◌, ◌++◌, refl, sym, ap, ◌∙◌, subst, append_assoc, append-nil, Option, ◌⊎◌, inl, inr}
 use Rattle.model_program.specs.declared.Word.{Word}
 use Rattle.model_program.specs.declared.Word.TheVariants.{Id, Comma}
 use Rattle.model_program.specs.Lexeme.{Lexeme}
-use Rattle.model_program.specs.Reads.{◌⌢◌, Joined, GoesOnAs, Stops, IsRead, Fails, IsNext, IsOther, StartsIn, Nothing, closed}
-use Rattle.model_program.specs.Grammar.{IsWord, IsSign, sign, IsComma, comma, Further, Items, Any, Many}
-use Rattle.model_program.proofs.Forms.{◌⊗◌, Ends, Makes, HasSample, AllStartIn, as_read, as_fails, then_read, then_fails, first_fails, ends_closed, regroup, starts_joined, starts_append, starts_wider, starts_pair, stops_next, stops_other, stops_of, sample_pair, other_than, left_out, stands, alternative, remade, elsewhere, ends_starting}
+use Rattle.model_program.specs.Reads.{◌⌢◌, Stops, IsRead, Fails, IsNext, IsOther, StartsIn, Nothing, closed}
+use Rattle.model_program.specs.Grammar.{IsSign, sign, IsComma, comma, Further, Items, Any, Many}
+use Rattle.model_program.proofs.Forms.{◌⊗◌, Ends, Makes, HasSample, AllStartIn, as_read, as_fails, then_read, then_fails, first_fails, ends_closed, regroup, starts_joined, starts_append, starts_wider, starts_pair, stops_next, stops_other, sample_pair, other_than, left_out, stands, alternative, remade, ends_starting}
 use Rattle.model_program.proofs.Words.{sign_starts, sample_sign, word_other}
 
 -- what is read of what is left is read of the whole
@@ -202,9 +202,9 @@ comma_listed {A} form close starts no_comma no_name = record {
 
     apart : (x : A) (ts : List Lexeme) → (IsComma tt ⌢ form x) ts → StartsIn (other_than close) ts
     apart x ts joined = elim joined.at_front [
-        | inl none ↦ subst (λ (l : List Lexeme). StartsIn (other_than close) l) (sym (joined.split ∙ ap (λ l. l ++ joined.back) none)) (item x joined.back joined.at_back)
-        | inr is_sign ↦ subst (λ (l : List Lexeme). StartsIn (other_than close) l) (sym joined.split) (starts_append (other_than close) joined.front joined.back (word_other close Comma is_sign.0 joined.front (λ e. no_comma (sym e)) is_sign.1))
-      ]
+      | inl none ↦ subst (λ (l : List Lexeme). StartsIn (other_than close) l) (sym (joined.split ∙ ap (λ l. l ++ joined.back) none)) (item x joined.back joined.at_back)
+      | inr is_sign ↦ subst (λ (l : List Lexeme). StartsIn (other_than close) l) (sym joined.split) (starts_append (other_than close) joined.front joined.back (word_other close Comma is_sign.0 joined.front (λ e. no_comma (sym e)) is_sign.1))
+    ]
 
 -- A list without separators, of items that end by themselves: where a word comes by which it goes on, an item comes.
 pub many_make : {A : Type 0} (form : A → List Lexeme → Type 0) {goes_on : Word → Type 0} (tokens : List Lexeme) → StartsIn goes_on tokens → Makes (form ⊗ Many form) (Many form) (λ v. v.0 ∷ v.1) goes_on tokens

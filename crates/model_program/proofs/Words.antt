@@ -1,10 +1,10 @@
 -- Forms of one token.
-use Rattle.std.proofs.Common.{◌≡◌, ℕ, List, [], ◌∷◌, ◌++◌, refl, sym, ap, ◌∙◌, subst, ◌⊎◌, inl, inr, ⊎_elim}
+use Rattle.std.proofs.Common.{◌≡◌, List, [], ◌∷◌, ◌++◌, refl, sym, ap, ◌∙◌, subst, ◌⊎◌, inl, inr}
 use Rattle.model_program.specs.declared.Word.{Word}
 use Rattle.model_program.specs.declared.Word.TheVariants.{Comma}
 use Rattle.model_program.specs.Lexeme.{Lexeme}
-use Rattle.model_program.specs.Reads.{GoesOnAs, Stops, IsRead, IsRefused, IsNext, IsOther, StartsIn, Nothing, closed}
-use Rattle.model_program.specs.Grammar.{IsWord, IsSign, IsAt, IsComma, comma, sign}
+use Rattle.model_program.specs.Reads.{IsRead, IsRefused, IsNext, IsOther, StartsIn, closed}
+use Rattle.model_program.specs.Grammar.{IsWord, IsSign, IsAt, IsComma, comma}
 use Rattle.model_program.proofs.Forms.{HasSample, AllStartIn, Makes, as_read, remade, stands, left_out, stops_other, starts_next, elsewhere, other_than, sample_as}
 
 -- a token of a word

@@ -6,7 +6,7 @@ use Rattle.fast_fault.specs.declared.place.Pos.{Pos}
 use Rattle.model_program.specs.declared.Word.{Word}
 use Rattle.model_program.specs.declared.Word.TheVariants.{TypeWord, Lang, Where, Given, Not, True, False, AssertTrue, AssertFalse, IsEmpty, Id, Number, RoundOpen, RoundClose, SquareOpen, SquareClose, CurlyOpen, CurlyClose, Comma, Bar, Colon}
 use Rattle.model_program.specs.Lexeme.{Lexeme}
-use Rattle.model_program.specs.Syntax.{Name, Expr, field, truth, negation, FieldItem, CtorItem, TypeItem, Demand, Rule, LangItem, X, named, Claim, empty, AssertItem, Body, sorts, lang, assertion, Item}
+use Rattle.model_program.specs.Syntax.{Name, Expr, field, truth, negation, FieldItem, CtorItem, TypeItem, Demand, Rule, LangItem, X, named, Claim, empty, Body, sorts, lang, assertion, Item}
 use Rattle.model_program.specs.Reads.{◌⌢◌, Nothing}
 
 -- one token

@@ -1,4 +1,4 @@
-use Rattle.std.proofs.Common.{map, sym, ap, arith, length, ◌∙◌, ◌++◌, ◌∷◌, [], false-eqb}
+use Rattle.std.proofs.Common.{map, sym, ap, ◌∙◌, ◌++◌, ◌∷◌, [], false-eqb}
 use Rattle.std.proofs.lemmas.List.{map-append}
 use Rattle.std.proofs.lemmas.Bool.{eqb-true}
 use Rattle.model_program.specs.Reads.{anything}

@@ -1,4 +1,4 @@
-use Rattle.std.proofs.Common.{map, sym, ap, refl, ◌∙◌, ◌++◌, ◌∷◌, [], inl, inr}
+use Rattle.std.proofs.Common.{map, sym, ap, refl, ◌∙◌, ◌++◌, ◌∷◌, [], inr}
 use Rattle.std.proofs.lemmas.List.{map-append}
 use Rattle.model_program.specs.declared.Word.TheVariants.{RoundOpen}
 use Rattle.model_program.specs.Grammar.{IsDemand, rule_words}

@@ -5,4 +5,3 @@ use Rattle.fast_reader.proofs.words.read_name.Goals as goal
 
 pub returns-in_err-id : goal.returns-in_err-id
 returns-in_err-id c = exit _ _ _ c.from_residual.result c.from_residual.ensures.1 (as_fails _ (name_makes _ _) c.in_err-id.ensures)
-

@@ -1,4 +1,4 @@
-use Rattle.model_program.proofs.Forms.{as_fails, as_read}
+use Rattle.model_program.proofs.Forms.{as_fails}
 use Rattle.model_program.proofs.Words.{sign_makes}
 use Rattle.fast_reader.proofs.Exits.{exit}
 use Rattle.fast_reader.proofs.words.read_sign.Goals as goal

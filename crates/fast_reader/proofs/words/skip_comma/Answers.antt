@@ -1,4 +1,4 @@
-use Rattle.model_program.proofs.Words.{comma_stands, comma_left_out}
+use Rattle.model_program.proofs.Words.{comma_stands}
 use Rattle.fast_reader.proofs.words.skip_comma.Goals as goal
 
 pub returns : goal.returns
