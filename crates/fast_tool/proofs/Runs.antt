@@ -13,7 +13,7 @@ use Rattle.model_program.specs.Syntax.{Item}
 use Rattle.model_report.specs.Words.{Form, run_form, file_of, IsForm}
 use Rattle.model_report.specs.Outcomes.{Outcome, silent, IsOutcome, AreOutcomes, line_of, lines_of, says_fail}
 use Rattle.model_report.specs.Report.{IsProgram, IsRefused, refusal_line, usage_line, IsFinished, IsUnfinished, FormReport, UsageReport, IsReport, Reports}
-use Rattle.fast_tool.specs.Runs.{IsFault, EndsWith, Past, IsBegun, AreLines, ItemsReport, IsProgramOf, TextAnswer}
+use Rattle.fast_tool.specs.Runs.{IsFault, EndsWith, Past, IsBegun, AreLines, ItemsReport, IsDone, IsCutOff, IsStopped, IsProgramOf, TextAnswer}
 
 pub appends_both : (before middle after : Option (List ℕ)) (xs ys : List ℕ) → Appends before middle xs → Appends middle after ys → Appends before after (xs ++ ys)
 appends_both None middle after xs ys a b = tt
@@ -53,17 +53,21 @@ begin items before = ([], tt, refl, appends_none before)
 
 pub step : (items : List Item) (k : ℕ) (failed : Bool) (before now after : Option (List ℕ)) (item : Item) (outcome : Outcome) → Past items k failed before now → k < length items → item ≡ get_or items k item → IsOutcome items item outcome → Appends now after (line_of outcome)
     → Past items (k + 1) (failed || says_fail outcome) before after
-step items k failed before now after item outcome (outcomes, so_far, fails, a) h e is b =
-    (outcomes ++ outcome ∷ [], outcomes_next items k outcomes item outcome h e so_far is, fails_more outcomes outcome ∙ ap (λ f. f || says_fail outcome) fails,
-    subst (λ z. Appends before after z) (sym (lines_more outcomes outcome)) (appends_both before now after _ _ a b))
+step items k failed before now after item outcome (outcomes, so_far, fails, a) h e is b = (
+  outcomes ++ outcome ∷ [],
+  outcomes_next items k outcomes item outcome h e so_far is,
+  fails_more outcomes outcome ∙ ap (λ f. f || says_fail outcome) fails,
+  subst (λ z. Appends before after z) (sym (lines_more outcomes outcome)) (appends_both before now after _ _ a b),
+)
 
 -- the front of a line, behind the lines of the first items
 pub begun : (items : List Item) (k : ℕ) (failed : Bool) (before now after : Option (List ℕ)) (item : Item) (outcome : Outcome) → Past items k failed before now → k < length items → item ≡ get_or items k item → IsOutcome items item outcome → AppendsPrefix now after (line_of outcome)
     → (report : List ℕ) × IsBegun items report × Appends before after report
-begun items k failed before now after item outcome (outcomes, so_far, fails, a) h e is (front, back, joined, b) =
-    (lines_of outcomes ++ front,
-    (back, k + 1, outcomes ++ outcome ∷ [], outcomes_next items k outcomes item outcome h e so_far is, append_assoc (lines_of outcomes) front back ∙ ap (λ z. lines_of outcomes ++ z) joined ∙ sym (lines_more outcomes outcome)),
-    appends_both before now after _ _ a b)
+begun items k failed before now after item outcome (outcomes, so_far, fails, a) h e is (front, back, joined, b) = (
+  lines_of outcomes ++ front,
+  (back, k + 1, outcomes ++ outcome ∷ [], outcomes_next items k outcomes item outcome h e so_far is, append_assoc (lines_of outcomes) front back ∙ ap (λ z. lines_of outcomes ++ z) joined ∙ sym (lines_more outcomes outcome)),
+  appends_both before now after _ _ a b,
+)
 
 fault_begun : (items : List Item) (report : List ℕ) (status : Status) → IsFault status → IsBegun items report → ItemsReport items status report
 fault_begun items report status (inl e) u = rw e u
@@ -79,6 +83,17 @@ stops items k failed before now after item outcome status past h e is front faul
 pub no_memory : (items : List Item) (k : ℕ) (failed : Bool) (before now : Option (List ℕ)) → Past items k failed before now → Reports (ItemsReport items) Memory before now
 no_memory items k failed before now (outcomes, so_far, fails, a) = (lines_of outcomes, ([], k, outcomes, so_far, append-nil (lines_of outcomes)), a)
 
+-- an item more, done or stopped
+pub item_done : (items : List Item) (k : ℕ) (failed fails : Bool) (before now after : Option (List ℕ)) (item : Item) → Past items k failed before now → k < length items → item ≡ get_or items k item → IsDone items item now after fails → Past items (k + 1) (failed || fails) before after
+item_done items k failed fails before now after item past h e done =
+    subst (λ f. Past items (k + 1) (failed || f) before after) (sym done.fails_is) (step items k failed before now after item done.outcome past h e done.is done.appended)
+
+pub item_stopped : (items : List Item) (k : ℕ) (failed : Bool) (before now after : Option (List ℕ)) (item : Item) (status : Status) → Past items k failed before now → k < length items → item ≡ get_or items k item → IsStopped items item now after status
+    → Reports (ItemsReport items) status before after
+item_stopped items k failed before now after item status past h e (inl (is_memory, same)) =
+    rw is_memory (subst (λ z. Reports (ItemsReport items) Memory before z) (sym same) (no_memory items k failed before now past))
+item_stopped items k failed before now after item status past h e (inr cut) = stops items k failed before now after item cut.outcome status past h e cut.is cut.front cut.fault
+
 take_all : (items : List Item) → take (length items) items ≡ items
 take_all [] = refl
 take_all (x ∷ xs) = ap (λ ys. x ∷ ys) (take_all xs)
@@ -89,7 +104,7 @@ holds items before now (outcomes, so_far, fails, a) = (lines_of outcomes, (outco
 pub fails_some : (items : List Item) (before now : Option (List ℕ)) → Past items (length items) true before now → Reports (ItemsReport items) Fails before now
 fails_some items before now (outcomes, so_far, fails, a) = (lines_of outcomes, (outcomes, subst (λ (xs : List Item). AreOutcomes items xs outcomes) (take_all items) so_far, sym fails, refl), a)
 
-pub ruleset on_runs = (begin, no_memory, holds, fails_some)
+pub ruleset on_runs = (begin, holds, fails_some)
 
 -- a form over its text, told or not
 begun_unfinished : (form : Form) (bytes : List ℕ) (items : List Item) (report : List ℕ) → IsProgram bytes items → IsBegun items report → IsUnfinished form bytes report

@@ -5,8 +5,9 @@ use Rattle.fast_fault.specs.declared.status.Status.{Status}
 use Rattle.fast_fault.specs.declared.status.Status.TheVariants.{Hold, Fails, SinkFault, Memory}
 use Rattle.fast_fault.specs.Written.{Appends, AppendsPrefix}
 use Rattle.model_program.specs.Syntax.{Item}
-use Rattle.model_report.specs.Outcomes.{Outcome, AreOutcomes, lines_of, says_fail}
-use Rattle.model_report.specs.Report.{IsProgram, FormReport, Reports}
+use Rattle.model_report.specs.Outcomes.{Outcome, IsOutcome, AreOutcomes, line_of, lines_of, says_fail}
+use Rattle.model_report.specs.Report.{IsProgram, is_built, FormReport, Reports}
+use Rattle.model_program.specs.WellFormed.{is_well_formed}
 use Rattle.model_report.specs.Words.{Form, file_of}
 
 abbrev pub IsFault : Status → Type 0
@@ -15,6 +16,23 @@ IsFault status = (status ≡ SinkFault) ⊎ (status ≡ Memory)
 -- a line was put whole, with the status that was to end the report, or a front of it, with a fault
 abbrev pub EndsWith : Option (List ℕ) → Option (List ℕ) → List ℕ → Status → Status → Type 0
 EndsWith before after line status answer = ((answer ≡ status) × Appends before after line) ⊎ (IsFault answer × AppendsPrefix before after line)
+
+-- an item's line was put, if it has one
+pub record IsDone (items : List Item) (item : Item) (before after : Option (List ℕ)) (fails : Bool) : Type 0 where
+  pub outcome : Outcome
+  pub is : IsOutcome items item outcome
+  pub fails_is : fails ≡ says_fail outcome
+  pub appended : Appends before after (line_of outcome)
+
+-- memory ran out before the item's line, or a fault or want of memory left a front of it
+pub record IsCutOff (items : List Item) (item : Item) (before after : Option (List ℕ)) (status : Status) : Type 0 where
+  pub outcome : Outcome
+  pub is : IsOutcome items item outcome
+  pub front : AppendsPrefix before after (line_of outcome)
+  pub fault : IsFault status
+
+abbrev pub IsStopped : List Item → Item → Option (List ℕ) → Option (List ℕ) → Status → Type 0
+IsStopped items item before after status = ((status ≡ Memory) × (after ≡ before)) ⊎ IsCutOff items item before after status
 
 -- the lines of the first items were appended
 abbrev pub Past : List Item → ℕ → Bool → Option (List ℕ) → Option (List ℕ) → Type 0
@@ -42,3 +60,8 @@ IsProgramOf held items = IfSome held (λ bytes. IsProgram bytes items)
 -- what a run that ends at its text reports
 abbrev pub TextAnswer : List ℕ → Option (List ℕ) → Option (List ℕ) → Option (List ℕ) → Status → Type 0
 TextAnswer file held before after status = (form : Form) → file_of form ≡ file → Reports (FormReport form held) status before after
+
+-- the items may run
+pub record IsRunnable (items : List Item) : Type 0 where
+  pub well_formed : is_well_formed items ≡ true
+  pub built : is_built items ≡ true

@@ -11,6 +11,4 @@ mod top;
 mod verdicts;
 mod words;
 
-pub use built::are_built;
-pub use verdicts::{Declared, Verdict, judge};
-pub use words::{Command, read_words};
+pub use top::run;

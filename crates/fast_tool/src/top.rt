@@ -3,13 +3,14 @@
 ghost use Rattle.std.specs.Prelude.{◌≡◌, ◌≢◌, ◌≤◌, ◌⊎◌, List, ℕ, Option, IfOk, IfErr, OnOk, OnErr, Err, Some, map, string_bytes, true, ◌&&◌};
 ghost use Rattle.fast_fault.specs.Written.{Appends, AppendsPrefix, Rose};
 ghost use Rattle.fast_fault.specs.declared.status.Status.TheVariants.{Words, TextRefused, TextFault, SinkFault};
-ghost use Rattle.fast_syntax.specs.View.{plain_program};
-ghost use Rattle.model_program.specs.Syntax.{Item};
+ghost use Rattle.fast_syntax.specs.View.{plain_program, plain_item};
+ghost use Rattle.model_program.specs.Names.{langs_of};
+ghost use Rattle.model_program.specs.Syntax as plain;
 ghost use Rattle.model_program.specs.WellFormed.{is_well_formed};
 ghost use Rattle.model_report.specs.Words.{Form, run_form};
 ghost use Rattle.model_report.specs.Report.{IsProgram, IsRefused, refusal_line, is_built, FormReport, IsReport, Reports, IsDoable, IsDoneOrStopped};
-ghost use Rattle.fast_tool.specs.Declarations.{MayRun, items_of};
-ghost use Rattle.fast_tool.specs.Runs.{IsFault, EndsWith, ItemsReport, IsProgramOf, TextAnswer};
+ghost use Rattle.fast_tool.specs.Declarations.{MayRun, items_of, may_judge};
+ghost use Rattle.fast_tool.specs.Runs.{IsFault, EndsWith, ItemsReport, IsProgramOf, IsRunnable, IsDone, IsStopped, TextAnswer};
 ghost use Rattle.fast_reader.specs.Refusals.{IfRefused};
 
 use crate::built::are_built;
@@ -17,14 +18,15 @@ use crate::verdicts::{Declared, judge};
 use crate::words::{Command, read_words};
 use fast_fault::{Code, Memory, Pos, PutFault, Refusal, Sink, Status, TakeFault, TextSource};
 use fast_reader::{ReadStop, read};
-use fast_syntax::Program;
+use fast_syntax::{Item, Program};
 use sort_check::{is_well_formed, langs_of, types_of};
 use std::alloc::Global;
 
 /// The number of bytes that a text may have.
 const MOST: u64 = 1_048_576;
 
-const USAGE: &str = "usage: fast check FILE | run FILE [--classes N] | apply FILE NAME TREES | accepts FILE NAME TREES | self N\n";
+const USAGE: &str =
+    "usage: fast check FILE | run FILE [--classes N] | apply FILE NAME TREES | accepts FILE NAME TREES | self N\n";
 
 /// Puts a line.
 fn put_line<K: Sink>(sink: &mut K, line: &[u8]) -> Result<(), Status>
@@ -103,4 +105,164 @@ fn read_program(alloc: Global, bytes: &[u8]) -> Result<Program, ReadStop>
         })),
         Err(Memory) => Err(ReadStop::Memory),
     }
+}
+
+/// Takes the text, and reads the program that it is.
+#[tactic(auto, using(crate::proofs::Runs::on_texts))]
+fn take_program<T: TextSource, K: Sink>(
+    alloc: Global,
+    file: &str,
+    texts: &mut T,
+    sink: &mut K,
+) -> Result<Program, Status>
+    ensures program { IfOk result (λ program. IsProgramOf (T.held texts.old file.now) (plain_program program)) }
+    ensures runs { IfOk result (λ program. IsRunnable (plain_program program)) }
+    ensures untouched { OnOk result (sink.new ≡ sink.old) }
+    ensures report { IfErr result (λ status. TextAnswer file.now (T.held texts.old file.now) (K.written sink.old) (K.written sink.new) status) }
+    ensures later { K.faults sink.old ≤ K.faults sink.new }
+    ensures rose { result ≡ Err SinkFault → Rose (K.faults sink.old) (K.faults sink.new) }
+    ensures take_later { T.faults texts.old ≤ T.faults texts.new }
+    ensures take_rose { result ≡ Err TextFault → Rose (T.faults texts.old) (T.faults texts.new) }
+{
+    let bytes = match texts.take(alloc, file, MOST) {
+        Ok(bytes) => bytes,
+        Err(TakeFault::Longer) => {
+            let refusal = Refusal {
+                code: Code::TooLong,
+                place: Pos { line: 1, column: 1 },
+            };
+            return Err(refuse(alloc, sink, file, refusal));
+        }
+        Err(TakeFault::Failed) => return Err(Status::TextFault),
+        Err(TakeFault::Memory) => return Err(Status::Memory),
+    };
+    match read_program(alloc, &bytes) {
+        Ok(program) => Ok(program),
+        Err(ReadStop::Refused(refusal)) => Err(refuse(alloc, sink, file, refusal)),
+        Err(ReadStop::Memory) => Err(Status::Memory),
+    }
+}
+
+/// The program with its types and languages.
+fn declare<'p>(alloc: Global, program: &'p Program) -> Result<Declared<'p>, Memory>
+    requires { IsRunnable (plain_program program.now) }
+    ensures declared { IfOk result (λ declared. MayRun declared) }
+    ensures same { IfOk result (λ declared. declared.program.now ≡ program.now) }
+{
+    Ok(Declared {
+        program,
+        types: types_of(alloc, program)?,
+        langs: langs_of(alloc, program)?,
+    })
+}
+
+/// Does an item, and tells whether it has a verdict that says that the assertion fails.
+fn do_item<K: Sink>(
+    alloc: Global,
+    declared: &Declared,
+    item: &Item,
+    sink: &mut K,
+) -> Result<bool, Status>
+    requires stands { MayRun declared.now }
+    requires there { may_judge (langs_of (items_of declared.now)) (plain_item item.now) ≡ true }
+    ensures done { IfOk result (λ fails. IsDone (items_of declared.now) (plain_item item.now) (K.written sink.old) (K.written sink.new) fails) }
+    ensures stopped { IfErr result (λ status. IsStopped (items_of declared.now) (plain_item item.now) (K.written sink.old) (K.written sink.new) status) }
+    ensures later { K.faults sink.old ≤ K.faults sink.new }
+    ensures rose { result ≡ Err SinkFault → Rose (K.faults sink.old) (K.faults sink.new) }
+{
+    match judge(alloc, declared, item) {
+        Err(Memory) => Err(Status::Memory),
+        Ok(None) => Ok(false),
+        Ok(Some(verdict)) => match put_line(sink, &verdict.line) {
+            Ok(()) => Ok(verdict.fails),
+            Err(fault) => Err(fault),
+        },
+    }
+}
+
+/// Does the items in order.
+#[tactic(auto, using(crate::proofs::Runs::on_runs))]
+fn run_items<K: Sink>(alloc: Global, declared: &Declared, sink: &mut K) -> Status
+    requires { MayRun declared.now }
+    ensures report { Reports (ItemsReport (items_of declared.now)) result (K.written sink.old) (K.written sink.new) }
+    ensures later { K.faults sink.old ≤ K.faults sink.new }
+    ensures rose { result ≡ SinkFault → Rose (K.faults sink.old) (K.faults sink.new) }
+    ensures sure_text { result ≢ TextFault }
+{
+    let mut failed = false;
+    'items: for item in &declared.program.items {
+        match do_item(alloc, declared, item, sink) {
+            Err(fault) => return fault,
+            Ok(fails) => failed |= fails,
+        }
+    }
+    if failed { Status::Fails } else { Status::Hold }
+}
+
+/// Does the items of a program that may run.
+fn run_program<K: Sink>(alloc: Global, program: &Program, sink: &mut K) -> Status
+    requires { IsRunnable (plain_program program.now) }
+    ensures report { Reports (ItemsReport (plain_program program.now)) result (K.written sink.old) (K.written sink.new) }
+    ensures later { K.faults sink.old ≤ K.faults sink.new }
+    ensures rose { result ≡ SinkFault → Rose (K.faults sink.old) (K.faults sink.new) }
+    ensures sure_text { result ≢ TextFault }
+{
+    match declare(alloc, program) {
+        Ok(declared) => run_items(alloc, &declared, sink),
+        Err(Memory) => Status::Memory,
+    }
+}
+
+/// Takes the text of the file, and does its items.
+#[tactic(auto, using(crate::proofs::Runs::ran_form))]
+fn run_file<T: TextSource, K: Sink>(
+    alloc: Global,
+    file: &str,
+    texts: &mut T,
+    sink: &mut K,
+) -> Status
+    ensures report { Reports (FormReport (run_form file.now) (T.held texts.old file.now)) result (K.written sink.old) (K.written sink.new) }
+    ensures rose { result ≡ SinkFault → Rose (K.faults sink.old) (K.faults sink.new) }
+    ensures take_rose { result ≡ TextFault → Rose (T.faults texts.old) (T.faults texts.new) }
+{
+    match take_program(alloc, file, texts, sink) {
+        Ok(program) => run_program(alloc, &program, sink),
+        Err(status) => status,
+    }
+}
+
+/// Obeys the words.
+#[tactic(auto, using(crate::proofs::Runs::on_words))]
+fn obey<T: TextSource, K: Sink>(
+    alloc: Global,
+    words: &[String],
+    texts: &mut T,
+    sink: &mut K,
+) -> Status
+    ensures report { Reports (IsReport (map string_bytes words.now) (T.held texts.old)) result (K.written sink.old) (K.written sink.new) }
+    ensures sink_fault { result ≡ SinkFault → Rose (K.faults sink.old) (K.faults sink.new) }
+    ensures text_fault { result ≡ TextFault → Rose (T.faults texts.old) (T.faults texts.new) }
+{
+    match read_words(words) {
+        None => put_last(sink, USAGE.as_bytes(), Status::Words),
+        Some(Command::Run { file }) => run_file(alloc, file, texts, sink),
+    }
+}
+
+/// Obeys a command line: does what its words ask, reads texts by their names, and puts the report line by line.
+pub fn run<T: TextSource, K: Sink>(
+    alloc: Global,
+    words: &[String],
+    texts: &mut T,
+    sink: &mut K,
+) -> Status
+    // What this call appended is, with the status, a legal report of these words over the texts that are held.
+    ensures report { Reports (IsReport (map string_bytes words.now) (T.held texts.old)) result (K.written sink.old) (K.written sink.new) }
+    // A fault is answered only where the count of faults of that object rose in this call.
+    ensures sink_fault { result ≡ SinkFault → Rose (K.faults sink.old) (K.faults sink.new) }
+    ensures text_fault { result ≡ TextFault → Rose (T.faults texts.old) (T.faults texts.new) }
+    // Where the words are a form over a program that is built, nothing but a fault or want of memory stops the report.
+    ensures complete { (form : Form) (bytes : List ℕ) (items : List plain.Item) → IsDoable (map string_bytes words.now) (T.held texts.old) form bytes items → IsDoneOrStopped result }
+{
+    obey(alloc, words, texts, sink)
 }
