@@ -57,51 +57,33 @@ fn read_item<'t>(
 {
     if let Some((first, rest)) = next_if(tokens, Word::TypeWord) {
         let (item, rest) = read_type_item(alloc, rest)?;
-        return Ok((
-            Item {
-                place: first.place,
-                body: Body::Sorts(item),
-            },
-            rest,
-        ));
+        let place = first.place;
+        let body = Body::Sorts(item);
+        return Ok((Item { place, body }, rest));
     }
     if let Some((first, rest)) = next_if(tokens, Word::Lang) {
         let (item, rest) = read_lang_item(alloc, rest)?;
-        return Ok((
-            Item {
-                place: first.place,
-                body: Body::Lang(item),
-            },
-            rest,
-        ));
+        let place = first.place;
+        let body = Body::Lang(item);
+        return Ok((Item { place, body }, rest));
     }
     if let Some((first, rest)) = next_if(tokens, Word::AssertTrue) {
         let (claim, rest) = read_claim(alloc, rest)?;
+        let place = first.place;
         let body = Body::Assert(AssertItem {
             wanted: true,
             claim,
         });
-        return Ok((
-            Item {
-                place: first.place,
-                body,
-            },
-            rest,
-        ));
+        return Ok((Item { place, body }, rest));
     }
     let (first, rest) = read_word(tokens, Word::AssertFalse)?;
     let (claim, rest) = read_claim(alloc, rest)?;
+    let place = first.place;
     let body = Body::Assert(AssertItem {
         wanted: false,
         claim,
     });
-    Ok((
-        Item {
-            place: first.place,
-            body,
-        },
-        rest,
-    ))
+    Ok((Item { place, body }, rest))
 }
 
 fn read_program<'t>(alloc: Global, tokens: &'t [Token<'t>]) -> Result<Vec<Item>, Stop<'t>>
