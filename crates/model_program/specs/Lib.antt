@@ -5,3 +5,4 @@ pub mod Pieces
 pub mod Quotes
 pub mod Spellings
 pub mod Syntax
+pub mod Texts
