@@ -1,24 +1,22 @@
 -- Which piece stands at the front of a text.
-use Rattle.std.proofs.Common.{◌≡◌, ◌≢◌, ℕ, ◌+◌, ◌-◌, ◌≤◌, ◌<◌, Bool, true, false, List, [], ◌∷◌, ◌++◌, length, refl, sym, ap, ◌∙◌, subst, append_assoc, arith, inl, inr, ◌⊎◌, Option, Some, None}
-use Rattle.std.specs.Prelude.{encode_utf8, encode_utf8_all, MatchOption}
+use Rattle.std.proofs.Common.{◌≡◌, ℕ, ◌≤◌, ◌<◌, true, false, List, [], ◌∷◌, ◌++◌, length, refl, sym, ap, ◌∙◌, subst, append_assoc, arith, inl, inr, ◌⊎◌, Option, Some, None}
+use Rattle.std.specs.Prelude.{MatchOption}
 use Rattle.std.specs.Str.{chars}
 use Rattle.std.specs.Option.{unwrap_or}
-use Rattle.std.proofs.lemmas.List.{append-nil, length-append}
-use Rattle.std.proofs.lemmas.Str.{encode_ascii}
-use Rattle.std.proofs.lemmas.Bool.Decides.{nat_tests}
+use Rattle.std.proofs.lemmas.List.{length-append}
 use Rattle.model_program.specs.declared.Word.{Word}
-use Rattle.model_program.specs.declared.Word.TheVariants.{Id, Number, Quoted}
+use Rattle.model_program.specs.declared.Word.TheVariants.{Id, Number}
 use Rattle.model_program.specs.Characters.{AllIn, LeavesOff, begins_name, in_name, is_digit, is_blank, in_line}
 use Rattle.model_program.specs.Spellings.{spelling, spelled, keywords, hyphenated, signs}
-use Rattle.model_program.specs.Pieces.{PieceKind, Name, Hyphenated, Digits, Text, Sign, Blank, Comment, IsPiece, IsName, IsNumber, IsComment, IsOneOf, IsLongest, HasNoPiece, word_of}
+use Rattle.model_program.specs.Pieces.{PieceKind, Name, Hyphenated, Digits, Text, Sign, Blank, Comment, IsPiece, IsName, IsComment, IsOneOf, IsLongest, HasNoPiece}
 use Rattle.model_program.proofs.Spelled.{AllWords, spelled_among}
 use Rattle.model_program.proofs.Runs.{same_front, same_run, run_longest}
-use Rattle.model_program.proofs.Families.{Begins, family, Words, IsAlone, longest_alone, none_alone, blank_begins, name_begins, same_family}
+use Rattle.model_program.proofs.Families.{Begins, family, Words, IsAlone, longest_alone, none_alone, same_family}
 use Rattle.model_program.proofs.Unique.{halves_of, same_hyphenated, name_all}
 use Rattle.fast_lex.specs.declared.piece.Found.{Found}
-use Rattle.fast_lex.specs.Runs.{IsBehind, IsRun, IsSuffix, IsNext, HasNone, IsNextPiece, HasNoDouble, NextIn}
+use Rattle.fast_lex.specs.Runs.{IsBehind, IsRun, IsNext, HasNone, IsNextPiece, HasNoDouble, NextIn}
 use Rattle.fast_lex.proofs.AmountLemmas.{run_count, digit_ascii}
-use Rattle.fast_lex.proofs.RunLemmas.{behind_one, behind_both}
+use Rattle.fast_lex.proofs.RunLemmas.{behind_both}
 
 -- A kind that is alone in its family.
 pub piece_of : (kind : PieceKind) → IsAlone kind → (word : Option Word) (text rest : List ℕ) → IsNext kind word text rest → IsNextPiece word text rest

@@ -1,5 +1,5 @@
 -- How pieces of a text follow one another.
-use Rattle.std.proofs.Common.{◌≡◌, ◌≢◌, ℕ, ◌+◌, ◌-◌, ◌≤◌, ◌<◌, Bool, true, false, List, [], ◌∷◌, ◌++◌, length, take, refl, sym, ap, ◌∙◌, subst, append_assoc, arith}
+use Rattle.std.proofs.Common.{◌≡◌, ℕ, ◌-◌, ◌<◌, Bool, true, false, List, [], ◌∷◌, ◌++◌, length, take, refl, sym, ap, ◌∙◌, subst, append_assoc, arith}
 use Rattle.std.specs.Prelude.{encode_utf8, encode_utf8_all}
 use Rattle.std.specs.Str.{chars, IsCharBoundary, IsUtf8}
 use Rattle.std.proofs.lemmas.List.{append-nil, length-append}

@@ -1,18 +1,18 @@
 -- How the tokens of a text are found from its front.
-use Rattle.std.proofs.Common.{◌≡◌, ◌≢◌, ℕ, ◌+◌, ◌-◌, ◌≤◌, ◌<◌, List, [], ◌∷◌, ◌++◌, length, refl, sym, ap, ◌∙◌, subst, append_assoc, arith, map, Option, Some, None}
+use Rattle.std.proofs.Common.{◌≡◌, ℕ, ◌+◌, ◌-◌, ◌≤◌, ◌<◌, List, [], ◌∷◌, ◌++◌, length, refl, sym, ap, ◌∙◌, subst, append_assoc, arith, Option, Some, None}
 use Rattle.std.specs.Prelude.{encode_utf8_all}
 use Rattle.std.specs.Str.{chars, IsUtf8}
-use Rattle.std.proofs.lemmas.List.{append-nil, length-append, map-append}
+use Rattle.std.proofs.lemmas.List.{append-nil, length-append}
 use Rattle.std.proofs.lemmas.Str.{length-le-encodes, encodes-chars, chars-nil}
 use Rattle.fast_fault.specs.declared.place.Pos.{Pos}
 use Rattle.model_program.specs.declared.Word.{Word}
 use Rattle.model_program.specs.Lexeme.{Lexeme}
-use Rattle.model_program.specs.Pieces.{PieceKind, IsPiece, IsLongest, HasNoPiece, word_of}
+use Rattle.model_program.specs.Pieces.{IsLongest, HasNoPiece, word_of}
 use Rattle.model_program.specs.Cuts.{Piece, IsCut, AreTokens, StopsAt, body_of, mark_of, place_next, place_behind, place_after, lexeme_at, lexemes_after, texts_of}
 use Rattle.model_program.proofs.Unique.{piece_nonempty}
 use Rattle.fast_lex.specs.declared.Token.{Token}
 use Rattle.fast_lex.specs.Runs.{IsBehind, IsSuffix, IsNextPiece}
-use Rattle.fast_lex.specs.Tokens.{lexeme, IsSlice, AreSlices, IsBody}
+use Rattle.fast_lex.specs.Tokens.{IsSlice, AreSlices, IsBody}
 use Rattle.fast_lex.proofs.RunLemmas.{behind_both}
 use Rattle.fast_lex.proofs.PlaceLemmas.{behind_line, behind_column}
 

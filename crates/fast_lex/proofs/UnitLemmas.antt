@@ -1,15 +1,14 @@
 -- Characters and escapes at the front of the inside of a quoted text.
-use Rattle.std.proofs.Common.{◌≡◌, ℕ, ◌+◌, ◌≤◌, ◌<◌, Bool, true, false, List, [], ◌∷◌, ◌++◌, length, refl, sym, ap, ◌∙◌, subst, append_assoc, arith, inl, inr, ◌⊎◌, Option, Some, None, Bor}
-use Rattle.std.specs.Prelude.{encode_utf8, encode_utf8_all, MatchOption}
+use Rattle.std.proofs.Common.{◌≡◌, ℕ, ◌≤◌, ◌<◌, true, List, [], ◌∷◌, ◌++◌, length, refl, sym, ap, ◌∙◌, subst, append_assoc, arith, inl, inr, ◌⊎◌, Option, Some, None, Bor}
+use Rattle.std.specs.Prelude.{encode_utf8_all, MatchOption}
 use Rattle.std.specs.Str.{chars}
 use Rattle.std.specs.Char.{IsScalar}
 use Rattle.std.proofs.lemmas.List.{append-nil, length-append}
 use Rattle.std.proofs.lemmas.Str.{length-le-encodes}
 use Rattle.std.proofs.lemmas.Bool.Decides.{nat_tests}
-use Rattle.model_program.specs.declared.Word.{Word}
 use Rattle.model_program.specs.declared.Word.TheVariants.{Quoted}
-use Rattle.model_program.specs.Characters.{AllIn, LeavesOff, is_hexadecimal, in_quotes}
-use Rattle.model_program.specs.Pieces.{PieceKind, Text}
+use Rattle.model_program.specs.Characters.{is_hexadecimal, in_quotes}
+use Rattle.model_program.specs.Pieces.{Text}
 use Rattle.model_program.specs.Quotes.{IsBraced, IsUnit, plain, short, long, AreUnits, no_units, unit, IsQuoted, escape, amount}
 use Rattle.model_program.proofs.Runs.{same_run}
 use Rattle.model_program.proofs.QuoteLaws.{not_plain, braces_open, units_front, same_quoted}

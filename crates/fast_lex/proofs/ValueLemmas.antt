@@ -1,21 +1,12 @@
 -- How escapes are replaced.
-use Rattle.std.proofs.Common.{◌≡◌, ℕ, List, [], ◌∷◌, ◌++◌, length, refl, sym, ap, ◌∙◌, subst, append_assoc, arith}
+use Rattle.std.proofs.Common.{◌≡◌, ℕ, List, [], ◌∷◌, ◌++◌, refl, sym, ap, ◌∙◌, append_assoc}
 use Rattle.std.specs.Prelude.{encode_utf8, encode_utf8_all}
 use Rattle.std.specs.Str.{chars, IsUtf8}
 use Rattle.std.proofs.lemmas.List.{append-nil}
 use Rattle.std.proofs.lemmas.Str.{encodes-append, chars_from_encodes}
-use Rattle.model_program.specs.Quotes.{IsUnit, AreUnits, no_units, unit, IsQuoted, plain_from, quoted_value}
+use Rattle.model_program.specs.Quotes.{AreUnits, no_units, unit, plain_from, quoted_value}
 use Rattle.model_program.proofs.QuoteLaws.{same_unit, unit_no_quote, unit_stands_for}
-use Rattle.fast_lex.specs.Units.{IsNextUnit, HasNoUnit, IsQuotedText, IsInsideOf}
-
-pub inside_of : (text inside : List ℕ) (c : ℕ) → text ≡ c ∷ inside → IsQuotedText text → IsInsideOf text inside
-inside_of text inside c same quoted =
-    let e : c ∷ inside ≡ 34 ∷ (quoted.is.inside ++ 34 ∷ []) = sym same ∙ quoted.is.quotes in
-    let f : inside ≡ quoted.is.inside ++ 34 ∷ [] = cc in
-    record { quotes = quoted.is.quotes ∙ ap (λ l. 34 ∷ l) (sym f); inside = quoted.is.inside; values = quoted.values; units = quoted.is.units; split = f }
-
-pub never_empty : (text : List ℕ) → text ≡ [] → IsQuotedText text → ⊥
-never_empty text ended quoted = let e : [] ≡ 34 ∷ (quoted.is.inside ++ 34 ∷ []) = sym ended ∙ quoted.is.quotes in cc
+use Rattle.fast_lex.specs.Units.{IsNextUnit, HasNoUnit, IsInsideOf}
 
 -- what has been replaced, and the units that are left
 pub record IsReplacing (text rest written : List ℕ) : Type 0 where

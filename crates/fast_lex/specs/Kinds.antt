@@ -1,5 +1,5 @@
 -- What sort of token a word is.
-use Rattle.std.specs.Prelude.{◌≡◌, ◌⊎◌, Some, Option}
+use Rattle.std.specs.Prelude.{◌≡◌, ◌⊎◌, Some}
 use Rattle.model_program.specs.declared.Word.{Word}
 use Rattle.model_program.specs.declared.Word.TheVariants.{Id, Number, Quoted, RoundOpen, RoundClose, SquareOpen, SquareClose, CurlyOpen, CurlyClose, Comma, Bar, Colon, Assign, Arrow, Same, Equal, NotEqual, AtMost, AtLeast, Less, Greater, Plus, Minus, Star, Percent, Element}
 use Rattle.model_program.specs.Spellings.{spelling, spelled, keywords, hyphenated, signs}

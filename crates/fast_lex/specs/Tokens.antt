@@ -1,5 +1,5 @@
 -- What `tokens` answers.
-use Rattle.std.specs.Prelude.{◌≡◌, ℕ, ◌≤◌, map, length, List, [], ◌∷◌, ◌++◌}
+use Rattle.std.specs.Prelude.{◌≡◌, ℕ, map, length, List, [], ◌∷◌, ◌++◌}
 use Rattle.std.specs.Str.{chars}
 use Rattle.fast_lex.specs.declared.Token.{Token}
 use Rattle.fast_lex.specs.declared.Lexed.{Lexed}

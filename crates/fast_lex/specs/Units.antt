@@ -1,6 +1,5 @@
 -- What stands at the front of the inside of a quoted text.
 use Rattle.std.specs.Prelude.{◌≡◌, ℕ, List, [], ◌∷◌, ◌++◌}
-use Rattle.std.specs.Str.{chars}
 use Rattle.model_program.specs.Quotes.{IsBraced, IsUnit, AreUnits, IsQuoted}
 use Rattle.fast_lex.specs.Runs.{IsBehind}
 

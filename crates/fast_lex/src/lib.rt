@@ -21,6 +21,7 @@ mod words;
 use fast_fault::Pos;
 pub use laws::{
     quoted_stands_for_one, spellings_differ, stops_at_one_place, stops_or_is_whole, tokens_are_one,
+    tokens_have_texts,
 };
 pub use model_program::Word;
 use piece::piece;

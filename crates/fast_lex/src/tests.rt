@@ -96,9 +96,9 @@ fn tells_words_apart(rt: HostRuntime) -> Result<(), Fail> {
 fn reads_values(rt: HostRuntime) -> Result<(), Fail> {
     assert!(rt; number_value("0") == 0);
     assert!(rt; number_value("00907") == 907);
-    let value = quoted_value(rt.alloc(), "\"a\\u{2208}\\n\\\"\"");
+    let value = quoted_value(rt.alloc(), "\"a\\n\\u{2208}\"");
     match value {
-        Ok(value) => assert!(rt; value.as_str() == "a∈\n\""),
+        Ok(value) => assert!(rt; value.as_str() == "a\n∈"),
         Err(_memory) => panic!(rt; "no memory"),
     }
     Ok(())

@@ -10,3 +10,4 @@ pub mod WellFormed
 pub mod Reads
 pub mod Grammar
 pub mod Texts
+pub mod TokenTexts

@@ -1,6 +1,6 @@
 use Rattle.std.proofs.Common.{length, arith, sym, refl, subst, ◌∙◌, ◌≡◌, ◌≤◌, ◌-◌, ◌∷◌, ◌++◌, [], List, ap, map, false-eqb}
 use Rattle.std.proofs.lemmas.Bool.{eqb-true}
-use Rattle.std.proofs.lemmas.List.{length-append, map-append}
+use Rattle.std.proofs.lemmas.List.{map-append}
 use Rattle.std.proofs.ResultArms.{chosen}
 use Rattle.fast_lex.specs.declared.Token.{Token}
 use Rattle.fast_lex.specs.Tokens.{lexeme, AreSlices}

@@ -1,4 +1,4 @@
-use Rattle.std.proofs.Common.{sym, ◌∙◌, ap}
+use Rattle.std.proofs.Common.{◌∙◌, ap}
 use Rattle.model_program.specs.Spellings.{spelled, signs}
 use Rattle.fast_lex.proofs.PieceLemmas.{double_none_short, double_none, double_next}
 use Rattle.fast_lex.proofs.RunLemmas.{behind_one, behind_both}

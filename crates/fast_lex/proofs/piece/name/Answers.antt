@@ -1,4 +1,4 @@
-use Rattle.std.proofs.Common.{sym, ◌∙◌, ap, Some}
+use Rattle.std.proofs.Common.{◌∙◌, ap, Some}
 use Rattle.std.specs.Option.{unwrap_or}
 use Rattle.model_program.specs.declared.Word.TheVariants.{Id}
 use Rattle.model_program.specs.Spellings.{spelled, keywords}

@@ -1,6 +1,5 @@
-use Rattle.std.proofs.Common.{sym, inl, inr, arith}
+use Rattle.std.proofs.Common.{inl, inr}
 use Rattle.fast_lex.proofs.PieceLemmas.{number_next, number_none}
-use Rattle.fast_lex.proofs.RunLemmas.{run_suffix}
 use Rattle.fast_lex.proofs.piece.number.Goals as goal
 
 pub returns-then-count-eq0 : goal.returns-then-count-eq0

@@ -1,4 +1,4 @@
-use Rattle.std.proofs.Common.{sym, ◌∙◌, ap}
+use Rattle.std.proofs.Common.{◌∙◌, ap}
 use Rattle.model_program.specs.Spellings.{spelled, signs}
 use Rattle.fast_lex.proofs.PieceLemmas.{single_none, sign_none_ended, single_next}
 use Rattle.fast_lex.proofs.RunLemmas.{behind_one}

@@ -1,5 +1,4 @@
-use Rattle.std.proofs.Common.{sym, subst, ◌∙◌, ap, inl, inr, arith, ◌≡◌, List, ℕ, length}
-use Rattle.std.specs.Str.{chars}
+use Rattle.std.proofs.Common.{sym, subst, ◌∙◌, ap, inl, inr, arith, List, ℕ, length}
 use Rattle.std.specs.Char.{IsScalar}
 use Rattle.model_program.specs.Characters.{AllIn, is_hexadecimal}
 use Rattle.model_program.specs.Quotes.{amount}

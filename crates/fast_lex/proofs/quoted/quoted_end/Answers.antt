@@ -1,6 +1,5 @@
-use Rattle.std.proofs.Common.{sym, ◌∙◌, ap}
 use Rattle.fast_lex.proofs.UnitLemmas.{unit_shorter, inside_starts, inside_more, inside_ends, inside_none_unit, inside_none_ended}
-use Rattle.fast_lex.proofs.RunLemmas.{behind_one, char_shorter, utf8_behind}
+use Rattle.fast_lex.proofs.RunLemmas.{behind_one, utf8_behind}
 use Rattle.fast_lex.proofs.quoted.quoted_end.Goals as goal
 
 pub loop-c-init : goal.loop-c-init

@@ -1,7 +1,7 @@
 use Rattle.std.proofs.Common.{refl}
 use lib.Utf8.{encode}
-use Rattle.std.specs.Str.{chars, bytes_eq}
-use Rattle.model_program.specs.Spellings.{spelled, keywords, hyphenated, signs}
+use Rattle.std.specs.Str.{chars}
+use Rattle.model_program.specs.Spellings.{spelled, signs}
 use Rattle.model_program.proofs.Spelled.{spelled_as, spelled_none}
 use Rattle.fast_lex.proofs.words.sign_of.Goals as goal
 
