@@ -12,3 +12,6 @@ mod verdicts;
 mod words;
 
 pub use top::run;
+
+#[cfg(test)]
+mod tests;
