@@ -1,5 +1,5 @@
 -- What reading a program says of all of the tokens, and of the bytes.
-use Rattle.std.proofs.Common.{◌≡◌, ℕ, Option, ◌+◌, ◌-◌, ◌≤◌, ◌<◌, List, [], ◌∷◌, ◌++◌, length, take, drop, refl, sym, ap, ◌∙◌, subst, append_assoc, append-nil, arith, ◌⊎◌, inl, inr}
+use Rattle.std.proofs.Common.{◌≡◌, ℕ, ◌+◌, ◌-◌, ◌≤◌, ◌<◌, List, [], ◌∷◌, ◌++◌, length, take, drop, refl, sym, ap, ◌∙◌, subst, append_assoc, append-nil, arith, ◌⊎◌, inl, inr}
 use Rattle.std.proofs.lemmas.List.{length-append, length-map, length-drop, length-take-le, take-append-drop}
 use Rattle.std.proofs.Math.Seq.{take-append_seam, take-append-add}
 use Rattle.std.specs.Char.{IsScalar, encode_utf8}
@@ -10,13 +10,13 @@ use Rattle.model_program.specs.Lexeme.{Lexeme}
 use Rattle.model_program.specs.Syntax.{Item}
 use Rattle.model_program.specs.Reads.{GoesOnAs, IsRead, IsRefused, anything}
 use Rattle.model_program.specs.Grammar.{IsProgram, Starts, IsFirstWrong}
-use Rattle.model_program.specs.Cuts.{AreTokens, StopsAt, place_after}
+use Rattle.model_program.specs.Cuts.{AreTokens, place_after}
 use Rattle.model_program.specs.Texts.{IsProgramText, IsBadUtf8At}
-use Rattle.model_program.proofs.Unique.{same_tokens, stops_or_whole}
+use Rattle.model_program.proofs.Unique.{same_tokens}
 use Rattle.fast_lex.specs.declared.Token.{Token}
-use Rattle.fast_syntax.specs.declared.Program.{Program}
 use Rattle.fast_reader.specs.Results.{lexemes}
-use Rattle.fast_reader.specs.Refusals.{IsProgramOf}
+use Rattle.fast_reader.specs.declared.text.Found.{Found}
+use Rattle.fast_reader.specs.Refusals.{SpellsNone, IsFoundIn}
 
 -- a program that was read is the whole of the tokens, and the only one
 pub whole_read : (tokens : List Lexeme) (items : List Item) → IsRead IsProgram anything tokens items [] → IsProgram items tokens
@@ -77,11 +77,12 @@ text_found bytes tokens items short encoded are spelled = record { short = short
 pub text_only : (bytes : List ℕ) (tokens : List Lexeme) (items : List Item) → AreTokens (chars bytes) tokens → ((other : List Item) → IsProgram other tokens → other ≡ items) → (other : List Item) → IsProgramText bytes other → other ≡ items
 text_only bytes tokens items are only other text = only other (subst (λ (l : List Lexeme). IsProgram other l) (same_tokens (chars bytes) text.tokens tokens text.are are) text.spelled)
 
-pub text_none : (bytes : List ℕ) (tokens : List Lexeme) → AreTokens (chars bytes) tokens → ((program : List Item) → IsProgram program tokens → ⊥) → (other : List Item) → IsProgramText bytes other → ⊥
-text_none bytes tokens are none other text = none other (subst (λ (l : List Lexeme). IsProgram other l) (same_tokens (chars bytes) text.tokens tokens text.are are) text.spelled)
-
-pub text_stops : (bytes : List ℕ) (place : Pos) → StopsAt (chars bytes) place → (other : List Item) → IsProgramText bytes other → ⊥
-text_stops bytes place stops other text = stops_or_whole (chars bytes) place text.tokens stops text.are
+pub text_none : (bytes : List ℕ) (tokens : List Lexeme) → AreTokens (chars bytes) tokens → ((program : List Item) → IsProgram program tokens → ⊥) → SpellsNone bytes
+text_none bytes tokens are none = record {
+  tokens = tokens;
+  are = are;
+  none = λ other text. none other (subst (λ (l : List Lexeme). IsProgram other l) (same_tokens (chars bytes) text.tokens tokens text.are are) text.spelled);
+}
 
 -- the longest front of bytes that is characters, and the place behind it
 pub bad_utf8 : (bytes : List ℕ) (n : ℕ) (place : Pos) → IsValidUpTo bytes n → place ≡ place_after (chars (take n bytes)) → IsBadUtf8At bytes place
@@ -112,5 +113,5 @@ bad_utf8 bytes n place valid is = record {
         (subst (λ (l : List ℕ). IsUtf8 l) (sym front) (IsUtf8-append (take n bytes) (encode_utf8 c) valid.front (IsUtf8-encode c scalar)))
 
 -- the same bytes, and the same answer
-pub program_of : (text bytes : List ℕ) (found wanted : Option Program) → text ≡ bytes → found ≡ wanted → IsProgramOf text found → IsProgramOf bytes wanted
-program_of text bytes found wanted same is holds = subst (λ (b : List ℕ). IsProgramOf b wanted) same (subst (λ (f : Option Program). IsProgramOf text f) is holds)
+pub found_in : (text bytes : List ℕ) (found wanted : Found) → text ≡ bytes → found ≡ wanted → IsFoundIn text found → IsFoundIn bytes wanted
+found_in text bytes found wanted same is holds = subst (λ (b : List ℕ). IsFoundIn b wanted) same (subst (λ (f : Found). IsFoundIn text f) is holds)

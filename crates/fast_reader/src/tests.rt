@@ -51,11 +51,11 @@ fn refuses_what_is_no_program(rt: HostRuntime) -> Result<(), Fail> {
         "lang f : F { l() where not not b }",
         "lang f : F { l() given }",
         "assert-true is-empty f",
-        "#",
     ];
     for text in texts {
         assert!(rt; is_refused(alloc, text.as_bytes(), Code::NotYet, 1, 1));
     }
+    assert!(rt; is_refused(alloc, b"type B[]{a(0)} #", Code::Token, 1, 16));
     assert!(rt; is_refused(alloc, b"type F\n \xff{l(0)}", Code::NotUtf8, 2, 2));
     Ok(())
 }

@@ -4,7 +4,7 @@ ghost use Rattle.std.specs.Prelude.{◌≡◌, ◌≤◌, List, IfOk, MatchResul
 ghost use Rattle.std.specs.Str.{IsUtf8};
 ghost use Rattle.model_program.specs.Syntax.{Item};
 ghost use Rattle.model_program.specs.Texts.{IsProgramText, IsBadUtf8At};
-ghost use Rattle.fast_reader.specs.Refusals.{IsRefusal, IsProgramOf, IfRefused};
+ghost use Rattle.fast_reader.specs.Refusals.{IsRefusal, IsFoundIn, IfRefused};
 ghost use Rattle.fast_syntax.specs.View.{plain_program};
 
 use crate::items::{ReadItemsStop, read_items};
@@ -48,23 +48,31 @@ fn text_of<'t>(bytes: &'t [u8]) -> Result<&'t str, Pos>
     }
 }
 
-/// The program that the text is, if it is one.
-fn read_text(alloc: Global, text: &str) -> Result<Option<Program>, Memory>
+/// What a text is.
+#[derive(Drop)]
+enum Found {
+    Items(Program),
+    NoToken(Pos),
+    NoItems,
+}
+
+/// The program that the text is, or why it is none.
+fn read_text(alloc: Global, text: &str) -> Result<Found, Memory>
     requires { length text.now ≤ 1048576 }
-    ensures { IfOk result (λ found. IsProgramOf text.now found) }
+    ensures { IfOk result (λ found. IsFoundIn text.now found) }
 {
     match tokens(alloc, text) {
         Lexed::Tokens(found) => match read_items(alloc, &found) {
-            Ok(program) => Ok(Some(program)),
-            Err(ReadItemsStop::Wrong(_)) => Ok(None),
+            Ok(program) => Ok(Found::Items(program)),
+            Err(ReadItemsStop::Wrong(_)) => Ok(Found::NoItems),
             Err(ReadItemsStop::Memory) => Err(Memory),
         },
-        Lexed::NoToken(_) => Ok(None),
+        Lexed::NoToken(place) => Ok(Found::NoToken(place)),
         Lexed::Memory => Err(Memory),
     }
 }
 
-/// The program that the bytes are. So far a text that spells no items of the grammar is refused as a whole, at its start.
+/// The program that the bytes are. So far tokens that spell no items of the grammar are refused as a whole, at the start.
 pub fn read(alloc: Global, bytes: &[u8]) -> Result<Program, ReadStop>
     // What is read is what the text spells.
     ensures found { IfOk result (λ program. IsProgramText bytes.now (plain_program program)) }
@@ -81,8 +89,9 @@ pub fn read(alloc: Global, bytes: &[u8]) -> Result<Program, ReadStop>
         Err(place) => return Err(refused(Code::NotUtf8, place)),
     };
     match read_text(alloc, text) {
-        Ok(Some(program)) => Ok(program),
-        Ok(None) => Err(refused(Code::NotYet, start())),
+        Ok(Found::Items(program)) => Ok(program),
+        Ok(Found::NoToken(place)) => Err(refused(Code::Token, place)),
+        Ok(Found::NoItems) => Err(refused(Code::NotYet, start())),
         Err(Memory) => Err(ReadStop::Memory),
     }
 }

@@ -2,14 +2,15 @@
 use Rattle.std.proofs.Common.{ℕ, ◌≡◌, ◌<◌, ◌≤◌, List, [], ◌∷◌, Option, Some, length, get_or, arith, ap, ◌∙◌, sym, subst, inl, inr, ◌⊎◌, refl}
 use Rattle.std.specs.Prelude.{encode_utf8, encode_utf8_all, ◌++◌, take, drop}
 use Rattle.std.specs.Char.{IsScalar}
-use Rattle.std.specs.Str.{IsUtf8, all_scalars}
+use Rattle.std.specs.Str.{IsUtf8, all_scalars, chars}
+use Rattle.model_program.proofs.Unique.{stops_or_whole}
 use Rattle.std.proofs.Math.Utf8.{scalar}
 use Rattle.std.proofs.Math.Seq.{take-append_seam, drop-append_seam}
 use Rattle.std.proofs.lemmas.List.{length-append}
 use Rattle.std.proofs.lemmas.Str.{IsCharBoundary-from_take, IsUtf8-drop}
 use Rattle.fast_fault.specs.declared.place.Pos.{Pos}
 use Rattle.fast_fault.specs.declared.code.Code.{Code}
-use Rattle.fast_fault.specs.declared.code.Code.TheVariants.{TooLong, NotUtf8, NotYet}
+use Rattle.fast_fault.specs.declared.code.Code.TheVariants.{TooLong, NotUtf8, Token, NotYet}
 use Rattle.fast_fault.specs.declared.status.Status.{Status}
 use Rattle.fast_fault.specs.declared.status.Status.TheVariants.{Hold, Fails, Words, TextRefused, RunRefused, TextFault, SinkFault, Memory}
 use Rattle.model_program.specs.Syntax.{Item}
@@ -37,7 +38,8 @@ utf8_whole bytes place whole bad =
 not_refused : (bytes : List ℕ) (items : List Item) (code : Code) (place : Pos) → IsProgram bytes items → IsRefused bytes code place → ⊥
 not_refused bytes items TooLong place program (long, _) = let short = program.text.short in omega arith
 not_refused bytes items NotUtf8 place program (short, bad) = utf8_whole bytes place program.text.encoded bad
-not_refused bytes items NotYet place program (short, utf8, none, _) = none items program
+not_refused bytes items Token place program (short, utf8, stops) = stops_or_whole (chars bytes) place program.text.tokens stops program.text.are
+not_refused bytes items NotYet place program (short, utf8, tokens, none, _) = none items program
 not_refused bytes items code place program refused = absurd refused
 
 form_done : (words : List (List ℕ)) (held : List ℕ → Option (List ℕ)) (form : Form) (bytes : List ℕ) (items : List Item) (report : List ℕ) (status : Status) → IsDoable words held form bytes items → FormReport form (Some bytes) status report → IsDoneOrStopped status

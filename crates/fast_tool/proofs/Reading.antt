@@ -4,7 +4,7 @@ use Rattle.std.specs.Str.{IsUtf8}
 use Rattle.fast_fault.specs.Taken.{IsGiven}
 use Rattle.fast_fault.specs.declared.place.Pos.{Pos}
 use Rattle.fast_fault.specs.declared.code.Code.{Code}
-use Rattle.fast_fault.specs.declared.code.Code.TheVariants.{TooLong, NotUtf8, NotYet}
+use Rattle.fast_fault.specs.declared.code.Code.TheVariants.{TooLong, NotUtf8, Token, NotYet}
 use Rattle.model_program.specs.Syntax.{Item}
 use Rattle.model_program.specs.Texts.{IsProgramText}
 use Rattle.model_program.specs.WellFormed.{is_well_formed}
@@ -16,7 +16,8 @@ use Rattle.fast_tool.proofs.Elements.{first_true, second_true}
 pub refusal_stands : (bytes : List ℕ) (code : Code) (place : Pos) → IsRefusal bytes code place → IsRefused bytes code place
 refusal_stands bytes TooLong place r = r
 refusal_stands bytes NotUtf8 place r = r
-refusal_stands bytes NotYet place (short, utf8, none, at) = (short, utf8, λ items program. none items program.text, at)
+refusal_stands bytes Token place r = r
+refusal_stands bytes NotYet place (short, utf8, spells, at) = (short, utf8, (spells.tokens, spells.are), λ items program. spells.none items program.text, at)
 refusal_stands bytes code place r = absurd r
 
 pub program_read : (bytes : List ℕ) (items : List Item) (may : Bool) → IsProgramText bytes items → may ≡ (is_well_formed items && is_built items) → may ≡ true → IsProgram bytes items
@@ -29,7 +30,7 @@ both_true a b p q = λ i. p i && q i
 
 -- a text of items that may not run is no program that may
 pub program_refused : (bytes : List ℕ) (items : List Item) (may : Bool) → IsProgramText bytes items → ((others : List Item) → IsProgramText bytes others → others ≡ items) → may ≡ (is_well_formed items && is_built items) → may ≡ false → IsRefused bytes NotYet start
-program_refused bytes items may text only e no_may = (text.short, text.encoded, λ others program. none others program, refl)
+program_refused bytes items may text only e no_may = (text.short, text.encoded, (text.tokens, text.are), λ others program. none others program, refl)
   where
     none : (others : List Item) → IsProgram bytes others → ⊥
     none others program =

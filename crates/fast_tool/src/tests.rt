@@ -74,6 +74,15 @@ fn refusals_and_usage(rt: HostRuntime) -> Result<(), Fail> {
     shows(&rt, "run F", text.as_slice(), 3, shown.as_slice()).map_err(|_| "memory")?;
     let text = b"type B[]{a(0)} lang p : B { a() } lang p : B { a() }";
     shows(&rt, "run F", text.as_slice(), 3, shown.as_slice()).map_err(|_| "memory")?;
+    let shown = b"refused 3 Token at F:1:16\n";
+    shows(
+        &rt,
+        "run F",
+        b"type B[]{a(0)} #".as_slice(),
+        3,
+        shown.as_slice(),
+    )
+    .map_err(|_| "memory")?;
     let shown = b"refused 2 NotUtf8 at F:1:6\n";
     shows(&rt, "run F", b"type \xff".as_slice(), 3, shown.as_slice()).map_err(|_| "memory")?;
     let long = vec![in rt.alloc(); b' '; 1_048_577]?;

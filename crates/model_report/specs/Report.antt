@@ -1,15 +1,17 @@
 -- Legal reports: what a run may write, and with which status.
 use Rattle.std.specs.Prelude.{◌≡◌, ℕ, ◌≤◌, ◌<◌, Bool, true, false, List, [], ◌∷◌, ◌++◌, Option, Some, None, IfSome, ◌⊎◌, codes, decimal, take, length, ◌&&◌, ◌==◌}
 use Rattle.std.specs.List.{list_any, list_all}
-use Rattle.std.specs.Str.{IsUtf8}
+use Rattle.std.specs.Str.{IsUtf8, chars}
 use Rattle.fast_fault.specs.declared.place.Pos.{Pos}
 use Rattle.fast_fault.specs.declared.code.Code.{Code}
-use Rattle.fast_fault.specs.declared.code.Code.TheVariants.{TooLong, NotUtf8, NotYet}
+use Rattle.fast_fault.specs.declared.code.Code.TheVariants.{TooLong, NotUtf8, Token, NotYet}
 use Rattle.fast_fault.specs.declared.status.Status.{Status}
 use Rattle.fast_fault.specs.declared.status.Status.TheVariants.{Hold, Fails, Words, TextRefused, RunRefused, TextFault, SinkFault, Memory}
 use Rattle.fast_fault.specs.Codes.{number_of, name_of}
 use Rattle.fast_fault.specs.Written.{Appends}
 use Rattle.model_program.specs.Syntax.{TypeItem, Rule, LangItem, Item}
+use Rattle.model_program.specs.Lexeme.{Lexeme}
+use Rattle.model_program.specs.Cuts.{AreTokens, StopsAt}
 use Rattle.model_program.specs.Names.{types_of, langs_of}
 use Rattle.model_program.specs.WellFormed.{is_well_formed, is_bool}
 use Rattle.model_program.specs.Texts.{IsProgramText, IsBadUtf8At}
@@ -38,11 +40,16 @@ pub record IsProgram (bytes : List ℕ) (items : List Item) : Type 0 where
 abbrev pub start : Pos
 start = record { line = 1; column = 1 }
 
--- Why and where a text is refused: it is too long, it isn't UTF-8, or it is no program that is built yet.
+-- The characters of a text are tokens.
+abbrev pub IsMadeOfTokens : List ℕ → Type 0
+IsMadeOfTokens bytes = (tokens : List Lexeme) × AreTokens (chars bytes) tokens
+
+-- Why and where a text is refused: it is too long, it isn't UTF-8, at some place no token starts, or it is no program that is built yet.
 abbrev pub IsRefused : List ℕ → Code → Pos → Type 0
 IsRefused bytes TooLong place = (1048576 < length bytes) × (place ≡ start)
 IsRefused bytes NotUtf8 place = (length bytes ≤ 1048576) × IsBadUtf8At bytes place
-IsRefused bytes NotYet place = (length bytes ≤ 1048576) × IsUtf8 bytes × ((items : List Item) → ¬ (IsProgram bytes items)) × (place ≡ start)
+IsRefused bytes Token place = (length bytes ≤ 1048576) × IsUtf8 bytes × StopsAt (chars bytes) place
+IsRefused bytes NotYet place = (length bytes ≤ 1048576) × IsUtf8 bytes × IsMadeOfTokens bytes × ((items : List Item) → ¬ (IsProgram bytes items)) × (place ≡ start)
 IsRefused bytes code place = ⊥
 
 -- `refused CODE NAME at FILE:LINE:COLUMN`
