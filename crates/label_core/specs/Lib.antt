@@ -1,0 +1,4 @@
+pub mod Atoms
+pub mod Formula
+pub mod Lit
+pub mod Verdict
