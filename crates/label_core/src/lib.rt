@@ -5,7 +5,9 @@
 #![tactic(auto)]
 
 mod formula;
+mod pair;
 mod theory;
 
 pub use formula::Formula;
+pub use pair::{Pair, PairAtom, PairChain, PairValue};
 pub use theory::{Lit, Theory, Verdict};
