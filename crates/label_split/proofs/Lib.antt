@@ -1,0 +1,5 @@
+pub mod SameAtoms
+pub mod Truths
+pub mod Fronts
+pub mod Signs
+pub mod Verdicts
