@@ -1,0 +1,5 @@
+pub mod Atoms
+pub mod Formula
+pub mod Lit
+pub mod Pair
+pub mod Verdict

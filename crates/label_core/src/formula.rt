@@ -1,0 +1,51 @@
+//! Formulas over atoms.
+
+ghost use Rattle.std.specs.Prelude.{◌≡◌};
+ghost use Rattle.model_tree.specs.Formula.{formula_holds, EveryAtom};
+ghost use Rattle.label_core.specs.Formula.{plain_formula};
+
+use crate::theory::Theory;
+
+/// A formula over atoms.
+#[derive(Drop)]
+pub enum Formula<A> {
+    Yes,
+    No,
+    Atom(A),
+    Not(Box<Formula<A>>),
+    And(Vec<Formula<A>>),
+    Or(Vec<Formula<A>>),
+}
+
+impl<A> Formula<A> {
+    #[tactic(auto, using(crate::proofs::Formulas::on_formulas))]
+    /// Whether the formula holds of the value's label. Takes no memory.
+    pub fn holds<T: Theory<Atom = A>>(&self, theory: &T, value: &T::Value) -> bool
+        requires atoms_fit { EveryAtom (T.atom_fits theory.now) (plain_formula self.now) }
+        requires value_fits { T.keeps_label theory.now (T.label_of value.now) }
+        ensures { result ≡ formula_holds (λ a. T.atom_holds a (T.label_of value.now)) (plain_formula self.now) }
+    {
+        match self {
+            Formula::Yes => true,
+            Formula::No => false,
+            Formula::Atom(atom) => theory.holds(atom, value),
+            Formula::Not(inner) => !inner.holds(theory, value),
+            Formula::And(parts) => {
+                'every: for part in parts {
+                    if !part.holds(theory, value) {
+                        return false;
+                    }
+                }
+                true
+            }
+            Formula::Or(parts) => {
+                'some: for part in parts {
+                    if part.holds(theory, value) {
+                        return true;
+                    }
+                }
+                false
+            }
+        }
+    }
+}

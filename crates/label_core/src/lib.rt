@@ -1,0 +1,13 @@
+//! Label theories: which labels a tree type has, which atoms speak of them, and how a conjunction of literals is decided.
+//!
+//! All that stands above is generic in `Theory`. Its promise: whatever is proved for a theory is proved from the laws of
+//! the trait alone, so a new kind of label is one more implementation of it.
+#![tactic(auto)]
+
+mod formula;
+mod pair;
+mod theory;
+
+pub use formula::Formula;
+pub use pair::{Pair, PairAtom, PairChain, PairValue};
+pub use theory::{Lit, Theory, Verdict};

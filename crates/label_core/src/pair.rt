@@ -1,0 +1,201 @@
+//! Two theories side by side: a label has a part of each.
+
+ghost use Rattle.std.specs.Prelude.{◌≡◌, IfOk};
+ghost use Rattle.label_core.specs.Lit.{LitsFit};
+ghost use Rattle.label_core.specs.Pair.{OfAtom, AreCopies, left_lits, right_lits};
+
+use crate::theory::{Lit, Theory, Verdict};
+use fast_fault::Memory;
+use std::alloc::Global;
+
+/// An atom of one of two theories.
+#[derive(PartialEq, Eq, Hash, Drop)]
+pub enum PairAtom<P, Q> {
+    Left(P),
+    Right(Q),
+}
+
+/// A value of each of two theories.
+#[derive(PartialEq, Eq, PartialOrd, Ord, Drop)]
+pub struct PairValue<V, W> {
+    pub left: V,
+    pub right: W,
+}
+
+/// A chain of one of two theories.
+#[derive(Drop)]
+pub enum PairChain<C, D> {
+    Left(C),
+    Right(D),
+}
+
+/// Two theories.
+#[derive(Drop)]
+pub struct Pair<A, B> {
+    left: A,
+    right: B,
+}
+
+impl<A, B> Pair<A, B> {
+    /// The theory of pairs of a label of the left one and a label of the right one.
+    pub fn new(left: A, right: B) -> Pair<A, B>
+        ensures left { result.left ≡ left }
+        ensures right { result.right ≡ right }
+    {
+        Pair { left, right }
+    }
+}
+
+impl<A: Theory, B: Theory> Pair<A, B> {
+    /// Copies of the literals that speak of the left part.
+    #[tactic(auto, using(crate::proofs::Pairs::on_pairs))]
+    fn left_literals(
+        &self,
+        alloc: Global,
+        literals: &[Lit<PairAtom<A::Atom, B::Atom>>],
+    ) -> Result<Vec<Lit<A::Atom>>, Memory>
+        ensures { IfOk result (λ copies. AreCopies A.Atom.eq (left_lits literals.now) copies.items) }
+    {
+        let mut copies = Vec::new(alloc);
+        for literal in literals {
+            match &literal.atom {
+                PairAtom::Left(inner) => {
+                    let atom = self.left.copy_atom(alloc, inner)?;
+                    let sign = literal.sign;
+                    copies.push(Lit { atom, sign })?;
+                }
+                PairAtom::Right(_) => {}
+            }
+        }
+        Ok(copies)
+    }
+
+    /// Copies of the literals that speak of the right part.
+    #[tactic(auto, using(crate::proofs::Pairs::on_pairs))]
+    fn right_literals(
+        &self,
+        alloc: Global,
+        literals: &[Lit<PairAtom<A::Atom, B::Atom>>],
+    ) -> Result<Vec<Lit<B::Atom>>, Memory>
+        ensures { IfOk result (λ copies. AreCopies B.Atom.eq (right_lits literals.now) copies.items) }
+    {
+        let mut copies = Vec::new(alloc);
+        for literal in literals {
+            match &literal.atom {
+                PairAtom::Right(inner) => {
+                    let atom = self.right.copy_atom(alloc, inner)?;
+                    let sign = literal.sign;
+                    copies.push(Lit { atom, sign })?;
+                }
+                PairAtom::Left(_) => {}
+            }
+        }
+        Ok(copies)
+    }
+}
+
+impl<A: Theory, B: Theory> Theory for Pair<A, B> {
+    type Atom = PairAtom<A::Atom, B::Atom>;
+
+    type Value = PairValue<A::Value, B::Value>;
+
+    type Chain = PairChain<A::Chain, B::Chain>;
+
+    ghost use Rattle.std.specs.Prelude.{refl};
+    ghost use Rattle.model_tree.specs.Label.{pair};
+    ghost use Rattle.label_core.specs.Pair.{pair_holds, OfAtom, HasParts, OfChain, lefts, rights, equal_pair_atoms, equal_pair_atoms_fit, equal_parts, parts_kept, pair_chain_grows};
+
+    ghost label_of = { λ v. pair (A.label_of v.left) (B.label_of v.right) };
+
+    ghost atom_holds = { pair_holds A.atom_holds B.atom_holds };
+
+    ghost atom_fits = { λ t. OfAtom (A.atom_fits t.left) (B.atom_fits t.right) };
+
+    ghost has_label = { λ t. HasParts (A.has_label t.left) (B.has_label t.right) };
+
+    ghost keeps_label = { λ t. HasParts (A.keeps_label t.left) (B.keeps_label t.right) };
+
+    ghost chain_over = { λ t atoms. OfChain (A.chain_over t.left (lefts atoms)) (B.chain_over t.right (rights atoms)) };
+
+    ghost chain_passes = { λ t. OfChain (A.chain_passes t.left) (B.chain_passes t.right) };
+
+    ghost chain_is_far = { λ t. OfChain (A.chain_is_far t.left) (B.chain_is_far t.right) };
+
+    ghost equal_atoms = { equal_pair_atoms A.Atom.eq B.Atom.eq ⟦<PairAtom<A::Atom, B::Atom> as PartialEq>⟧.eq (record { left_left = λ _ _. refl; left_right = λ _ _. refl; right_left = λ _ _. refl; right_right = λ _ _. refl }) A.atom_holds B.atom_holds A.equal_atoms B.equal_atoms };
+
+    ghost equal_atoms_fit = { λ t. equal_pair_atoms_fit A.Atom.eq B.Atom.eq ⟦<PairAtom<A::Atom, B::Atom> as PartialEq>⟧.eq (record { left_left = λ _ _. refl; left_right = λ _ _. refl; right_left = λ _ _. refl; right_right = λ _ _. refl }) (A.atom_fits t.left) (B.atom_fits t.right) (A.equal_atoms_fit t.left) (B.equal_atoms_fit t.right) };
+
+    ghost equal_values = { λ v w. equal_parts _ _ _ _ _ _ (A.equal_values v.left w.left) (B.equal_values v.right w.right) };
+
+    ghost keeps_labels = { λ t l. parts_kept (A.keeps_labels t.left) (B.keeps_labels t.right) l };
+
+    ghost chain_grows = { λ t. pair_chain_grows A.Atom.eq B.Atom.eq ⟦<PairAtom<A::Atom, B::Atom> as PartialEq>⟧.eq (record { left_left = λ _ _. refl; left_right = λ _ _. refl; right_left = λ _ _. refl; right_right = λ _ _. refl }) (A.chain_over t.left) (B.chain_over t.right) (A.chain_grows t.left) (B.chain_grows t.right) };
+
+    fn holds(
+        &self,
+        atom: &PairAtom<A::Atom, B::Atom>,
+        value: &PairValue<A::Value, B::Value>,
+    ) -> bool {
+        match atom {
+            PairAtom::Left(inner) => self.left.holds(inner, &value.left),
+            PairAtom::Right(inner) => self.right.holds(inner, &value.right),
+        }
+    }
+
+    fn decide(
+        &self,
+        alloc: Global,
+        literals: &[Lit<PairAtom<A::Atom, B::Atom>>],
+    ) -> Result<Verdict<PairValue<A::Value, B::Value>, PairChain<A::Chain, B::Chain>>, Memory> {
+        let lefts = self.left_literals(alloc, literals)?;
+        let rights = self.right_literals(alloc, literals)?;
+        let left = self.left.decide(alloc, &lefts)?;
+        let right = self.right.decide(alloc, &rights)?;
+        match left {
+            Verdict::Unsat => Ok(Verdict::Unsat),
+            Verdict::Sat(left) => match right {
+                Verdict::Unsat => Ok(Verdict::Unsat),
+                Verdict::Sat(right) => Ok(Verdict::Sat(PairValue { left, right })),
+                Verdict::Wide(chain) => Ok(Verdict::Wide(PairChain::Right(chain))),
+            },
+            Verdict::Wide(left) => match right {
+                Verdict::Unsat => Ok(Verdict::Unsat),
+                Verdict::Sat(_) => Ok(Verdict::Wide(PairChain::Left(left))),
+                Verdict::Wide(right) => {
+                    if self.left.far(&left) {
+                        return Ok(Verdict::Wide(PairChain::Right(right)));
+                    }
+                    Ok(Verdict::Wide(PairChain::Left(left)))
+                }
+            },
+        }
+    }
+
+    fn copy_atom(
+        &self,
+        alloc: Global,
+        atom: &PairAtom<A::Atom, B::Atom>,
+    ) -> Result<PairAtom<A::Atom, B::Atom>, Memory> {
+        match atom {
+            PairAtom::Left(inner) => Ok(PairAtom::Left(self.left.copy_atom(alloc, inner)?)),
+            PairAtom::Right(inner) => Ok(PairAtom::Right(self.right.copy_atom(alloc, inner)?)),
+        }
+    }
+
+    fn copy_value(
+        &self,
+        alloc: Global,
+        value: &PairValue<A::Value, B::Value>,
+    ) -> Result<PairValue<A::Value, B::Value>, Memory> {
+        let left = self.left.copy_value(alloc, &value.left)?;
+        let right = self.right.copy_value(alloc, &value.right)?;
+        Ok(PairValue { left, right })
+    }
+
+    fn far(&self, chain: &PairChain<A::Chain, B::Chain>) -> bool {
+        match chain {
+            PairChain::Left(inner) => self.left.far(inner),
+            PairChain::Right(inner) => self.right.far(inner),
+        }
+    }
+}

@@ -1,0 +1,102 @@
+//! What a label algebra has to bring.
+
+ghost use Rattle.std.specs.Prelude.{◌≡◌, ◌↔◌, Bool, true, IsTrue, List, IfOk};
+ghost use Rattle.std.specs.declared.cmp.Ordering.TheVariants.{Equal};
+ghost use Rattle.model_tree.specs.Label.{Label};
+ghost use Rattle.label_core.specs.Lit.{SatisfiesAll, LitsFit, atoms_of};
+ghost use Rattle.label_core.specs.Atoms.{EachHasEqual};
+ghost use Rattle.label_core.specs.Verdict.{Decides};
+
+use fast_fault::Memory;
+use std::alloc::Global;
+use std::hash::Hash;
+
+/// An atom, or its denial.
+#[derive(Drop)]
+pub struct Lit<A> {
+    pub atom: A,
+    pub sign: bool,
+}
+
+/// What a decision finds: a value, that there is none, or a chain that passes a width.
+#[derive(Drop)]
+pub enum Verdict<V, W> {
+    Sat(V),
+    Unsat,
+    Wide(W),
+}
+
+/// The labels of a tree type, with the atoms that speak of them.
+pub trait Theory {
+    type Atom: Eq + Hash + Drop;
+
+    type Value: Ord + Drop;
+
+    type Chain: Drop;
+
+    /// The label that a value stands for.
+    ghost label_of: { Self.Value → Label };
+
+    /// Whether an atom holds of a label, whatever the theory value.
+    ghost atom_holds: { Self.Atom → Label → Bool };
+
+    /// Whether an atom speaks of this theory's labels.
+    ghost atom_fits: { Self → Self.Atom → Type 0 };
+
+    /// Which labels the meaning has.
+    ghost has_label: { Self → Label → Type 0 };
+
+    /// Which of these a value may stand for.
+    ghost keeps_label: { Self → Label → Type 0 };
+
+    /// Whether a chain is over these atoms.
+    ghost chain_over: { Self → List Self.Atom → Self.Chain → Type 0 };
+
+    /// Whether a chain passes its width.
+    ghost chain_passes: { Self → Self.Chain → Type 0 };
+
+    /// Whether a chain is far: it has a solution, and only outside the kept labels.
+    ghost chain_is_far: { Self → Self.Chain → Type 0 };
+
+    /// Whether the atom holds of the value's label. Takes no memory.
+    fn holds(&self, atom: &Self::Atom, value: &Self::Value) -> bool
+        requires atom_fits { atom_fits self.now atom.now }
+        requires value_fits { keeps_label self.now (label_of value.now) }
+        ensures { result ≡ atom_holds atom.now (label_of value.now) };
+
+    /// Decides the conjunction of the literals.
+    fn decide(
+        &self,
+        alloc: Global,
+        literals: &[Lit<Self::Atom>],
+    ) -> Result<Verdict<Self::Value, Self::Chain>, Memory>
+        requires { LitsFit (atom_fits self.now) literals.now }
+        ensures { IfOk result (Decides label_of (has_label self.now) (keeps_label self.now) (SatisfiesAll atom_holds literals.now) (λ chain. chain_over self.now (atoms_of literals.now) chain × chain_passes self.now chain) (chain_is_far self.now)) };
+
+    /// An equal atom.
+    fn copy_atom(&self, alloc: Global, atom: &Self::Atom) -> Result<Self::Atom, Memory>
+        ensures { IfOk result (λ copy. Self.Atom.eq copy atom.now ≡ true) };
+
+    /// A value of the same label.
+    fn copy_value(&self, alloc: Global, value: &Self::Value) -> Result<Self::Value, Memory>
+        ensures { IfOk result (λ copy. label_of copy ≡ label_of value.now) };
+
+    /// Of a chain that passes its width, as each one that `decide` gives: whether it is far. Takes no memory.
+    fn far(&self, chain: &Self::Chain) -> bool
+        ensures { chain_passes self.now chain.now → IsTrue result ↔ chain_is_far self.now chain.now };
+
+    /// Equal atoms hold of the same labels.
+    ghost equal_atoms: { (a b : Self.Atom) (l : Label) → Self.Atom.eq a b ≡ true → atom_holds a l ≡ atom_holds b l };
+
+    /// An atom fits where an equal one does.
+    ghost equal_atoms_fit: { (t : Self) (a b : Self.Atom) → Self.Atom.eq a b ≡ true → atom_fits t a → atom_fits t b };
+
+    /// Values compare equal exactly where they stand for one label.
+    ghost equal_values: { (v w : Self.Value) → (Self.Value.cmp v w ≡ Equal) ↔ (label_of v ≡ label_of w) };
+
+    /// A kept label is a label of the meaning.
+    ghost keeps_labels: { (t : Self) (l : Label) → keeps_label t l → has_label t l };
+
+    /// A chain over some atoms is over each list that has an equal one of each of them.
+    ghost chain_grows: { (t : Self) (atoms more : List Self.Atom) (chain : Self.Chain) → EachHasEqual Self.Atom.eq atoms more → chain_over t atoms chain → chain_over t more chain };
+}

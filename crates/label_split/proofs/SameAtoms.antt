@@ -1,0 +1,145 @@
+-- Facts on atoms up to their own equality.
+use Rattle.std.proofs.Common.{◌≡◌, Bool, true, false, ◌||◌, IsTrue, List, [], ◌∷◌, ◌++◌, All, take, drop, length, get_or, ℕ, suc, ◌+◌, ◌<◌, ◌≤◌, add-one, refl, sym, ap, ◌∙◌, subst, arith}
+use Rattle.std.specs.List.{list_any}
+use Rattle.std.specs.Cmp.{IsEquivalence}
+use Rattle.std.proofs.lemmas.List.Elements.{All-nil, All-cons, All-append}
+use Rattle.std.proofs.lemmas.List.{drop_all, take_more, take-append-drop}
+use Rattle.std.proofs.Math.Seq.{drop-cons}
+use Rattle.std.proofs.lemmas.List.Folds.{list_any-append}
+use Rattle.model_tree.specs.Formula as plain
+use Rattle.model_tree.specs.Formula.{yes, no, atom, negation, all_of, some_of, no_formulas, formula, formulas_of, EveryAtom, EveryAtomOfAll}
+use Rattle.label_core.specs.Atoms.{has_equal, EachHasEqual}
+use Rattle.label_core.specs.Formula.{plain_formula, atoms_in, atoms_in_all}
+use Rattle.label_core.specs.declared.formula.Formula.{Formula}
+use Rattle.label_split.specs.Signs.{atoms_in_each, FormulasFit}
+
+or_true : (b : Bool) → (b || true) ≡ true
+or_true true = refl
+or_true false = refl
+
+either_true : (a b : Bool) → a ≡ true → IsTrue (a || b)
+either_true true b h = refl
+either_true false b h = cc
+
+other_true : (a b : Bool) → IsTrue b → IsTrue (a || b)
+other_true true b h = refl
+other_true false b h = h
+
+or_none : (b : Bool) → (b || false) ≡ b
+or_none true = refl
+or_none false = refl
+
+or_assoc : (a b c : Bool) → ((a || b) || c) ≡ (a || (b || c))
+or_assoc true b c = refl
+or_assoc false b c = refl
+
+module _ {A : Type 0} (eq : A → A → Bool) (laws : IsEquivalence eq) where
+  there : (xs : List A) (x a : A) (b : Bool) → eq a x ≡ b → list_any (λ y. eq y x) xs ≡ true → has_equal eq xs a ≡ (has_equal eq xs a || b)
+  there xs x a true e h =
+      let all : has_equal eq xs a ≡ true = (λ i. list_any (λ y. (laws.congr a x y e ∙ laws.symm x y) i) xs) ∙ h in
+      all ∙ sym (or_true (has_equal eq xs a))
+  there xs x a false e h = sym (or_none (has_equal eq xs a))
+
+  -- an atom that has an equal one already
+  pub atom_is_there : (xs : List A) (x a : A) → list_any (λ y. eq y x) xs ≡ true → has_equal eq xs a ≡ (has_equal eq xs a || eq a x)
+  atom_is_there xs x a h = there xs x a (eq a x) refl h
+
+  -- an atom that is added
+  pub atom_is_added : (xs : List A) (x copy a : A) → eq copy x ≡ true → has_equal eq (xs ++ copy ∷ []) a ≡ (has_equal eq xs a || eq a x)
+  atom_is_added xs x copy a e = list_any-append (eq a) xs (copy ∷ []) ∙ ap (λ b. has_equal eq xs a || b) (or_none (eq a copy) ∙ laws.symm a copy ∙ laws.congr copy x a e ∙ laws.symm x a)
+
+module _ {A : Type 0} (eq : A → A → Bool) where
+  -- one more formula of a list
+  pub atoms_more : (old new : List A) (f : Formula A) (fs : List (Formula A)) (a : A) → has_equal eq new a ≡ (has_equal eq old a || has_equal eq (atoms_in (plain_formula f)) a)
+      → (has_equal eq new a || has_equal eq (atoms_in_each fs) a) ≡ (has_equal eq old a || has_equal eq (atoms_in_each (f ∷ fs)) a)
+  atoms_more old new f fs a e =
+      ap (λ b. b || has_equal eq (atoms_in_each fs) a) e
+      ∙ or_assoc (has_equal eq old a) (has_equal eq (atoms_in (plain_formula f)) a) (has_equal eq (atoms_in_each fs) a)
+      ∙ ap (λ b. has_equal eq old a || b) (sym (list_any-append (eq a) (atoms_in (plain_formula f)) (atoms_in_each fs)))
+
+  dropped : (fs : List (Formula A)) (i : ℕ) (f : Formula A) → i < length fs → f ≡ get_or fs i f → drop i fs ≡ f ∷ drop (i + 1) fs
+  dropped fs i f low is = drop-cons fs i f low ∙ (λ j. sym is j ∷ drop (sym (add-one i) j) fs)
+
+  -- a step of a loop over formulas, and its end
+  pub atoms_step : (old new : List A) (fs : List (Formula A)) (i : ℕ) (f : Formula A) (all : Bool) (a : A) → i < length fs → f ≡ get_or fs i f → has_equal eq new a ≡ (has_equal eq old a || has_equal eq (atoms_in (plain_formula f)) a)
+      → (has_equal eq old a || has_equal eq (atoms_in_each (drop i fs)) a) ≡ all → (has_equal eq new a || has_equal eq (atoms_in_each (drop (i + 1) fs)) a) ≡ all
+  atoms_step old new fs i f all a low is e h = atoms_more old new f (drop (i + 1) fs) a e ∙ ap (λ gs. has_equal eq old a || has_equal eq (atoms_in_each gs) a) (sym (dropped fs i f low is)) ∙ h
+
+  pub atoms_end : (atoms : List A) (fs : List (Formula A)) (i : ℕ) (all : Bool) (a : A) → length fs ≤ i → (has_equal eq atoms a || has_equal eq (atoms_in_each (drop i fs)) a) ≡ all → has_equal eq atoms a ≡ all
+  atoms_end atoms fs i all a high h = sym (or_none (has_equal eq atoms a)) ∙ ap (λ gs. has_equal eq atoms a || has_equal eq (atoms_in_each gs) a) (sym (drop_all i fs high)) ∙ h
+
+  each_append : (fs gs : List (Formula A)) (a : A) → has_equal eq (atoms_in_each (fs ++ gs)) a ≡ (has_equal eq (atoms_in_each fs) a || has_equal eq (atoms_in_each gs) a)
+  each_append [] gs a = refl
+  each_append (f ∷ fs) gs a =
+      list_any-append (eq a) (atoms_in (plain_formula f)) (atoms_in_each (fs ++ gs))
+      ∙ ap (λ b. has_equal eq (atoms_in (plain_formula f)) a || b) (each_append fs gs a)
+      ∙ sym (or_assoc (has_equal eq (atoms_in (plain_formula f)) a) (has_equal eq (atoms_in_each fs) a) (has_equal eq (atoms_in_each gs) a))
+      ∙ ap (λ b. b || has_equal eq (atoms_in_each gs) a) (sym (list_any-append (eq a) (atoms_in (plain_formula f)) (atoms_in_each fs)))
+
+  one_formula : (f : Formula A) (a : A) → has_equal eq (atoms_in_each (f ∷ [])) a ≡ has_equal eq (atoms_in (plain_formula f)) a
+  one_formula f a = list_any-append (eq a) (atoms_in (plain_formula f)) [] ∙ or_none (has_equal eq (atoms_in (plain_formula f)) a)
+
+  -- one more formula in the front of a list
+  pub atoms_taken : (old new : List A) (fs : List (Formula A)) (i : ℕ) (f : Formula A) (a : A) → i < length fs → f ≡ get_or fs i f → has_equal eq new a ≡ (has_equal eq old a || has_equal eq (atoms_in (plain_formula f)) a)
+      → has_equal eq old a ≡ has_equal eq (atoms_in_each (take i fs)) a → has_equal eq new a ≡ has_equal eq (atoms_in_each (take (i + 1) fs)) a
+  atoms_taken old new fs i f a low is e h =
+      e ∙ ap (λ b. b || has_equal eq (atoms_in (plain_formula f)) a) h
+      ∙ ap (λ b. has_equal eq (atoms_in_each (take i fs)) a || b) (sym (one_formula f a))
+      ∙ sym (each_append (take i fs) (f ∷ []) a)
+      ∙ ap (λ gs. has_equal eq (atoms_in_each gs) a) (sym (take_more fs i f low ∙ ap (λ g. take i fs ++ g ∷ []) (sym is)))
+
+module _ {A : Type 0} (eq : A → A → Bool) (laws : IsEquivalence eq) where
+  itself : (bs more : List A) → ((a : A) → IsTrue (has_equal eq bs a) → IsTrue (has_equal eq more a)) → EachHasEqual eq bs more
+  itself [] more h = All-nil (λ a. IsTrue (has_equal eq more a))
+  itself (b ∷ bs) more h = All-cons (λ a. IsTrue (has_equal eq more a)) b bs (h b (either_true (eq b b) (has_equal eq bs b) (laws.refl b))) (itself bs more (λ a e. h a (other_true (eq a b) (has_equal eq bs a) e)))
+
+  -- the atoms of the first formulas are among those of all
+  pub taken_among : (fs : List (Formula A)) (i : ℕ) → EachHasEqual eq (atoms_in_each (take i fs)) (atoms_in_each fs)
+  taken_among fs i = itself (atoms_in_each (take i fs)) (atoms_in_each fs)
+      (λ a e. subst IsTrue (sym (each_append eq (take i fs) (drop i fs) a) ∙ ap (λ gs. has_equal eq (atoms_in_each gs) a) (take-append-drop i fs)) (either_true (has_equal eq (atoms_in_each (take i fs)) a) (has_equal eq (atoms_in_each (drop i fs)) a) e))
+
+module _ {A : Type 0} (P : A → Type 0) where
+  front : (xs ys : List A) → All P (xs ++ ys) → All P xs
+  front [] ys h = All-nil P
+  front (x ∷ xs) ys h = All-cons P x xs (h 0 x (omega arith)) (front xs ys (λ k d b. h (suc k) d (omega (arith, b))))
+
+  back : (xs ys : List A) → All P (xs ++ ys) → All P ys
+  back [] ys h = h
+  back (x ∷ xs) ys h = back xs ys (λ k d b. h (suc k) d (omega (arith, b)))
+
+  mutual
+    pub every_atom : (f : plain.Formula A) → All P (atoms_in f) → EveryAtom P f
+    every_atom yes h = tt
+    every_atom no h = tt
+    every_atom (atom a) h = h 0 a (omega arith)
+    every_atom (negation f) h = every_atom f h
+    every_atom (all_of fs) h = every_atom_of_all fs h
+    every_atom (some_of fs) h = every_atom_of_all fs h
+
+    every_atom_of_all : (fs : plain.Formulas A) → All P (atoms_in_all fs) → EveryAtomOfAll P fs
+    every_atom_of_all no_formulas h = tt
+    every_atom_of_all (formula f fs) h = (every_atom f (front (atoms_in f) (atoms_in_all fs) h), every_atom_of_all fs (back (atoms_in f) (atoms_in_all fs) h))
+
+  mutual
+    pub all_atoms : (f : plain.Formula A) → EveryAtom P f → All P (atoms_in f)
+    all_atoms yes h = All-nil P
+    all_atoms no h = All-nil P
+    all_atoms (atom a) h = All-cons P a [] h (All-nil P)
+    all_atoms (negation f) h = all_atoms f h
+    all_atoms (all_of fs) h = all_atoms_of_all fs h
+    all_atoms (some_of fs) h = all_atoms_of_all fs h
+
+    all_atoms_of_all : (fs : plain.Formulas A) → EveryAtomOfAll P fs → All P (atoms_in_all fs)
+    all_atoms_of_all no_formulas h = All-nil P
+    all_atoms_of_all (formula f fs) h = All-append P (atoms_in f) (atoms_in_all fs) (all_atoms f h.0) (all_atoms_of_all fs h.1)
+
+  -- what holds of each atom of each formula, both ways
+  pub every_atom_of_each : (fs : List (Formula A)) → All P (atoms_in_each fs) → FormulasFit P fs
+  every_atom_of_each [] h = All-nil (λ f. EveryAtom P (plain_formula f))
+  every_atom_of_each (f ∷ fs) h = All-cons (λ f. EveryAtom P (plain_formula f)) f fs (every_atom (plain_formula f) (front (atoms_in (plain_formula f)) (atoms_in_each fs) h)) (every_atom_of_each fs (back (atoms_in (plain_formula f)) (atoms_in_each fs) h))
+
+  pub all_atoms_of_each : (fs : List (Formula A)) → FormulasFit P fs → All P (atoms_in_each fs)
+  all_atoms_of_each [] h = All-nil P
+  all_atoms_of_each (f ∷ fs) h = All-append P (atoms_in (plain_formula f)) (atoms_in_each fs) (all_atoms (plain_formula f) (h 0 f (omega arith))) (all_atoms_of_each fs (λ k d b. h (suc k) d (omega (arith, b))))
+
+pub ruleset on_atoms = (atom_is_there, atom_is_added)

@@ -1,0 +1,4 @@
+pub mod Automaton
+pub mod Accepts
+pub mod Sets
+pub mod Laws
