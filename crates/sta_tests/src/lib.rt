@@ -4,13 +4,14 @@
 ghost use Rattle.std.specs.Prelude.{◌≡◌, ◌<◌, length, IfOk};
 ghost use Rattle.model_tree.specs.Tree.{EveryLabel};
 ghost use Rattle.flat_label.specs.Bools.{IsBools, bools_label};
+ghost use Rattle.label_core.specs.Pair.{OfAtom};
 ghost use Rattle.label_split.specs.Signs.{FormulasFit};
 ghost use Rattle.sta_core.specs.Sta.{AtomsFit};
 
 use fast_fault::Memory;
 use fast_tree::Tree;
 use flat_label::{BoolAtom, Bools, Never};
-use label_core::{Formula, Verdict};
+use label_core::{Formula, Pair, PairAtom, Theory, Verdict};
 use label_split::{SplitStop, find, split};
 use sta_core::{Sta, StaRule, accepts};
 use std::alloc::Global;
@@ -88,6 +89,30 @@ fn has_both_fields(alloc: Global) -> Result<bool, Memory> {
     let formulas = two_fields(alloc)?;
     Ok(match find(&theory, alloc, &formulas)? {
         Verdict::Sat(_) => true,
+        _ => false,
+    })
+}
+
+/// The left field, and not the right one, as two formulas over pairs.
+fn left_alone(alloc: Global) -> Result<Vec<Formula<PairAtom<BoolAtom, BoolAtom>>>, Memory>
+    ensures { IfOk result (λ formulas. FormulasFit (OfAtom (λ a. a.field < 1) (λ a. a.field < 1)) formulas.items) }
+{
+    let right = Formula::Atom(PairAtom::Right(BoolAtom { field: 0 }));
+    let mut formulas = Vec::new(alloc);
+    formulas.push(Formula::Atom(PairAtom::Left(BoolAtom { field: 0 })))?;
+    formulas.push(Formula::Not(Box::new(alloc, right)?))?;
+    Ok(formulas)
+}
+
+/// Whether some pair has the left field alone.
+fn has_left_alone(alloc: Global) -> Result<bool, Memory> {
+    let theory = Pair::new(Bools::new(1), Bools::new(1));
+    let formulas = left_alone(alloc)?;
+    Ok(match find(&theory, alloc, &formulas)? {
+        Verdict::Sat(value) => {
+            let copy = theory.copy_value(alloc, &value)?;
+            copy == value && value.left[..] == [true] && value.right[..] == [false]
+        }
         _ => false,
     })
 }

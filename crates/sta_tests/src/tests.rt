@@ -32,3 +32,9 @@ fn two_fields_are_satisfiable(rt: HostRuntime) -> Result<(), Fail> {
     assert!(rt; has_both_fields(rt.alloc()).ok().ok_or("memory")?);
     Ok(())
 }
+
+#[test]
+fn a_pair_has_the_left_field_alone(rt: HostRuntime) -> Result<(), Fail> {
+    assert!(rt; has_left_alone(rt.alloc()).ok().ok_or("memory")?);
+    Ok(())
+}
