@@ -1,5 +1,5 @@
 -- Facts on atoms up to their own equality.
-use Rattle.std.proofs.Common.{◌≡◌, Bool, true, false, ◌||◌, IsTrue, List, [], ◌∷◌, ◌++◌, All, take, drop, length, get_or, ℕ, suc, ◌+◌, ◌<◌, ◌≤◌, add-one, refl, sym, ap, ◌∙◌, subst, arith}
+use Rattle.std.proofs.Common.{◌≡◌, Bool, true, false, ◌||◌, IsTrue, List, [], ◌∷◌, ◌++◌, All, take, drop, length, get_or, ℕ, suc, ◌+◌, ◌<◌, ◌≤◌, add-one, refl, sym, ap, ◌∙◌, subst, if◌then◌else◌, arith}
 use Rattle.std.specs.List.{list_any}
 use Rattle.std.specs.Cmp.{IsEquivalence}
 use Rattle.std.proofs.lemmas.List.Elements.{All-nil, All-cons, All-append}
@@ -12,6 +12,7 @@ use Rattle.label_core.specs.Atoms.{has_equal, EachHasEqual}
 use Rattle.label_core.specs.Formula.{plain_formula, atoms_in, atoms_in_all}
 use Rattle.label_core.specs.declared.formula.Formula.{Formula}
 use Rattle.label_split.specs.Signs.{atoms_in_each, FormulasFit}
+use Rattle.indexmap.specs.IndexSet.{insert_key}
 
 or_true : (b : Bool) → (b || true) ≡ true
 or_true true = refl
@@ -34,19 +35,31 @@ or_assoc true b c = refl
 or_assoc false b c = refl
 
 module _ {A : Type 0} (eq : A → A → Bool) (laws : IsEquivalence eq) where
-  there : (xs : List A) (x a : A) (b : Bool) → eq a x ≡ b → list_any (λ y. eq y x) xs ≡ true → has_equal eq xs a ≡ (has_equal eq xs a || b)
-  there xs x a true e h =
-      let all : has_equal eq xs a ≡ true = (λ i. list_any (λ y. (laws.congr a x y e ∙ laws.symm x y) i) xs) ∙ h in
-      all ∙ sym (or_true (has_equal eq xs a))
+  -- equal atoms have equal ones together
+  same_there : (xs : List A) (x y : A) → eq x y ≡ true → has_equal eq xs x ≡ has_equal eq xs y
+  same_there xs x y e = λ i. list_any (λ z. laws.congr x y z e i) xs
+
+  there : (xs : List A) (x a : A) (b : Bool) → eq a x ≡ b → has_equal eq xs x ≡ true → has_equal eq xs a ≡ (has_equal eq xs a || b)
+  there xs x a true e h = same_there xs a x e ∙ h ∙ sym (or_true (has_equal eq xs a))
   there xs x a false e h = sym (or_none (has_equal eq xs a))
 
   -- an atom that has an equal one already
-  pub atom_is_there : (xs : List A) (x a : A) → list_any (λ y. eq y x) xs ≡ true → has_equal eq xs a ≡ (has_equal eq xs a || eq a x)
+  pub atom_is_there : (xs : List A) (x a : A) → has_equal eq xs x ≡ true → has_equal eq xs a ≡ (has_equal eq xs a || eq a x)
   atom_is_there xs x a h = there xs x a (eq a x) refl h
 
-  -- an atom that is added
-  pub atom_is_added : (xs : List A) (x copy a : A) → eq copy x ≡ true → has_equal eq (xs ++ copy ∷ []) a ≡ (has_equal eq xs a || eq a x)
-  atom_is_added xs x copy a e = list_any-append (eq a) xs (copy ∷ []) ∙ ap (λ b. has_equal eq xs a || b) (or_none (eq a copy) ∙ laws.symm a copy ∙ laws.congr copy x a e ∙ laws.symm x a)
+  same_at : (x copy a : A) → eq copy x ≡ true → eq a copy ≡ eq a x
+  same_at x copy a e = laws.symm a copy ∙ laws.congr copy x a e ∙ laws.symm x a
+
+  atom_is_last : (xs : List A) (x copy a : A) → eq copy x ≡ true → has_equal eq (xs ++ copy ∷ []) a ≡ (has_equal eq xs a || eq a x)
+  atom_is_last xs x copy a e = list_any-append (eq a) xs (copy ∷ []) ∙ ap (λ b. has_equal eq xs a || b) (or_none (eq a copy) ∙ same_at x copy a e)
+
+  -- an atom of which a copy is inserted
+  pub atom_is_inserted : (xs : List A) (x copy a : A) → eq copy x ≡ true → has_equal eq (insert_key eq xs copy) a ≡ (has_equal eq xs a || eq a x)
+  atom_is_inserted xs x copy a e = by (has_equal eq xs copy) refl
+    where
+      by : (b : Bool) → has_equal eq xs copy ≡ b → has_equal eq (if b then xs else xs ++ copy ∷ []) a ≡ (has_equal eq xs a || eq a x)
+      by true h = there xs copy a (eq a copy) refl h ∙ ap (λ b. has_equal eq xs a || b) (same_at x copy a e)
+      by false h = atom_is_last xs x copy a e
 
 module _ {A : Type 0} (eq : A → A → Bool) where
   -- one more formula of a list
@@ -142,4 +155,4 @@ module _ {A : Type 0} (P : A → Type 0) where
   all_atoms_of_each [] h = All-nil P
   all_atoms_of_each (f ∷ fs) h = All-append P (atoms_in (plain_formula f)) (atoms_in_each fs) (all_atoms (plain_formula f) (h 0 f (omega arith))) (all_atoms_of_each fs (λ k d b. h (suc k) d (omega (arith, b))))
 
-pub ruleset on_atoms = (atom_is_there, atom_is_added)
+pub ruleset on_atoms = (atom_is_there, atom_is_inserted)

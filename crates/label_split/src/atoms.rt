@@ -5,6 +5,7 @@ ghost use Rattle.label_core.specs.Atoms.{has_equal};
 ghost use Rattle.label_core.specs.Formula.{plain_formula, atoms_in};
 
 use fast_fault::Memory;
+use indexmap::IndexSet;
 use label_core::{Formula, Theory};
 use std::alloc::Global;
 
@@ -14,12 +15,12 @@ fn add_atom<T: Theory>(
     theory: &T,
     alloc: Global,
     atom: &T::Atom,
-    atoms: &mut Vec<T::Atom>,
+    atoms: &mut IndexSet<T::Atom>,
 ) -> Result<(), Memory>
-    ensures { OnOk result ((a : T.Atom) → has_equal T.Atom.eq atoms.new.items a ≡ (has_equal T.Atom.eq atoms.old.items a || T.Atom.eq a atom.now)) }
+    ensures { OnOk result ((a : T.Atom) → has_equal T.Atom.eq atoms.new.keys a ≡ (has_equal T.Atom.eq atoms.old.keys a || T.Atom.eq a atom.now)) }
 {
     if !atoms.contains(atom) {
-        atoms.push(theory.copy_atom(alloc, atom)?)?;
+        atoms.insert(theory.copy_atom(alloc, atom)?)?;
     }
     Ok(())
 }
@@ -30,9 +31,9 @@ pub fn add_atoms<T: Theory>(
     theory: &T,
     alloc: Global,
     formula: &Formula<T::Atom>,
-    atoms: &mut Vec<T::Atom>,
+    atoms: &mut IndexSet<T::Atom>,
 ) -> Result<(), Memory>
-    ensures { OnOk result ((a : T.Atom) → has_equal T.Atom.eq atoms.new.items a ≡ (has_equal T.Atom.eq atoms.old.items a || has_equal T.Atom.eq (atoms_in (plain_formula formula.now)) a)) }
+    ensures { OnOk result ((a : T.Atom) → has_equal T.Atom.eq atoms.new.keys a ≡ (has_equal T.Atom.eq atoms.old.keys a || has_equal T.Atom.eq (atoms_in (plain_formula formula.now)) a)) }
 {
     match formula {
         Formula::Yes => Ok(()),

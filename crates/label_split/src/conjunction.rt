@@ -10,6 +10,7 @@ ghost use Rattle.label_split.specs.Signs.{atoms_in_each, FormulasFit};
 use crate::atoms::add_atoms;
 use crate::search::search;
 use fast_fault::Memory;
+use indexmap::IndexSet;
 use label_core::{Formula, Theory, Verdict};
 use std::alloc::Global;
 
@@ -19,10 +20,10 @@ fn atoms_of_each<T: Theory>(
     theory: &T,
     alloc: Global,
     formulas: &[Formula<T::Atom>],
-) -> Result<Vec<T::Atom>, Memory>
-    ensures { IfOk result (λ atoms. (a : T.Atom) → has_equal T.Atom.eq atoms.items a ≡ has_equal T.Atom.eq (atoms_in_each formulas.now) a) }
+) -> Result<IndexSet<T::Atom>, Memory>
+    ensures { IfOk result (λ atoms. (a : T.Atom) → has_equal T.Atom.eq atoms.keys a ≡ has_equal T.Atom.eq (atoms_in_each formulas.now) a) }
 {
-    let mut atoms = Vec::new(alloc);
+    let mut atoms = IndexSet::new(alloc);
     for formula in formulas {
         add_atoms(theory, alloc, formula, &mut atoms)?;
     }
@@ -41,5 +42,12 @@ pub fn find<T: Theory>(
     let atoms = atoms_of_each(theory, alloc, formulas)?;
     let signs = vec![in alloc; true; formulas.len()]?;
     let mut literals = Vec::new(alloc);
-    search(theory, alloc, &atoms, formulas, &signs, &mut literals)
+    search(
+        theory,
+        alloc,
+        atoms.as_slice(),
+        formulas,
+        &signs,
+        &mut literals,
+    )
 }

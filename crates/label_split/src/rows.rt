@@ -10,6 +10,7 @@ ghost use Rattle.label_split.specs.Split.{SplitsInto, IsRow, StopsFor, HasMoreRo
 use crate::atoms::add_atoms;
 use crate::search::search;
 use fast_fault::Memory;
+use indexmap::IndexSet;
 use label_core::{Formula, Theory, Verdict};
 use std::alloc::{AllocError, AllocFailed, Global};
 
@@ -173,14 +174,14 @@ pub fn split<T: Theory>(
     ensures few { IfOk result (λ rows. length rows.items ≤ most) }
     ensures stop { IfErr result (StopsFor (HasMoreRows (T.keeps_label theory.now) (signs_at T.atom_holds formulas.now) most) (T.has_label theory.now) (T.keeps_label theory.now) (signs_at T.atom_holds formulas.now) (λ chain. T.chain_over theory.now (atoms_in_each formulas.now) chain × T.chain_passes theory.now chain) (T.chain_is_far theory.now)) }
 {
-    let mut atoms = Vec::new(alloc);
+    let mut atoms = IndexSet::new(alloc);
     let mut rows = start(theory, alloc)?;
     for i in 0..formulas.len() {
         if rows.len() > most as usize {
             return Err(SplitStop::TooMany);
         }
         add_atoms(theory, alloc, &formulas[i], &mut atoms)?;
-        rows = refine(theory, alloc, &atoms, &formulas[..i + 1], rows)?;
+        rows = refine(theory, alloc, atoms.as_slice(), &formulas[..i + 1], rows)?;
     }
     if rows.len() <= most as usize {
         return Ok(rows);

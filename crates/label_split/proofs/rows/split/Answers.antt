@@ -14,7 +14,7 @@ returns-then-len-most-clause-stop g c =
     (more_rows g.T.Theory.label_of (g.T.Theory.has_label c.args.theory.now) (g.T.Theory.keeps_label c.args.theory.now) (signs_at g.T.Theory.atom_holds (take c.loop-i.i c.args.formulas.now)) c.loop-i.rows.items c.args.most c.loop-i.invariant.rows long)
 
 pub refine-requires-clause-are_atoms : goal.refine-requires-clause-are_atoms
-refine-requires-clause-are_atoms g c a = rw c.deref.ensures.value (atoms_taken g.T.Atom.PartialEq.eq c.loop-i.atoms.items c.add_atoms.new.atoms.items c.args.formulas.now c.loop-i.i c.index-formulas-i.result a c.loop-i-test.true c.index-formulas-i.is (c.in_ok-add_atoms.ensures a) (c.loop-i.invariant.are_atoms a))
+refine-requires-clause-are_atoms g c a = rw c.as_slice.ensures.keys (atoms_taken g.T.Atom.PartialEq.eq c.loop-i.atoms.keys c.add_atoms.new.atoms.keys c.args.formulas.now c.loop-i.i c.index-formulas-i.result a c.loop-i-test.true c.index-formulas-i.is (c.in_ok-add_atoms.ensures a) (c.loop-i.invariant.are_atoms a))
 
 pub returns-in_err-rows-2-clause-stop : goal.returns-in_err-rows-2-clause-stop
 returns-in_err-rows-2-clause-stop g c =
@@ -27,7 +27,7 @@ returns-in_err-rows-2-clause-stop g c =
 pub loop-i-preserved : goal.loop-i-preserved
 loop-i-preserved g c = record {
   rows = c.in_ok-rows-2.ensures.rows;
-  are_atoms = λ a. atoms_taken g.T.Atom.PartialEq.eq c.loop-i.atoms.items c.add_atoms.new.atoms.items c.args.formulas.now c.loop-i.i c.index-formulas-i.result a c.loop-i-test.true c.index-formulas-i.is (c.in_ok-add_atoms.ensures a) (c.loop-i.invariant.are_atoms a);
+  are_atoms = λ a. atoms_taken g.T.Atom.PartialEq.eq c.loop-i.atoms.keys c.add_atoms.new.atoms.keys c.args.formulas.now c.loop-i.i c.index-formulas-i.result a c.loop-i-test.true c.index-formulas-i.is (c.in_ok-add_atoms.ensures a) (c.loop-i.invariant.are_atoms a);
 }
 
 pub returns-clause-stop : goal.returns-clause-stop
