@@ -1,7 +1,7 @@
 -- How far the literals of a search have come.
 use Rattle.std.proofs.Common.{◌≡◌, Bool, true, false, ◌||◌, ◌⊎◌, inl, inr, IsSome, IsTrue, List, [], ◌∷◌, ◌++◌, map, length, get_or, All, ℕ, zero, suc, ◌+◌, ◌<◌, ◌≤◌, refl, sym, ap, ap₂, ◌∙◌, subst, arith}
 use Rattle.std.specs.Cmp.{IsEquivalence}
-use Rattle.std.proofs.lemmas.List.Elements.{All-nil, All-cons, All-append}
+use Rattle.std.proofs.lemmas.List.Elements.{All-nil, All-cons, All-append, All-map}
 use Rattle.model_tree.specs.Label.{Label}
 use Rattle.label_core.specs.Atoms.{has_equal, EachHasEqual}
 use Rattle.label_core.specs.Lit.{SatisfiesAll, LitsFit, atoms_of}
@@ -20,10 +20,6 @@ or_left false b h = cc
 or_right : (a b : Bool) → IsTrue b → IsTrue (a || b)
 or_right true b h = refl
 or_right false b h = h
-
-all_of_map : {X Y : Type 0} (P : Y → Type 0) (f : X → Y) (xs : List X) → All (λ x. P (f x)) xs → All P (map f xs)
-all_of_map P f [] h = All-nil P
-all_of_map P f (x ∷ xs) h = All-cons P (f x) (map f xs) (h 0 x (omega arith)) (all_of_map P f xs (λ k d b. h (suc k) d (omega (arith, b))))
 
 same_default : {X : Type 0} (xs : List X) (i : ℕ) (d e : X) → i < length xs → get_or xs i d ≡ get_or xs i e
 same_default [] i d e l = absurd (omega arith)
@@ -73,7 +69,7 @@ module _ {A : Type 0} (eq : A → A → Bool) (laws : IsEquivalence eq) (F : A �
   literals_fit same = front_all eq F atoms xs front (λ a e. equal_fits eq F (λ b c s. same c b (laws.symm c b ∙ s)) (atoms_in_each formulas) (all_atoms_of_each F formulas goal.fit) a (subst IsTrue (goal.are_atoms a) e))
 
   pub literals_among : EachHasEqual eq (atoms_of xs) (atoms_in_each formulas)
-  literals_among = all_of_map (λ a. IsTrue (has_equal eq (atoms_in_each formulas) a)) (λ x. x.atom) xs (front_all eq (λ a. IsTrue (has_equal eq (atoms_in_each formulas) a)) atoms xs front (λ a e. subst IsTrue (goal.are_atoms a) e))
+  literals_among = All-map (λ a. IsTrue (has_equal eq (atoms_in_each formulas) a)) (λ x. x.atom) xs (front_all eq (λ a. IsTrue (has_equal eq (atoms_in_each formulas) a)) atoms xs front (λ a e. subst IsTrue (goal.are_atoms a) e))
 
   -- once each atom has a literal, all is known
   pub full_knows : length xs ≡ length atoms → FormulasFit (λ a. IsSome (literal_sign eq xs a)) formulas

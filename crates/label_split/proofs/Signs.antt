@@ -1,6 +1,7 @@
 -- Facts on rows of signs.
-use Rattle.std.proofs.Common.{◌≡◌, Bool, false, List, [], ◌∷◌, ◌++◌, map, take, length, get_or, ℕ, suc, ◌+◌, ◌<◌, refl, sym, ap, ap₂, ◌∙◌, arith}
-use Rattle.std.proofs.lemmas.List.{take_more, map-append}
+use Rattle.std.proofs.Common.{◌≡◌, Bool, true, false, IsTrue, All, replicate, List, [], ◌∷◌, ◌++◌, map, take, length, get_or, ℕ, zero, suc, ◌+◌, ◌-◌, ◌<◌, refl, sym, ap, ap₂, ◌∙◌, arith}
+use Rattle.std.proofs.lemmas.List.{take_more, map-append, take_all}
+use Rattle.std.proofs.lemmas.List.Elements.{All-nil, All-cons}
 use Rattle.model_tree.specs.Label.{Label}
 use Rattle.model_tree.specs.Formula.{formula_holds}
 use Rattle.label_core.specs.Formula.{plain_formula}
@@ -22,3 +23,31 @@ module _ {A : Type 0} (holds : A → Label → Bool) where
       signs_of_more fs i f l low e ∙ ap₂ (λ xs x. xs ++ x ∷ []) h s ∙ sym (take_more bs i false low')
 
 pub ruleset on_signs = (signs_more)
+
+module _ {A : Type 0} (holds : A → Label → Bool) where
+  -- all signs are true exactly where all formulas hold
+  pub all_from_signs : (fs : List (Formula A)) (l : Label) (bs : List Bool) → bs ≡ replicate (length fs) true → signs_at holds fs l ≡ bs → All (λ f. IsTrue (formula_holds (λ a. holds a l) (plain_formula f))) fs
+  all_from_signs [] l bs e h = All-nil (λ f. IsTrue (formula_holds (λ a. holds a l) (plain_formula f)))
+  all_from_signs (f ∷ fs) l bs e h =
+      let both : signs_at holds (f ∷ fs) l ≡ true ∷ replicate (length fs) true = h ∙ e in
+      let first : formula_holds (λ a. holds a l) (plain_formula f) ≡ true = cc in
+      let others : signs_at holds fs l ≡ replicate (length fs) true = cc in
+      All-cons (λ f. IsTrue (formula_holds (λ a. holds a l) (plain_formula f))) f fs first (all_from_signs fs l (replicate (length fs) true) refl others)
+
+  pub signs_from_all : (fs : List (Formula A)) (l : Label) (bs : List Bool) → bs ≡ replicate (length fs) true → All (λ f. IsTrue (formula_holds (λ a. holds a l) (plain_formula f))) fs → signs_at holds fs l ≡ bs
+  signs_from_all [] l bs e h = sym e
+  signs_from_all (f ∷ fs) l bs e h = ap₂ (λ x xs. x ∷ xs) (h 0 f (omega arith)) (signs_from_all fs l (replicate (length fs) true) refl (λ k d b. h (suc k) d (omega (arith, b)))) ∙ sym e
+
+  back : (n : ℕ) → 0 < n → n ≡ (n - 1) + 1
+  back n some = omega arith
+
+  pub last_sign : (fs : List (Formula A)) (f : Formula A) (l : Label) → 0 < length fs → f ≡ get_or fs (length fs - 1) f → signs_at holds fs l ≡ signs_at holds (take (length fs - 1) fs) l ++ formula_holds (λ a. holds a l) (plain_formula f) ∷ []
+  last_sign fs f l some is =
+      ap (λ gs. signs_at holds gs l) (sym (take_all (length fs) fs (omega arith)) ∙ ap (λ n. take n fs) (back (length fs) some)) ∙ signs_of_more holds fs (length fs - 1) f l (omega (arith, some)) is
+
+  -- the signs of the first formulas are the first of the signs
+  pub signs_taken : (fs : List (Formula A)) (i : ℕ) (l : Label) → signs_at holds (take i fs) l ≡ take i (signs_at holds fs l)
+  signs_taken [] zero l = refl
+  signs_taken [] (suc i) l = refl
+  signs_taken (f ∷ fs) zero l = refl
+  signs_taken (f ∷ fs) (suc i) l = ap (λ xs. formula_holds (λ a. holds a l) (plain_formula f) ∷ xs) (signs_taken fs i l)

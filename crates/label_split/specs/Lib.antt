@@ -1,3 +1,4 @@
 pub mod Known
 pub mod Signs
 pub mod Search
+pub mod Split

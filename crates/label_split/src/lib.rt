@@ -5,6 +5,10 @@
 #![tactic(auto)]
 
 mod atoms;
+mod conjunction;
 mod known;
 mod search;
+mod rows;
 
+pub use conjunction::find;
+pub use rows::{SignRow, SplitStop, split};
