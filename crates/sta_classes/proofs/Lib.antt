@@ -1,3 +1,7 @@
 pub mod Rows
 pub mod Copied
 pub mod Covered
+pub mod Grown
+pub mod Dropped
+pub mod Opened
+pub mod Turns

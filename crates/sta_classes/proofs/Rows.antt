@@ -6,7 +6,10 @@ use Rattle.std.proofs.lemmas.List.{get_or-map, map-append, length-map, take_more
 use Rattle.std.proofs.lemmas.List.Elements.{All-contains, Contains-push_cases}
 use Rattle.model_sta.specs.Sets.{Row, Each, rows_meet}
 use Rattle.model_sta.proofs.Reached.{same_default}
-use Rattle.sta_classes.specs.Rows.{lists_of}
+use Rattle.model_tree.specs.Label.{Label}
+use Rattle.model_sta.specs.Least.{rows_of, counts_of}
+use Rattle.sta_classes.specs.Rows.{lists_of, found_of, founds, class_rows}
+use Rattle.sta_classes.specs.declared.class.Class.{Class}
 
 rows_meet_none : (qs : List Row) → rows_meet qs [] ≡ true
 rows_meet_none [] = refl
@@ -121,3 +124,13 @@ mapped_more g f xs i x old new u low at is e h = map_more f xs i x (map g old) (
 
 pub map_done : {X Y : Type 0} (f : X → Y) (xs : List X) (i : ℕ) (ys : List Y) → length xs ≤ i → ys ≡ map f (take i xs) → ys ≡ map f xs
 map_done f xs i ys high h = h ∙ ap (map f) (take_all i xs high)
+
+-- the rows and the counts of classes over labels are those of the classes
+pub rows_are : {V : Type 0} (label : V → Label) (cs : List (Class V)) → rows_of (founds label cs) ≡ class_rows cs
+rows_are label cs = map-map (λ f. f.row) (found_of label) cs
+
+pub counts_are : {V : Type 0} (label : V → Label) (cs : List (Class V)) → counts_of (founds label cs) ≡ map (λ c. c.nodes) cs
+counts_are label cs = map-map (λ f. f.nodes) (found_of label) cs
+
+pub founds_push : {V : Type 0} (label : V → Label) (old new : List (Class V)) (c : Class V) → new ≡ old ++ c ∷ [] → founds label new ≡ founds label old ++ found_of label c ∷ []
+founds_push label old new c e = ap (founds label) e ∙ map-append (found_of label) old (c ∷ [])

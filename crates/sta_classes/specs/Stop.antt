@@ -11,3 +11,9 @@ abbrev pub ClassStopsFor : {W : Type 0} → Type 0 → (Label → Type 0) → (L
 ClassStopsFor many has keeps truths gives far Classes = many
 ClassStopsFor many has keeps truths gives far (Wide w) = gives w × (far w → HasUnkeptRow has keeps truths)
 ClassStopsFor many has keeps truths gives far Memory = ⊤
+
+-- there are too many classes, or memory was short
+abbrev pub StopsAtMore : {W : Type 0} → Type 0 → ClassStop W → Type 0
+StopsAtMore many Classes = many
+StopsAtMore many (Wide w) = ⊥
+StopsAtMore many Memory = ⊤

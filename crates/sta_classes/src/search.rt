@@ -4,16 +4,18 @@
 //! each other tree with a new set is over trees of classes that come later. Then come the candidates over children of
 //! which one is of the new class.
 
-ghost use Rattle.std.specs.Prelude.{◌≡◌, ◌≤◌, ◌<◌, ◌+◌, ◌-◌, ◌^◌, Bool, true, false, [], length, IfOk, IfErr, OnOk, All};
+ghost use Rattle.std.specs.Prelude.{◌≡◌, ◌≤◌, ◌<◌, ◌+◌, ◌^◌, ◌==◌, ◌||◌, false, length, IfOk, IfErr, OnOk, All};
 ghost use Rattle.model_sta.specs.Reached.{IsComplete, HasMoreSets};
 ghost use Rattle.model_sta.specs.Least.{rows_of, AreClasses};
 ghost use Rattle.sta_classes.specs.Copies.{plain_rules, meaning_of};
 ghost use Rattle.sta_classes.specs.Guards.{GuardsFit, AreSplit};
 ghost use Rattle.sta_classes.specs.Rows.{found_of, founds, lists_of};
 ghost use Rattle.sta_classes.specs.Grow.{Grown, candidate, Over, From, AnyOf};
+ghost use Rattle.sta_classes.specs.Stop.{StopsAtMore};
 
 use crate::class::{CAP, Class, cost_over, is_known, step};
 use crate::pending::take_least;
+use crate::stop::ClassStop;
 use fast_fault::Memory;
 use label_core::Theory;
 use label_split::SignRow;
@@ -94,6 +96,14 @@ fn first_child(classes: usize, left: u32, free: bool) -> usize
     }
 }
 
+/// Whether a further child leaves the others free, since it is of the last class or they are free already.
+fn is_free(free: bool, child: usize, classes: usize) -> bool
+    requires { child < classes }
+    ensures { result ≡ (free || (child + 1 == classes)) }
+{
+    free || child + 1 == classes
+}
+
 /// Adds the candidates over children that begin with these and go on with as many as are left, and with one of the last
 /// class found unless they are free of that.
 fn add_from<T: Theory>(
@@ -131,7 +141,7 @@ fn add_from<T: Theory>(
             found,
             children,
             left - 1,
-            free || k + 1 == found.len(),
+            is_free(free, k, found.len()),
             pending,
         )?;
         let _ = children.pop();
@@ -171,4 +181,34 @@ fn add_all<T: Theory>(
         )?;
     }
     Ok(())
+}
+
+/// The classes in the order of their least trees, where they are not more than `most`.
+pub fn search<T: Theory>(
+    theory: &T,
+    alloc: Global,
+    ranks: &[u32],
+    rules: &[Vec<StaRule<T::Atom>>],
+    lists: &[Vec<SignRow<T::Value>>],
+    most: u32,
+) -> Result<Vec<Class<T::Value>>, ClassStop<T::Chain>>
+    requires fit { GuardsFit (T.atom_fits theory.now) (plain_rules rules.now) }
+    requires few { length ranks.now < 2 ^ 32 }
+    requires lists { AreSplit T.label_of (T.has_label theory.now) (T.keeps_label theory.now) T.atom_holds (length ranks.now) (plain_rules rules.now) (lists_of lists.now) }
+    ensures classes { IfOk result (λ found. AreClasses CAP ranks.now (T.has_label theory.now) (T.keeps_label theory.now) (meaning_of T.atom_holds (plain_rules rules.now)) (founds T.label_of found.items)) }
+    ensures complete { IfOk result (λ found. IsComplete ranks.now (T.has_label theory.now) (meaning_of T.atom_holds (plain_rules rules.now)) (rows_of (founds T.label_of found.items))) }
+    ensures few { IfOk result (λ found. length found.items ≤ most) }
+    ensures stop { IfErr result (StopsAtMore (HasMoreSets ranks.now (T.keeps_label theory.now) (meaning_of T.atom_holds (plain_rules rules.now)) most)) }
+{
+    let mut found = Vec::new(alloc);
+    let mut pending = Vec::new(alloc);
+    add_all(theory, alloc, ranks, rules, lists, &found, true, &mut pending)?;
+    'search: while let Some(class) = take_least(alloc, &mut pending)? {
+        if found.len() == most as usize {
+            return Err(ClassStop::Classes);
+        }
+        found.push(class)?;
+        add_all(theory, alloc, ranks, rules, lists, &found, false, &mut pending)?;
+    }
+    Ok(found)
 }
