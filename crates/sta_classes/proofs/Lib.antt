@@ -5,3 +5,5 @@ pub mod Grown
 pub mod Dropped
 pub mod Opened
 pub mod Turns
+pub mod Trees
+pub mod Built

@@ -22,10 +22,10 @@ module _ {A V : Type 0} where
 
 
 abbrev pub coded_found : {V : Type 0} → Coded V → Coded (Found V)
-coded_found v = code_by (List Bool × (ℕ × (ℕ × (V × List ℕ)))) (coded× (coded_list coded_bool) (coded× coded_ℕ (coded× coded_ℕ (coded× v (coded_list coded_ℕ))))) (λ f. (f.row, (f.nodes, (f.constructor, (f.label, f.children))))) (λ p. record { row = p.0; nodes = p.1.0; constructor = p.1.1.0; label = p.1.1.1.0; children = p.1.1.1.1 }) (λ _. refl)
+coded_found {V} v = code_by (List Bool × (ℕ × (ℕ × (V × List ℕ)))) (coded× (coded_list coded_bool) (coded× coded_ℕ (coded× coded_ℕ (coded× v (coded_list coded_ℕ))))) (λ f. (f.row, (f.nodes, (f.constructor, (f.label, f.children))))) (λ p. record { row = p.0; nodes = p.1.0; constructor = p.1.1.0; label = p.1.1.1.0; children = p.1.1.1.1 }) (λ _. refl)
 
 abbrev pub coded_table : {A V : Type 0} → Coded A → Coded V → Coded (PlainTable A V)
-coded_table a v = code_by (Machine A × List (Found V)) (coded× (coded_machine a) (coded_list (coded_found v))) (λ t. (t.machine, t.found)) (λ p. record { machine = p.0; found = p.1 }) (λ _. refl)
+coded_table {A} {V} a v = code_by (Machine A × List (Found V)) (coded× (coded_machine a) (coded_list (coded_found v))) (λ t. (t.machine, t.found)) (λ p. record { machine = p.0; found = p.1 }) (λ _. refl)
 
 -- the classes are those of the automaton, with its least trees
 abbrev pub IsBuilt : {A V : Type 0} → ℕ → (V → Label) → (A → Label → Bool) → (Label → Type 0) → (Label → Type 0) → PlainTable A V → Type 0

@@ -14,3 +14,4 @@ mod table;
 
 pub use class::CAP;
 pub use stop::ClassStop;
+pub use table::{Table, classes};

@@ -1,17 +1,12 @@
 //! Tables.
 
-ghost use Rattle.std.specs.Prelude.{◌≡◌, ◌≤◌, ◌<◌, ◌↔◌, IsTrue, [], length, map, get_or, IfOk, IfErr, MatchOption, All};
-ghost use Rattle.model_tree.specs.Label.{Label};
+ghost use Rattle.std.specs.Prelude.{◌≡◌, ◌≤◌, ◌<◌, length, map, IfOk, IfErr, MatchOption};
 ghost use Rattle.model_tree.specs.Tree.{relabel};
-ghost use Rattle.model_tree.specs.Formula.{formula_holds};
-ghost use Rattle.model_sta.specs.Sets.{has, step};
+ghost use Rattle.model_sta.specs.Sets.{has};
 ghost use Rattle.model_sta.specs.Reached.{IsTable, HasMoreSets};
-ghost use Rattle.model_sta.specs.Least.{rows_of, AreMade, IsWitness, HasNoTreeBelow, IsLeastTree};
-ghost use Rattle.label_core.specs.Atoms.{EachHasEqual};
-ghost use Rattle.label_core.specs.Formula.{plain_formula, atoms_in};
+ghost use Rattle.model_sta.specs.Least.{rows_of, relabel_found, AreMade, IsWitness, HasNoTreeBelow, IsLeastTree};
 ghost use Rattle.sta_core.specs.Sta.{automaton_of, AtomsFit};
 ghost use Rattle.sta_classes.specs.Guards.{all_guards, atoms_of_all, truths};
-ghost use Rattle.sta_classes.specs.Rows.{founds};
 ghost use Rattle.sta_classes.specs.Plain.{class_row, IsBuilt, IsSameMachine};
 ghost use Rattle.sta_classes.specs.Stop.{ClassStopsFor};
 
@@ -66,6 +61,29 @@ impl<A, V> Table<A, V> {
     {
         row_has(&self.classes[class as usize].row, state)
     }
+}
+
+impl<A, V: Drop> Table<A, V> {
+    /// A tree of the class, by how it was found.
+    fn build<T: Theory<Atom = A, Value = V>>(
+        &self,
+        theory: &T,
+        alloc: Global,
+        class: usize,
+    ) -> Result<Tree<V>, Memory>
+        requires made { AreMade CAP self.now.machine.ranks (T.keeps_label theory.now) (automaton_of T.atom_holds self.now.machine) (map (relabel_found T.label_of) self.now.found) }
+        requires known { class < length self.now.found }
+        ensures { IfOk result (λ tree. IsWitness CAP self.now.machine.ranks (T.keeps_label theory.now) (automaton_of T.atom_holds self.now.machine) (map (relabel_found T.label_of) self.now.found) class (relabel T.label_of tree)) }
+    {
+        let made = &self.classes[class];
+        let mut children = Vec::new(alloc);
+        'children: for child in &made.children {
+            let tree = self.build(theory, alloc, *child)?;
+            children.push(tree)?;
+        }
+        let label = theory.copy_value(alloc, &made.value)?;
+        Ok(Tree::new(made.constructor, label, children))
+    }
 
     /// A tree of the class with the fewest nodes, unless it has more than 1,048,576.
     pub fn witness<T: Theory<Atom = A, Value = V>>(
@@ -81,30 +99,9 @@ impl<A, V> Table<A, V> {
         if self.classes[class as usize].nodes >= CAP {
             return Ok(None);
         }
-        let tree = build(theory, alloc, &self.classes, class as usize)?;
+        let tree = self.build(theory, alloc, class as usize)?;
         Ok(Some(tree))
     }
-}
-
-/// A tree of the class, by how it was found.
-fn build<T: Theory>(
-    theory: &T,
-    alloc: Global,
-    classes: &[Class<T::Value>],
-    class: usize,
-) -> Result<Tree<T::Value>, Memory>
-    requires earlier { AreEarlier classes.now }
-    requires known { class < length classes.now }
-    ensures { IfOk result (λ tree. IsTreeOf (founds T.label_of classes.now) class (relabel T.label_of tree)) }
-{
-    let made = &classes[class];
-    let mut children = Vec::new(alloc);
-    'children: for child in &made.children {
-        let tree = build(theory, alloc, classes, *child)?;
-        children.push(tree)?;
-    }
-    let label = theory.copy_value(alloc, &made.value)?;
-    Ok(Tree::new(made.constructor, label, children))
 }
 
 /// The table of the sets of states that trees have, where these are not more than `most`.
@@ -122,14 +119,15 @@ pub fn classes<T: Theory>(
     ensures stop { IfErr result (ClassStopsFor (HasMoreSets sta.now.ranks (T.keeps_label theory.now) (automaton_of T.atom_holds sta.now) most) (T.has_label theory.now) (T.keeps_label theory.now) (truths T.atom_holds (all_guards sta.now.rules)) (λ chain. T.chain_over theory.now (atoms_of_all (all_guards sta.now.rules)) chain × T.chain_passes theory.now chain) (T.chain_is_far theory.now)) }
 {
     // an automaton of so many constructors is out of reach of any memory
-    if sta.ranks().len() > u32::MAX as usize {
+    let ranks = sta.ranks();
+    if ranks.len() > u32::MAX as usize {
         return Err(ClassStop::Memory);
     }
-    let constructors = sta.ranks().len() as u32;
-    let lists = splits(theory, alloc, sta.rules(), constructors)?;
-    let classes = search(theory, alloc, sta.ranks(), sta.rules(), &lists, most)?;
-    let ranks = Vec::from_slice(alloc, sta.ranks())?;
-    let rules = copy_rules(theory, alloc, sta.rules())?;
+    let rules = sta.rules();
+    let lists = splits(theory, alloc, rules, ranks.len() as u32)?;
+    let classes = search(theory, alloc, ranks, rules, &lists, most)?;
+    let ranks = Vec::from_slice(alloc, ranks)?;
+    let rules = copy_rules(theory, alloc, rules)?;
     Ok(Table {
         ranks,
         rules,
