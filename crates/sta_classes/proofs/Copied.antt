@@ -68,11 +68,11 @@ module _ {A : Type 0} (eq : A → A → Bool) where
   among_append xs ys us vs h k =
       All-append (λ a. IsTrue (has_equal eq (us ++ vs) a)) xs ys (among_more xs us (us ++ vs) (equal_left us vs) h) (among_more ys vs (us ++ vs) (equal_right us vs) k)
 
-  atoms_append : (fs gs : List (Formula A)) → atoms_of_all (fs ++ gs) ≡ atoms_of_all fs ++ atoms_of_all gs
+  pub atoms_append : (fs gs : List (Formula A)) → atoms_of_all (fs ++ gs) ≡ atoms_of_all fs ++ atoms_of_all gs
   atoms_append [] gs = refl
   atoms_append (f ∷ fs) gs = ap (λ z. atoms_in f ++ z) (atoms_append fs gs) ∙ sym (append_assoc (atoms_in f) (atoms_of_all fs) (atoms_of_all gs))
 
-  kept_within : (b : Bool) (r : PlainRule A) (rs : List (PlainRule A)) (all : List (Formula A)) (a : A) → (IsTrue (has_equal eq (atoms_of_all (map (λ x. x.guard) rs)) a) → IsTrue (has_equal eq (atoms_of_all all) a))
+  pub kept_within : (b : Bool) (r : PlainRule A) (rs : List (PlainRule A)) (all : List (Formula A)) (a : A) → (IsTrue (has_equal eq (atoms_of_all (map (λ x. x.guard) rs)) a) → IsTrue (has_equal eq (atoms_of_all all) a))
       → IsTrue (has_equal eq (atoms_of_all (map (λ x. x.guard) (cond b (r ∷ rs) rs))) a) → IsTrue (has_equal eq (atoms_of_all (r.guard ∷ all)) a)
   kept_within true r rs all a f h =
       equal_either (IsTrue (has_equal eq (atoms_of_all (r.guard ∷ all)) a)) (atoms_in r.guard) (atoms_of_all (map (λ x. x.guard) rs)) a (equal_left (atoms_in r.guard) (atoms_of_all all) a) (λ k. equal_right (atoms_in r.guard) (atoms_of_all all) a (f k)) h

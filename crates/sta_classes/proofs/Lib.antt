@@ -7,3 +7,4 @@ pub mod Opened
 pub mod Turns
 pub mod Trees
 pub mod Built
+pub mod Fired

@@ -1,19 +1,21 @@
 -- Least trees of classes in the code.
-use Rattle.std.proofs.Common.{ℕ, zero, suc, ◌≡◌, ◌<◌, ◌≤◌, ◌+◌, Bool, List, [], ◌∷◌, ◌++◌, length, take, get_or, map, Vec, refl, sym, ap, ap₂, subst, subst₂, ◌∙◌, arith, take_all}
+use Rattle.std.proofs.Common.{ℕ, zero, suc, ◌≡◌, ◌<◌, ◌≤◌, ◌+◌, ◌↔◌, Bool, List, [], ◌∷◌, ◌++◌, length, take, get_or, map, Vec, refl, sym, ap, ap₂, subst, subst₂, ◌∙◌, arith, take_all}
 use Rattle.std.proofs.lemmas.List.{take_more, map-append, length-map, get_or-map}
 use Rattle.std.proofs.lemmas.Simd.{map-map}
 use Rattle.model_tree.specs.Label.{Label}
 use Rattle.model_tree.specs.Tree.{Tree, node, Trees, no_trees, tree, trees_of, node_count, depth, relabel, relabel_all}
 use Rattle.model_tree.proofs.Trees.{relabel_all_of_list}
 use Rattle.model_sta.specs.Automaton.{Rule}
-use Rattle.model_sta.specs.Sets.{Row, Each, has, set_of, Fits}
-use Rattle.model_sta.specs.Least.{Found, rows_of, counts_of, relabel_found, EachNumbered, IsMade, AreMade, IsLeast, IsWitness, HasNoTreeBelow, AreClasses, IsLeastTree}
+use Rattle.model_sta.specs.Sets.{Row, Each, has, fires, step, set_of, sets_of, Fits}
+use Rattle.std.specs.List.{list_any}
+use Rattle.model_sta.specs.Least.{Found, rows_of, rows_at, counts_of, relabel_found, EachNumbered, IsMade, AreMade, IsLeast, IsWitness, HasNoTreeBelow, AreClasses, IsLeastTree}
 use Rattle.model_sta.proofs.Least.{AreKids, no_kids, more_kids, assembled, least_at, witness_is_least}
-use Rattle.sta_core.specs.Machine.{Machine}
-use Rattle.sta_core.specs.Sta.{automaton_of}
+use Rattle.sta_core.specs.Machine.{Machine, PlainRule}
+use Rattle.sta_core.specs.Sta.{automaton_of, rule_meaning}
 use Rattle.sta_classes.specs.Pairwise.{Pairwise}
 use Rattle.sta_classes.specs.Plain.{PlainTable, class_row, IsBuilt}
-use Rattle.sta_classes.specs.Rows.{plain_class, found_of}
+use Rattle.sta_classes.specs.Copies.{meaning_of}
+use Rattle.sta_classes.specs.Rows.{plain_class, found_of, class_rows, class_rows_at}
 use Rattle.sta_classes.specs.declared.class.Class.{Class}
 use Rattle.sta_classes.proofs.Copied.{pairwise_append}
 
@@ -136,3 +138,23 @@ module _ {A V : Type 0} (m : Machine A) (cs : List (Class V)) (t : PlainTable A 
         subst (λ z. IsLeastTree cap z.machine.ranks has keeps (automaton_of holds z.machine) (length z.found) (class_row z k) u) is_view
         (shown label cap m.ranks has keeps (automaton_of holds m) cs k x low_here at built_view b u
         (subst (λ z. IsWitness cap z.machine.ranks keeps (automaton_of holds z.machine) (map (relabel_found label) z.found) k u) (sym is_view) w))
+
+    -- the row has as many places as there are states
+    pub row_long : length x.row.items ≡ length m.rules
+    row_long =
+        let n : length (rows_of (plain_founds label cs)) ≡ length cs = length-map (plain_founds label cs) (λ f. f.row) ∙ length-map (map plain_class cs) (relabel_found label) ∙ length-map cs plain_class in
+        let (tree_of, fits, is) = built_view.sets.reached k [] (omega (arith, n, low_here)) in
+        let (made, row_at, count_at) = own label cap m.ranks keeps (automaton_of holds m) cs k x low_here at built_view.made in
+        sym (ap length (is ∙ row_at)) ∙ set_long (automaton_of holds m) tree_of ∙ length-map m.rules (map (rule_meaning holds))
+      where
+        set_long : (rules : List (List (Rule Label))) (u : Tree Label) → length (set_of rules u) ≡ length rules
+        set_long rules (node c l ts) = length-map rules (list_any (fires c l (sets_of rules ts)))
+
+  -- what is known of the labels of the row's formula
+  pub guard_here : (holds : A → Label → Bool) (P : Type 0) (rules : List (List (PlainRule A))) (cs' : List (Class V)) (ks ks' : List ℕ) (row : Row) (c : ℕ) (l : Label) → rules ≡ m.rules → cs' ≡ cs → ks' ≡ ks → row ≡ x.row.items
+      → P ↔ (step (meaning_of holds rules) c l (class_rows_at cs' ks') ≡ row) → P ↔ (step (automaton_of holds t.machine) c l (rows_at t.found ks) ≡ class_row t k)
+  guard_here holds P rules cs' ks ks' row c l same classes numbers is h =
+      let rows : class_rows cs' ≡ rows_of t.found = ap class_rows classes ∙ sym (map-map (λ f. f.row) plain_class cs) ∙ ap (λ z. rows_of z.found) is_view in
+      let children : class_rows_at cs' ks' ≡ rows_at t.found ks = ap₂ (λ qs js. map (λ j. get_or qs j []) js) rows numbers in
+      let machine : meaning_of holds rules ≡ automaton_of holds t.machine = ap (meaning_of holds) same ∙ ap (λ z. automaton_of holds z.machine) is_view in
+      subst₂ (λ a b. P ↔ (a ≡ b)) (ap₂ (λ a b. step a c l b) machine children) (is ∙ row_here) h

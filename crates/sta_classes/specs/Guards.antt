@@ -1,10 +1,11 @@
 -- The guards of rules, and the rows of signs of those of each constructor.
-use Rattle.std.specs.Prelude.{ℕ, ◌≡◌, ◌<◌, ◌==◌, Bool, List, [], ◌∷◌, ◌++◌, length, map, filter, get_or, All}
+use Rattle.std.specs.Prelude.{ℕ, ◌≡◌, ◌<◌, ◌==◌, ◌&&◌, Bool, List, [], ◌∷◌, ◌++◌, length, map, filter, get_or, All}
 use Rattle.model_tree.specs.Label.{Label}
 use Rattle.model_tree.specs.Formula.{Formula, formula_holds, EveryAtom, formulas_of}
 use Rattle.label_core.specs.Formula.{atoms_in_all}
 use Rattle.label_split.specs.Split.{SplitsInto}
 use Rattle.label_split.specs.declared.rows.SignRow.{SignRow}
+use Rattle.model_sta.specs.Sets.{Row, rows_meet}
 use Rattle.sta_core.specs.Machine.{PlainRule}
 
 module _ {A : Type 0} where
@@ -15,6 +16,10 @@ module _ {A : Type 0} where
   abbrev pub guards_of : ℕ → List (List (PlainRule A)) → List (Formula A)
   guards_of c [] = []
   guards_of c (rs ∷ rules) = state_guards c rs ++ guards_of c rules
+
+  -- the guards of the rules with this constructor that children with these sets let fire
+  abbrev pub firing_guards : ℕ → List Row → List (PlainRule A) → List (Formula A)
+  firing_guards c qs rs = map (λ r. r.guard) (filter (λ r. (r.constructor == c) && rows_meet qs r.demands) rs)
 
   -- the guards of all rules
   abbrev pub all_guards : List (List (PlainRule A)) → List (Formula A)

@@ -6,6 +6,7 @@
 
 mod class;
 mod copies;
+mod formula;
 mod guards;
 mod pending;
 mod search;

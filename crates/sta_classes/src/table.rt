@@ -1,10 +1,14 @@
 //! Tables.
 
-ghost use Rattle.std.specs.Prelude.{◌≡◌, ◌≤◌, ◌<◌, length, map, IfOk, IfErr, MatchOption};
+ghost use Rattle.std.specs.Prelude.{◌≡◌, ◌≤◌, ◌<◌, ◌↔◌, IsTrue, length, map, IfOk, IfErr, MatchOption, All};
+ghost use Rattle.model_tree.specs.Label.{Label};
+ghost use Rattle.model_tree.specs.Formula.{formula_holds};
+ghost use Rattle.label_core.specs.Atoms.{EachHasEqual};
+ghost use Rattle.label_core.specs.Formula.{plain_formula, atoms_in};
 ghost use Rattle.model_tree.specs.Tree.{relabel};
-ghost use Rattle.model_sta.specs.Sets.{has};
+ghost use Rattle.model_sta.specs.Sets.{has, step};
 ghost use Rattle.model_sta.specs.Reached.{IsTable, HasMoreSets};
-ghost use Rattle.model_sta.specs.Least.{rows_of, relabel_found, AreMade, IsWitness, HasNoTreeBelow, IsLeastTree};
+ghost use Rattle.model_sta.specs.Least.{rows_of, rows_at, relabel_found, AreMade, IsWitness, HasNoTreeBelow, IsLeastTree};
 ghost use Rattle.sta_core.specs.Sta.{automaton_of, AtomsFit};
 ghost use Rattle.sta_classes.specs.Guards.{all_guards, atoms_of_all, truths};
 ghost use Rattle.sta_classes.specs.Plain.{class_row, IsBuilt, IsSameMachine};
@@ -12,12 +16,13 @@ ghost use Rattle.sta_classes.specs.Stop.{ClassStopsFor};
 
 use crate::class::{CAP, Class, row_has};
 use crate::copies::copy_rules;
+use crate::formula::{places, row_formula};
 use crate::guards::splits;
 use crate::search::search;
 use crate::stop::ClassStop;
 use fast_fault::Memory;
 use fast_tree::Tree;
-use label_core::Theory;
+use label_core::{Formula, Theory};
 use sta_core::{Sta, StaRule};
 use std::alloc::Global;
 use std::marker::Model;
@@ -101,6 +106,35 @@ impl<A, V: Drop> Table<A, V> {
         }
         let tree = self.build(theory, alloc, class as usize)?;
         Ok(Some(tree))
+    }
+
+    /// A formula that holds of exactly the labels over which children of these classes make a tree of the class.
+    pub fn guard<T: Theory<Atom = A, Value = V>>(
+        &self,
+        theory: &T,
+        alloc: Global,
+        constructor: u32,
+        children: &[u32],
+        class: u32,
+    ) -> Result<Formula<A>, Memory>
+        requires built { IsBuilt CAP T.label_of T.atom_holds (T.has_label theory.now) (T.keeps_label theory.now) self.now }
+        requires children { All (λ k. k < length self.now.found) children.now }
+        requires known { class < length self.now.found }
+        ensures holds { IfOk result (λ guard. (l : Label) → IsTrue (formula_holds (λ a. T.atom_holds a l) (plain_formula guard)) ↔ (step (automaton_of T.atom_holds self.now.machine) constructor l (rows_at self.now.found children.now) ≡ class_row self.now class)) }
+        ensures atoms { IfOk result (λ guard. EachHasEqual A.eq (atoms_in (plain_formula guard)) (atoms_of_all (all_guards self.now.machine.rules))) }
+    {
+        let children = places(alloc, children)?;
+        let row = &self.classes[class as usize].row;
+        let formula = row_formula(
+            theory,
+            alloc,
+            &self.rules,
+            constructor,
+            &self.classes,
+            &children,
+            row,
+        )?;
+        Ok(formula)
     }
 }
 
