@@ -1,5 +1,5 @@
 -- What is known of a table that is built.
-use Rattle.std.proofs.Common.{ℕ, ◌≡◌, ◌<◌, Bool, List, map, Vec, length, refl, sym, ap, ap₂, subst, subst₂, ◌∙◌}
+use Rattle.std.proofs.Common.{ℕ, ◌≡◌, Bool, List, map, sym, ap, subst, subst₂, ◌∙◌}
 use Rattle.std.proofs.lemmas.Simd.{map-map}
 use Rattle.model_tree.specs.Label.{Label}
 use Rattle.model_sta.specs.Automaton.{Rule}
@@ -10,14 +10,13 @@ use Rattle.sta_core.specs.Machine.{Machine, PlainRule}
 use Rattle.sta_classes.specs.Copies.{AreRuleCopies, meaning_of}
 use Rattle.sta_classes.specs.Guards.{all_guards, atoms_of_all}
 use Rattle.sta_classes.specs.Plain.{IsSameMachine}
-use Rattle.sta_classes.specs.Rows.{plain_class, found_of, founds}
+use Rattle.sta_classes.specs.Rows.{plain_class, founds}
 use Rattle.sta_classes.specs.Stop.{ClassStopsFor, StopsAtMore}
 use Rattle.sta_classes.specs.declared.class.Class.{Class}
 use Rattle.sta_classes.specs.declared.stop.ClassStop.{ClassStop}
 use Rattle.sta_classes.specs.declared.stop.ClassStop.TheVariants.{Classes, Wide, Memory}
 use Rattle.sta_classes.proofs.Rows.{rows_are}
 use Rattle.sta_classes.proofs.Copied.{rules_same, rules_among}
-use Rattle.sta_classes.proofs.Trees.{same_rows}
 
 module _ {V : Type 0} (label : V → Label) (cap : ℕ) (has keeps : Label → Type 0) (cs : List (Class V)) where
   rows_plain : rows_of (founds label cs) ≡ rows_of (map plain_class cs)

@@ -1,14 +1,12 @@
 -- Facts on copies of formulas and rules.
-use Rattle.std.proofs.Common.{ℕ, zero, suc, Vec, ◌≡◌, ◌≤◌, ◌<◌, ◌+◌, ◌==◌, ◌&&◌, ◌||◌, not, Bool, true, false, IsTrue, cond, All, get_or, ◌++◌, arith, List, [], ◌∷◌, map, filter, length, take, refl, sym, ap, ap₂, subst, subst₂, ◌∙◌, take_all, eqb-true, eq-eqb, append-nil, append_assoc}
-use Rattle.std.specs.List.{list_any}
+use Rattle.std.proofs.Common.{ℕ, suc, Vec, ◌≡◌, ◌≤◌, ◌<◌, ◌+◌, ◌==◌, ◌&&◌, ◌||◌, not, Bool, true, false, IsTrue, cond, All, get_or, ◌++◌, arith, List, [], ◌∷◌, map, filter, length, take, refl, sym, ap, ap₂, subst, subst₂, ◌∙◌, take_all, eqb-true, eq-eqb, append-nil, append_assoc}
 use Rattle.std.proofs.lemmas.List.{take_more, map-append, get_or-map, length-map}
 use Rattle.std.proofs.lemmas.List.Elements.{All-nil, All-cons, All-append}
 use Rattle.std.proofs.lemmas.List.Folds.{list_any-append}
 use Rattle.model_tree.specs.Label.{Label}
-use Rattle.model_tree.specs.Formula.{Formula, Formulas, yes, no, atom, negation, all_of, some_of, formula_holds, all_hold, some_hold, formulas_of, EveryAtom}
-use Rattle.model_sta.specs.Automaton.{Rule}
+use Rattle.model_tree.specs.Formula.{Formula, atom, negation, all_of, some_of, all_hold, some_hold, formulas_of, EveryAtom}
 use Rattle.label_core.specs.Atoms.{has_equal, EachHasEqual}
-use Rattle.label_core.specs.Formula.{atoms_in, atoms_in_all, plain_formula}
+use Rattle.label_core.specs.Formula.{atoms_in, plain_formula}
 use Rattle.label_core.specs.declared.formula.Formula as code
 use Rattle.label_split.proofs.SameAtoms.{every_atom, all_atoms}
 use Rattle.sta_core.specs.Machine.{PlainRule, plain_rule}

@@ -1,5 +1,5 @@
 -- Facts on the rows of signs of guards.
-use Rattle.std.proofs.Common.{ℕ, zero, suc, ◌≡◌, ◌≤◌, ◌<◌, ◌+◌, ◌==◌, Bool, true, false, IsTrue, cond, All, Contains, Vec, get_or, ◌++◌, arith, List, [], ◌∷◌, map, filter, length, refl, sym, ap, ap₂, subst, ◌∙◌, eq-eqb, length-append}
+use Rattle.std.proofs.Common.{ℕ, suc, ◌≡◌, ◌<◌, ◌+◌, ◌==◌, Bool, true, false, cond, All, Vec, get_or, ◌++◌, arith, List, [], ◌∷◌, map, filter, length, refl, sym, ap, ap₂, subst, ◌∙◌, eq-eqb, length-append}
 use Rattle.std.proofs.lemmas.List.Elements.{All-nil, All-cons, All-append, All-contains}
 use Rattle.std.proofs.lemmas.Simd.{map-map}
 use Rattle.model_tree.specs.Label.{Label}

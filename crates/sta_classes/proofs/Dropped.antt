@@ -1,7 +1,7 @@
 -- Facts on candidates that are taken out.
-use Rattle.std.proofs.Common.{ℕ, zero, suc, ◌≡◌, ◌<◌, ◌≤◌, ◌+◌, ◌⊎◌, inl, inr, ◌↔◌, Bool, true, false, Decides, true≢false, List, [], ◌∷◌, ◌++◌, length, take, get_or, map, All, Contains, refl, sym, ap, subst, subst₂, ◌∙◌, arith}
-use Rattle.std.proofs.lemmas.List.{get_or-map, length-map}
-use Rattle.std.proofs.lemmas.List.Elements.{Contains-push_cases, Contains-append_left, Contains-push, All-more, All-weaker, All-contains, All-nil}
+use Rattle.std.proofs.Common.{ℕ, zero, suc, ◌≡◌, ◌<◌, ◌≤◌, ◌+◌, ◌⊎◌, inl, inr, ◌↔◌, List, [], ◌∷◌, ◌++◌, length, take, get_or, map, All, Contains, sym, ap, subst, subst₂, ◌∙◌, arith}
+use Rattle.std.proofs.lemmas.List.{get_or-map}
+use Rattle.std.proofs.lemmas.List.Elements.{Contains-push_cases, Contains-append_left, Contains-push, All-more, All-weaker}
 use Rattle.std.proofs.lemmas.List.Sorted.{IsPermutation-swap_remove, IsPermutation-sym, Contains-permutation}
 use Rattle.std.specs.List.{swap_remove}
 use Rattle.model_sta.specs.Sets.{Row}
@@ -31,9 +31,9 @@ module _ {V : Type 0} where
     ]),
     (λ o. elim o [
       | inl r ↦ elim (Contains-push_cases rest x c (subst (λ z. Contains z c) re r)) [
-          | inl old' ↦ ((h c).1) (inl old')
-          | inr s ↦ ((h c).1) (inr (subst (λ z. Contains z c) (sym le) (subst (Contains (left' ++ x ∷ [])) s (Contains-push left' x)), subst (λ z. ¬ (z.row.items ≡ row)) s other))
-        ]
+        | inl old' ↦ ((h c).1) (inl old')
+        | inr s ↦ ((h c).1) (inr (subst (λ z. Contains z c) (sym le) (subst (Contains (left' ++ x ∷ [])) s (Contains-push left' x)), subst (λ z. ¬ (z.row.items ≡ row)) s other))
+      ]
       | inr l ↦ ((h c).1) (inr (subst (λ z. Contains z c) (sym le) (Contains-append_left left' (x ∷ []) c l.0), l.1))
     ]),
   )

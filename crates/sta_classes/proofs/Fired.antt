@@ -1,24 +1,21 @@
 -- The formula of a row: which labels it holds of, and its atoms.
-use Rattle.std.proofs.Common.{ℕ, zero, suc, Vec, Global, ◌≡◌, ◌≤◌, ◌<◌, ◌+◌, ◌==◌, ◌&&◌, ◌||◌, ◌↔◌, not, Bool, true, false, IsTrue, cond, All, get_or, ◌++◌, arith, List, [], ◌∷◌, map, filter, length, take, refl, sym, ap, ap₂, subst, subst₂, ◌∙◌, take_all, eqb-true, eq-eqb, append-nil, append_assoc}
+use Rattle.std.proofs.Common.{ℕ, zero, suc, Vec, Global, ◌≡◌, ◌≤◌, ◌<◌, ◌+◌, ◌==◌, ◌&&◌, ◌||◌, ◌↔◌, not, Bool, true, false, IsTrue, cond, get_or, ◌++◌, arith, List, [], ◌∷◌, map, filter, length, take, refl, sym, ap, ap₂, subst, subst₂, ◌∙◌, take_all, append-nil, append_assoc}
 use Rattle.std.specs.List.{list_any, list_all}
 use Rattle.std.proofs.lemmas.List.{take_more, map-append, length-map}
 use Rattle.std.proofs.lemmas.List.Folds.{list_all-append}
 use Rattle.std.proofs.lemmas.List.Elements.{filter-append}
-use Rattle.std.proofs.lemmas.Simd.{map-map}
 use Rattle.model_tree.specs.Label.{Label}
-use Rattle.model_tree.specs.Formula.{Formula, negation, all_of, some_of, formula_holds, some_hold, formulas_of}
-use Rattle.model_sta.specs.Automaton.{Rule}
+use Rattle.model_tree.specs.Formula.{Formula, negation, formula_holds}
 use Rattle.model_sta.specs.Sets.{Row, rows_meet, fires, step}
 use Rattle.label_core.specs.Atoms.{has_equal, EachHasEqual}
 use Rattle.label_core.specs.Formula.{atoms_in, plain_formula}
 use Rattle.label_core.specs.declared.formula.Formula as code
 use Rattle.label_core.specs.declared.formula.Formula.TheVariants.{And, Or}
 use Rattle.label_core.proofs.Formulas.{plain_and, plain_or, formula_holds_and, formula_holds_or}
-use Rattle.sta_core.specs.Machine.{PlainRule, plain_rule}
+use Rattle.sta_core.specs.Machine.{PlainRule}
 use Rattle.sta_core.specs.Sta.{rule_meaning}
-use Rattle.sta_core.specs.declared.StaRule.{StaRule}
 use Rattle.sta_classes.specs.Pairwise.{Pairwise}
-use Rattle.sta_classes.specs.Copies.{IsCopy, AddsCopies, plain_rules, meaning_of}
+use Rattle.sta_classes.specs.Copies.{IsCopy, AddsCopies, meaning_of}
 use Rattle.sta_classes.specs.Guards.{firing_guards, all_guards, atoms_of_all}
 use Rattle.sta_classes.proofs.Copied.{adds_one, copies_among, among_more, among_append, atoms_append, kept_within}
 
@@ -142,11 +139,11 @@ module _ {A : Type 0} (holds : A → Label → Bool) (eq : A → A → Bool) (c 
       let part = sign_true d b (plain_formula (Or v)) l (some_fires v rs l copies) in
       let m : length (step (meaning_of holds rules) c l qs) ≡ length row = step_length rules l ∙ sym n in (
         (λ t.
-        let (first, last) = ((both_true (list_all holds_of parts) (holds_of f)).0) (subst IsTrue split t) in
-        step_push rules rs l ∙ ap₂ (λ xs x. xs ++ x ∷ []) (((h l).0) first) (part.0 (subst (λ z. IsTrue (formula_holds (λ a. holds a l) z)) is last))),
+            let (first, last) = ((both_true (list_all holds_of parts) (holds_of f)).0) (subst IsTrue split t) in
+            step_push rules rs l ∙ ap₂ (λ xs x. xs ++ x ∷ []) (((h l).0) first) (part.0 (subst (λ z. IsTrue (formula_holds (λ a. holds a l) z)) is last))),
         (λ e.
-        let (first, last) = last_of (step (meaning_of holds rules) c l qs) row b d m (sym (step_push rules rs l) ∙ e) in
-        subst IsTrue (sym split) (((both_true (list_all holds_of parts) (holds_of f)).1) (((h l).1) first, subst (λ z. IsTrue (formula_holds (λ a. holds a l) z)) (sym is) (part.1 last)))),
+            let (first, last) = last_of (step (meaning_of holds rules) c l qs) row b d m (sym (step_push rules rs l) ∙ e) in
+            subst IsTrue (sym split) (((both_true (list_all holds_of parts) (holds_of f)).1) (((h l).1) first, subst (λ z. IsTrue (formula_holds (λ a. holds a l) z)) (sym is) (part.1 last)))),
       )
 
   pub parts_more : {X : Type 0} (g : X → List (PlainRule A)) (parts parts' : List (code.Formula A)) (xs : List X) (i : ℕ) (x : X) (row : Row) (f : code.Formula A) (v : Vec (code.Formula A) Global) (rs : List (PlainRule A)) (d : Bool)
@@ -189,10 +186,10 @@ module _ {A : Type 0} (holds : A → Label → Bool) (eq : A → A → Bool) (c 
   atoms_more g parts parts' xs i x f v rs d low at same added is copies h =
       let rules_longer : map g (take (i + 1) xs) ≡ map g (take i xs) ++ rs ∷ [] = ap (map g) (take_more xs i x low ∙ ap (λ z. take i xs ++ z ∷ []) (sym at)) ∙ map-append g (take i xs) (x ∷ []) ∙ ap (λ z. map g (take i xs) ++ z ∷ []) (sym same) in
       let left : atoms_of_all (map plain_formula parts') ≡ atoms_of_all (map plain_formula parts) ++ atoms_of_all (map plain_formula v.items) =
-          ap (λ z. atoms_of_all (map plain_formula z)) added ∙ ap atoms_of_all (map-append plain_formula parts (f ∷ [])) ∙ atoms_append eq (map plain_formula parts) (plain_formula f ∷ [])
-          ∙ ap (λ z. atoms_of_all (map plain_formula parts) ++ z) (append-nil (atoms_in (plain_formula f)) ∙ ap atoms_in is ∙ sign_atoms d (plain_formula (Or v)) ∙ ap atoms_in (plain_or v)) in
+      ap (λ z. atoms_of_all (map plain_formula z)) added ∙ ap atoms_of_all (map-append plain_formula parts (f ∷ [])) ∙ atoms_append eq (map plain_formula parts) (plain_formula f ∷ [])
+      ∙ ap (λ z. atoms_of_all (map plain_formula parts) ++ z) (append-nil (atoms_in (plain_formula f)) ∙ ap atoms_in is ∙ sign_atoms d (plain_formula (Or v)) ∙ ap atoms_in (plain_or v)) in
       let right : atoms_of_all (all_guards (map g (take (i + 1) xs))) ≡ atoms_of_all (all_guards (map g (take i xs))) ++ atoms_of_all (map (λ r. r.guard) rs) =
-          ap (λ z. atoms_of_all (all_guards z)) rules_longer ∙ ap atoms_of_all (all_push (map g (take i xs)) rs) ∙ atoms_append eq (all_guards (map g (take i xs))) (map (λ r. r.guard) rs) in
+      ap (λ z. atoms_of_all (all_guards z)) rules_longer ∙ ap atoms_of_all (all_push (map g (take i xs)) rs) ∙ atoms_append eq (all_guards (map g (take i xs))) (map (λ r. r.guard) rs) in
       subst₂ (EachHasEqual eq) (sym left) (sym right)
       (among_append eq (atoms_of_all (map plain_formula parts)) (atoms_of_all (map plain_formula v.items)) (atoms_of_all (all_guards (map g (take i xs)))) (atoms_of_all (map (λ r. r.guard) rs)) h
       (among_more eq (atoms_of_all (map plain_formula v.items)) (atoms_of_all (firing_guards c qs rs)) (atoms_of_all (map (λ r. r.guard) rs)) (firing_within c qs eq rs) (copies_among holds eq (map plain_formula v.items) (firing_guards c qs rs) copies)))

@@ -1,11 +1,10 @@
 -- Facts on what lists of candidates have.
-use Rattle.std.proofs.Common.{ℕ, zero, suc, ◌≡◌, ◌<◌, ◌≤◌, ◌+◌, ◌-◌, ◌==◌, ◌||◌, ◌⊎◌, inl, inr, Bool, true, false, true≢false, IsTrue, List, [], ◌∷◌, ◌++◌, length, take, get_or, map, All, Contains, refl, sym, ap, subst, ◌∙◌, arith, append-nil, append_assoc, eq-eqb, eqb-true}
+use Rattle.std.proofs.Common.{ℕ, zero, suc, ◌≡◌, ◌<◌, ◌≤◌, ◌+◌, ◌-◌, ◌==◌, ◌||◌, ◌⊎◌, inl, inr, Bool, true, false, true≢false, IsTrue, List, [], ◌∷◌, ◌++◌, length, take, get_or, All, Contains, refl, sym, ap, subst, ◌∙◌, arith, append-nil, append_assoc, eq-eqb, eqb-true}
 use Rattle.std.proofs.lemmas.List.{take_more, take_all}
-use Rattle.std.proofs.lemmas.List.Elements.{Contains-append_left, Contains-append_right, Contains-push, Contains-push_cases, All-cons, All-nil, All-head, All-tail}
+use Rattle.std.proofs.lemmas.List.Elements.{Contains-append_left, Contains-push, Contains-push_cases, All-cons, All-nil, All-head, All-tail}
 use Rattle.model_sta.specs.Automaton.{Rule}
-use Rattle.model_sta.specs.Sets.{Row}
 use Rattle.model_sta.specs.Least.{Found, rows_of}
-use Rattle.sta_classes.specs.Grow.{Grown, candidate, Over, AreNumbers, From, FromBelow, AnyOf}
+use Rattle.sta_classes.specs.Grow.{Grown, candidate, Over, From, FromBelow}
 
 below_or : (j n : ℕ) → j < n + 1 → (j < n) ⊎ (j ≡ n)
 below_or zero zero l = inr refl

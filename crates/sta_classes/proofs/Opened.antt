@@ -1,15 +1,14 @@
 -- The candidates with new sets, turn by turn, and what the next class is.
-use Rattle.std.proofs.Common.{ℕ, zero, suc, ◌≡◌, ◌<◌, ◌≤◌, ◌+◌, ◌-◌, ◌⊎◌, inl, inr, ◌↔◌, Bool, true, false, true≢false, IsTrue, List, [], ◌∷◌, ◌++◌, length, map, get_or, All, Contains, refl, sym, ap, ap₂, subst, ◌∙◌, arith, lt_trans, length-append}
+use Rattle.std.proofs.Common.{ℕ, zero, suc, ◌≡◌, ◌<◌, ◌≤◌, ◌+◌, ◌-◌, ◌⊎◌, inl, inr, ◌↔◌, true, false, List, [], ◌∷◌, ◌++◌, length, map, get_or, All, Contains, refl, sym, ap, ap₂, subst, ◌∙◌, arith, length-append}
 use Rattle.std.proofs.lemmas.List.{length-map, map-append}
 use Rattle.std.proofs.lemmas.List.Elements.{All-contains, All-nil, All-cons, All-head, All-tail, Contains-push, Contains-push_cases, Contains-append_left}
-use Rattle.model_tree.specs.Tree.{Tree}
 use Rattle.model_sta.specs.Automaton.{Rule}
-use Rattle.model_sta.specs.Sets.{Each, Row, step, set_of, Fits}
+use Rattle.model_sta.specs.Sets.{Each, Row, step}
 use Rattle.model_sta.specs.Reached.{IsReached, AreSets, Covers, IsClosed, IsComplete}
-use Rattle.model_sta.specs.Least.{Found, rows_of, counts_of, rows_at, nodes_at, cost, IsMade, AreMade, IsLeast, CostsAtLeast, AreClasses}
+use Rattle.model_sta.specs.Least.{Found, rows_of, rows_at, nodes_at, cost, IsMade, IsLeast, CostsAtLeast, AreClasses}
 use Rattle.model_sta.proofs.Reached.{same_default, closed_is_complete, step_reached, sets_push}
 use Rattle.model_sta.proofs.Least.{found_or_large, new_is_least, each_push, numbered_push, numbered_map}
-use Rattle.sta_classes.specs.Grow.{Grown, candidate, Over, AreNumbers, From, AnyOf}
+use Rattle.sta_classes.specs.Grow.{Grown, candidate, AnyOf}
 use Rattle.sta_classes.specs.Next.{IsCandidate, AreOpen, IsNext}
 use Rattle.sta_classes.proofs.Rows.{known_or_new, each_all, all_each, contains_unmap}
 use Rattle.sta_classes.proofs.Grown.{nowhere}
@@ -118,10 +117,10 @@ module _ {L X : Type 0} (cap : ℕ) (ranks : List ℕ) (rules : List (List (Rule
         | inr w ↦ let (c, low, (js, are, some, (x, there, is, fresh))) = w in ((c, low, js, are, x, there, is), fresh)
       ]),
       (λ h. let (c, low, ks, are, x, there, is) = h.0 in
-      elim (below_or_there (length found) ks (all_weaker (length (found ++ q ∷ [])) (length found + 1) (omega (arith, last_number)) ks are.0)) [
-        | inl lows ↦ ((grown p).1) (inl (((dropped p).1) (((open_ p).1) ((c, low, ks, (lows, are.1), x, there, is ∙ same_candidate c ks x lows), λ k. h.1 (known_longer p.row k)), λ e. h.1 (subst (Contains (rows_of (found ++ q ∷ []))) (sym e) last_known))))
-        | inr touches ↦ ((grown p).1) (inr (c, low, (ks, are, inr (subst (Contains ks) (last (length (found ++ q ∷ [])) (length found) last_number) touches), (x, there, is, h.1))))
-      ]),
+          elim (below_or_there (length found) ks (all_weaker (length (found ++ q ∷ [])) (length found + 1) (omega (arith, last_number)) ks are.0)) [
+            | inl lows ↦ ((grown p).1) (inl (((dropped p).1) (((open_ p).1) ((c, low, ks, (lows, are.1), x, there, is ∙ same_candidate c ks x lows), λ k. h.1 (known_longer p.row k)), λ e. h.1 (subst (Contains (rows_of (found ++ q ∷ []))) (sym e) last_known))))
+            | inr touches ↦ ((grown p).1) (inr (c, low, (ks, are, inr (subst (Contains ks) (last (length (found ++ q ∷ [])) (length found) last_number) touches), (x, there, is, h.1))))
+          ]),
     )
       where
         last : (m n : ℕ) → m ≡ n + 1 → n ≡ m - 1

@@ -3,7 +3,7 @@ use Rattle.std.proofs.Common.{ℕ, zero, suc, Vec, ◌≡◌, ◌≤◌, ◌<◌
 use Rattle.std.proofs.lemmas.Simd.{map-map}
 use Rattle.std.proofs.Math.Seq.{take-append_seam}
 use Rattle.std.proofs.lemmas.List.{get_or-map, map-append, length-map, take_more}
-use Rattle.std.proofs.lemmas.List.Elements.{All-contains, Contains-push_cases}
+use Rattle.std.proofs.lemmas.List.Elements.{Contains-push_cases}
 use Rattle.model_sta.specs.Sets.{Row, Each, rows_meet}
 use Rattle.model_sta.proofs.Reached.{same_default}
 use Rattle.model_tree.specs.Label.{Label}

@@ -1,14 +1,14 @@
 -- Least trees of classes in the code.
-use Rattle.std.proofs.Common.{ℕ, zero, suc, ◌≡◌, ◌<◌, ◌≤◌, ◌+◌, ◌↔◌, Bool, List, [], ◌∷◌, ◌++◌, length, take, get_or, map, Vec, refl, sym, ap, ap₂, subst, subst₂, ◌∙◌, arith, take_all}
-use Rattle.std.proofs.lemmas.List.{take_more, map-append, length-map, get_or-map}
+use Rattle.std.proofs.Common.{ℕ, zero, suc, ◌≡◌, ◌<◌, ◌≤◌, ◌+◌, ◌↔◌, Bool, List, [], ◌∷◌, ◌++◌, length, take, get_or, map, sym, ap, ap₂, subst, subst₂, ◌∙◌, arith, take_all}
+use Rattle.std.proofs.lemmas.List.{take_more, length-map, get_or-map}
 use Rattle.std.proofs.lemmas.Simd.{map-map}
 use Rattle.model_tree.specs.Label.{Label}
-use Rattle.model_tree.specs.Tree.{Tree, node, Trees, no_trees, tree, trees_of, node_count, depth, relabel, relabel_all}
+use Rattle.model_tree.specs.Tree.{Tree, node, trees_of, node_count, depth, relabel}
 use Rattle.model_tree.proofs.Trees.{relabel_all_of_list}
 use Rattle.model_sta.specs.Automaton.{Rule}
-use Rattle.model_sta.specs.Sets.{Row, Each, has, fires, step, set_of, sets_of, Fits}
+use Rattle.model_sta.specs.Sets.{Row, Each, fires, step, set_of, sets_of}
 use Rattle.std.specs.List.{list_any}
-use Rattle.model_sta.specs.Least.{Found, rows_of, rows_at, counts_of, relabel_found, EachNumbered, IsMade, AreMade, IsLeast, IsWitness, HasNoTreeBelow, AreClasses, IsLeastTree}
+use Rattle.model_sta.specs.Least.{Found, rows_of, rows_at, counts_of, relabel_found, EachNumbered, IsMade, AreMade, IsWitness, HasNoTreeBelow, AreClasses, IsLeastTree}
 use Rattle.model_sta.proofs.Least.{AreKids, no_kids, more_kids, assembled, least_at, witness_is_least}
 use Rattle.sta_core.specs.Machine.{Machine, PlainRule}
 use Rattle.sta_core.specs.Sta.{automaton_of, rule_meaning}

@@ -1,14 +1,13 @@
 -- One turn of the search, over classes in the code.
-use Rattle.std.proofs.Common.{ℕ, zero, suc, ◌≡◌, ◌<◌, ◌≤◌, ◌+◌, ◌↔◌, Bool, false, List, [], ◌∷◌, ◌++◌, length, map, get_or, All, Contains, refl, sym, ap, subst, subst₂, ◌∙◌, arith, length-append}
-use Rattle.std.proofs.lemmas.List.{length-map, get_or-map}
+use Rattle.std.proofs.Common.{ℕ, suc, ◌≡◌, ◌<◌, ◌≤◌, ◌+◌, ◌↔◌, false, List, [], ◌∷◌, ◌++◌, length, map, get_or, All, Contains, sym, subst, arith, length-append}
+use Rattle.std.proofs.lemmas.List.{length-map}
 use Rattle.std.proofs.lemmas.List.Elements.{All-nil, All-cons}
 use Rattle.model_tree.specs.Label.{Label}
 use Rattle.model_sta.specs.Automaton.{Rule}
-use Rattle.model_sta.specs.Sets.{Row}
-use Rattle.model_sta.specs.Reached.{IsReached, Apart, AreSets, HasMoreSets, Covers, IsComplete}
+use Rattle.model_sta.specs.Reached.{IsReached, HasMoreSets, Covers}
 use Rattle.model_sta.specs.Least.{Found, rows_of, AreClasses}
 use Rattle.sta_classes.specs.Grow.{Grown, AnyOf, IsTaken}
-use Rattle.sta_classes.specs.Next.{IsCandidate, AreOpen, IsNext}
+use Rattle.sta_classes.specs.Next.{AreOpen, IsNext}
 use Rattle.sta_classes.specs.Rows.{found_of, founds}
 use Rattle.sta_classes.specs.declared.class.Class.{Class}
 use Rattle.sta_classes.proofs.Rows.{contains_map, contains_unmap, founds_push}
@@ -33,10 +32,10 @@ module _ {V X : Type 0} (cap : ℕ) (ranks : List ℕ) (has keeps : Label → Ty
   dropped : (p : Found Label) → Contains (founds label_of rest) p ↔ (Contains (founds label_of pending) p × ¬ (p.row ≡ c.row.items))
   dropped p = (
     (λ h. let (x, there, is) = contains_unmap (found_of label_of) rest p h in
-    let (before, other) = ((is_taken.rest x).0) there in
-    (subst (Contains (founds label_of pending)) is (contains_map (found_of label_of) pending x before), subst (λ z. ¬ (z.row ≡ c.row.items)) is other)),
+        let (before, other) = ((is_taken.rest x).0) there in
+        (subst (Contains (founds label_of pending)) is (contains_map (found_of label_of) pending x before), subst (λ z. ¬ (z.row ≡ c.row.items)) is other)),
     (λ h. let (x, there, is) = contains_unmap (found_of label_of) pending p h.0 in
-    subst (Contains (founds label_of rest)) is (contains_map (found_of label_of) rest x (((is_taken.rest x).1) (there, subst (λ z. ¬ (z.row ≡ c.row.items)) (sym is) h.1)))),
+        subst (Contains (founds label_of rest)) is (contains_map (found_of label_of) rest x (((is_taken.rest x).1) (there, subst (λ z. ¬ (z.row ≡ c.row.items)) (sym is) h.1)))),
   )
 
   pub turn_open : (found' new : List (Class V)) → found' ≡ found ++ c ∷ [] → Grown (founds label_of rest) (founds label_of new) (AnyOf cap rules (founds label_of found') label (length ranks) ranks false lists)

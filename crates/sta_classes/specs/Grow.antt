@@ -1,8 +1,8 @@
 -- What a list of candidates has after more are put into it, or some are taken out.
-use Rattle.std.specs.Prelude.{ℕ, ◌≡◌, ◌<◌, ◌≤◌, ◌++◌, ◌∷◌, ◌-◌, ◌+◌, ◌==◌, ◌||◌, ◌↔◌, ◌⊎◌, Bool, IsTrue, List, [], length, map, get_or, All, Contains}
+use Rattle.std.specs.Prelude.{ℕ, ◌≡◌, ◌<◌, ◌≤◌, ◌++◌, ◌∷◌, ◌-◌, ◌+◌, ◌==◌, ◌||◌, ◌↔◌, ◌⊎◌, Bool, IsTrue, List, [], length, get_or, All, Contains}
 use Rattle.model_sta.specs.Automaton.{Rule}
 use Rattle.model_sta.specs.Sets.{Row, step}
-use Rattle.model_sta.specs.Least.{Found, rows_of, counts_of, rows_at, nodes_at, cost}
+use Rattle.model_sta.specs.Least.{Found, rows_of, rows_at, nodes_at, cost}
 use Rattle.sta_classes.specs.declared.class.Class.{Class}
 
 -- the new list has exactly what the old one has and what is wanted

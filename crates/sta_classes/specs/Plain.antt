@@ -20,7 +20,6 @@ module _ {A V : Type 0} where
   abbrev pub class_row : PlainTable A V → ℕ → Row
   class_row t class = get_or (rows_of t.found) class []
 
-
 abbrev pub coded_found : {V : Type 0} → Coded V → Coded (Found V)
 coded_found {V} v = code_by (List Bool × (ℕ × (ℕ × (V × List ℕ)))) (coded× (coded_list coded_bool) (coded× coded_ℕ (coded× coded_ℕ (coded× v (coded_list coded_ℕ))))) (λ f. (f.row, (f.nodes, (f.constructor, (f.label, f.children))))) (λ p. record { row = p.0; nodes = p.1.0; constructor = p.1.1.0; label = p.1.1.1.0; children = p.1.1.1.1 }) (λ _. refl)
 

@@ -23,11 +23,7 @@ fn least_at<V>(pending: &[Class<V>]) -> usize
 }
 
 /// Drops the candidates with this set.
-fn drop_row<V: Drop>(
-    alloc: Global,
-    pending: &mut Vec<Class<V>>,
-    row: &[bool],
-) -> Result<(), Memory>
+fn drop_row<V: Drop>(alloc: Global, pending: &mut Vec<Class<V>>, row: &[bool]) -> Result<(), Memory>
     ensures { OnOk result (IsWithout pending.old.items row.now pending.new.items) }
 {
     let mut rest = Vec::new(alloc);

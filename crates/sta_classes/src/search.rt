@@ -126,7 +126,16 @@ fn add_from<T: Theory>(
 {
     if left == 0 {
         if free {
-            add_over(theory, alloc, rules, constructor, values, found, children, pending)?;
+            add_over(
+                theory,
+                alloc,
+                rules,
+                constructor,
+                values,
+                found,
+                children,
+                pending,
+            )?;
         }
         return Ok(());
     }
@@ -202,13 +211,31 @@ pub fn search<T: Theory>(
 {
     let mut found = Vec::new(alloc);
     let mut pending = Vec::new(alloc);
-    add_all(theory, alloc, ranks, rules, lists, &found, true, &mut pending)?;
+    add_all(
+        theory,
+        alloc,
+        ranks,
+        rules,
+        lists,
+        &found,
+        true,
+        &mut pending,
+    )?;
     'search: while let Some(class) = take_least(alloc, &mut pending)? {
         if found.len() == most as usize {
             return Err(ClassStop::Classes);
         }
         found.push(class)?;
-        add_all(theory, alloc, ranks, rules, lists, &found, false, &mut pending)?;
+        add_all(
+            theory,
+            alloc,
+            ranks,
+            rules,
+            lists,
+            &found,
+            false,
+            &mut pending,
+        )?;
     }
     Ok(found)
 }

@@ -1,4 +1,4 @@
-use Rattle.std.proofs.Common.{◌≡◌, ◌<◌, ◌+◌, suc, map, drop, get_or}
+use Rattle.std.proofs.Common.{◌≡◌, ◌<◌, ◌+◌, suc, drop}
 use Rattle.model_sta.specs.Least.{total}
 use Rattle.sta_classes.specs.Rows.{class_counts_at}
 use Rattle.sta_classes.specs.declared.class.TheConstants.{CAP}

@@ -1,4 +1,3 @@
-use Rattle.std.proofs.Common.{arith}
 use Rattle.sta_classes.proofs.Rows.{known_more, none_known}
 use Rattle.sta_classes.proofs.class.is_known.Goals as goal
 

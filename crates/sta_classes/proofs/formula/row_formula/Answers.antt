@@ -1,10 +1,8 @@
-use Rattle.std.proofs.Common.{arith, ap, sym, map, get_or, false, length, ◌<◌, ◌≡◌, refl}
-use Rattle.std.proofs.lemmas.List.Elements.{All-nil}
-use Rattle.label_core.specs.Formula.{plain_formula}
+use Rattle.std.proofs.Common.{arith, ap, map, get_or, false, length, ◌<◌}
 use Rattle.sta_core.specs.Machine.{plain_rule}
 use Rattle.model_sta.proofs.Reached.{same_default}
 use Rattle.sta_classes.specs.Rows.{class_rows_at}
-use Rattle.sta_classes.proofs.Fired.{parts_more, parts_done, atoms_more, atoms_done, no_parts}
+use Rattle.sta_classes.proofs.Fired.{parts_more, parts_done, atoms_more, atoms_done}
 use Rattle.sta_classes.proofs.formula.row_formula.Goals as goal
 
 pub loop-i-preserved : goal.loop-i-preserved

@@ -1,5 +1,5 @@
 use Rattle.sta_classes.specs.Copies.{plain_rules}
-use Rattle.sta_classes.proofs.Covered.{no_lists, lists_more}
+use Rattle.sta_classes.proofs.Covered.{lists_more}
 use Rattle.sta_classes.proofs.guards.splits.Goals as goal
 
 pub loop-constructor-preserved : goal.loop-constructor-preserved

@@ -1,4 +1,4 @@
-use Rattle.std.proofs.Common.{arith, subst, take_all, map, get_or, ◌≤◌, All}
+use Rattle.std.proofs.Common.{subst, take_all, get_or, ◌≤◌, All}
 use Rattle.sta_classes.proofs.Dropped.{counts, least_less, least_other}
 use Rattle.sta_classes.proofs.pending.least_at.Goals as goal
 use Rattle.sta_classes.proofs.pending.least_at.Goals.{then-pending-i, else-pending-i}

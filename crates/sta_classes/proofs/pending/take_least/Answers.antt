@@ -1,4 +1,4 @@
-use Rattle.std.proofs.Common.{◌≡◌, ◌<◌, ◌≤◌, length, All, subst, sym, ◌∙◌, ap, arith, get_or, map}
+use Rattle.std.proofs.Common.{◌≤◌, length, All, subst, ap, arith, get_or}
 use Rattle.sta_classes.specs.Grow.{IsWithout}
 use Rattle.sta_classes.proofs.Dropped.{counts, taken}
 use Rattle.sta_classes.proofs.pending.take_least.Goals as goal

@@ -1,4 +1,4 @@
-use Rattle.std.proofs.Common.{◌≡◌, ◌++◌, ◌∷◌, ◌-◌, ◌+◌, ◌<◌, ◌==◌, ◌||◌, [], ℕ, length, refl, sym, ap, ◌∙◌, subst, subst₂, arith, All}
+use Rattle.std.proofs.Common.{◌≡◌, ◌++◌, ◌∷◌, ◌-◌, ◌+◌, ◌<◌, ◌==◌, ◌||◌, [], length, refl, sym, ap, ◌∙◌, subst, subst₂, arith, All}
 use Rattle.std.proofs.lemmas.List.{length-map}
 use Rattle.std.proofs.lemmas.List.Elements.{All-push}
 use Rattle.sta_classes.specs.Copies.{plain_rules, meaning_of}

@@ -1,4 +1,4 @@
-use Rattle.std.proofs.Common.{arith, [], ◌≡◌, ◌<◌, sym, subst, ap, ◌∙◌, get_or, length, All}
+use Rattle.std.proofs.Common.{arith, [], ◌≡◌, ◌<◌, sym, subst, get_or, length, All}
 use Rattle.std.proofs.lemmas.List.{length-map}
 use Rattle.model_sta.proofs.Reached.{same_default}
 use Rattle.sta_classes.specs.Copies.{plain_rules, meaning_of}

@@ -1,4 +1,4 @@
-use Rattle.std.proofs.Common.{◌≡◌, ◌∙◌, [], refl, ap, sym, map, get_or}
+use Rattle.std.proofs.Common.{◌∙◌, [], refl, ap, sym, map, get_or}
 use Rattle.model_sta.specs.Sets.{step}
 use Rattle.model_sta.specs.Least.{cost}
 use Rattle.sta_classes.specs.Copies.{plain_rules, meaning_of}

@@ -1,4 +1,4 @@
-use Rattle.std.proofs.Common.{◌≡◌, ◌≤◌, ◌+◌, true, length, arith, sym, subst, ap, ◌∙◌, length-append}
+use Rattle.std.proofs.Common.{◌≡◌, ◌+◌, true, length, arith, subst, ap, ◌∙◌, length-append}
 use Rattle.sta_classes.specs.Copies.{plain_rules, meaning_of}
 use Rattle.sta_classes.specs.Rows.{founds, lists_of}
 use Rattle.sta_classes.specs.Grow.{Grown, AnyOf}
@@ -14,7 +14,7 @@ search-init g c = record {
   pending = open_start CAP c.args.ranks.now (meaning_of g.T.Theory.atom_holds (plain_rules c.args.rules.now)) (λ r. g.T.Theory.label_of r.value) (lists_of c.args.lists.now) (founds g.T.Theory.label_of c.new-found.result.items)
       (founds g.T.Theory.label_of c.new-pending.result.items) (founds g.T.Theory.label_of c.add_all.new.pending.items) (ap (founds g.T.Theory.label_of) c.new-pending.ensures.items)
       (subst (λ z. Grown (founds g.T.Theory.label_of c.new-pending.result.items) (founds g.T.Theory.label_of c.add_all.new.pending.items) (AnyOf CAP (meaning_of g.T.Theory.atom_holds (plain_rules c.args.rules.now)) (founds g.T.Theory.label_of z) (λ r. g.T.Theory.label_of r.value) (length c.args.ranks.now) c.args.ranks.now true (lists_of c.args.lists.now)))
-          c.deref.ensures.value c.in_ok-add_all.ensures);
+      c.deref.ensures.value c.in_ok-add_all.ensures);
   few = let n = ap length c.new-found.ensures.items in omega (arith, n);
 }
 
@@ -44,4 +44,4 @@ returns-clause-complete g c =
     (covers g.T.Theory.label_of (g.T.Theory.has_label c.args.theory.now) (g.T.Theory.keeps_label c.args.theory.now) g.T.Theory.atom_holds (plain_rules c.args.rules.now) c.args.ranks.now (lists_of c.args.lists.now) c.requires.lists)
     (kept_value g.T.Theory.label_of (g.T.Theory.has_label c.args.theory.now) (g.T.Theory.keeps_label c.args.theory.now) g.T.Theory.atom_holds (plain_rules c.args.rules.now) c.args.ranks.now (lists_of c.args.lists.now) c.requires.lists)
     (none_open CAP c.args.ranks.now (meaning_of g.T.Theory.atom_holds (plain_rules c.args.rules.now)) (λ r. g.T.Theory.label_of r.value) (lists_of c.args.lists.now) (founds g.T.Theory.label_of c.search.found.items) (founds g.T.Theory.label_of c.search.pending.items)
-        (ap (founds g.T.Theory.label_of) (rw c.in_default.is at c.in_ok-class.ensures)) c.search.invariant.pending)
+    (ap (founds g.T.Theory.label_of) (rw c.in_default.is at c.in_ok-class.ensures)) c.search.invariant.pending)

@@ -1,4 +1,4 @@
-use Rattle.std.proofs.Common.{ap, sym, ◌∙◌, ◌≡◌}
+use Rattle.std.proofs.Common.{ap, sym, ◌∙◌}
 use Rattle.sta_core.specs.Sta.{automaton_of}
 use Rattle.sta_classes.specs.Copies.{plain_rules, meaning_of}
 use Rattle.sta_classes.specs.declared.class.TheConstants.{CAP}

@@ -1,5 +1,5 @@
-use Rattle.std.proofs.Common.{arith, ap, ◌∙◌, ◌∷◌, [], ◌<◌, ◌≡◌, get_or, length, map, subst, sym}
-use Rattle.std.proofs.lemmas.List.{map-append, length-map}
+use Rattle.std.proofs.Common.{arith, ap, ◌∙◌, ◌∷◌, [], ◌<◌, get_or, map}
+use Rattle.std.proofs.lemmas.List.{map-append}
 use Rattle.model_tree.specs.Tree.{relabel}
 use Rattle.sta_classes.specs.declared.class.TheConstants.{CAP}
 use Rattle.sta_classes.proofs.Trees.{child_here, kids_here, built_here}

@@ -1,4 +1,4 @@
-use Rattle.std.proofs.Common.{◌≡◌, IsTrue, ap, sym, subst, ◌∙◌, length, map}
+use Rattle.std.proofs.Common.{IsTrue, ap, sym, subst, ◌∙◌, length, map}
 use Rattle.std.proofs.lemmas.List.{length-map}
 use Rattle.model_tree.specs.Formula.{formula_holds}
 use Rattle.label_core.specs.Atoms.{EachHasEqual}

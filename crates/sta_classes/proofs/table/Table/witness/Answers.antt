@@ -1,4 +1,3 @@
-use Rattle.std.proofs.Common.{◌≤◌, ◌<◌, subst, sym}
 use Rattle.model_tree.specs.Tree.{relabel}
 use Rattle.sta_classes.specs.declared.class.TheConstants.{CAP}
 use Rattle.sta_classes.proofs.Trees.{none_here, shown_here}
