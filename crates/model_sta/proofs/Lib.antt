@@ -1,3 +1,5 @@
 pub mod Automata
 pub mod Equiv
 pub mod Sets
+pub mod Reached
+pub mod Least

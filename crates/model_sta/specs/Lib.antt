@@ -1,4 +1,6 @@
 pub mod Automaton
 pub mod Accepts
 pub mod Sets
+pub mod Reached
+pub mod Least
 pub mod Laws

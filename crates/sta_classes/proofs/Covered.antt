@@ -1,0 +1,146 @@
+-- Facts on the rows of signs of guards.
+use Rattle.std.proofs.Common.{ℕ, suc, ◌≡◌, ◌<◌, ◌+◌, ◌==◌, Bool, true, false, cond, All, Vec, get_or, ◌++◌, arith, List, [], ◌∷◌, map, filter, length, refl, sym, ap, ap₂, subst, ◌∙◌, eq-eqb, length-append}
+use Rattle.std.proofs.lemmas.List.Elements.{All-nil, All-cons, All-append, All-contains}
+use Rattle.std.proofs.lemmas.Simd.{map-map}
+use Rattle.model_tree.specs.Label.{Label}
+use Rattle.model_tree.specs.Formula.{Formula, formula_holds, EveryAtom}
+use Rattle.model_sta.specs.Sets.{Each, Agree}
+use Rattle.model_sta.specs.Reached.{Covers}
+use Rattle.model_sta.proofs.Reached.{pushed}
+use Rattle.label_core.specs.Atoms.{EachHasEqual}
+use Rattle.label_core.specs.Formula.{plain_formula}
+use Rattle.label_core.specs.declared.formula.Formula as code
+use Rattle.label_split.specs.Signs.{signs_at, atoms_in_each, FormulasFit}
+use Rattle.label_split.specs.Split.{IsRow, SplitsInto, HasUnkeptRow}
+use Rattle.label_split.specs.declared.rows.SignRow.{SignRow}
+use Rattle.sta_core.specs.Machine.{PlainRule}
+use Rattle.sta_core.specs.Sta.{rule_meaning}
+use Rattle.sta_core.proofs.Meaning.{All_from_map}
+use Rattle.sta_classes.specs.Pairwise.{Pairwise}
+use Rattle.sta_classes.specs.Copies.{IsCopy, meaning_of}
+use Rattle.sta_classes.specs.Guards.{state_guards, guards_of, all_guards, atoms_of_all, truths, GuardsFit, AreSplit}
+use Rattle.sta_classes.specs.Rows.{lists_of}
+use Rattle.sta_classes.proofs.Rows.{lists_push, contains_map}
+use Rattle.sta_classes.proofs.Copied.{among_more, guards_within, copies_among, copies_truths, copies_fit}
+
+cons_eq : {X : Type 0} (x y : X) (xs ys : List X) → x ∷ xs ≡ y ∷ ys → (x ≡ y) × (xs ≡ ys)
+cons_eq x y xs ys e = (cc, cc)
+
+each_split : {X : Type 0} (P : X → Type 0) (xs ys : List X) → Each P (xs ++ ys) → Each P xs × Each P ys
+each_split P [] ys a = (tt, a)
+each_split P (x ∷ xs) ys a = let (b, c) = each_split P xs ys a.1 in ((a.0, b), c)
+
+each_join : {X : Type 0} (P : X → Type 0) (xs ys : List X) → Each P xs → Each P ys → Each P (xs ++ ys)
+each_join P [] ys a b = b
+each_join P (x ∷ xs) ys a b = (a.0, each_join P xs ys a.1 b)
+
+module _ {A : Type 0} (holds : A → Label → Bool) (c : ℕ) (l m : Label) where
+  -- the guard has one truth value at both labels
+  abbrev Same : Formula A → Type 0
+  Same g = formula_holds (λ a. holds a l) g ≡ formula_holds (λ a. holds a m) g
+
+  same_truths : (gs : List (Formula A)) → truths holds gs l ≡ truths holds gs m → Each Same gs
+  same_truths [] e = tt
+  same_truths (g ∷ gs) e = let (a, b) = cons_eq _ _ _ _ e in (a, same_truths gs b)
+
+  truths_same : (gs : List (Formula A)) → Each Same gs → truths holds gs l ≡ truths holds gs m
+  truths_same [] h = refl
+  truths_same (g ∷ gs) h = ap₂ (λ x y. x ∷ y) h.0 (truths_same gs h.1)
+
+  -- the guard of a rule that is kept
+  kept_guard : (b : Bool) (r : PlainRule A) (rs : List (PlainRule A)) → Each Same (map (λ x. x.guard) (cond b (r ∷ rs) rs)) → (b ≡ true → Same r.guard) × Each Same (map (λ x. x.guard) rs)
+  kept_guard true r rs h = ((λ _. h.0), h.1)
+  kept_guard false r rs h = ((λ e. absurd (cc)), h)
+
+  state_agrees : (rs : List (PlainRule A)) → Each Same (state_guards c rs) → Each (λ r. r.constructor ≡ c → r.guard l ≡ r.guard m) (map (rule_meaning holds) rs)
+  state_agrees [] h = tt
+  state_agrees (r ∷ rs) h =
+      let (here, rest) = kept_guard (r.constructor == c) r (filter (λ x. x.constructor == c) rs) h in
+      ((λ e. here (eq-eqb r.constructor c e)), state_agrees rs rest)
+
+  -- labels with one row of signs agree
+  pub all_agree : (rules : List (List (PlainRule A))) → Each Same (guards_of c rules) → Agree (meaning_of holds rules) c l m
+  all_agree [] h = tt
+  all_agree (rs ∷ rules) h =
+      let (a, b) = each_split Same (state_guards c rs) (guards_of c rules) h in
+      (state_agrees rs a, all_agree rules b)
+
+  kept_same : (b : Bool) (r : PlainRule A) (rs : List (PlainRule A)) → Same r.guard → Each Same (map (λ x. x.guard) rs) → Each Same (map (λ x. x.guard) (cond b (r ∷ rs) rs))
+  kept_same true r rs g h = (g, h)
+  kept_same false r rs g h = h
+
+  state_same : (rs : List (PlainRule A)) → Each Same (map (λ r. r.guard) rs) → Each Same (state_guards c rs)
+  state_same [] h = tt
+  state_same (r ∷ rs) h = kept_same (r.constructor == c) r (filter (λ x. x.constructor == c) rs) h.0 (state_same rs h.1)
+
+  guards_same : (rules : List (List (PlainRule A))) → Each Same (all_guards rules) → Each Same (guards_of c rules)
+  guards_same [] h = tt
+  guards_same (rs ∷ rules) h =
+      let (a, b) = each_split Same (map (λ r. r.guard) rs) (all_guards rules) h in
+      each_join Same (state_guards c rs) (guards_of c rules) (state_same rs a) (guards_same rules b)
+
+  -- one row of signs of all guards is one of a constructor's
+  truths_within : (rules : List (List (PlainRule A))) → truths holds (all_guards rules) l ≡ truths holds (all_guards rules) m → truths holds (guards_of c rules) l ≡ truths holds (guards_of c rules) m
+  truths_within rules e = truths_same (guards_of c rules) (guards_same rules (same_truths (all_guards rules) e))
+
+module _ {A : Type 0} (F : A → Type 0) (c : ℕ) where
+  kept_fit : (b : Bool) (r : PlainRule A) (rs : List (PlainRule A)) → EveryAtom F r.guard → All (EveryAtom F) (map (λ x. x.guard) rs) → All (EveryAtom F) (map (λ x. x.guard) (cond b (r ∷ rs) rs))
+  kept_fit true r rs g h = All-cons (EveryAtom F) r.guard (map (λ x. x.guard) rs) g h
+  kept_fit false r rs g h = h
+
+  state_fit : (rs : List (PlainRule A)) → All (λ r. EveryAtom F r.guard) rs → All (EveryAtom F) (state_guards c rs)
+  state_fit [] h = All-nil (EveryAtom F)
+  state_fit (r ∷ rs) h = kept_fit (r.constructor == c) r (filter (λ x. x.constructor == c) rs) (h 0 r (omega arith)) (state_fit rs (λ k d l. h (suc k) d (omega (arith, l))))
+
+  pub guards_fit : (rules : List (List (PlainRule A))) → GuardsFit F rules → All (EveryAtom F) (guards_of c rules)
+  guards_fit [] h = All-nil (EveryAtom F)
+  guards_fit (rs ∷ rules) h = All-append (EveryAtom F) (state_guards c rs) (guards_of c rules) (state_fit rs (h 0 rs (omega arith))) (guards_fit rules (λ k d l. h (suc k) d (omega (arith, l))))
+
+module _ {A : Type 0} (holds : A → Label → Bool) (eq : A → A → Bool) (formulas : List (code.Formula A)) (c : ℕ) (rules : List (List (PlainRule A))) (copies : Pairwise (IsCopy holds eq) (map plain_formula formulas) (guards_of c rules)) where
+  signs_are : (l : Label) → signs_at holds formulas l ≡ truths holds (guards_of c rules) l
+  signs_are l = sym (map-map (λ g. formula_holds (λ a. holds a l) g) plain_formula formulas) ∙ copies_truths holds eq (map plain_formula formulas) (guards_of c rules) l copies
+
+  pub formulas_fit : (F : A → Type 0) → ((a b : A) → eq a b ≡ true → F b → F a) → GuardsFit F rules → FormulasFit F formulas
+  formulas_fit F same h = All_from_map (EveryAtom F) plain_formula formulas (copies_fit F eq same holds (map plain_formula formulas) (guards_of c rules) copies (guards_fit F c rules h))
+
+  pub split_of_guards : {V : Type 0} (label_of : V → Label) (has keeps : Label → Type 0) (rows : List (SignRow V)) → SplitsInto label_of has keeps (signs_at holds formulas) rows → SplitsInto label_of has keeps (truths holds (guards_of c rules)) rows
+  split_of_guards label_of has keeps rows h = subst (λ s. SplitsInto label_of has keeps s rows) (λ i l. signs_are l i) h
+
+  pub atoms_of_guards : EachHasEqual eq (atoms_in_each formulas) (atoms_of_all (all_guards rules))
+  atoms_of_guards = among_more eq (atoms_in_each formulas) (atoms_of_all (guards_of c rules)) (atoms_of_all (all_guards rules)) (guards_within eq c rules) (copies_among holds eq (map plain_formula formulas) (guards_of c rules) copies)
+
+  pub unkept_of_guards : (has keeps : Label → Type 0) → HasUnkeptRow has keeps (signs_at holds formulas) → HasUnkeptRow has keeps (truths holds (all_guards rules))
+  unkept_of_guards has keeps (l, here, none) = (l, here, λ m kept same. none m kept (signs_are m ∙ truths_within holds c m l rules same ∙ sym (signs_are l)))
+
+module _ {A V : Type 0} (label_of : V → Label) (has keeps : Label → Type 0) (holds : A → Label → Bool) (rules : List (List (PlainRule A))) where
+  pub no_lists : (all : List (List (SignRow V))) → all ≡ [] → AreSplit label_of has keeps holds 0 rules all
+  no_lists all e = record { one_each = ap length e; each = λ c low. let n : length all ≡ 0 = ap length e in absurd (omega arith) }
+
+  more_lists : (n : ℕ) (old : List (List (SignRow V))) (rows : List (SignRow V)) → AreSplit label_of has keeps holds n rules old → SplitsInto label_of has keeps (truths holds (guards_of n rules)) rows → AreSplit label_of has keeps holds (n + 1) rules (old ++ rows ∷ [])
+  more_lists n old rows h made =
+      let l : length (old ++ rows ∷ []) ≡ length old + 1 = length-append old (rows ∷ []) in
+      let m : length old ≡ n = h.one_each in
+      record {
+        one_each = omega arith;
+        each = pushed (λ k xs. SplitsInto label_of has keeps (truths holds (guards_of k rules)) xs) old rows [] h.each (subst (λ k. SplitsInto label_of has keeps (truths holds (guards_of k rules)) rows) (sym m) made);
+      }
+
+  pub lists_more : {G : Type 0} (n : ℕ) (old new : List (Vec (SignRow V) G)) (rows : Vec (SignRow V) G) → new ≡ old ++ rows ∷ [] → AreSplit label_of has keeps holds n rules (lists_of old) → SplitsInto label_of has keeps (truths holds (guards_of n rules)) rows.items
+      → AreSplit label_of has keeps holds (n + 1) rules (lists_of new)
+  lists_more n old new rows is h made = subst (AreSplit label_of has keeps holds (n + 1) rules) (sym (ap lists_of is ∙ lists_push old rows)) (more_lists n (lists_of old) rows.items h made)
+
+  -- the values of the rows are labels for each constructor with which each label agrees
+  pub covers : (ranks : List ℕ) (lists : List (List (SignRow V))) → AreSplit label_of has keeps holds (length ranks) rules lists
+      → Covers ranks has (meaning_of holds rules) (λ c. map (λ r. label_of r.value) (get_or lists c []))
+  covers ranks lists split c low l d =
+      let at = split.each c (omega (arith, split.one_each)) in
+      let (r, there, signs) = at.complete l d in
+      let sound = All-contains (IsRow label_of keeps (truths holds (guards_of c rules))) (get_or lists c []) r at.sound there in (
+        label_of r.value,
+        contains_map (λ x. label_of x.value) (get_or lists c []) r there,
+        all_agree holds c l (label_of r.value) rules (same_truths holds c l (label_of r.value) (guards_of c rules) (sym signs ∙ sound.1)),
+      )
+
+  -- each value is of a kept label
+  pub kept_value : (ranks : List ℕ) (lists : List (List (SignRow V))) → AreSplit label_of has keeps holds (length ranks) rules lists → (c : ℕ) → c < length ranks → All (λ r. keeps (label_of r.value)) (get_or lists c [])
+  kept_value ranks lists split c low k d l = ((split.each c (omega (arith, split.one_each))).sound k d l).0

@@ -1,0 +1,10 @@
+pub mod Rows
+pub mod Copied
+pub mod Covered
+pub mod Grown
+pub mod Dropped
+pub mod Opened
+pub mod Turns
+pub mod Trees
+pub mod Built
+pub mod Fired

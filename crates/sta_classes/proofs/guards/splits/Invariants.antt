@@ -1,0 +1,7 @@
+use Rattle.sta_classes.specs.Guards.{AreSplit}
+use Rattle.sta_classes.specs.Copies.{plain_rules}
+use Rattle.sta_classes.specs.Rows.{lists_of}
+use Rattle.sta_classes.proofs.guards.splits.Given as goal
+
+abbrev pub invariant-loop-constructor : goal.invariant-loop-constructor
+invariant-loop-constructor g l = AreSplit g.T.Theory.label_of (g.T.Theory.has_label l.theory) (g.T.Theory.keeps_label l.theory) g.T.Theory.atom_holds l.constructor (plain_rules l.rules) (lists_of l.all.items)

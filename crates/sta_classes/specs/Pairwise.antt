@@ -1,0 +1,9 @@
+-- Two lists, place by place.
+use Rattle.std.specs.Prelude.{List, [], ◌∷◌, ⊤}
+
+-- as many of each, and R holds of each two at one place
+abbrev pub Pairwise : {X Y : Type 0} → (X → Y → Type 0) → List X → List Y → Type 0
+Pairwise R [] [] = ⊤
+Pairwise R [] (y ∷ ys) = ⊥
+Pairwise R (x ∷ xs) [] = ⊥
+Pairwise R (x ∷ xs) (y ∷ ys) = R x y × Pairwise R xs ys
