@@ -1,5 +1,5 @@
 -- How far the literals of a search have come.
-use Rattle.std.proofs.Common.{◌≡◌, Bool, true, false, ◌||◌, ◌⊎◌, inl, inr, IsSome, IsTrue, List, [], ◌∷◌, ◌++◌, map, length, get_or, All, ℕ, zero, suc, ◌+◌, ◌<◌, ◌≤◌, refl, sym, ap, ap₂, ◌∙◌, subst, arith}
+use Rattle.std.proofs.Common.{◌≡◌, Bool, true, false, ◌||◌, ◌⊎◌, inl, inr, IsSome, IsTrue, List, [], ◌∷◌, ◌++◌, length, get_or, All, ℕ, zero, suc, ◌<◌, ◌≤◌, refl, sym, ap, ap₂, ◌∙◌, subst, arith}
 use Rattle.std.specs.Cmp.{IsEquivalence}
 use Rattle.std.proofs.lemmas.List.Elements.{All-nil, All-cons, All-append, All-map}
 use Rattle.model_tree.specs.Label.{Label}
@@ -8,7 +8,7 @@ use Rattle.label_core.specs.Lit.{SatisfiesAll, LitsFit, atoms_of}
 use Rattle.label_core.specs.declared.formula.Formula.{Formula}
 use Rattle.label_core.specs.declared.theory.Lit.{Lit}
 use Rattle.label_split.specs.Known.{literal_sign, contradicts_some}
-use Rattle.label_split.specs.Signs.{atoms_in_each, FormulasFit, signs_at}
+use Rattle.label_split.specs.Signs.{atoms_in_each, FormulasFit}
 use Rattle.label_split.specs.Search.{IsGoal, IsFront, Meets, NextIs}
 use Rattle.label_split.proofs.SameAtoms.{every_atom_of_each, all_atoms_of_each}
 use Rattle.label_split.proofs.Truths.{contradicted_signs, settled_signs, literals_follow, literals_know}

@@ -1,7 +1,7 @@
 -- Facts on lists of rows of signs.
-use Rattle.std.proofs.Common.{◌≡◌, ◌⊎◌, inl, inr, Bool, true, false, not, List, [], ◌∷◌, ◌++◌, map, take, length, get_or, All, Contains, ℕ, zero, suc, ◌+◌, ◌<◌, refl, sym, ap, ◌∙◌, subst, append_assoc, arith}
+use Rattle.std.proofs.Common.{◌≡◌, ◌⊎◌, inl, inr, Bool, true, false, not, List, [], ◌∷◌, ◌++◌, map, length, get_or, All, Contains, ℕ, zero, suc, ◌<◌, refl, sym, ap, ◌∙◌, subst, append_assoc, arith}
 use Rattle.std.specs.List.{AllPairs}
-use Rattle.std.proofs.lemmas.List.{length-map, get_or-map}
+use Rattle.std.proofs.lemmas.List.{length-map}
 use Rattle.std.proofs.lemmas.List.Elements.{All-nil, All-cons, All-append, All-map, Contains-append_left, Contains-append_right, Contains-append_cases}
 use Rattle.std.proofs.lemmas.List.Quantifiers.{all_pairs_push}
 use Rattle.std.proofs.lemmas.List.Kept.{AllPairs-cons}
@@ -169,15 +169,15 @@ module _ {V : Type 0} (label_of : V → Label) (has keeps : Label → Type 0) (b
         let others = all_front (λ q. All (λ r. (b : Bool) → ¬ (r.signs.items ≡ q.signs.items ++ b ∷ [])) refined) rest row p.unlike in
         let unlike_row = pairs_last (λ q r. ¬ (q.signs.items ≡ r.signs.items)) rest row p.rest_apart in
         record {
-      rest_sound = (all_front (IsRow label_of keeps before) rest row p.rest_sound).0;
-      rest_apart = pairs_front (λ q r. ¬ (q.signs.items ≡ r.signs.items)) rest row p.rest_apart;
-      sound = All-append (IsRow label_of keeps after) refined added p.sound longer.sound;
-      apart = pairs_append (λ q r. ¬ (q.signs.items ≡ r.signs.items)) refined added p.apart longer.apart
-          (λ i d low. λ j f under. let begun = longer.begin j f under in λ e. others.1 i d low begun.0 (e ∙ begun.1));
-      complete = λ l h. covered l h (p.complete l h);
-      unlike = λ i d low. All-append (λ r. (b : Bool) → ¬ (r.signs.items ≡ (get_or rest i d).signs.items ++ b ∷ [])) refined added (others.0 i d low)
-          (λ j f under b e. let begun = longer.begin j f under in differ_by_last row.signs.items (get_or rest i d).signs.items begun.0 b (λ same. unlike_row i d low (sym same)) (sym begun.1 ∙ e));
-    }
+          rest_sound = (all_front (IsRow label_of keeps before) rest row p.rest_sound).0;
+          rest_apart = pairs_front (λ q r. ¬ (q.signs.items ≡ r.signs.items)) rest row p.rest_apart;
+          sound = All-append (IsRow label_of keeps after) refined added p.sound longer.sound;
+          apart = pairs_append (λ q r. ¬ (q.signs.items ≡ r.signs.items)) refined added p.apart longer.apart
+              (λ i d low. λ j f under. let begun = longer.begin j f under in λ e. others.1 i d low begun.0 (e ∙ begun.1));
+          complete = λ l h. covered l h (p.complete l h);
+          unlike = λ i d low. All-append (λ r. (b : Bool) → ¬ (r.signs.items ≡ (get_or rest i d).signs.items ++ b ∷ [])) refined added (others.0 i d low)
+              (λ j f under b e. let begun = longer.begin j f under in differ_by_last row.signs.items (get_or rest i d).signs.items begun.0 b (λ same. unlike_row i d low (sym same)) (sym begun.1 ∙ e));
+        }
 
   -- one row is taken off the rest, and those that begin with it are added
   pub partly_more : (rows rest : List (SignRow V)) (row : SignRow V) (refined new : List (SignRow V)) → rows ≡ rest ++ row ∷ [] → IsPartly label_of has keeps before after rows refined → Extends label_of has keeps before after row refined new → IsPartly label_of has keeps before after rest new
@@ -190,10 +190,12 @@ module _ {V : Type 0} (label_of : V → Label) (has keeps : Label → Type 0) (s
 
   -- too long a list shows so many labels
   pub more_rows : (rows : List (SignRow V)) (most : ℕ) → SplitsInto label_of has keeps signs rows → most < length rows → HasMoreRows keeps signs most
-  more_rows rows most s long =
-      (labels rows, All-map keeps (λ r. label_of r.value) rows (λ k d l. (s.sound k d l).0),
-       pairs_map (λ l m. ¬ (signs l ≡ signs m)) (λ r. label_of r.value) rows (λ i j d less low e. s.apart i j d less low ((s.sound i d (omega (arith, less, low))).1 ∙ e ∙ sym (s.sound j d low).1)),
-       rw length-map long)
+  more_rows rows most s long = (
+    labels rows,
+    All-map keeps (λ r. label_of r.value) rows (λ k d l. (s.sound k d l).0),
+    pairs_map (λ l m. ¬ (signs l ≡ signs m)) (λ r. label_of r.value) rows (λ i j d less low e. s.apart i j d less low ((s.sound i d (omega (arith, less, low))).1 ∙ e ∙ sym (s.sound j d low).1)),
+    rw length-map long,
+  )
 
 module _ (has keeps : Label → Type 0) (before signs : Label → List Bool) (part : List Bool → List Bool) (is_part : (l : Label) → before l ≡ part (signs l)) where
   apart_by_part : (l m : Label) → ¬ (before l ≡ before m) → ¬ (signs l ≡ signs m)

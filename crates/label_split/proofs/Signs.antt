@@ -1,5 +1,5 @@
 -- Facts on rows of signs.
-use Rattle.std.proofs.Common.{◌≡◌, Bool, true, false, IsTrue, All, replicate, List, [], ◌∷◌, ◌++◌, map, take, length, get_or, ℕ, zero, suc, ◌+◌, ◌-◌, ◌<◌, refl, sym, ap, ap₂, ◌∙◌, arith}
+use Rattle.std.proofs.Common.{◌≡◌, Bool, true, false, IsTrue, All, replicate, List, [], ◌∷◌, ◌++◌, take, length, get_or, ℕ, zero, suc, ◌+◌, ◌-◌, ◌<◌, refl, sym, ap, ap₂, ◌∙◌, arith}
 use Rattle.std.proofs.lemmas.List.{take_more, map-append, take_all}
 use Rattle.std.proofs.lemmas.List.Elements.{All-nil, All-cons}
 use Rattle.model_tree.specs.Label.{Label}

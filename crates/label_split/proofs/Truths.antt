@@ -1,5 +1,5 @@
 -- What is known of a formula is true, and where all its atoms are known, so is it.
-use Rattle.std.proofs.Common.{◌≡◌, Bool, true, false, not, cond, ◌&&◌, ◌||◌, Option, Some, None, IsSome, IsTrue, List, [], ◌∷◌, All, map, length, ℕ, suc, ◌+◌, refl, sym, ap, ap₂, ◌∙◌, subst, arith, ◌⊎◌, inl, inr, get_or, drop, ◌<◌, add-one}
+use Rattle.std.proofs.Common.{◌≡◌, Bool, true, false, not, cond, ◌&&◌, ◌||◌, Option, Some, None, IsSome, IsTrue, List, [], ◌∷◌, All, map, length, ℕ, suc, ◌+◌, refl, sym, ap, ap₂, ◌∙◌, arith, ◌⊎◌, inl, inr, get_or, drop, ◌<◌, add-one}
 use mathlib.Core.Bool.{beq}
 use Rattle.std.proofs.Math.Seq.{drop-cons}
 use Rattle.model_tree.specs.Label.{Label}

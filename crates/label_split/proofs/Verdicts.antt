@@ -1,5 +1,5 @@
 -- How a verdict on one question answers another.
-use Rattle.std.proofs.Common.{◌≡◌, ◌⊎◌, inl, inr, Result, Ok, Err, IfOk}
+use Rattle.std.proofs.Common.{◌⊎◌, inl, inr, Result, Ok, Err, IfOk}
 use Rattle.model_tree.specs.Label.{Label}
 use Rattle.label_core.specs.declared.theory.Verdict.{Verdict}
 use Rattle.label_core.specs.declared.theory.Verdict.TheVariants.{Sat, Unsat, Wide}

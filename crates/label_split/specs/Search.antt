@@ -1,5 +1,5 @@
 -- What a search for a label has to meet, and how far it has come.
-use Rattle.std.specs.Prelude.{◌≡◌, ◌<◌, ℕ, Bool, true, List, [], ◌∷◌, length, get_or, ⊤}
+use Rattle.std.specs.Prelude.{◌≡◌, ℕ, Bool, true, List, [], ◌∷◌, length, get_or, ⊤}
 use Rattle.model_tree.specs.Label.{Label}
 use Rattle.label_core.specs.Atoms.{has_equal}
 use Rattle.label_core.specs.Lit.{SatisfiesAll}

@@ -1,6 +1,5 @@
 -- The rows of signs of formulas.
-use Rattle.std.specs.Prelude.{◌≡◌, ◌<◌, ℕ, Bool, List, map, length, All, Contains}
-use Rattle.std.specs.List.{AllPairs}
+use Rattle.std.specs.Prelude.{Bool, List, map, All}
 use Rattle.model_tree.specs.Label.{Label}
 use Rattle.model_tree.specs.Formula.{formula_holds, EveryAtom, formulas_of}
 use Rattle.label_core.specs.Formula.{plain_formula, atoms_in_all}

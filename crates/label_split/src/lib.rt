@@ -7,8 +7,8 @@
 mod atoms;
 mod conjunction;
 mod known;
-mod search;
 mod rows;
+mod search;
 
 pub use conjunction::find;
 pub use rows::{SignRow, SplitStop, split};

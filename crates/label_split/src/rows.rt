@@ -182,8 +182,8 @@ pub fn split<T: Theory>(
         add_atoms(theory, alloc, &formulas[i], &mut atoms)?;
         rows = refine(theory, alloc, &atoms, &formulas[..i + 1], rows)?;
     }
-    if rows.len() > most as usize {
-        return Err(SplitStop::TooMany);
+    if rows.len() <= most as usize {
+        return Ok(rows);
     }
-    Ok(rows)
+    Err(SplitStop::TooMany)
 }

@@ -1,4 +1,4 @@
-use Rattle.std.proofs.Common.{◌≡◌, ◌-◌, take, length, arith}
+use Rattle.std.proofs.Common.{◌-◌, take, length, arith}
 use Rattle.label_split.specs.Signs.{signs_at}
 use Rattle.label_split.proofs.RowLists.{partly_more, partly_done}
 use Rattle.label_split.proofs.rows.refine.Goals as goal

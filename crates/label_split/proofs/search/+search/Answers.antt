@@ -1,5 +1,4 @@
-use Rattle.std.proofs.Common.{◌≡◌, ◌<◌, ◌++◌, ◌∷◌, [], true, false, length, get_or, length-append, ap, sym, subst, ◌∙◌, arith}
-use Rattle.model_tree.specs.Label.{Label}
+use Rattle.std.proofs.Common.{◌≡◌, ◌<◌, ◌++◌, ◌∷◌, [], true, false, length, get_or, length-append, ap, subst, ◌∙◌, arith}
 use Rattle.label_core.specs.Verdict.{Decides}
 use Rattle.label_core.specs.declared.theory.Verdict.TheVariants.{Wide}
 use Rattle.label_split.specs.Search.{Meets, NextIs}
@@ -33,12 +32,26 @@ search-returns-in-Unsat-2-clause-found g t c =
 pub with_sign-search-requires : goal.with_sign-search-requires
 with_sign-search-requires g t c κs within =
     let pushed = c.in_ok-push.ensures.items in
-    let n : c.len.result ≡ length c.args.literals.now.items = cc (c.len.ensures, c.args.literals.now.ok.0) in
-    (omega (arith, simp length-append at (ap length pushed), c.requires.open),
-     (within.0, (within.1.0, (within.1.1.0, (within.1.1.1,
-     (c.requires.goal,
-      rw pushed (front_push g.T.Atom.PartialEq.eq c.args.atoms.now c.args.literals.now.items (record { atom = c.in_ok-atom.atom; sign = c.args.sign }) c.index-atoms-len.result c.requires.front c.requires.open
-        (subst (λ m. g.T.Atom.PartialEq.eq c.in_ok-atom.atom (get_or c.args.atoms.now m c.index-atoms-len.result) ≡ true) n (subst (λ a. g.T.Atom.PartialEq.eq c.in_ok-atom.atom a ≡ true) c.index-atoms-len.is c.in_ok-atom.ensures)))))))))
+    let n : c.len.result ≡ length c.args.literals.now.items = cc (c.len.ensures, c.args.literals.now.ok.0) in (
+      omega (arith, simp length-append at (ap length pushed), c.requires.open),
+      (
+        within.0,
+        (
+          within.1.0,
+          (
+            within.1.1.0,
+            (
+              within.1.1.1,
+              (
+                c.requires.goal,
+                rw pushed (front_push g.T.Atom.PartialEq.eq c.args.atoms.now c.args.literals.now.items (record { atom = c.in_ok-atom.atom; sign = c.args.sign }) c.index-atoms-len.result c.requires.front c.requires.open
+                    (subst (λ m. g.T.Atom.PartialEq.eq c.in_ok-atom.atom (get_or c.args.atoms.now m c.index-atoms-len.result) ≡ true) n (subst (λ a. g.T.Atom.PartialEq.eq c.in_ok-atom.atom a ≡ true) c.index-atoms-len.is c.in_ok-atom.ensures))),
+              ),
+            ),
+          ),
+        ),
+      ),
+    )
 
 pub with_sign-returns-clause-found : goal.with_sign-returns-clause-found
 with_sign-returns-clause-found g t c =

@@ -1,4 +1,4 @@
-use Rattle.std.proofs.Common.{◌+◌, ◌-◌, ◌*◌, length}
+use Rattle.std.proofs.Common.{◌-◌, ◌*◌, length}
 use Rattle.label_split.proofs.search.+search.Given as goal
 
 abbrev pub decreases-search : goal.decreases-search

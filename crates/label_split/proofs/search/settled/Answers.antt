@@ -1,7 +1,5 @@
 use Rattle.std.proofs.Common.{sym, ◌∙◌, arith}
-use Rattle.model_tree.specs.Label.{Label}
 use Rattle.label_core.specs.Lit.{SatisfiesAll, atoms_of}
-use Rattle.label_split.specs.Known.{literal_sign}
 use Rattle.label_split.specs.Search.{Meets}
 use Rattle.label_split.specs.Signs.{atoms_in_each}
 use Rattle.label_split.proofs.Fronts.{front_length, literals_fit, literals_among, full_knows, contradicted_none, full_meets}
@@ -20,7 +18,7 @@ returns-then-literals-atoms-clause-settled g c =
     (SatisfiesAll g.T.Theory.atom_holds c.args.literals.now) (Meets g.T.Theory.atom_holds c.args.literals.now c.args.formulas.now c.args.signs.now)
     (λ w. g.T.Theory.chain_over c.args.theory.now (atoms_of c.args.literals.now) w × g.T.Theory.chain_passes c.args.theory.now w) (λ w. g.T.Theory.chain_over c.args.theory.now (atoms_in_each c.args.formulas.now) w × g.T.Theory.chain_passes c.args.theory.now w) (g.T.Theory.chain_is_far c.args.theory.now)
     (full_meets g.T.Atom.PartialEq.eq g.T.Theory.atom_holds g.met.T.Theory.equal_atoms c.args.formulas.now c.args.signs.now c.args.literals.now c.requires.goal.lengths (sym c.contradicted.ensures ∙ c.if-contradicted.false)
-        (full_knows g.T.Atom.PartialEq.eq g.met.T.Atom.Eq.laws (g.T.Theory.atom_fits c.args.theory.now) c.args.atoms.now c.args.formulas.now c.args.signs.now c.requires.goal c.args.literals.now c.requires.front (omega arith)))
+    (full_knows g.T.Atom.PartialEq.eq g.met.T.Atom.Eq.laws (g.T.Theory.atom_fits c.args.theory.now) c.args.atoms.now c.args.formulas.now c.args.signs.now c.requires.goal c.args.literals.now c.requires.front (omega arith)))
     (λ l h m. m.0)
     (λ w over. (g.met.T.Theory.chain_grows c.args.theory.now _ _ w (literals_among g.T.Atom.PartialEq.eq g.met.T.Atom.Eq.laws (g.T.Theory.atom_fits c.args.theory.now) c.args.atoms.now c.args.formulas.now c.args.signs.now c.requires.goal c.args.literals.now c.requires.front) over.0, over.1))
     c.in_ok-found.found c.in_ok-found.ensures

@@ -1,0 +1,121 @@
+//! Automata and sign rows at concrete theories: what no clause says, and each call once with ample memory.
+#![tactic(auto)]
+
+ghost use Rattle.std.specs.Prelude.{◌≡◌, ◌<◌, length, IfOk};
+ghost use Rattle.model_tree.specs.Tree.{EveryLabel};
+ghost use Rattle.flat_label.specs.Bools.{IsBools, bools_label};
+ghost use Rattle.label_core.specs.Pair.{OfAtom};
+ghost use Rattle.label_split.specs.Signs.{FormulasFit};
+ghost use Rattle.sta_core.specs.Sta.{AtomsFit};
+
+use fast_fault::Memory;
+use fast_tree::Tree;
+use flat_label::{BoolAtom, Bools, Never};
+use label_core::{Formula, Pair, PairAtom, Theory, Verdict};
+use label_split::{SplitStop, find, split};
+use sta_core::{Sta, StaRule, accepts};
+use std::alloc::Global;
+
+/// Chains of constructor 1 over a leaf of constructor 0 whose field is true.
+fn chains(alloc: Global) -> Result<Sta<BoolAtom>, Memory>
+    ensures states { IfOk result (λ sta. length sta.rules ≡ 1) }
+    ensures fits { IfOk result (AtomsFit (λ a. a.field < 1)) }
+{
+    let mut demand = Vec::new(alloc);
+    demand.push(0)?;
+    let mut demands = Vec::new(alloc);
+    demands.push(demand)?;
+    let mut rules = Vec::new(alloc);
+    rules.push(StaRule {
+        constructor: 0,
+        guard: Formula::Atom(BoolAtom { field: 0 }),
+        demands: Vec::new(alloc),
+    })?;
+    rules.push(StaRule {
+        constructor: 1,
+        guard: Formula::Yes,
+        demands,
+    })?;
+    let mut states = Vec::new(alloc);
+    states.push(rules)?;
+    let mut ranks = Vec::new(alloc);
+    ranks.push(0)?;
+    ranks.push(1)?;
+    Ok(Sta::new(ranks, states))
+}
+
+/// A chain of so many nodes of constructor 1 over a leaf with this field.
+fn chain(alloc: Global, levels: u32, field: bool) -> Result<Tree<Vec<bool>>, Memory>
+    ensures { IfOk result (EveryLabel (λ v. IsBools 1 (bools_label v.items))) }
+{
+    let mut tree = Tree::new(0, vec![in alloc; field; 1]?, Vec::new(alloc));
+    'levels: for _ in 0..levels {
+        let label = vec![in alloc; false; 1]?;
+        let mut children = Vec::new(alloc);
+        children.push(tree)?;
+        tree = Tree::new(1, label, children);
+    }
+    Ok(tree)
+}
+
+/// Whether such a chain is accepted.
+fn accepts_chain(alloc: Global, levels: u32, field: bool) -> Result<bool, Memory> {
+    let theory = Bools::new(1);
+    let sta = chains(alloc)?;
+    let tree = chain(alloc, levels, field)?;
+    Ok(accepts(&theory, &sta, 0, &tree))
+}
+
+/// Two fields as two formulas.
+fn two_fields(alloc: Global) -> Result<Vec<Formula<BoolAtom>>, Memory>
+    ensures { IfOk result (λ formulas. FormulasFit (λ a. a.field < 2) formulas.items) }
+{
+    let mut formulas = Vec::new(alloc);
+    formulas.push(Formula::Atom(BoolAtom { field: 0 }))?;
+    formulas.push(Formula::Atom(BoolAtom { field: 1 }))?;
+    Ok(formulas)
+}
+
+/// How many rows of signs two fields have.
+fn rows_of_two_fields(alloc: Global, most: u32) -> Result<usize, SplitStop<Never>> {
+    let theory = Bools::new(2);
+    let formulas = two_fields(alloc)?;
+    Ok(split(&theory, alloc, &formulas, most)?.len())
+}
+
+/// Whether some label has both fields.
+fn has_both_fields(alloc: Global) -> Result<bool, Memory> {
+    let theory = Bools::new(2);
+    let formulas = two_fields(alloc)?;
+    Ok(match find(&theory, alloc, &formulas)? {
+        Verdict::Sat(_) => true,
+        _ => false,
+    })
+}
+
+/// The left field, and not the right one, as two formulas over pairs.
+fn left_alone(alloc: Global) -> Result<Vec<Formula<PairAtom<BoolAtom, BoolAtom>>>, Memory>
+    ensures { IfOk result (λ formulas. FormulasFit (OfAtom (λ a. a.field < 1) (λ a. a.field < 1)) formulas.items) }
+{
+    let right = Formula::Atom(PairAtom::Right(BoolAtom { field: 0 }));
+    let mut formulas = Vec::new(alloc);
+    formulas.push(Formula::Atom(PairAtom::Left(BoolAtom { field: 0 })))?;
+    formulas.push(Formula::Not(Box::new(alloc, right)?))?;
+    Ok(formulas)
+}
+
+/// Whether some pair has the left field alone.
+fn has_left_alone(alloc: Global) -> Result<bool, Memory> {
+    let theory = Pair::new(Bools::new(1), Bools::new(1));
+    let formulas = left_alone(alloc)?;
+    Ok(match find(&theory, alloc, &formulas)? {
+        Verdict::Sat(value) => {
+            let copy = theory.copy_value(alloc, &value)?;
+            copy == value && value.left[..] == [true] && value.right[..] == [false]
+        }
+        _ => false,
+    })
+}
+
+#[cfg(test)]
+mod tests;

@@ -1,0 +1,40 @@
+//! Tests.
+
+use super::*;
+use std::test::Fail;
+
+#[test]
+fn chains_are_accepted_by_their_leaf(rt: HostRuntime) -> Result<(), Fail> {
+    let alloc = rt.alloc();
+    assert!(rt; accepts_chain(alloc, 0, true).ok().ok_or("memory")?);
+    assert!(rt; !accepts_chain(alloc, 0, false).ok().ok_or("memory")?);
+    assert!(rt; accepts_chain(alloc, 3, true).ok().ok_or("memory")?);
+    assert!(rt; !accepts_chain(alloc, 3, false).ok().ok_or("memory")?);
+    Ok(())
+}
+
+#[test]
+fn a_deep_tree_is_accepted(rt: HostRuntime) -> Result<(), Fail> {
+    assert!(rt; accepts_chain(rt.alloc(), 2000, true).ok().ok_or("memory")?);
+    Ok(())
+}
+
+#[test]
+fn two_fields_have_four_rows(rt: HostRuntime) -> Result<(), Fail> {
+    let alloc = rt.alloc();
+    assert!(rt; matches!(rows_of_two_fields(alloc, 4), Ok(4)));
+    assert!(rt; matches!(rows_of_two_fields(alloc, 3), Err(SplitStop::TooMany)));
+    Ok(())
+}
+
+#[test]
+fn two_fields_are_satisfiable(rt: HostRuntime) -> Result<(), Fail> {
+    assert!(rt; has_both_fields(rt.alloc()).ok().ok_or("memory")?);
+    Ok(())
+}
+
+#[test]
+fn a_pair_has_the_left_field_alone(rt: HostRuntime) -> Result<(), Fail> {
+    assert!(rt; has_left_alone(rt.alloc()).ok().ok_or("memory")?);
+    Ok(())
+}
