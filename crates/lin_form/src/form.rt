@@ -30,9 +30,9 @@ pub struct RemTerm {
 #[cycle(form)]
 #[derive(Drop)]
 pub struct Form {
-    constant: i128,
-    fields: Vec<FieldTerm>,
-    remainders: Vec<RemTerm>,
+    pub(crate) constant: i128,
+    pub(crate) fields: Vec<FieldTerm>,
+    pub(crate) remainders: Vec<RemTerm>,
 }
 
 impl Model for Form {
@@ -110,5 +110,26 @@ impl Form {
         ensures form { IsForm self.now }
     {
         &self.remainders
+    }
+
+    /// An equal form, with the terms in the same order.
+    pub fn copy(&self, alloc: Global) -> Result<Form, Memory>
+        ensures { IfOk result (λ copy. copy ≡ self.now) }
+    {
+        let fields = Vec::from_slice(alloc, &self.fields)?;
+        let mut remainders = Vec::new(alloc);
+        for term in &self.remainders {
+            let inner = term.inner.copy(alloc)?;
+            remainders.push(RemTerm {
+                coefficient: term.coefficient,
+                inner,
+                divisor: term.divisor,
+            })?;
+        }
+        Ok(Form {
+            constant: self.constant,
+            fields,
+            remainders,
+        })
     }
 }

@@ -2,5 +2,6 @@
 #![tactic(auto)]
 
 mod form;
+mod same;
 
 pub use form::{FieldTerm, Form, RemTerm};

@@ -1,18 +1,18 @@
 -- Equal forms have the same value at all values of the fields, and equality is found term by term.
-use Rattle.std.proofs.Common.{◌≡◌, ℕ, suc, inl, inr, List, [], ◌∷◌, length, Bool, true, false, cond, ◌&&◌, refl, ap, sym, ◌∙◌, arith, eq-eqb}
+use Rattle.std.proofs.Common.{◌≡◌, subst, ℕ, suc, inl, inr, List, [], ◌∷◌, length, Bool, true, false, cond, ◌&&◌, refl, ap, sym, ◌∙◌, arith, eq-eqb}
 use Rattle.std.proofs.Math.IntN.{ℤ, ◌+ℤ◌, ◌*ℤ◌}
 use Rattle.std.specs.declared.cmp.Ordering.{Ordering}
 use Rattle.std.specs.declared.cmp.Ordering.TheVariants.{Less, Equal, Greater}
 use Rattle.std.specs.Ordering.{int_cmp, is_gt, is_eq}
 use Rattle.std.specs.Cmp.Lexicographic.{slice_cmp}
 use Rattle.std.proofs.lemmas.Int.{ints}
-use Rattle.model_form.specs.Form.{Form, form, Remainders, no_remainders, remainder, Term, count, value, remainders_value, terms_value, modulo}
-use Rattle.model_form.specs.Same.{Item, remainders, written, ordered, ordered_all, item_cmp, put, same_form}
+use Rattle.model_form.specs.Form.{Form, form, constant_of, fields_of, remainders_of, Remainders, no_remainders, remainder, Term, count, value, remainders_value, terms_value, modulo}
+use Rattle.model_form.specs.Same.{IsIn, members, items, Item, remainders, written, ordered, ordered_all, item_cmp, put, same_form}
 use Rattle.model_form.specs.Sums.{is_like}
 use Rattle.model_form.specs.Ranges.{IsApart, AreApart}
 use Rattle.model_form.proofs.Written.{written_once, tied, tied_lists, items_ordered, item_once}
 use Rattle.model_form.proofs.Orders.{put_both}
-use Rattle.model_form.proofs.Sorted.{IsIn, AreIn, AreOnce, sorted, sorted_once, sorted_in, all_in_own, length-sorted}
+use Rattle.model_form.proofs.Sorted.{AreIn, AreOnce, sorted, sorted_once, sorted_in, all_in_own, length-sorted}
 
 -- ---- equality, and equality once the remainders are in order
 
@@ -57,10 +57,6 @@ same_value f g values e = sym (value-ordered f values) ∙ ap (λ h. value h val
 
 -- ---- equality term by term
 
-abbrev pub members : Remainders → List Item
-members no_remainders = []
-members (remainder a f k rs) = record { coefficient = a; inner = ordered f; divisor = k } ∷ members rs
-
 pub ordered_members : (rs : Remainders) → ordered_all rs ≡ sorted item_cmp (members rs)
 ordered_members no_remainders = refl
 ordered_members (remainder a f k rs) = ap (put item_cmp (record { coefficient = a; inner = ordered f; divisor = k })) (ordered_members rs)
@@ -100,3 +96,38 @@ same_remainders_out rs qs e =
 pub exchanged : (c : ℤ) (ts : List Term) (a b : ℤ) (f g : Form) (k m : ℕ) (rs : Remainders) → same_form (form c ts (remainder a f k (remainder b g m rs))) (form c ts (remainder b g m (remainder a f k rs))) ≡ true
 exchanged c ts a b f g k m rs =
     same_in (form c ts (remainder a f k (remainder b g m rs))) (form c ts (remainder b g m (remainder a f k rs))) (ap (λ xs. form c ts (remainders xs)) (put_both item_cmp items_ordered item_once (record { coefficient = a; inner = ordered f; divisor = k }) (record { coefficient = b; inner = ordered g; divisor = m }) (ordered_all rs)))
+
+-- ---- what tells two forms apart
+
+items-remainders : (xs : List Item) → items (remainders xs) ≡ xs
+items-remainders [] = refl
+items-remainders (x ∷ xs) = ap (λ ys. x ∷ ys) (items-remainders xs)
+
+same_parts : (c d : ℤ) (ts us : List Term) (rs qs : Remainders) → same_form (form c ts rs) (form d us qs) ≡ true → (c ≡ d) × (ts ≡ us) × (ordered_all rs ≡ ordered_all qs)
+same_parts c d ts us rs qs e =
+    let o = same_out (form c ts rs) (form d us qs) e in
+    (ap constant_of o, ap fields_of o, sym (items-remainders (ordered_all rs)) ∙ ap (λ f. items (remainders_of f)) o ∙ items-remainders (ordered_all qs))
+
+not_same : (f g : Form) → (same_form f g ≡ true → ⊥) → false ≡ same_form f g
+not_same f g n = by (same_form f g) refl
+  where
+    by : (b : Bool) → same_form f g ≡ b → false ≡ same_form f g
+    by false e = sym e
+    by true e = absurd (n e)
+
+pub differ_in_fields : (c d : ℤ) (ts us : List Term) (rs qs : Remainders) → (ts ≡ us → ⊥) → false ≡ same_form (form c ts rs) (form d us qs)
+differ_in_fields c d ts us rs qs n = not_same (form c ts rs) (form d us qs) (λ e. n (same_parts c d ts us rs qs e).1)
+
+pub differ_in_count : (c d : ℤ) (ts us : List Term) (rs qs : Remainders) → (count rs ≡ count qs → ⊥) → false ≡ same_form (form c ts rs) (form d us qs)
+differ_in_count c d ts us rs qs n = not_same (form c ts rs) (form d us qs) (λ e. n (same_remainders_out rs qs (same_parts c d ts us rs qs e).2).0)
+
+pub differ_in_member : (c d : ℤ) (ts us : List Term) (rs qs : Remainders) (x : Item) → IsIn x (members rs) → (IsIn x (members qs) → ⊥) → false ≡ same_form (form c ts rs) (form d us qs)
+differ_in_member c d ts us rs qs x i n = not_same (form c ts rs) (form d us qs) (λ e. n (at (members rs) i (same_remainders_out rs qs (same_parts c d ts us rs qs e).2).1))
+  where
+    at : (xs : List Item) → IsIn x xs → AreIn xs (members qs) → IsIn x (members qs)
+    at [] i h = absurd i
+    at (y ∷ ys) (inl e) h = subst (λ z. IsIn z (members qs)) (sym e) h.0
+    at (y ∷ ys) (inr j) h = at ys j h.1
+
+pub same_by_parts : (c d : ℤ) (ts us : List Term) (rs qs : Remainders) → c ≡ d → ts ≡ us → AreApart rs → count rs ≡ count qs → AreIn (members rs) (members qs) → true ≡ same_form (form c ts rs) (form d us qs)
+same_by_parts c d ts us rs qs e p h l i = sym (same_in (form c ts rs) (form d us qs) (λ j. form (e j) (p j) (remainders (same_remainders_in rs qs h l i j))))

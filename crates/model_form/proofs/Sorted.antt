@@ -4,14 +4,10 @@ use Rattle.std.specs.declared.cmp.Ordering.{Ordering}
 use Rattle.std.specs.declared.cmp.Ordering.TheVariants.{Equal}
 use Rattle.std.specs.Ordering.{is_gt}
 use Rattle.std.specs.Cmp.{IsTotalOrder}
-use Rattle.model_form.specs.Same.{put}
+use Rattle.model_form.specs.Same.{IsIn, put}
 use Rattle.model_form.proofs.Orders.{put_both}
 
 module _ {A : Type 0} where
-  abbrev pub IsIn : A → List A → Type 0
-  IsIn x [] = ⊥
-  IsIn x (y ∷ ys) = (x ≡ y) ⊎ IsIn x ys
-
   -- each of the one is in the other
   abbrev pub AreIn : List A → List A → Type 0
   AreIn [] ys = Unit {0}

@@ -1,5 +1,5 @@
 -- Two forms are equal where they have the same terms in any order and the same constant.
-use Rattle.std.specs.Prelude.{ℕ, ℤ, pos, Bool, List, [], ◌∷◌, ◌++◌, length, cond}
+use Rattle.std.specs.Prelude.{◌≡◌, ◌⊎◌, ℕ, ℤ, pos, Bool, List, [], ◌∷◌, ◌++◌, length, cond}
 use Rattle.std.specs.declared.cmp.Ordering.{Ordering}
 use Rattle.std.specs.Ordering.{int_cmp, is_gt, eq_by_cmp, on}
 use Rattle.std.specs.Cmp.Lexicographic.{slice_cmp}
@@ -59,3 +59,15 @@ form_cmp = on (λ f. written (ordered f)) (slice_cmp int_cmp)
 -- the same once their remainders are in order
 abbrev pub same_form : Form → Form → Bool
 same_form = eq_by_cmp form_cmp
+
+-- ---- the same, term by term
+
+module _ {A : Type 0} where
+  abbrev pub IsIn : A → List A → Type 0
+  IsIn x [] = ⊥
+  IsIn x (y ∷ ys) = (x ≡ y) ⊎ IsIn x ys
+
+-- the terms, each with its inner form in order
+abbrev pub members : Remainders → List Item
+members no_remainders = []
+members (remainder a f k rs) = record { coefficient = a; inner = ordered f; divisor = k } ∷ members rs
