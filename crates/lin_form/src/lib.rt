@@ -3,5 +3,6 @@
 
 mod form;
 mod same;
+mod value;
 
 pub use form::{FieldTerm, Form, RemTerm};
