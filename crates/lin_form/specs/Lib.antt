@@ -1,3 +1,5 @@
 pub mod Terms
 pub mod Falls
 pub mod Laws
+pub mod Stops
+pub mod Gathered

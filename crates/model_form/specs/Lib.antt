@@ -4,3 +4,4 @@ pub mod Same
 pub mod Sums
 pub mod Ranges
 pub mod Meaning
+pub mod Gathered
