@@ -1,2 +1,4 @@
 pub mod Members
 pub mod Evaluating
+pub mod Joined
+pub mod Kept

@@ -3,7 +3,7 @@
 ghost use Rattle.std.specs.Prelude.{◌≡◌, ℕ, ℤ, pos, ◌+◌, ◌<◌, ◌≤◌, ◌^◌, ◌*◌, ◌+ℤ◌, ◌*ℤ◌, MatchResult, MatchOption, OnOk, unsigned_abs, FitsSigned, length, false, true, slice_index_or};
 ghost use Rattle.std.specs.Int.{w128};
 ghost use Rattle.model_form.specs.Form.{constant_of};
-ghost use Rattle.model_form.specs.Sums.{add_fields, add_like, add_remainders, add_form, is_like, fields_from, without_zeros, form_of, sum_form, started};
+ghost use Rattle.model_form.specs.Sums.{add_fields, add_like, add_remainders, add_form, is_like, fields_from, without_zeros, form_of, sum_form, started, sign};
 ghost use Rattle.model_form.specs.Ranges.{IsConstant, IsCoefficient, IsForm, IsOutside, IsOfFields, IsOfRemainders, AreFields, AreRemainders, AreApart};
 ghost use Rattle.model_form.specs.Gathered.{AreTotals, AreLikes, IsGathered, LikesBefore, IsWithin};
 ghost use Rattle.lin_form.specs.Terms.{plain_fields, plain_remainders};
@@ -47,7 +47,7 @@ impl Form {
     {
         let mut sum = Sum::of(alloc, 0);
         for part in parts {
-            sum.add(alloc, if part.minus { -1 } else { 1 }, &part.form)?;
+            sum.add(alloc, sign_of(part.minus), &part.form)?;
         }
         sum.finish(alloc)
     }
@@ -91,6 +91,21 @@ impl Sum {
     }
 }
 
+fn sign_of(minus: bool) -> i128
+    ensures { result ≡ sign minus }
+{
+    if minus { -1 } else { 1 }
+}
+
+fn product(by: i128, coefficient: i64) -> i128
+    requires by { unsigned_abs by ≤ 2 ^ 31 }
+    requires coefficient { IsCoefficient coefficient }
+    ensures value { result ≡ by *ℤ coefficient }
+    ensures small { IsWithin 1 result }
+{
+    by * coefficient as i128
+}
+
 fn add_fields(totals: &mut [i128], by: i128, terms: &[FieldTerm])
     requires by { unsigned_abs by ≤ 2 ^ 31 }
     requires terms { AreFields 0 (plain_fields terms.now) }
@@ -99,7 +114,8 @@ fn add_fields(totals: &mut [i128], by: i128, terms: &[FieldTerm])
     ensures { totals.new ≡ add_fields by (plain_fields terms.now) totals.old }
 {
     for term in terms {
-        totals[term.field as usize] += by * term.coefficient as i128;
+        let place = term.field as usize;
+        totals[place] += product(by, term.coefficient);
     }
 }
 
@@ -111,7 +127,8 @@ fn add_remainders(alloc: Global, likes: &mut Vec<Like>, by: i128, terms: &[RemTe
     ensures { OnOk result (plain_likes likes.new.items ≡ add_remainders by (plain_remainders terms.now) (plain_likes likes.old.items)) }
 {
     for term in terms {
-        add_like(alloc, likes, by * term.coefficient as i128, &term.inner, term.divisor)?;
+        let coefficient = product(by, term.coefficient);
+        add_like(alloc, likes, coefficient, &term.inner, term.divisor)?;
     }
     Ok(())
 }
@@ -152,12 +169,13 @@ fn kept_fields(alloc: Global, totals: &[i128]) -> Result<Vec<FieldTerm>, FormSto
 {
     let mut kept = Vec::new(alloc);
     for (i, total) in totals.iter().enumerate() {
-        if *total != 0 {
-            kept.push(FieldTerm {
-                field: i as u32,
-                coefficient: coefficient(*total)?,
-            })?;
+        if *total == 0 {
+            continue;
         }
+        kept.push(FieldTerm {
+            field: i as u32,
+            coefficient: coefficient(*total)?,
+        })?;
     }
     Ok(kept)
 }
@@ -168,13 +186,14 @@ fn kept_remainders(alloc: Global, likes: Vec<Like>) -> Result<Vec<RemTerm>, Form
 {
     let mut kept = Vec::new(alloc);
     for like in likes {
-        if like.coefficient != 0 {
-            kept.push(RemTerm {
-                coefficient: coefficient(like.coefficient)?,
-                inner: like.inner,
-                divisor: like.divisor,
-            })?;
+        if like.coefficient == 0 {
+            continue;
         }
+        kept.push(RemTerm {
+            coefficient: coefficient(like.coefficient)?,
+            inner: like.inner,
+            divisor: like.divisor,
+        })?;
     }
     Ok(kept)
 }
