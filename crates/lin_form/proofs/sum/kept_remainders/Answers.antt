@@ -48,7 +48,12 @@ loop-like-preserved c =
 pub returns : goal.returns
 returns c =
     let steps = (c.in-None.ensures {u = tt}).steps.0 in
-    let none : into_iter_items c.loop-like.like-iterator ≡ [] = grind arith in
+    let l : length (into_iter_items c.loop-like.like-iterator) ≡ 0 = omega arith in
+    let none = nothing (into_iter_items c.loop-like.like-iterator) l in
     let e : plain_remainders c.loop-like.kept.items ≡ without_zeros (plain_likes c.args.likes.items) =
       sym (joined-none (plain_remainders c.loop-like.kept.items)) ∙ ap (λ xs. joined (plain_remainders c.loop-like.kept.items) (without_zeros (plain_likes xs))) (sym none) ∙ c.loop-like.invariant.value in
     (e, subst AreRemainders (sym e) (without_zeros_are c.requires.0 (plain_likes c.args.likes.items) c.requires.1 (λ n i. c.loop-like.invariant.range n (subst (IsOfRemainders n) (sym e) i))))
+  where
+    nothing : {A : Type 0} (xs : List A) → length xs ≡ 0 → xs ≡ []
+    nothing [] e = refl
+    nothing (x ∷ xs) e = absurd (omega arith)
