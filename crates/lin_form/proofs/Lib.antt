@@ -2,3 +2,5 @@ pub mod Members
 pub mod Evaluating
 pub mod Joined
 pub mod Kept
+pub mod Likes
+pub mod Outside
