@@ -66,9 +66,10 @@ impl Sum {
 
     pub(crate) fn add(&mut self, alloc: Global, by: i128, form: &Form) -> Result<(), Memory>
         requires by { unsigned_abs by ≤ 2 ^ 31 }
-        requires constant { FitsSigned w128 (self.old.constant +ℤ (by *ℤ constant_of form.now)) }
+        requires constant { unsigned_abs self.old.constant ≤ 2 ^ 126 }
         requires gathered { (m : ℕ) × (m ≤ 2 ^ 64 + 16) × IsGathered m (plain_sum self.old) }
-        ensures { OnOk result (plain_sum self.new ≡ add_form by form.now (plain_sum self.old)) }
+        ensures sum { OnOk result (plain_sum self.new ≡ add_form by form.now (plain_sum self.old)) }
+        ensures form { IsForm form.now }
     {
         self.constant += by * form.constant;
         add_fields(&mut self.totals, by, &form.fields);

@@ -9,5 +9,5 @@ abbrev pub invariant-loop-part : goal.invariant-loop-part
 invariant-loop-part l = record {
   value : add_parts (plain_parts (drop l.part-index l.parts)) (plain_sum l.sum) ≡ add_parts (plain_parts l.parts) (started (pos 0));
   gathered : IsGathered l.part-index (plain_sum l.sum);
-  constant : unsigned_abs l.sum.constant ≤ l.part-index * 2 ^ 63;
+  constant : unsigned_abs l.sum.constant ≤ l.part-index * 2 ^ 94;
 }
