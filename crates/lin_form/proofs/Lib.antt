@@ -4,3 +4,4 @@ pub mod Joined
 pub mod Kept
 pub mod Likes
 pub mod Outside
+pub mod Putting

@@ -8,7 +8,10 @@ mod form;
 mod product;
 mod same;
 mod stop;
+mod subst;
 mod sum;
+#[cfg(test)]
+mod tests;
 mod value;
 
 pub use form::{FieldTerm, Form, RemTerm};

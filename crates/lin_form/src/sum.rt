@@ -120,7 +120,12 @@ fn add_fields(totals: &mut [i128], by: i128, terms: &[FieldTerm])
     }
 }
 
-fn add_remainders(alloc: Global, likes: &mut Vec<Like>, by: i128, terms: &[RemTerm]) -> Result<(), Memory>
+fn add_remainders(
+    alloc: Global,
+    likes: &mut Vec<Like>,
+    by: i128,
+    terms: &[RemTerm],
+) -> Result<(), Memory>
     requires by { unsigned_abs by ≤ 2 ^ 31 }
     requires terms { AreRemainders (plain_remainders terms.now) }
     requires apart { AreApart (plain_remainders terms.now) }
@@ -146,7 +151,13 @@ fn place_of_like(likes: &[Like], inner: &Form, divisor: u32) -> Option<usize>
     None
 }
 
-fn add_like(alloc: Global, likes: &mut Vec<Like>, coefficient: i128, inner: &Form, divisor: u32) -> Result<(), Memory>
+fn add_like(
+    alloc: Global,
+    likes: &mut Vec<Like>,
+    coefficient: i128,
+    inner: &Form,
+    divisor: u32,
+) -> Result<(), Memory>
     requires coefficient { IsWithin 1 coefficient }
     requires small { (m : ℕ) × (m ≤ 2 ^ 64 + 17) × AreLikes m (plain_likes likes.old.items) }
     ensures { OnOk result (plain_likes likes.new.items ≡ add_like coefficient inner.now divisor (plain_likes likes.old.items)) }

@@ -59,14 +59,14 @@ same::has-returns-then-is_same t c =
 pub same::has-loop-other-preserved : goal.same::has-loop-other-preserved
 same::has-loop-other-preserved t c =
     let here : member c.args.term.now ≡ member c.other-item.result → ⊥ = λ e.
-      let first : c.args.term.now.coefficient ≡ c.other-item.result.coefficient = ap (λ x. x.coefficient) e in
-      let second : c.args.term.now.divisor ≡ c.other-item.result.divisor = ap (λ x. x.divisor) e in
-      let third : ordered c.args.term.now.inner ≡ ordered c.other-item.result.inner = ap (λ x. x.inner) e in
-      elim c.else-term-other.branch [
-        | same::has-else-term-other-via-then-term-other+then-term-other-2+else-is_same w ↦ (let s = same_in c.args.term.now.inner c.other-item.result.inner third in let z : false ≡ true = sym w.if-is_same.false ∙ w.is_same.ensures ∙ s in cc)
-        | same::has-else-term-other-via-then-term-other+else-term-other-2 w ↦ w.if-term-other-2.false second
-        | same::has-else-term-other-via-else-term-other w ↦ absurd (omega (arith, ints))
-      ] in
+    let first : c.args.term.now.coefficient ≡ c.other-item.result.coefficient = ap (λ x. x.coefficient) e in
+    let second : c.args.term.now.divisor ≡ c.other-item.result.divisor = ap (λ x. x.divisor) e in
+    let third : ordered c.args.term.now.inner ≡ ordered c.other-item.result.inner = ap (λ x. x.inner) e in
+    elim c.else-term-other.branch [
+      | same::has-else-term-other-via-then-term-other+then-term-other-2+else-is_same w ↦ (let s = same_in c.args.term.now.inner c.other-item.result.inner third in let z : false ≡ true = sym w.if-is_same.false ∙ w.is_same.ensures ∙ s in cc)
+      | same::has-else-term-other-via-then-term-other+else-term-other-2 w ↦ w.if-term-other-2.false second
+      | same::has-else-term-other-via-else-term-other w ↦ absurd (omega (arith, ints))
+    ] in
     λ k d h. below_more (λ k. (d : RemTerm) → member c.args.term.now ≡ member (get_or c.args.terms.now k d) → ⊥) c.loop-other.other-index
     (λ k h d. c.loop-other.invariant k d h)
     (λ d e. here (e ∙ sym (ap member (c.other-item.is ∙ get_or-any c.args.terms.now c.loop-other.other-index c.other-item.result d c.loop-other-test.true)))) k h d

@@ -40,8 +40,8 @@ loop-term-preserved c =
     let before = subst (λ by. plain_fields c.loop-term.made.items ++ scaled_fields by (plain_fields (drop c.loop-term.term-index c.args.terms.now)) ≡ scaled_fields by (plain_fields c.args.terms.now)) back c.loop-term.invariant.value in
     record {
       value = subst (λ by. plain_fields c.push.new.self.items ++ scaled_fields by (plain_fields (drop (c.loop-term.term-index + 1) c.args.terms.now)) ≡ scaled_fields by (plain_fields c.args.terms.now)) (sym back)
-        (ap (λ ts. plain_fields ts ++ scaled_fields c.args.by (plain_fields (drop (c.loop-term.term-index + 1) c.args.terms.now))) items
-        ∙ scaled_push c.loop-term.made.items t (scaled_fields c.args.by (plain_fields c.args.terms.now)) c.args.by c.args.terms.now c.loop-term.term-index d c.loop-term-test.true refl (held_number (c.args.by *ℤ it.coefficient) c.in_ok-coefficient.field-0 held r) before);
+          (ap (λ ts. plain_fields ts ++ scaled_fields c.args.by (plain_fields (drop (c.loop-term.term-index + 1) c.args.terms.now))) items
+          ∙ scaled_push c.loop-term.made.items t (scaled_fields c.args.by (plain_fields c.args.terms.now)) c.args.by c.args.terms.now c.loop-term.term-index d c.loop-term-test.true refl (held_number (c.args.by *ℤ it.coefficient) c.in_ok-coefficient.field-0 held r) before);
       range = subst (λ ts. (n : ℤ) → IsOfFields n (plain_fields ts) → IsCoefficient n) (sym items) (fields_range_push c.loop-term.made.items t c.loop-term.invariant.range (held_range (c.args.by *ℤ it.coefficient) c.in_ok-coefficient.field-0 held r));
     }
 
@@ -52,5 +52,5 @@ returns c =
     let before = subst (λ by. plain_fields c.loop-term.made.items ++ scaled_fields by (plain_fields (drop c.loop-term.term-index c.args.terms.now)) ≡ scaled_fields by (plain_fields c.args.terms.now)) back c.loop-term.invariant.value in
     let past = drop_all c.loop-term.term-index c.args.terms.now c.loop-term-test.false in
     let e : plain_fields c.loop-term.made.items ≡ whole =
-      sym (append-nil (plain_fields c.loop-term.made.items)) ∙ ap (λ ts. plain_fields c.loop-term.made.items ++ scaled_fields c.args.by (plain_fields ts)) (sym past) ∙ before in
+    sym (append-nil (plain_fields c.loop-term.made.items)) ∙ ap (λ ts. plain_fields c.loop-term.made.items ++ scaled_fields c.args.by (plain_fields ts)) (sym past) ∙ before in
     (e, subst (AreFields 0) (sym e) (scaled_fields_are c.args.by 0 (plain_fields c.args.terms.now) c.requires.some c.requires.terms (λ n i. c.loop-term.invariant.range n (subst (IsOfFields n) (sym e) i))))

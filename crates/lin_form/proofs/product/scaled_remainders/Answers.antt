@@ -45,8 +45,8 @@ loop-term-preserved c =
     let before = subst (λ by. joined (plain_remainders c.loop-term.made.items) (scaled_remainders by (plain_remainders (drop c.loop-term.term-index c.args.terms.now))) ≡ scaled_remainders by (plain_remainders c.args.terms.now)) back c.loop-term.invariant.value in
     record {
       value = subst (λ by. joined (plain_remainders c.push.new.self.items) (scaled_remainders by (plain_remainders (drop (c.loop-term.term-index + 1) c.args.terms.now))) ≡ scaled_remainders by (plain_remainders c.args.terms.now)) (sym back)
-        (ap (λ ts. joined (plain_remainders ts) (scaled_remainders c.args.by (plain_remainders (drop (c.loop-term.term-index + 1) c.args.terms.now)))) items
-        ∙ scaled_rem_push c.loop-term.made.items t (scaled_remainders c.args.by (plain_remainders c.args.terms.now)) c.args.by c.args.terms.now c.loop-term.term-index d c.loop-term-test.true (held_number (c.args.by *ℤ it.coefficient) c.in_ok-coefficient.coefficient held r) inner (ap (λ (x : RemTerm). x.divisor) c.term-item.is) before);
+          (ap (λ ts. joined (plain_remainders ts) (scaled_remainders c.args.by (plain_remainders (drop (c.loop-term.term-index + 1) c.args.terms.now)))) items
+          ∙ scaled_rem_push c.loop-term.made.items t (scaled_remainders c.args.by (plain_remainders c.args.terms.now)) c.args.by c.args.terms.now c.loop-term.term-index d c.loop-term-test.true (held_number (c.args.by *ℤ it.coefficient) c.in_ok-coefficient.coefficient held r) inner (ap (λ (x : RemTerm). x.divisor) c.term-item.is) before);
       range = subst (λ ts. (n : ℤ) → IsOfRemainders n (plain_remainders ts) → IsCoefficient n) (sym items) (remainders_range_push c.loop-term.made.items t c.loop-term.invariant.range (held_range (c.args.by *ℤ it.coefficient) c.in_ok-coefficient.coefficient held r));
     }
 
@@ -57,5 +57,5 @@ returns c =
     let before = subst (λ by. joined (plain_remainders c.loop-term.made.items) (scaled_remainders by (plain_remainders (drop c.loop-term.term-index c.args.terms.now))) ≡ scaled_remainders by (plain_remainders c.args.terms.now)) back c.loop-term.invariant.value in
     let past = drop_all c.loop-term.term-index c.args.terms.now c.loop-term-test.false in
     let e : plain_remainders c.loop-term.made.items ≡ whole =
-      sym (joined-none (plain_remainders c.loop-term.made.items)) ∙ ap (λ ts. joined (plain_remainders c.loop-term.made.items) (scaled_remainders c.args.by (plain_remainders ts))) (sym past) ∙ before in
+    sym (joined-none (plain_remainders c.loop-term.made.items)) ∙ ap (λ ts. joined (plain_remainders c.loop-term.made.items) (scaled_remainders c.args.by (plain_remainders ts))) (sym past) ∙ before in
     (e, subst AreRemainders (sym e) (scaled_remainders_are c.args.by (plain_remainders c.args.terms.now) c.requires.some c.requires.terms (λ n i. c.loop-term.invariant.range n (subst (IsOfRemainders n) (sym e) i))))

@@ -54,7 +54,7 @@ loop-term-preserved c =
     let e : suc (0 + t.field) ≡ suc t.field = omega arith in
     record {
       value = ap (λ z. add_fields (to_z w128 (of_z w128 c.args.by)) (plain_fields (drop (c.loop-term.term-index + 1) c.args.terms.now)) (set totals t.field z)) is
-        ∙ sym (ap (λ us. add_fields (to_z w128 (of_z w128 c.args.by)) us totals) here) ∙ c.loop-term.invariant.value;
+          ∙ sym (ap (λ us. add_fields (to_z w128 (of_z w128 c.args.by)) us totals) here) ∙ c.loop-term.invariant.value;
       eight = length-set totals t.field new ∙ eight;
       small = (s.0, suc t.field, m, next.4, subst (λ k. TotalsBefore s.0 k 0 (set totals t.field new)) e (totals_step s.0 s.1 0 t.field totals new s.4 (omega arith) within));
     }

@@ -45,10 +45,10 @@ loop-term-preserved c =
     let r : IsCoefficient t.coefficient = subst IsCoefficient (sym (ap (λ (x : RemTerm). x.coefficient) same)) h.0 in
     let fp : FitsSigned w128 c.product-coefficient.result = search rules in
     let product : to_z w128 (of_z w128 c.product-coefficient.result) ≡ by *ℤ it.coefficient =
-      to_z-of_z w128 c.product-coefficient.result fp ∙ c.product-coefficient.ensures.value ∙ ap (λ z. by *ℤ z) (held_64 t.coefficient r ∙ ap (λ (x : RemTerm). x.coefficient) same) in
+    to_z-of_z w128 c.product-coefficient.result fp ∙ c.product-coefficient.ensures.value ∙ ap (λ z. by *ℤ z) (held_64 t.coefficient r ∙ ap (λ (x : RemTerm). x.coefficient) same) in
     let done = c.in_ok-add_like.ensures {u = tt} in
     let added : plain_likes c.add_like.new.likes.items ≡ add_like (by *ℤ it.coefficient) it.inner it.divisor (plain_likes c.loop-term.likes.items) =
-      done ∙ (λ i. add_like (product i) (same i).inner (same i).divisor (plain_likes c.loop-term.likes.items)) in
+    done ∙ (λ i. add_like (product i) (same i).inner (same i).divisor (plain_likes c.loop-term.likes.items)) in
     let here = remainders_drop c.args.terms.now c.loop-term.term-index t l in
     let s = c.loop-term.invariant.small in
     let before = subst (λ rs. LikesBefore s.0 rs (plain_likes c.loop-term.likes.items)) here s.2 in
@@ -57,7 +57,7 @@ loop-term-preserved c =
     let next = like_step s.0 (by *ℤ it.coefficient) it.inner it.divisor it.coefficient (plain_remainders (drop (c.loop-term.term-index + 1) c.args.terms.now)) (plain_likes c.loop-term.likes.items) within h.1 h.2 apart.0 before in
     record {
       value = ap (add_remainders by (plain_remainders (drop (c.loop-term.term-index + 1) c.args.terms.now))) added
-        ∙ sym (ap (λ rs. add_remainders by rs (plain_likes c.loop-term.likes.items)) here) ∙ c.loop-term.invariant.value;
+          ∙ sym (ap (λ rs. add_remainders by rs (plain_likes c.loop-term.likes.items)) here) ∙ c.loop-term.invariant.value;
       small = (s.0, s.1, subst (LikesBefore s.0 (plain_remainders (drop (c.loop-term.term-index + 1) c.args.terms.now))) (sym added) next);
     }
 

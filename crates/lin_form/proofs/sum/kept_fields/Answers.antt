@@ -47,7 +47,7 @@ loop-i-preserved c =
     let t : FieldTerm = record { field = c.loop-i.i; coefficient = to_z w64 (of_z w64 c.in_ok-coefficient.field-0) } in
     record {
       value = ap (λ ts. plain_fields ts ++ fields_from (c.loop-i.i + 1) (drop (c.loop-i.i + 1) c.args.totals.now)) items
-        ∙ kept_push c.loop-i.kept.items t (fields_from 0 c.args.totals.now) c.args.totals.now c.loop-i.i c.loop-i-test.true refl (held_number total c.in_ok-coefficient.field-0 held r) n c.loop-i.invariant.value;
+          ∙ kept_push c.loop-i.kept.items t (fields_from 0 c.args.totals.now) c.args.totals.now c.loop-i.i c.loop-i-test.true refl (held_number total c.in_ok-coefficient.field-0 held r) n c.loop-i.invariant.value;
       range = subst (λ ts. (n : ℤ) → IsOfFields n (plain_fields ts) → IsCoefficient n) (sym items) (fields_range_push c.loop-i.kept.items t c.loop-i.invariant.range (held_range total c.in_ok-coefficient.field-0 held r));
     }
 
@@ -55,7 +55,7 @@ pub returns : goal.returns
 returns c =
     let l : c.loop-i.i ≡ length c.args.totals.now = omega arith in
     let e : plain_fields c.loop-i.kept.items ≡ fields_from 0 c.args.totals.now =
-      sym (append-nil (plain_fields c.loop-i.kept.items)) ∙ ap (λ us. plain_fields c.loop-i.kept.items ++ us) (sym (past c.loop-i.i c.args.totals.now l)) ∙ c.loop-i.invariant.value in
+    sym (append-nil (plain_fields c.loop-i.kept.items)) ∙ ap (λ us. plain_fields c.loop-i.kept.items ++ us) (sym (past c.loop-i.i c.args.totals.now l)) ∙ c.loop-i.invariant.value in
     (e, subst (AreFields 0) (sym e) (fields_from_are 0 0 c.args.totals.now (omega arith) (omega arith) (λ n i. c.loop-i.invariant.range n (subst (IsOfFields n) (sym e) i))))
   where
     past : (i : ℕ) (cs : List ℤ) → i ≡ length cs → fields_from i (drop i cs) ≡ []

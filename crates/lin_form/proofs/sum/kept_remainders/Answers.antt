@@ -41,7 +41,7 @@ loop-like-preserved c =
     let before = subst (λ xs. joined (plain_remainders c.loop-like.kept.items) (without_zeros (plain_likes xs)) ≡ whole) steps c.loop-like.invariant.value in
     record {
       value = ap (λ ts. joined (plain_remainders ts) (without_zeros (plain_likes (into_iter_items c.next.new.self)))) items
-        ∙ likes_push c.loop-like.kept.items t whole c.in-Some.like (into_iter_items c.next.new.self) n (held_number c.in-Some.like.coefficient c.in_ok-coefficient.field-0 held r) refl refl before;
+          ∙ likes_push c.loop-like.kept.items t whole c.in-Some.like (into_iter_items c.next.new.self) n (held_number c.in-Some.like.coefficient c.in_ok-coefficient.field-0 held r) refl refl before;
       range = subst (λ ts. (n : ℤ) → IsOfRemainders n (plain_remainders ts) → IsCoefficient n) (sym items) (remainders_range_push c.loop-like.kept.items t c.loop-like.invariant.range (held_range c.in-Some.like.coefficient c.in_ok-coefficient.field-0 held r));
     }
 
@@ -51,7 +51,7 @@ returns c =
     let l : length (into_iter_items c.loop-like.like-iterator) ≡ 0 = omega arith in
     let none = nothing (into_iter_items c.loop-like.like-iterator) l in
     let e : plain_remainders c.loop-like.kept.items ≡ without_zeros (plain_likes c.args.likes.items) =
-      sym (joined-none (plain_remainders c.loop-like.kept.items)) ∙ ap (λ xs. joined (plain_remainders c.loop-like.kept.items) (without_zeros (plain_likes xs))) (sym none) ∙ c.loop-like.invariant.value in
+    sym (joined-none (plain_remainders c.loop-like.kept.items)) ∙ ap (λ xs. joined (plain_remainders c.loop-like.kept.items) (without_zeros (plain_likes xs))) (sym none) ∙ c.loop-like.invariant.value in
     (e, subst AreRemainders (sym e) (without_zeros_are c.requires.0 (plain_likes c.args.likes.items) c.requires.1 (λ n i. c.loop-like.invariant.range n (subst (IsOfRemainders n) (sym e) i))))
   where
     nothing : {A : Type 0} (xs : List A) → length xs ≡ 0 → xs ≡ []

@@ -32,11 +32,11 @@ loop-term-preserved c =
     let r = sum_is (to_z w128 c.loop-term.sum-bits) c.field_value-sum.result (c.loop-term.term-index * 2 ^ 94) (2 ^ 94) ((c.loop-term.term-index + 1) * 2 ^ 94) c.loop-term.invariant.small c.field_value-sum.ensures.small (omega arith) (omega arith) in
     let fv : FitsSigned w64 c.value_at.result = search rules in
     let p : c.field_value-sum.result ≡ t.coefficient *ℤ get_or c.args.values.now t.field (pos 0) =
-      c.field_value-sum.ensures.value ∙ (λ i. to_z-of_z w64 t.coefficient (fits_64 t.coefficient (omega (arith, h))) i *ℤ (to_z-of_z w64 c.value_at.result fv ∙ c.value_at.ensures) i) in
+    c.field_value-sum.ensures.value ∙ (λ i. to_z-of_z w64 t.coefficient (fits_64 t.coefficient (omega (arith, h))) i *ℤ (to_z-of_z w64 c.value_at.result fv ∙ c.value_at.ensures) i) in
     let next = fields_step c.args.terms.now c.loop-term.term-index d c.args.values.now l in
     record {
       value = ap (λ z. z +ℤ terms_value (plain_fields (drop (c.loop-term.term-index + 1) c.args.terms.now)) c.args.values.now) r.is
-        ∙ carried (to_z w128 c.loop-term.sum-bits) c.field_value-sum.result _ _ _ c.loop-term.invariant.value (next ∙ ap (λ z. z +ℤ terms_value (plain_fields (drop (c.loop-term.term-index + 1) c.args.terms.now)) c.args.values.now) (sym p));
+          ∙ carried (to_z w128 c.loop-term.sum-bits) c.field_value-sum.result _ _ _ c.loop-term.invariant.value (next ∙ ap (λ z. z +ℤ terms_value (plain_fields (drop (c.loop-term.term-index + 1) c.args.terms.now)) c.args.values.now) (sym p));
       small = subst (λ z. unsigned_abs z ≤ (c.loop-term.term-index + 1) * 2 ^ 94) (sym r.is) r.small;
     }
 

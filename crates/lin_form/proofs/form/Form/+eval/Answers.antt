@@ -36,12 +36,12 @@ loop-term-preserved t c =
     let r = sum_is (to_z w128 c.loop-term.sum-bits) c.remainder_value-sum.result (2 ^ 98 + i * 2 ^ 43) (2 ^ 43) (2 ^ 98 + (i + 1) * 2 ^ 43) c.loop-term.invariant.small c.remainder_value-sum.ensures.small (omega arith) (omega arith) in
     let fv : FitsSigned w128 c.eval-inner.result = search rules in
     let p : c.remainder_value-sum.result ≡ it.coefficient *ℤ modulo (value it.inner c.args.values.now) it.divisor =
-      c.remainder_value-sum.ensures.value ∙ (λ j. to_z-of_z w64 it.coefficient (fits_64 it.coefficient (omega (arith, h))) j *ℤ modulo ((to_z-of_z w128 c.eval-inner.result fv ∙ c.eval-inner.ensures) j) it.divisor) in
+    c.remainder_value-sum.ensures.value ∙ (λ j. to_z-of_z w64 it.coefficient (fits_64 it.coefficient (omega (arith, h))) j *ℤ modulo ((to_z-of_z w128 c.eval-inner.result fv ∙ c.eval-inner.ensures) j) it.divisor) in
     let same : (get_or items i it).coefficient *ℤ modulo (value (get_or items i it).inner c.args.values.now) (get_or items i it).divisor ≡ it.coefficient *ℤ modulo (value it.inner c.args.values.now) it.divisor =
-      ap (λ (x : RemTerm). x.coefficient *ℤ modulo (value x.inner c.args.values.now) x.divisor) (sym c.term-item.is) in
+    ap (λ (x : RemTerm). x.coefficient *ℤ modulo (value x.inner c.args.values.now) x.divisor) (sym c.term-item.is) in
     let next = remainders_step items i it c.args.values.now l in
     record {
       value = ap (λ z. z +ℤ remainders_value (plain_remainders (drop (i + 1) items)) c.args.values.now) r.is
-        ∙ carried (to_z w128 c.loop-term.sum-bits) c.remainder_value-sum.result _ _ _ c.loop-term.invariant.value (next ∙ ap (λ z. z +ℤ remainders_value (plain_remainders (drop (i + 1) items)) c.args.values.now) (same ∙ sym p));
+          ∙ carried (to_z w128 c.loop-term.sum-bits) c.remainder_value-sum.result _ _ _ c.loop-term.invariant.value (next ∙ ap (λ z. z +ℤ remainders_value (plain_remainders (drop (i + 1) items)) c.args.values.now) (same ∙ sym p));
       small = subst (λ z. unsigned_abs z ≤ 2 ^ 98 + (i + 1) * 2 ^ 43) (sym r.is) r.small;
     }

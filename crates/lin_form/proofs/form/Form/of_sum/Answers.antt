@@ -33,7 +33,7 @@ loop-part-preserved c =
     let added : plain_sum c.add.new.self ≡ add_form (sign p.minus) p.form (plain_sum c.loop-part.sum) = done.sum ∙ ap (λ z. add_form z p.form (plain_sum c.loop-part.sum)) by in
     let here = parts_drop c.args.parts.now i p c.loop-part-test.true in
     let same : plain_parts (drop i c.args.parts.now) ≡ record { minus = p.minus; added = p.form } ∷ plain_parts (drop (i + 1) c.args.parts.now) =
-      here ∙ ap (λ (x : Signed). record { minus = x.minus; added = x.form } ∷ plain_parts (drop (i + 1) c.args.parts.now)) (sym c.part-item.is) in
+    here ∙ ap (λ (x : Signed). record { minus = x.minus; added = x.form } ∷ plain_parts (drop (i + 1) c.args.parts.now)) (sym c.part-item.is) in
     record {
       value = ap (add_parts (plain_parts (drop (i + 1) c.args.parts.now))) added ∙ sym (ap (λ ps. add_parts ps (plain_sum c.loop-part.sum)) same) ∙ c.loop-part.invariant.value;
       gathered = subst (λ n. IsGathered n (plain_sum c.add.new.self)) (sym (add-one i)) (subst (IsGathered (suc i)) (sym added) (gathered_more i (sign p.minus) p.form (plain_sum c.loop-part.sum) (sign_small p.minus) done.form c.loop-part.invariant.gathered));
@@ -44,7 +44,7 @@ pub returns-clause-form : goal.returns-clause-form
 returns-clause-form c =
     let past = drop_all c.loop-part.part-index c.args.parts.now c.loop-part-test.false in
     let e : plain_sum c.loop-part.sum ≡ add_parts (plain_parts c.args.parts.now) (started (pos 0)) =
-      ap (λ ps. add_parts (plain_parts ps) (plain_sum c.loop-part.sum)) (sym past) ∙ c.loop-part.invariant.value in
+    ap (λ ps. add_parts (plain_parts ps) (plain_sum c.loop-part.sum)) (sym past) ∙ c.loop-part.invariant.value in
     subst (λ s. MatchResult c.finish.result (λ (f : Form). f ≡ form_of s) (λ stop. StopsAt (IsOutside (form_of s)) stop)) e c.finish.ensures.form
 
 pub returns-clause-in_range : goal.returns-clause-in_range

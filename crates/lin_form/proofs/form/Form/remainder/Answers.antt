@@ -15,13 +15,13 @@ returns c =
     let copied = c.in_ok-inner.ensures {u = tt} in
     let n : plain_fields c.self.inside.fields.items ≡ [] → plain_remainders c.self.inside.remainders.items ≡ no_remainders → ⊥ = λ p q. elim c.else-is_empty.branch [
       | else-is_empty-via-then-is_empty+else-is_empty-2 w ↦ (
-        let l = remainders_none c.self.inside.remainders.items q in
-        let v : vec_len c.self.inside.remainders ≡ 0 = omega arith in
-        let z : true ≡ false = sym (eq-eqb (vec_len c.self.inside.remainders) 0 v) ∙ sym w.is_empty-then-is_empty.ensures ∙ w.if-is_empty-2.false in cc)
+          let l = remainders_none c.self.inside.remainders.items q in
+          let v : vec_len c.self.inside.remainders ≡ 0 = omega arith in
+          let z : true ≡ false = sym (eq-eqb (vec_len c.self.inside.remainders) 0 v) ∙ sym w.is_empty-then-is_empty.ensures ∙ w.if-is_empty-2.false in cc)
       | else-is_empty-via-else-is_empty w ↦ (
-        let l = fields_none c.self.inside.fields.items p in
-        let v : vec_len c.self.inside.fields ≡ 0 = omega arith in
-        let z : true ≡ false = sym (eq-eqb (vec_len c.self.inside.fields) 0 v) ∙ sym c.is_empty.ensures ∙ w.if-is_empty.false in cc)
+          let l = fields_none c.self.inside.fields.items p in
+          let v : vec_len c.self.inside.fields ≡ 0 = omega arith in
+          let z : true ≡ false = sym (eq-eqb (vec_len c.self.inside.fields) 0 v) ∙ sym c.is_empty.ensures ∙ w.if-is_empty.false in cc)
     ] in
     let t : RemTerm = record { coefficient = pos 1; inner = c.in_ok-inner.inner; divisor = c.args.by } in
     let made : c.push.new.self.items ≡ t ∷ [] = items ∙ ap (λ ts. ts ++ t ∷ []) c.new-remainders.ensures.items in

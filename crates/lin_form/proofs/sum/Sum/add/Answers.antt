@@ -17,5 +17,5 @@ returns-clause-sum c =
     let t = c.add_fields.ensures ∙ (λ i. add_fields (back i) (plain_fields (c.deref.ensures.value i)) c.args.self.now.totals) in
     on_ok_weaker c.add_remainders.result
     (λ e. (λ i. record { constant = k.is i; totals = t i; terms = (e ∙ (λ j. add_remainders (back j) (plain_remainders (c.deref-2.ensures.value j)) (plain_likes c.args.self.now.likes.items))) i })
-      ∙ ap (λ f. add_form c.args.by f (plain_sum c.args.self.now)) c.form.view_is)
+    ∙ ap (λ f. add_form c.args.by f (plain_sum c.args.self.now)) c.form.view_is)
     c.add_remainders.ensures
