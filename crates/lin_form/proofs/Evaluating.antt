@@ -77,3 +77,8 @@ sum_is s p m n k h g e l =
       is = ap (λ z. to_z w128 (of_z w128 (s +ℤ z))) back ∙ to_z-of_z w128 (s +ℤ p) whole;
       small = omega arith;
     }
+
+-- a term that a loop is at
+pub remainder_item : (ts items : List RemTerm) (k : ℕ) (t : RemTerm) → AreRemainders (plain_remainders ts) → items ≡ ts → t ≡ get_or items k t → k < length items → IsCoefficient t.coefficient × (0 < t.divisor) × (t.divisor ≤ 4096)
+remainder_item ts items k t h e is l =
+    subst (λ (x : RemTerm). IsCoefficient x.coefficient × (0 < x.divisor) × (x.divisor ≤ 4096)) (sym is) (remainder_at items k t (subst (λ us. AreRemainders (plain_remainders us)) (sym e) h) l)

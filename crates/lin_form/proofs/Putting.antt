@@ -2,7 +2,9 @@
 use Rattle.std.proofs.Common.{◌≡◌, ℕ, zero, suc, ◌+◌, ◌*◌, ◌^◌, ◌<◌, ◌≤◌, ◌⊎◌, inl, inr, List, [], ◌∷◌, length, drop, get_or, refl, ap, sym, ◌∙◌, subst, arith, unsigned_abs, lit≤}
 use Rattle.std.proofs.Math.IntN.{ℤ, pos, ◌+ℤ◌, ◌*ℤ◌}
 use Rattle.std.specs.Prelude.{◌≤ℤ◌, ◌<ℤ◌}
-use Rattle.std.proofs.lemmas.Int.{ints}
+use Rattle.std.proofs.lemmas.Int.{ints, to_z-of_z}
+use Rattle.std.proofs.Common.{to_z, of_z, Result, Ok, Err, MatchResult}
+use Rattle.std.specs.Int.{w64, w128}
 use Rattle.math_int.proofs.Floors.{euclid_range}
 use Rattle.model_form.specs.Form.{Form, form, Term, Remainders, no_remainders, remainder, constant_of, modulo}
 use Rattle.model_form.specs.Sums.{Sum, add_form, number_form, remainder_form}
@@ -12,7 +14,7 @@ use Rattle.lin_form.specs.declared.stop.FormStop.{FormStop}
 use Rattle.lin_form.specs.declared.stop.FormStop.TheVariants.{Range, Memory}
 use Rattle.lin_form.specs.Terms.{plain_remainders}
 use Rattle.lin_form.specs.Stops.{StopsAt}
-use Rattle.lin_form.proofs.Evaluating.{small_product, small_sum}
+use Rattle.lin_form.proofs.Evaluating.{small_product, small_sum, fits_64, fits_128}
 
 pub add_none : (by : ℤ) (s : Sum) → add_form by (number_form (pos 0)) s ≡ s
 add_none by s = λ i. record { constant = same i; totals = s.totals; terms = s.terms }
@@ -53,3 +55,14 @@ within_at (t ∷ ts) (suc k) d gs n h o = inr (within_at ts k d gs n (omega arit
 
 pub after_within : (f : Form) (c : ℤ) (ts : List Term) (rs : Remainders) (gs : List Form) (n : ℤ) → form c ts rs ≡ f → IsOutsideWithin rs gs n → IsOutsideAfter f gs n
 after_within f c ts rs gs n e o = subst (λ g. IsOutsideAfter g gs n) e (inr o)
+
+-- a coefficient, as the code hands it on
+pub held_128 : (a : ℤ) → IsCoefficient a → to_z w128 (of_z w128 (to_z w64 (of_z w64 a))) ≡ a
+held_128 a h =
+    let l : unsigned_abs a < 2 ^ 31 = h in
+    ap (λ z. to_z w128 (of_z w128 z)) (to_z-of_z w64 a (fits_64 a (omega arith))) ∙ to_z-of_z w128 a (fits_128 a (omega arith))
+
+-- two things that are so of a result
+pub both_of : {T E : Type 0} (r : Result T E) (P Q R : T → Type 0) (S U : E → Type 0) → MatchResult r P S → MatchResult r Q U → ((x : T) → P x → Q x → R x) → MatchResult r R (λ _. Unit {0})
+both_of (Ok x) P Q R S U h k f = f x h k
+both_of (Err e) P Q R S U h k f = tt

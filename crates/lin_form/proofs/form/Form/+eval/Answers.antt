@@ -6,12 +6,8 @@ use Rattle.model_form.specs.Form.{form, value, remainders_value, modulo}
 use Rattle.model_form.specs.Ranges.{IsCoefficient, AreRemainders}
 use Rattle.lin_form.specs.declared.form.RemTerm.{RemTerm}
 use Rattle.lin_form.specs.Terms.{plain_fields, plain_remainders}
-use Rattle.lin_form.proofs.Evaluating.{remainder_at, remainders_step, fits_64, fits_128, sum_is, carried}
+use Rattle.lin_form.proofs.Evaluating.{remainder_item, remainders_step, fits_64, fits_128, sum_is, carried}
 use Rattle.lin_form.proofs.form.Form.+eval.Goals as goal
-
-remainder_item : (ts items : List RemTerm) (k : ℕ) (t : RemTerm) → AreRemainders (plain_remainders ts) → items ≡ ts → t ≡ get_or items k t → k < length items → IsCoefficient t.coefficient × (0 < t.divisor) × (t.divisor ≤ 4096)
-remainder_item ts items k t h e is l =
-    subst (λ (x : RemTerm). IsCoefficient x.coefficient × (0 < x.divisor) × (x.divisor ≤ 4096)) (sym is) (remainder_at items k t (subst (λ us. AreRemainders (plain_remainders us)) (sym e) h) l)
 
 pub remainder_value-sum-requires-clause-coefficient : goal.remainder_value-sum-requires-clause-coefficient
 remainder_value-sum-requires-clause-coefficient t c =
