@@ -5,9 +5,9 @@ use Rattle.std.proofs.lemmas.Int.{ints, to_z-of_z}
 use Rattle.std.proofs.lemmas.List.{drop_all}
 use Rattle.std.proofs.lemmas.Result.{err_from_is_err_and}
 use Rattle.model_form.specs.Form.{Form, form, constant_of, remainder}
-use Rattle.model_form.specs.Sums.{put_remainders, add_form, remainder_form, subst_form}
+use Rattle.model_form.specs.Sums.{form_of, started, put_fields, put_remainders, add_form, remainder_form, subst_form}
 use Rattle.model_form.specs.Sums as model
-use Rattle.model_form.specs.Ranges.{IsCoefficient, IsForm, IsOutside, IsOutsideAfter, IsOutsideWithin}
+use Rattle.model_form.specs.Ranges.{IsConstant, IsCoefficient, IsForm, IsOutside, IsOutsideAfter, IsOutsideWithin}
 use Rattle.model_form.specs.Gathered.{IsGathered}
 use Rattle.model_form.proofs.Gathering.{gathered_more}
 use Rattle.lin_form.specs.Terms.{plain_fields, plain_remainders}
@@ -70,4 +70,18 @@ loop-term-preserved t c =
     }
 
 pub returns-clause-in_range : goal.returns-clause-in_range
-returns-clause-in_range t c = ?
+returns-clause-in_range t c =
+    let gs = c.args.forms.now in
+    let items = c.deref-term-items.result.now in
+    let past = drop_all c.loop-term.term-index items c.loop-term-test.false in
+    let begun = (c.in_ok-put_fields.ensures {u = tt}).sum in
+    let constant : to_z w128 (of_z w128 c.self.inside.constant) ≡ c.self.inside.constant = let f : IsConstant c.self.inside.constant = c.self.invariant.0 in omega (arith, ints) in
+    let view = form c.self.inside.constant (plain_fields c.self.inside.fields.items) (plain_remainders c.self.inside.remainders.items) in
+    let e : form_of (plain_sum c.loop-term.sum) ≡ subst_form view gs =
+      ap form_of (ap (λ ts. put_remainders (plain_remainders ts) gs (plain_sum c.loop-term.sum)) (sym past) ∙ c.loop-term.invariant.value)
+      ∙ (λ j. form_of (put_remainders (plain_remainders (c.deref-term-items.ensures.value j)) gs ((begun ∙ (λ k. put_fields (plain_fields (c.deref.ensures.value k)) gs ((c.of-sum.ensures ∙ ap started constant) k))) j))) in
+    both_of c.finish.result (λ (f : Form). f ≡ form_of (plain_sum c.loop-term.sum)) IsForm (λ _. (n : ℤ) → IsOutsideAfter c.args.self.now gs n → ⊥) _ _ c.finish.ensures.form c.finish.ensures.in_range
+    (λ f is h n o. elim (subst (λ g. IsOutsideAfter g gs n) (sym c.self.view_is) o) as (λ _. ⊥) [
+      | inl x ↦ none_outside f h n (subst (λ g. IsOutside g n) (sym (is ∙ e)) x)
+      | inr x ↦ subst (λ ts. IsOutsideWithin (plain_remainders ts) gs n → ⊥) (sym past) (λ y. y) (c.loop-term.invariant.within n (subst (λ ts. IsOutsideWithin (plain_remainders ts) gs n) (sym c.deref-term-items.ensures.value) x))
+    ])
