@@ -1,5 +1,4 @@
 pub mod Terms
 pub mod Falls
-pub mod Laws
 pub mod Stops
 pub mod Gathered

@@ -9,11 +9,12 @@ use crate::{FieldTerm, Form, RemTerm};
 
 impl PartialEq for Form {
     ghost use Rattle.model_form.specs.Same.{same_form};
-    ghost use Rattle.lin_form.specs.Laws.{same_partial_laws};
+    ghost use Rattle.std.specs.Cmp.{partial_equiv_from_equiv};
+    ghost use Rattle.model_form.proofs.Equals.{same_laws};
 
     ghost eq = { same_form };
 
-    ghost laws = { same_partial_laws };
+    ghost laws = { partial_equiv_from_equiv same_laws };
 
     fn eq(&self, other: &Form) -> bool {
         self.is_same(other)
@@ -21,7 +22,7 @@ impl PartialEq for Form {
 }
 
 impl Eq for Form {
-    ghost use Rattle.lin_form.specs.Laws.{same_laws};
+    ghost use Rattle.model_form.proofs.Equals.{same_laws};
 
     ghost laws = { same_laws };
 }

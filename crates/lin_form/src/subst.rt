@@ -31,7 +31,12 @@ impl Form {
     }
 }
 
-fn put_fields(alloc: Global, sum: &mut Sum, terms: &[FieldTerm], forms: &[Form]) -> Result<(), Memory>
+fn put_fields(
+    alloc: Global,
+    sum: &mut Sum,
+    terms: &[FieldTerm],
+    forms: &[Form],
+) -> Result<(), Memory>
     requires terms { AreFields 0 (plain_fields terms.now) }
     requires gathered { IsGathered 0 (plain_sum sum.old) }
     requires constant { unsigned_abs sum.old.constant ≤ 2 ^ 63 }

@@ -96,3 +96,36 @@ fn tells_the_number_outside(rt: HostRuntime) -> Result<(), Fail> {
     assert!(rt; matches!(sum, Err(FormStop::Range(18446744073709551614))));
     Ok(())
 }
+
+#[test]
+fn puts_forms_for_fields(rt: HostRuntime) -> Result<(), Fail> {
+    let alloc = rt.alloc();
+    let Ok(wide) = Form::field(alloc, 0)?.scaled(alloc, 2000000000) else {
+        panic!(rt; "no form");
+    };
+    let mut forms = Vec::new(alloc);
+    forms.push(wide.copy(alloc)?)?;
+    assert!(rt;
+        matches!(
+            wide.subst(alloc, &forms),
+            Err(FormStop::Range(4000000000000000000))
+        )
+    );
+
+    let x = Form::field(alloc, 0)?;
+    let number = Form::number(alloc, 21)?;
+    let Ok(moved) = both(alloc, &x, &number, false) else {
+        panic!(rt; "no form");
+    };
+    let mut forms = Vec::new(alloc);
+    forms.push(moved)?;
+    let Ok(form) = nested(alloc) else {
+        panic!(rt; "no form");
+    };
+    let Ok(put) = form.subst(alloc, &forms) else {
+        panic!(rt; "no form");
+    };
+    assert!(rt; put.remainders()[0].inner.remainders()[0].inner.constant() == 26);
+    assert!(rt; put.eval(&[-52]) == 0 && put.eval(&[1]) == 1);
+    Ok(())
+}

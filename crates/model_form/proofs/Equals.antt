@@ -6,6 +6,8 @@ use Rattle.std.specs.declared.cmp.Ordering.TheVariants.{Less, Equal, Greater}
 use Rattle.std.specs.Ordering.{int_cmp, is_gt, is_eq}
 use Rattle.std.specs.Cmp.Lexicographic.{slice_cmp}
 use Rattle.std.proofs.lemmas.Int.{ints}
+use Rattle.std.specs.Cmp.{IsEquivalence}
+use Rattle.std.proofs.lemmas.Cmp.{eq_by_cmp_equiv, on_total, lists_total, int_cmp_total}
 use Rattle.model_form.specs.Form.{Form, form, constant_of, fields_of, remainders_of, Remainders, no_remainders, remainder, Term, count, value, remainders_value, terms_value, modulo}
 use Rattle.model_form.specs.Same.{IsIn, members, items, Item, remainders, written, ordered, ordered_all, item_cmp, put, same_form}
 use Rattle.model_form.specs.Sums.{is_like}
@@ -13,6 +15,10 @@ use Rattle.model_form.specs.Ranges.{IsApart, AreApart}
 use Rattle.model_form.proofs.Written.{written_once, tied, tied_lists, items_ordered, item_once}
 use Rattle.model_form.proofs.Orders.{put_both}
 use Rattle.model_form.proofs.Sorted.{AreIn, AreOnce, sorted, sorted_once, sorted_in, all_in_own, length-sorted}
+
+-- equality of forms is an equivalence
+pub same_laws : IsEquivalence same_form
+same_laws = eq_by_cmp_equiv (on_total (λ (f : Form). written (ordered f)) (lists_total int_cmp_total))
 
 -- ---- equality, and equality once the remainders are in order
 

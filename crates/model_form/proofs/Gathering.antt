@@ -1,22 +1,18 @@
 -- Adding a form to a sum adds at most one product to each coefficient.
-use Rattle.std.proofs.Common.{◌≡◌, ◌≢◌, ℕ, zero, suc, ◌+◌, ◌*◌, ◌<◌, ◌≤◌, ◌^◌, ◌==◌, ◌&&◌, ◌⊎◌, inl, inr, List, [], ◌∷◌, length, get_or, Bool, true, false, cond, refl, ap, sym, ◌∙◌, subst, arith, unsigned_abs}
+use Rattle.std.proofs.Common.{◌≡◌, ℕ, zero, suc, ◌+◌, ◌*◌, ◌<◌, ◌≤◌, ◌^◌, ◌==◌, ◌&&◌, ◌⊎◌, inl, inr, List, [], ◌∷◌, length, get_or, Bool, true, false, cond, refl, sym, ◌∙◌, subst, arith, unsigned_abs}
 use Rattle.std.proofs.Math.ListN.{set, length-set}
 use Rattle.std.proofs.Math.IntN.{ℤ, pos, ◌+ℤ◌, ◌*ℤ◌}
 use Rattle.std.proofs.Math.Nat.{mul-le-mul}
 use Rattle.std.proofs.lemmas.Int.{ints, unsigned_abs-mul}
 use Rattle.std.proofs.lemmas.Bool.{eqb-true}
-use Rattle.std.specs.Cmp.{IsEquivalence}
 use Rattle.std.specs.Ordering.{int_eq}
-use Rattle.std.proofs.lemmas.Cmp.{eq_by_cmp_equiv, on_total, lists_total, int_cmp_total}
 use Rattle.model_form.specs.Form.{Form, form, Remainders, no_remainders, remainder, Term}
-use Rattle.model_form.specs.Same.{same_form, written, ordered}
+use Rattle.model_form.specs.Same.{same_form}
 use Rattle.model_form.specs.Sums.{Sum, add_fields, add_like, add_remainders, add_form, is_like, without_zeros, started}
 use Rattle.model_form.specs.Ranges.{IsForm, IsCoefficient, AreFields, AreRemainders, AreApart, IsApart}
 use Rattle.model_form.specs.Gathered.{IsWithin, AreTotals, AreLikes, IsGathered, TotalsBefore, LikesBefore}
+use Rattle.model_form.proofs.Equals.{same_laws}
 use Rattle.model_form.proofs.Values.{both_out, length-add_fields}
-
-pub same_laws : IsEquivalence same_form
-same_laws = eq_by_cmp_equiv (on_total (λ (f : Form). written (ordered f)) (lists_total int_cmp_total))
 
 -- ---- products and sums
 

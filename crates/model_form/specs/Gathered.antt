@@ -1,5 +1,5 @@
 -- What is so of a sum while its terms are gathered, each time by a coefficient times a form.
-use Rattle.std.specs.Prelude.{◌≡◌, ℕ, suc, ℤ, ◌+◌, ◌*◌, ◌<◌, ◌≤◌, ◌^◌, ◌⊎◌, unsigned_abs, List, [], ◌∷◌, length}
+use Rattle.std.specs.Prelude.{◌≡◌, ℕ, suc, ℤ, ◌*◌, ◌<◌, ◌≤◌, ◌^◌, ◌⊎◌, unsigned_abs, List, [], ◌∷◌, length}
 use Rattle.model_form.specs.Form.{Remainders, no_remainders, remainder}
 use Rattle.model_form.specs.Sums.{Sum}
 use Rattle.model_form.specs.Ranges.{IsApart, AreApart}

@@ -26,8 +26,8 @@ returns-in_err-inner-clause-form t c =
     let gs = c.args.forms.now in
     let items = c.deref-term-items.result.now in
     let out : (n : ℤ) → IsOutsideAfter c.term-item.result.inner gs n → IsOutsideAfter c.args.self.now gs n = λ n o.
-      after_within c.args.self.now c.self.inside.constant (plain_fields c.self.inside.fields.items) (plain_remainders c.self.inside.remainders.items) gs n c.self.view_is
-      (subst (λ ts. IsOutsideWithin (plain_remainders ts) gs n) c.deref-term-items.ensures.value (within_at items c.loop-term.term-index c.term-item.result gs n c.loop-term-test.true (subst (λ (x : RemTerm). IsOutsideAfter x.inner gs n) c.term-item.is o))) in
+    after_within c.args.self.now c.self.inside.constant (plain_fields c.self.inside.fields.items) (plain_remainders c.self.inside.remainders.items) gs n c.self.view_is
+    (subst (λ ts. IsOutsideWithin (plain_remainders ts) gs n) c.deref-term-items.ensures.value (within_at items c.loop-term.term-index c.term-item.result gs n c.loop-term-test.true (subst (λ (x : RemTerm). IsOutsideAfter x.inner gs n) c.term-item.is o))) in
     rw (p.1, p.2) (stops_weaker (IsOutsideAfter c.term-item.result.inner gs) (IsOutsideAfter c.args.self.now gs) c.in_err-inner.field-0.0 out h)
 
 pub remainder-requires-clause-some : goal.remainder-requires-clause-some
@@ -59,7 +59,7 @@ loop-term-preserved t c =
     let added : plain_sum c.add.new.self ≡ add_form it.coefficient g s = done.sum ∙ (λ j. add_form (held_128 it.coefficient h.0 j) (made j) s) in
     let rest = plain_remainders (drop (i + 1) items) in
     let here : plain_remainders (drop i items) ≡ remainder it.coefficient it.inner it.divisor rest =
-      remainders_drop items i it c.loop-term-test.true ∙ ap (λ (x : RemTerm). remainder x.coefficient x.inner x.divisor rest) (sym c.term-item.is) in
+    remainders_drop items i it c.loop-term-test.true ∙ ap (λ (x : RemTerm). remainder x.coefficient x.inner x.divisor rest) (sym c.term-item.is) in
     let is = subst IsForm made done.form in
     let e : suc (8 + i) ≡ 8 + (i + 1) = omega arith in
     record {
@@ -78,8 +78,8 @@ returns-clause-in_range t c =
     let constant : to_z w128 (of_z w128 c.self.inside.constant) ≡ c.self.inside.constant = let f : IsConstant c.self.inside.constant = c.self.invariant.0 in omega (arith, ints) in
     let view = form c.self.inside.constant (plain_fields c.self.inside.fields.items) (plain_remainders c.self.inside.remainders.items) in
     let e : form_of (plain_sum c.loop-term.sum) ≡ subst_form view gs =
-      ap form_of (ap (λ ts. put_remainders (plain_remainders ts) gs (plain_sum c.loop-term.sum)) (sym past) ∙ c.loop-term.invariant.value)
-      ∙ (λ j. form_of (put_remainders (plain_remainders (c.deref-term-items.ensures.value j)) gs ((begun ∙ (λ k. put_fields (plain_fields (c.deref.ensures.value k)) gs ((c.of-sum.ensures ∙ ap started constant) k))) j))) in
+    ap form_of (ap (λ ts. put_remainders (plain_remainders ts) gs (plain_sum c.loop-term.sum)) (sym past) ∙ c.loop-term.invariant.value)
+    ∙ (λ j. form_of (put_remainders (plain_remainders (c.deref-term-items.ensures.value j)) gs ((begun ∙ (λ k. put_fields (plain_fields (c.deref.ensures.value k)) gs ((c.of-sum.ensures ∙ ap started constant) k))) j))) in
     both_of c.finish.result (λ (f : Form). f ≡ form_of (plain_sum c.loop-term.sum)) IsForm (λ _. (n : ℤ) → IsOutsideAfter c.args.self.now gs n → ⊥) _ _ c.finish.ensures.form c.finish.ensures.in_range
     (λ f is h n o. elim (subst (λ g. IsOutsideAfter g gs n) (sym c.self.view_is) o) as (λ _. ⊥) [
       | inl x ↦ none_outside f h n (subst (λ g. IsOutside g n) (sym (is ∙ e)) x)
