@@ -1,5 +1,5 @@
 -- Lists of terms that are made one term at a time.
-use Rattle.std.proofs.Common.{◌≡◌, ◌≢◌, ℕ, zero, suc, ◌+◌, ◌*◌, ◌<◌, ◌≤◌, ◌⊎◌, inl, inr, List, [], ◌∷◌, ◌++◌, length, drop, get_or, Bool, true, false, cond, refl, ap, sym, ◌∙◌, subst, arith, add-one, append-nil, unsigned_abs}
+use Rattle.std.proofs.Common.{◌≡◌, ◌≢◌, ℕ, zero, suc, ◌+◌, ◌*◌, ◌<◌, ◌≤◌, inl, inr, List, [], ◌∷◌, ◌++◌, length, drop, get_or, Bool, true, false, cond, refl, ap, sym, ◌∙◌, subst, arith, add-one, unsigned_abs}
 use Rattle.std.proofs.Math.IntN.{ℤ, pos, ◌*ℤ◌}
 use Rattle.std.proofs.lemmas.Int.{ints, unsigned_abs-mul}
 use Rattle.std.specs.Ordering.{int_eq}
@@ -7,12 +7,9 @@ use Rattle.model_form.specs.Form.{Form, Remainders, no_remainders, remainder, Te
 use Rattle.model_form.specs.Sums.{scaled_fields, scaled_remainders, fields_from, without_zeros}
 use Rattle.model_form.specs.Ranges.{IsOfFields, IsOfRemainders, IsCoefficient, AreFields, AreRemainders, IsApart, AreApart}
 use Rattle.model_form.specs.Gathered.{AreLikes}
-use Rattle.model_form.proofs.Values.{int_eq-out}
 use Rattle.lin_form.specs.declared.form.FieldTerm.{FieldTerm}
 use Rattle.lin_form.specs.declared.form.RemTerm.{RemTerm}
-use Rattle.lin_form.specs.declared.sum.Like.{Like}
 use Rattle.lin_form.specs.Terms.{plain_fields, plain_remainders}
-use Rattle.lin_form.specs.Gathered.{plain_likes}
 
 abbrev pub joined : Remainders → Remainders → Remainders
 joined no_remainders qs = qs

@@ -1,12 +1,12 @@
 -- The steps of the loops that make terms.
-use Rattle.std.proofs.Common.{◌≡◌, ◌≢◌, ℕ, zero, suc, ◌+◌, ◌<◌, inl, inr, List, [], ◌∷◌, ◌++◌, length, drop, get_or, Bool, true, false, cond, refl, ap, sym, ◌∙◌, subst, arith, add-one}
+use Rattle.std.proofs.Common.{◌≡◌, ◌≢◌, ℕ, suc, ◌+◌, ◌<◌, inl, List, [], ◌∷◌, ◌++◌, length, drop, get_or, Bool, true, false, cond, refl, ap, sym, ◌∙◌, subst, arith, add-one}
 use Rattle.std.proofs.Math.IntN.{ℤ, pos, ◌*ℤ◌}
 use Rattle.std.proofs.lemmas.Int.{ints, to_z-of_z}
 use Rattle.std.specs.Int.{w64, w128}
 use Rattle.std.proofs.Common.{to_z, of_z, unsigned_abs, ◌^◌, ◌≤◌, lit≤}
 use Rattle.lin_form.proofs.Evaluating.{fits_64, fits_128, small_product}
 use Rattle.std.specs.Ordering.{int_eq}
-use Rattle.model_form.specs.Form.{Form, Remainders, no_remainders, remainder, Term}
+use Rattle.model_form.specs.Form.{Remainders, remainder, Term}
 use Rattle.model_form.specs.Sums.{scaled_fields, scaled_remainders, fields_from, without_zeros}
 use Rattle.model_form.specs.Ranges.{IsOfFields, IsOfRemainders, IsCoefficient, IsConstant}
 use Rattle.lin_form.specs.declared.form.FieldTerm.{FieldTerm}

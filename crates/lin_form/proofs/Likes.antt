@@ -1,13 +1,13 @@
 -- The steps of adding a form to a sum.
-use Rattle.std.proofs.Common.{◌≡◌, ℕ, zero, suc, ◌+◌, ◌*◌, ◌^◌, ◌<◌, ◌≤◌, List, [], ◌∷◌, ◌++◌, length, drop, get_or, Bool, true, false, cond, refl, ap, sym, ◌∙◌, subst, arith, add-one, unsigned_abs, to_z, of_z}
+use Rattle.std.proofs.Common.{◌≡◌, ℕ, zero, suc, ◌+◌, ◌^◌, ◌<◌, ◌≤◌, List, [], ◌∷◌, ◌++◌, length, drop, get_or, true, false, cond, refl, ap, sym, ◌∙◌, subst, arith, add-one, unsigned_abs, to_z, of_z}
 use Rattle.std.proofs.Math.ListN.{set}
-use Rattle.std.proofs.Math.IntN.{ℤ, pos, ◌+ℤ◌, ◌*ℤ◌}
+use Rattle.std.proofs.Math.IntN.{ℤ, ◌+ℤ◌}
 use Rattle.std.specs.Prelude.{FitsSigned}
 use Rattle.std.specs.Int.{w64, w128}
-use Rattle.std.proofs.lemmas.Int.{ints, to_z-of_z}
-use Rattle.model_form.specs.Form.{Form, Remainders, no_remainders, remainder, Term}
-use Rattle.model_form.specs.Sums.{add_like, add_fields, add_remainders, is_like}
-use Rattle.model_form.specs.Ranges.{IsCoefficient, AreFields, AreRemainders, AreApart, IsApart}
+use Rattle.std.proofs.lemmas.Int.{to_z-of_z}
+use Rattle.model_form.specs.Form.{Form, remainder}
+use Rattle.model_form.specs.Sums.{add_like, is_like}
+use Rattle.model_form.specs.Ranges.{IsCoefficient, AreApart}
 use Rattle.model_form.specs.Gathered.{IsWithin, AreLikes}
 use Rattle.model_form.proofs.Gathering.{sum_within}
 use Rattle.lin_form.specs.declared.form.FieldTerm.{FieldTerm}

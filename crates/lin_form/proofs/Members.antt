@@ -1,10 +1,10 @@
 -- Terms that lie in a list are members of its form.
-use Rattle.std.proofs.Common.{◌≡◌, ℕ, zero, suc, ◌<◌, ◌⊎◌, inl, inr, List, [], ◌∷◌, length, get_or, refl, ap, sym, ◌∙◌, arith}
-use Rattle.std.proofs.Common.{Bool, true, false, ◌&&◌}
+use Rattle.std.proofs.Common.{◌≡◌, ℕ, zero, suc, ◌<◌, inl, inr, List, [], ◌∷◌, length, get_or, refl, ap, ◌∙◌, arith}
+use Rattle.std.proofs.Common.{Bool, true, ◌&&◌}
 use Rattle.std.specs.Cmp.Lexicographic.{pointwise}
 use Rattle.model_form.proofs.Values.{both_out}
 use Rattle.model_form.specs.Form.{Form, count, Term}
-use Rattle.model_form.specs.Same.{Item, members, IsIn, ordered, same_form}
+use Rattle.model_form.specs.Same.{Item, members, IsIn, same_form}
 use Rattle.model_form.proofs.Sorted.{AreIn}
 use Rattle.lin_form.specs.declared.form.RemTerm.{RemTerm}
 use Rattle.lin_form.specs.declared.form.FieldTerm.{FieldTerm}

@@ -1,5 +1,5 @@
 -- A form of a program has no number outside.
-use Rattle.std.proofs.Common.{suc, ◌≡◌, ℕ, ◌≤◌, ◌<◌, ◌^◌, ◌⊎◌, inl, inr, List, [], ◌∷◌, refl, ap, sym, ◌∙◌, subst, arith, unsigned_abs, to_z, of_z, lit≤, Bool, true, false, cond}
+use Rattle.std.proofs.Common.{suc, ◌≡◌, ℕ, ◌≤◌, ◌<◌, ◌^◌, inl, inr, List, [], ◌∷◌, refl, ap, sym, ◌∙◌, subst, arith, unsigned_abs, to_z, of_z, lit≤, Bool, true, false, cond}
 use Rattle.std.proofs.Math.IntN.{ℤ, pos, ◌*ℤ◌, ◌+ℤ◌}
 use Rattle.std.specs.Prelude.{FitsSigned}
 use Rattle.std.specs.Int.{w128}

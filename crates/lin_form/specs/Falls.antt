@@ -1,7 +1,7 @@
 -- An inner form is less high than the form that it stands in.
-use Rattle.std.specs.Prelude.{suc, ◌+◌, ◌≤◌, max, List, [], ◌∷◌}
+use Rattle.std.specs.Prelude.{suc, ◌≤◌, List, [], ◌∷◌}
 use Rattle.std.proofs.Common.{arith}
-use Rattle.model_form.specs.Form.{heights, height}
+use Rattle.model_form.specs.Form.{heights}
 use Rattle.lin_form.specs.declared.form.RemTerm.{RemTerm}
 use Rattle.lin_form.specs.declared.form.Form.TheDeep.{deep-RemTerm}
 use Rattle.lin_form.specs.Terms.{plain_remainders}

@@ -24,6 +24,14 @@ fn both(alloc: Global, first: &Form, second: &Form, minus: bool) -> Result<Form,
     Form::of_sum(alloc, &parts)
 }
 
+/// The divisor of the first remainder, or 0.
+fn first_divisor(form: &Form) -> u32 {
+    match form.remainders().first() {
+        Some(term) => term.divisor,
+        None => 0,
+    }
+}
+
 #[test]
 fn evaluates_nested_remainders(rt: HostRuntime) -> Result<(), Fail> {
     let Ok(form) = nested(rt.alloc()) else {
@@ -64,7 +72,7 @@ fn equal_in_any_order(rt: HostRuntime) -> Result<(), Fail> {
     };
     assert!(rt; one == other);
     assert!(rt; one != first);
-    assert!(rt; one.remainders()[0].divisor != other.remainders()[0].divisor);
+    assert!(rt; first_divisor(&one) == 3 && first_divisor(&other) == 5);
     Ok(())
 }
 
@@ -125,7 +133,7 @@ fn puts_forms_for_fields(rt: HostRuntime) -> Result<(), Fail> {
     let Ok(put) = form.subst(alloc, &forms) else {
         panic!(rt; "no form");
     };
-    assert!(rt; put.remainders()[0].inner.remainders()[0].inner.constant() == 26);
+    assert!(rt; first_divisor(&put) == 2 && put.fields().is_empty());
     assert!(rt; put.eval(&[-52]) == 0 && put.eval(&[1]) == 1);
     Ok(())
 }

@@ -1,8 +1,8 @@
-use Rattle.std.proofs.Common.{◌≡◌, ℕ, ◌<◌, ap, sym, ◌∙◌, subst, arith, below_more, get_or, length, IsTrue, true, false, refl}
+use Rattle.std.proofs.Common.{◌≡◌, ℕ, ◌<◌, ap, sym, ◌∙◌, subst, arith, below_more, get_or, length, true, false, refl}
 use Rattle.std.proofs.lemmas.Int.{ints}
 use Rattle.model_form.proofs.Sorted.{AreIn}
-use Rattle.model_form.specs.Form.{form, Form}
-use Rattle.model_form.specs.Same.{same_form, ordered, members, IsIn, Item}
+use Rattle.model_form.specs.Form.{form}
+use Rattle.model_form.specs.Same.{ordered, members, IsIn}
 use Rattle.model_form.proofs.Equals.{same_out, same_in, differ_in_fields, differ_in_count, differ_in_member, same_by_parts}
 use Rattle.lin_form.specs.Terms.{plain_fields, plain_remainders, member}
 use Rattle.lin_form.specs.declared.form.RemTerm.{RemTerm}

@@ -1,7 +1,6 @@
 use Rattle.std.proofs.Common.{◌≡◌, ◌*◌, ◌+◌, ℕ, ◌<◌, get_or}
 use Rattle.model_form.specs.Form.{height}
 use Rattle.model_form.specs.Same.{members, IsIn}
-use Rattle.model_form.proofs.Sorted.{AreIn}
 use Rattle.lin_form.specs.Terms.{plain_remainders, member}
 use Rattle.lin_form.specs.declared.form.RemTerm.{RemTerm}
 use Rattle.lin_form.proofs.+same.Given as goal

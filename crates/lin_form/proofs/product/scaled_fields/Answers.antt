@@ -1,7 +1,7 @@
-use Rattle.std.proofs.Common.{List, ◌≡◌, ◌≢◌, ap, sym, ◌∙◌, subst, arith, rules, get_or, drop, length, to_z, of_z, append-nil, ◌++◌, ◌+◌, [], ◌∷◌, ℕ, ◌<◌, ◌≤◌, refl, unsigned_abs, ◌^◌, lit≤}
-use Rattle.std.specs.Prelude.{pos, FitsSigned, ℤ, ◌*ℤ◌}
+use Rattle.std.proofs.Common.{◌≡◌, ap, sym, ◌∙◌, subst, get_or, drop, to_z, of_z, append-nil, ◌++◌, ◌+◌, refl}
+use Rattle.std.specs.Prelude.{pos, ℤ, ◌*ℤ◌}
 use Rattle.std.specs.Int.{w64, w128}
-use Rattle.std.proofs.lemmas.Int.{ints, to_z-of_z}
+use Rattle.std.proofs.lemmas.Int.{to_z-of_z}
 use Rattle.std.proofs.lemmas.List.{drop_all}
 use Rattle.std.proofs.lemmas.Result.{err_from_is_err_and}
 use Rattle.model_form.specs.Sums.{scaled_fields}
@@ -10,7 +10,7 @@ use Rattle.lin_form.specs.Terms.{plain_fields}
 use Rattle.lin_form.specs.declared.form.FieldTerm.{FieldTerm}
 use Rattle.lin_form.specs.declared.stop.FormStop.TheVariants.{Range}
 use Rattle.lin_form.proofs.Joined.{scaled_fields_are, fields_range_push}
-use Rattle.lin_form.proofs.Evaluating.{coefficient_at, fits_64, fits_128}
+use Rattle.lin_form.proofs.Evaluating.{coefficient_at}
 use Rattle.lin_form.proofs.Kept.{stops_by, scaled_out, scaled_push, held_number, held_range, held_product}
 use Rattle.lin_form.proofs.product.scaled_fields.Goals as goal
 

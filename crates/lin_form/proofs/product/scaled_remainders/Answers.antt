@@ -1,5 +1,5 @@
-use Rattle.std.proofs.Common.{List, ◌≡◌, ◌≢◌, ap, sym, ◌∙◌, subst, arith, rules, get_or, drop, length, to_z, of_z, ◌+◌, [], ◌∷◌, ℕ, ◌<◌, refl}
-use Rattle.std.specs.Prelude.{pos, FitsSigned, ℤ, ◌*ℤ◌}
+use Rattle.std.proofs.Common.{◌≡◌, ap, sym, ◌∙◌, subst, get_or, drop, to_z, of_z, ◌+◌}
+use Rattle.std.specs.Prelude.{ℤ, ◌*ℤ◌}
 use Rattle.std.specs.Int.{w64, w128}
 use Rattle.std.proofs.lemmas.Int.{to_z-of_z}
 use Rattle.std.proofs.lemmas.List.{drop_all}

@@ -1,18 +1,14 @@
-use Rattle.std.proofs.Common.{suc, List, ◌≡◌, ap, sym, ◌∙◌, subst, arith, rules, get_or, drop, length, to_z, of_z, ◌+◌, ◌*◌, [], ◌∷◌, ℕ, ◌<◌, ◌≤◌, ◌^◌, refl, unsigned_abs, add-one}
-use Rattle.std.specs.Prelude.{pos, FitsSigned, ℤ, ◌*ℤ◌, ◌+ℤ◌}
-use Rattle.std.specs.Int.{w64, w128}
-use Rattle.std.proofs.lemmas.Int.{ints, to_z-of_z}
-use Rattle.std.proofs.lemmas.List.{drop_all}
-use Rattle.model_form.specs.Form.{Form, constant_of}
+use Rattle.std.proofs.Common.{suc, ◌≡◌, ap, sym, ◌∙◌, subst, arith, get_or, drop, ◌+◌, ◌*◌, ◌<◌, ◌≤◌, ◌^◌, unsigned_abs, add-one}
+use Rattle.std.specs.Prelude.{pos}
 use Rattle.model_form.specs.Sums.{put_fields, add_form, number_form}
 use Rattle.model_form.specs.Sums as model
-use Rattle.model_form.specs.Ranges.{IsCoefficient, IsForm}
+use Rattle.model_form.specs.Ranges.{IsForm}
 use Rattle.model_form.specs.Gathered.{IsGathered}
 use Rattle.model_form.proofs.Gathering.{gathered_more, gathered_later}
 use Rattle.lin_form.specs.Terms.{plain_fields}
 use Rattle.lin_form.specs.Gathered.{plain_sum}
 use Rattle.lin_form.specs.declared.form.FieldTerm.{FieldTerm}
-use Rattle.lin_form.proofs.Evaluating.{coefficient_at, fields_few, fits_64, fits_128}
+use Rattle.lin_form.proofs.Evaluating.{coefficient_at, fields_few}
 use Rattle.lin_form.proofs.Likes.{fields_drop}
 use Rattle.lin_form.proofs.Members.{get_or-any}
 use Rattle.lin_form.proofs.Outside.{constant_more, constant_after}

@@ -1,10 +1,10 @@
-use Rattle.std.proofs.Common.{suc, List, ◌≡◌, ap, sym, ◌∙◌, subst, arith, rules, get_or, drop, length, to_z, of_z, ◌+◌, ◌*◌, [], ◌∷◌, ℕ, ◌<◌, ◌≤◌, ◌^◌, refl, unsigned_abs}
+use Rattle.std.proofs.Common.{suc, ◌≡◌, ap, sym, ◌∙◌, subst, arith, get_or, drop, to_z, of_z, ◌+◌, ◌*◌, ◌<◌, ◌≤◌, ◌^◌, refl, unsigned_abs}
 use Rattle.std.proofs.Math.ListN.{set, length-set}
-use Rattle.std.specs.Prelude.{pos, FitsSigned, ℤ, ◌*ℤ◌, ◌+ℤ◌}
-use Rattle.std.specs.Int.{w64, w128}
-use Rattle.std.proofs.lemmas.Int.{ints, to_z-of_z}
+use Rattle.std.specs.Prelude.{pos, ◌*ℤ◌, ◌+ℤ◌}
+use Rattle.std.specs.Int.{w128}
+use Rattle.std.proofs.lemmas.Int.{to_z-of_z}
 use Rattle.model_form.specs.Sums.{add_fields}
-use Rattle.model_form.specs.Ranges.{IsCoefficient, AreFields}
+use Rattle.model_form.specs.Ranges.{AreFields}
 use Rattle.model_form.specs.Gathered.{TotalsBefore}
 use Rattle.model_form.proofs.Gathering.{totals_begin, total_at, totals_step, sum_within}
 use Rattle.lin_form.specs.Terms.{plain_fields}

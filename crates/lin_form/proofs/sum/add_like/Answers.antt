@@ -1,9 +1,9 @@
-use Rattle.std.proofs.Common.{List, ◌++◌, ◌∷◌, [], ◌≡◌, ap, sym, ◌∙◌, subst, arith, rules, get_or, length, to_z, of_z, ℕ, ◌<◌, ◌≤◌, ◌+◌, ◌^◌, refl}
+use Rattle.std.proofs.Common.{◌++◌, ◌∷◌, [], ◌≡◌, ap, sym, ◌∙◌, subst, get_or, length, ℕ, ◌<◌, ◌≤◌, ◌+◌, ◌^◌}
 use Rattle.std.proofs.Math.ListN.{set}
-use Rattle.std.specs.Prelude.{pos, FitsSigned, ℤ, ◌+ℤ◌, false, true}
-use Rattle.std.specs.Int.{w64, w128}
+use Rattle.std.specs.Prelude.{false, true}
+use Rattle.std.specs.Int.{w128}
 use Rattle.std.proofs.lemmas.Int.{to_z-of_z}
-use Rattle.model_form.specs.Sums.{add_like, is_like}
+use Rattle.model_form.specs.Sums.{is_like}
 use Rattle.model_form.specs.Gathered.{IsWithin}
 use Rattle.lin_form.specs.Gathered.{plain_likes}
 use Rattle.lin_form.specs.declared.sum.Like.{Like}

@@ -1,11 +1,10 @@
-use Rattle.std.proofs.Common.{suc, List, ◌≡◌, ap, sym, ◌∙◌, subst, arith, rules, get_or, drop, length, to_z, of_z, ◌+◌, ◌*◌, [], ◌∷◌, ℕ, ◌<◌, ◌≤◌, ◌^◌, refl, unsigned_abs}
-use Rattle.std.specs.Prelude.{pos, FitsSigned, ℤ, ◌*ℤ◌, ◌+ℤ◌}
-use Rattle.std.specs.Int.{w64, w128}
-use Rattle.std.proofs.lemmas.Int.{ints, to_z-of_z}
+use Rattle.std.proofs.Common.{suc, ◌≡◌, ap, sym, ◌∙◌, subst, arith, rules, get_or, drop, to_z, of_z, ◌+◌, ◌≤◌, ◌^◌, refl}
+use Rattle.std.specs.Prelude.{FitsSigned, ◌*ℤ◌}
+use Rattle.std.specs.Int.{w128}
+use Rattle.std.proofs.lemmas.Int.{to_z-of_z}
 use Rattle.std.proofs.lemmas.List.{drop_all}
-use Rattle.model_form.specs.Form.{Form, remainder}
 use Rattle.model_form.specs.Sums.{add_remainders, add_like}
-use Rattle.model_form.specs.Ranges.{IsCoefficient, AreRemainders, AreApart}
+use Rattle.model_form.specs.Ranges.{IsCoefficient, AreApart}
 use Rattle.model_form.specs.Gathered.{LikesBefore, IsWithin}
 use Rattle.model_form.proofs.Gathering.{likes_begin, likes_end, like_step}
 use Rattle.lin_form.specs.Terms.{plain_remainders}

@@ -1,7 +1,7 @@
-use Rattle.std.proofs.Common.{List, ◌≡◌, ◌≢◌, ap, sym, ◌∙◌, subst, arith, rules, get_or, drop, length, to_z, of_z, append-nil, ◌++◌, ◌+◌, [], ◌∷◌, ℕ, ◌<◌, refl}
+use Rattle.std.proofs.Common.{List, ◌≡◌, ◌≢◌, ap, sym, ◌∙◌, subst, arith, rules, get_or, drop, length, to_z, of_z, append-nil, ◌++◌, ◌+◌, [], ℕ, refl}
 use Rattle.std.specs.Prelude.{pos, FitsSigned, ℤ}
 use Rattle.std.specs.Int.{w64, w128}
-use Rattle.std.proofs.lemmas.Int.{ints, to_z-of_z}
+use Rattle.std.proofs.lemmas.Int.{to_z-of_z}
 use Rattle.std.proofs.lemmas.List.{drop_all}
 use Rattle.std.proofs.lemmas.Result.{err_from_is_err_and}
 use Rattle.model_form.specs.Sums.{fields_from}

@@ -1,8 +1,8 @@
-use Rattle.std.proofs.Common.{List, ◌≡◌, ◌≢◌, ap, sym, ◌∙◌, subst, arith, rules, length, to_z, of_z, [], ◌∷◌, ℕ, refl}
+use Rattle.std.proofs.Common.{List, ◌≡◌, ◌≢◌, ap, sym, ◌∙◌, subst, arith, rules, length, to_z, of_z, [], ◌∷◌, refl}
 use Rattle.std.specs.Prelude.{pos, FitsSigned, ℤ}
 use Rattle.std.specs.Int.{w64, w128}
 use Rattle.std.specs.Vec.Iter.{into_iter_items}
-use Rattle.std.proofs.lemmas.Int.{ints, to_z-of_z}
+use Rattle.std.proofs.lemmas.Int.{to_z-of_z}
 use Rattle.std.proofs.lemmas.Result.{err_from_is_err_and}
 use Rattle.model_form.specs.Sums.{without_zeros}
 use Rattle.model_form.specs.Ranges.{IsOfRemainders, IsCoefficient, AreRemainders}
@@ -11,7 +11,7 @@ use Rattle.lin_form.specs.Gathered.{plain_likes}
 use Rattle.lin_form.specs.declared.form.RemTerm.{RemTerm}
 use Rattle.lin_form.specs.declared.stop.FormStop.TheVariants.{Range}
 use Rattle.lin_form.proofs.Joined.{joined, joined-none, without_zeros_are, remainders_range_push}
-use Rattle.lin_form.proofs.Kept.{stops_by, likes_out, likes_skip, likes_push, held_number, held_range}
+use Rattle.lin_form.proofs.Kept.{stops_by, likes_out, likes_push, held_number, held_range}
 use Rattle.lin_form.proofs.sum.kept_remainders.Goals as goal
 
 pub returns-in_err-coefficient : goal.returns-in_err-coefficient

@@ -1,9 +1,8 @@
-use Rattle.std.proofs.Common.{◌≡◌, ap, sym, ◌∙◌, arith, subst, rules, unsigned_abs, ◌≤◌, to_z, of_z, ◌^◌, ◌*◌, ◌+◌, get_or, drop, ◌<◌}
+use Rattle.std.proofs.Common.{◌≡◌, ap, sym, ◌∙◌, arith, subst, rules, unsigned_abs, ◌≤◌, to_z, ◌^◌, ◌*◌, ◌+◌, get_or, drop, ◌<◌}
 use Rattle.std.specs.Prelude.{FitsSigned, ◌*ℤ◌, ◌+ℤ◌, pos}
 use Rattle.std.specs.Int.{w64, w128}
-use Rattle.std.proofs.lemmas.Int.{ints, to_z-of_z}
+use Rattle.std.proofs.lemmas.Int.{to_z-of_z}
 use Rattle.model_form.specs.Form.{terms_value}
-use Rattle.model_form.specs.Ranges.{IsCoefficient}
 use Rattle.lin_form.specs.Terms.{plain_fields}
 use Rattle.lin_form.proofs.Evaluating.{fields_few, coefficient_at, fields_step, fits_64, sum_is, carried}
 use Rattle.lin_form.specs.declared.form.FieldTerm.{FieldTerm}

@@ -1,7 +1,6 @@
 use Rattle.std.proofs.Common.{◌≡◌, ◌*◌, ◌^◌, ◌≤◌, drop, unsigned_abs}
 use Rattle.std.specs.Prelude.{◌+ℤ◌}
 use Rattle.model_form.specs.Form.{terms_value}
-use Rattle.model_form.specs.Ranges.{AreFields}
 use Rattle.lin_form.specs.Terms.{plain_fields}
 use Rattle.lin_form.proofs.value.fields_value.Given as goal
 

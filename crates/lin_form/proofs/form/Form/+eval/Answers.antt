@@ -1,12 +1,11 @@
-use Rattle.std.proofs.Common.{ℕ, List, ◌≡◌, ap, sym, ◌∙◌, arith, subst, rules, unsigned_abs, ◌≤◌, to_z, of_z, ◌^◌, ◌*◌, ◌+◌, get_or, drop, ◌<◌, length}
-use Rattle.std.specs.Prelude.{FitsSigned, ◌*ℤ◌, ◌+ℤ◌, pos}
+use Rattle.std.proofs.Common.{◌≡◌, ap, sym, ◌∙◌, arith, subst, rules, unsigned_abs, ◌≤◌, to_z, ◌^◌, ◌*◌, ◌+◌, get_or, drop, ◌<◌}
+use Rattle.std.specs.Prelude.{FitsSigned, ◌*ℤ◌, ◌+ℤ◌}
 use Rattle.std.specs.Int.{w64, w128}
-use Rattle.std.proofs.lemmas.Int.{ints, to_z-of_z}
-use Rattle.model_form.specs.Form.{form, value, remainders_value, modulo}
-use Rattle.model_form.specs.Ranges.{IsCoefficient, AreRemainders}
+use Rattle.std.proofs.lemmas.Int.{to_z-of_z}
+use Rattle.model_form.specs.Form.{value, remainders_value, modulo}
 use Rattle.lin_form.specs.declared.form.RemTerm.{RemTerm}
-use Rattle.lin_form.specs.Terms.{plain_fields, plain_remainders}
-use Rattle.lin_form.proofs.Evaluating.{remainder_item, remainders_step, fits_64, fits_128, sum_is, carried}
+use Rattle.lin_form.specs.Terms.{plain_remainders}
+use Rattle.lin_form.proofs.Evaluating.{remainder_item, remainders_step, fits_64, sum_is, carried}
 use Rattle.lin_form.proofs.form.Form.+eval.Goals as goal
 
 pub remainder_value-sum-requires-clause-coefficient : goal.remainder_value-sum-requires-clause-coefficient

@@ -1,13 +1,13 @@
-use Rattle.std.proofs.Common.{suc, List, ◌≡◌, ap, sym, ◌∙◌, subst, arith, rules, get_or, drop, length, to_z, of_z, ◌+◌, ◌*◌, [], ◌∷◌, ℕ, ◌<◌, ◌≤◌, ◌^◌, ◌⊎◌, inl, inr, refl, unsigned_abs, add-one}
-use Rattle.std.specs.Prelude.{pos, FitsSigned, ℤ, ◌*ℤ◌, ◌+ℤ◌}
-use Rattle.std.specs.Int.{w64, w128}
-use Rattle.std.proofs.lemmas.Int.{ints, to_z-of_z}
+use Rattle.std.proofs.Common.{suc, ◌≡◌, ap, sym, ◌∙◌, subst, arith, drop, to_z, of_z, ◌+◌, ◌*◌, ◌<◌, ◌≤◌, ◌^◌, inl, inr, unsigned_abs}
+use Rattle.std.specs.Prelude.{ℤ}
+use Rattle.std.specs.Int.{w128}
+use Rattle.std.proofs.lemmas.Int.{ints}
 use Rattle.std.proofs.lemmas.List.{drop_all}
 use Rattle.std.proofs.lemmas.Result.{err_from_is_err_and}
 use Rattle.model_form.specs.Form.{Form, form, constant_of, remainder}
 use Rattle.model_form.specs.Sums.{form_of, started, put_fields, put_remainders, add_form, remainder_form, subst_form}
 use Rattle.model_form.specs.Sums as model
-use Rattle.model_form.specs.Ranges.{IsConstant, IsCoefficient, IsForm, IsOutside, IsOutsideAfter, IsOutsideWithin}
+use Rattle.model_form.specs.Ranges.{IsConstant, IsForm, IsOutside, IsOutsideAfter, IsOutsideWithin}
 use Rattle.model_form.specs.Gathered.{IsGathered}
 use Rattle.model_form.proofs.Gathering.{gathered_more}
 use Rattle.lin_form.specs.Terms.{plain_fields, plain_remainders}

@@ -1,10 +1,10 @@
-use Rattle.std.proofs.Common.{suc, List, ◌≡◌, ap, sym, ◌∙◌, subst, arith, rules, get_or, drop, length, to_z, of_z, ◌+◌, ◌*◌, [], ◌∷◌, ℕ, ◌<◌, ◌≤◌, ◌^◌, refl, unsigned_abs, add-one, MatchResult}
-use Rattle.std.specs.Prelude.{pos, FitsSigned, ℤ, ◌*ℤ◌, ◌+ℤ◌}
-use Rattle.std.specs.Int.{w64, w128}
-use Rattle.std.proofs.lemmas.Int.{ints, to_z-of_z}
+use Rattle.std.proofs.Common.{suc, ◌≡◌, ap, sym, ◌∙◌, subst, arith, rules, drop, to_z, of_z, ◌+◌, ◌*◌, ◌∷◌, ◌≤◌, ◌^◌, unsigned_abs, add-one, MatchResult}
+use Rattle.std.specs.Prelude.{pos, FitsSigned}
+use Rattle.std.specs.Int.{w128}
+use Rattle.std.proofs.lemmas.Int.{to_z-of_z}
 use Rattle.std.proofs.lemmas.List.{drop_all}
 use Rattle.std.proofs.lemmas.Result.{MatchResult-weaker}
-use Rattle.model_form.specs.Form.{Form, constant_of}
+use Rattle.model_form.specs.Form.{Form}
 use Rattle.model_form.specs.Sums.{add_parts, add_form, form_of, started, sign}
 use Rattle.model_form.specs.Sums as model
 use Rattle.model_form.specs.Ranges.{IsOutside}

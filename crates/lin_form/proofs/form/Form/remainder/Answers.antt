@@ -1,4 +1,4 @@
-use Rattle.std.proofs.Common.{◌≡◌, ap, sym, ◌∙◌, subst, arith, [], ◌∷◌, ◌++◌, true, false, vec_len}
+use Rattle.std.proofs.Common.{◌≡◌, ap, sym, ◌∙◌, arith, [], ◌∷◌, ◌++◌, true, false, vec_len}
 use Rattle.std.proofs.lemmas.Bool.{eq-eqb}
 use Rattle.lin_form.specs.declared.form.RemTerm.{RemTerm}
 use Rattle.std.specs.Prelude.{pos}

@@ -1,10 +1,10 @@
-use Rattle.std.proofs.Common.{◌≡◌, ap, sym, ◌∙◌, subst, arith, rules, to_z, of_z, cond, false}
-use Rattle.std.specs.Prelude.{FitsSigned, pos, ◌*ℤ◌}
-use Rattle.std.specs.Int.{w64, w128}
-use Rattle.std.proofs.lemmas.Int.{ints, to_z-of_z}
+use Rattle.std.proofs.Common.{◌≡◌, ap, sym, ◌∙◌, subst, rules, to_z, of_z}
+use Rattle.std.specs.Prelude.{FitsSigned, pos}
+use Rattle.std.specs.Int.{w128}
+use Rattle.std.proofs.lemmas.Int.{to_z-of_z}
 use Rattle.model_form.specs.Form.{form}
-use Rattle.model_form.specs.Sums.{scaled_fields, scaled_remainders, product_form, number_form}
-use Rattle.model_form.specs.Ranges.{AreApart, IsConstant, IsForm}
+use Rattle.model_form.specs.Sums.{scaled_fields, scaled_remainders, product_form}
+use Rattle.model_form.specs.Ranges.{AreApart, IsConstant}
 use Rattle.lin_form.specs.Terms.{plain_fields, plain_remainders}
 use Rattle.lin_form.proofs.Joined.{scaled_apart}
 use Rattle.lin_form.proofs.Outside.{none_outside, held_constant, product_is}
