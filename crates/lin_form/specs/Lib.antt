@@ -1,0 +1,4 @@
+pub mod Terms
+pub mod Falls
+pub mod Stops
+pub mod Gathered

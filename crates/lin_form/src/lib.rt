@@ -1,0 +1,19 @@
+//! Linear forms over whole numbers.
+//!
+//! Its promise: each call gives the form that the definitions say, or a number of that form that is outside its range;
+//! and the value of a form is exact.
+#![tactic(auto)]
+
+mod form;
+mod product;
+mod same;
+mod stop;
+mod subst;
+mod sum;
+#[cfg(test)]
+mod tests;
+mod value;
+
+pub use form::{FieldTerm, Form, RemTerm};
+pub use stop::FormStop;
+pub use sum::Signed;

@@ -1,0 +1,90 @@
+//! The form of a product by a number, and that of a remainder.
+
+ghost use Rattle.std.specs.Prelude.{◌≡◌, ◌≢◌, ◌<◌, ◌≤◌, ℤ, pos, MatchResult};
+ghost use Rattle.model_form.specs.Sums.{product_form, remainder_form, scaled_fields, scaled_remainders};
+ghost use Rattle.model_form.specs.Ranges.{IsConstant, IsCoefficient, IsForm, IsOutside, IsOfFields, IsOfRemainders, AreFields, AreRemainders};
+ghost use Rattle.lin_form.specs.Terms.{plain_fields, plain_remainders};
+ghost use Rattle.lin_form.specs.Stops.{StopsAt};
+
+use crate::stop::{coefficient, constant};
+use crate::{FieldTerm, Form, FormStop, RemTerm};
+use std::alloc::Global;
+use wide_num::rem;
+
+impl Form {
+    /// The form times a number.
+    pub fn scaled(&self, alloc: Global, by: i128) -> Result<Form, FormStop>
+        requires { IsConstant by }
+        ensures form { MatchResult result (λ form. form ≡ product_form by self.now) (λ stop. StopsAt (IsOutside (product_form by self.now)) stop) }
+        ensures in_range { MatchResult result (λ form. (n : ℤ) → IsOutside form n → ⊥) (λ _. Unit {0}) }
+    {
+        if by == 0 {
+            return Ok(Form::number(alloc, 0)?);
+        }
+        let constant = constant(by * self.constant)?;
+        let fields = scaled_fields(alloc, by, &self.fields)?;
+        let remainders = scaled_remainders(alloc, by, &self.remainders)?;
+        Ok(Form {
+            constant,
+            fields,
+            remainders,
+        })
+    }
+
+    /// The form's remainder by a number.
+    pub fn remainder(&self, alloc: Global, by: u32) -> Result<Form, FormStop>
+        requires some { 0 < by }
+        requires few { by ≤ 4096 }
+        ensures { MatchResult result (λ form. form ≡ remainder_form self.now by) (λ stop. stop ≡ FormStop.Memory) }
+    {
+        if self.fields.is_empty() && self.remainders.is_empty() {
+            return Ok(Form::number(alloc, rem(self.constant, by as i128))?);
+        }
+        let inner = self.copy(alloc)?;
+        let mut remainders = Vec::new(alloc);
+        remainders.push(RemTerm {
+            coefficient: 1,
+            inner,
+            divisor: by,
+        })?;
+        Ok(Form {
+            constant: 0,
+            fields: Vec::new(alloc),
+            remainders,
+        })
+    }
+}
+
+fn scaled_fields(alloc: Global, by: i128, terms: &[FieldTerm]) -> Result<Vec<FieldTerm>, FormStop>
+    requires by { IsConstant by }
+    requires terms { AreFields 0 (plain_fields terms.now) }
+    requires some { by ≢ pos 0 }
+    ensures { MatchResult result (λ made. (plain_fields made.items ≡ scaled_fields by (plain_fields terms.now)) × AreFields 0 (plain_fields made.items)) (λ stop. StopsAt (λ n. IsOfFields n (scaled_fields by (plain_fields terms.now)) × (IsCoefficient n → ⊥)) stop) }
+{
+    let mut made = Vec::new(alloc);
+    for term in terms {
+        made.push(FieldTerm {
+            field: term.field,
+            coefficient: coefficient(by * term.coefficient as i128)?,
+        })?;
+    }
+    Ok(made)
+}
+
+fn scaled_remainders(alloc: Global, by: i128, terms: &[RemTerm]) -> Result<Vec<RemTerm>, FormStop>
+    requires by { IsConstant by }
+    requires terms { AreRemainders (plain_remainders terms.now) }
+    requires some { by ≢ pos 0 }
+    ensures { MatchResult result (λ made. (plain_remainders made.items ≡ scaled_remainders by (plain_remainders terms.now)) × AreRemainders (plain_remainders made.items)) (λ stop. StopsAt (λ n. IsOfRemainders n (scaled_remainders by (plain_remainders terms.now)) × (IsCoefficient n → ⊥)) stop) }
+{
+    let mut made = Vec::new(alloc);
+    for term in terms {
+        let coefficient = coefficient(by * term.coefficient as i128)?;
+        made.push(RemTerm {
+            coefficient,
+            inner: term.inner.copy(alloc)?,
+            divisor: term.divisor,
+        })?;
+    }
+    Ok(made)
+}

@@ -1,0 +1,75 @@
+//! Forms are equal where they have the same terms in any order and the same constant.
+
+ghost use Rattle.std.specs.Prelude.{◌≡◌, ◌↔◌, IsTrue};
+ghost use Rattle.model_form.specs.Form.{height};
+ghost use Rattle.model_form.specs.Same.{same_form, ordered, members, IsIn};
+ghost use Rattle.lin_form.specs.Terms.{plain_fields, plain_remainders, member};
+
+use crate::{FieldTerm, Form, RemTerm};
+
+impl PartialEq for Form {
+    ghost use Rattle.model_form.specs.Same.{same_form};
+    ghost use Rattle.std.specs.Cmp.{partial_equiv_from_equiv};
+    ghost use Rattle.model_form.proofs.Equals.{same_laws};
+
+    ghost eq = { same_form };
+
+    ghost laws = { partial_equiv_from_equiv same_laws };
+
+    fn eq(&self, other: &Form) -> bool {
+        self.is_same(other)
+    }
+}
+
+impl Eq for Form {
+    ghost use Rattle.model_form.proofs.Equals.{same_laws};
+
+    ghost laws = { same_laws };
+}
+
+impl Form {
+    #[cycle(same)]
+    pub(crate) fn is_same(&self, other: &Form) -> bool
+        ensures { result ≡ same_form self.now other.now }
+    {
+        if self.constant != other.constant {
+            return false;
+        }
+        if !same_fields(&self.fields, &other.fields) {
+            return false;
+        }
+        let terms = self.remainders.as_slice();
+        let others = other.remainders.as_slice();
+        if terms.len() != others.len() {
+            return false;
+        }
+        for term in terms {
+            if !has(others, term) {
+                return false;
+            }
+        }
+        true
+    }
+}
+
+fn same_fields(terms: &[FieldTerm], others: &[FieldTerm]) -> bool
+    ensures { IsTrue result ↔ (plain_fields terms.now ≡ plain_fields others.now) }
+{
+    terms == others
+}
+
+// Whether an equal term is among these.
+#[cycle(same)]
+fn has(terms: &[RemTerm], term: &RemTerm) -> bool
+    ensures { IsTrue result ↔ IsIn (member term.now) (members (plain_remainders terms.now)) }
+{
+    for other in terms {
+        if term.coefficient == other.coefficient
+            && term.divisor == other.divisor
+            && term.inner.is_same(&other.inner)
+        {
+            return true;
+        }
+    }
+    false
+}

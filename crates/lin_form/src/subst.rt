@@ -1,0 +1,54 @@
+//! Forms that are put for fields.
+
+ghost use Rattle.std.specs.Prelude.{◌≡◌, ℤ, ◌≤◌, ◌^◌, MatchResult, OnOk, unsigned_abs};
+ghost use Rattle.model_form.specs.Sums.{subst_form, put_fields};
+ghost use Rattle.model_form.specs.Ranges.{IsOutsideAfter, AreFields};
+ghost use Rattle.model_form.specs.Gathered.{IsGathered};
+ghost use Rattle.lin_form.specs.Terms.{plain_fields};
+ghost use Rattle.lin_form.specs.Gathered.{plain_sum};
+ghost use Rattle.lin_form.specs.Stops.{StopsAt};
+
+use crate::sum::Sum;
+use crate::{FieldTerm, Form, FormStop};
+use fast_fault::Memory;
+use std::alloc::Global;
+
+impl Form {
+    /// The form with a form put for each field, by the fields' numbers: it is built anew from the inside out, so a
+    /// number outside may be one of an inner form. A field past the list counts as 0.
+    pub fn subst(&self, alloc: Global, forms: &[Form]) -> Result<Form, FormStop>
+        ensures form { MatchResult result (λ form. form ≡ subst_form self.now forms.now) (λ stop. StopsAt (IsOutsideAfter self.now forms.now) stop) }
+        ensures in_range { MatchResult result (λ _. (n : ℤ) → IsOutsideAfter self.now forms.now n → ⊥) (λ _. Unit {0}) }
+    {
+        let mut sum = Sum::of(alloc, self.constant);
+        put_fields(alloc, &mut sum, &self.fields, forms)?;
+        for term in &self.remainders {
+            let inner = term.inner.subst(alloc, forms)?;
+            let part = inner.remainder(alloc, term.divisor)?;
+            sum.add(alloc, term.coefficient as i128, &part)?;
+        }
+        sum.finish(alloc)
+    }
+}
+
+fn put_fields(
+    alloc: Global,
+    sum: &mut Sum,
+    terms: &[FieldTerm],
+    forms: &[Form],
+) -> Result<(), Memory>
+    requires terms { AreFields 0 (plain_fields terms.now) }
+    requires gathered { IsGathered 0 (plain_sum sum.old) }
+    requires constant { unsigned_abs sum.old.constant ≤ 2 ^ 63 }
+    ensures sum { OnOk result (plain_sum sum.new ≡ put_fields (plain_fields terms.now) forms.now (plain_sum sum.old)) }
+    ensures gathered { OnOk result (IsGathered 8 (plain_sum sum.new)) }
+    ensures constant { OnOk result (unsigned_abs sum.new.constant ≤ 2 ^ 98) }
+{
+    for term in terms {
+        let Some(form) = forms.get(term.field as usize) else {
+            continue;
+        };
+        sum.add(alloc, term.coefficient as i128, form)?;
+    }
+    Ok(())
+}

@@ -1,0 +1,6 @@
+pub mod Orders
+pub mod Written
+pub mod Sorted
+pub mod Equals
+pub mod Values
+pub mod Gathering

@@ -1,0 +1,7 @@
+pub mod Form
+pub mod FormCode
+pub mod Same
+pub mod Sums
+pub mod Ranges
+pub mod Meaning
+pub mod Gathered
