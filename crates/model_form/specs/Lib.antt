@@ -4,4 +4,5 @@ pub mod Same
 pub mod Sums
 pub mod Ranges
 pub mod Meaning
+pub mod Laws
 pub mod Gathered
