@@ -1,4 +1,5 @@
 pub mod Meaning
 pub mod Words
 pub mod Outcomes
+pub mod Causes
 pub mod Report

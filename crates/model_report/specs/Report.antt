@@ -1,5 +1,5 @@
 -- Legal reports: what a run may write, and with which status.
-use Rattle.std.specs.Prelude.{◌≡◌, ℕ, ◌≤◌, ◌<◌, Bool, true, false, List, [], ◌∷◌, ◌++◌, Option, Some, None, IfSome, ◌⊎◌, codes, decimal, take, length, ◌&&◌, ◌==◌}
+use Rattle.std.specs.Prelude.{◌≡◌, ℕ, ◌≤◌, ◌<◌, Bool, true, false, List, [], ◌∷◌, ◌++◌, Option, Some, None, IfSome, ◌⊎◌, codes, decimal, take, length, ◌&&◌, Contains}
 use Rattle.std.specs.List.{list_any, list_all}
 use Rattle.std.specs.Str.{IsUtf8, chars}
 use Rattle.fast_fault.specs.declared.place.Pos.{Pos}
@@ -9,27 +9,22 @@ use Rattle.fast_fault.specs.declared.status.Status.{Status}
 use Rattle.fast_fault.specs.declared.status.Status.TheVariants.{Hold, Fails, Words, TextRefused, RunRefused, TextFault, SinkFault, Memory}
 use Rattle.fast_fault.specs.Codes.{number_of, name_of}
 use Rattle.fast_fault.specs.Written.{Appends}
-use Rattle.model_program.specs.Syntax.{TypeItem, Rule, LangItem, Item}
+use Rattle.model_program.specs.Syntax.{TypeItem, Item}
 use Rattle.model_program.specs.Lexeme.{Lexeme}
 use Rattle.model_program.specs.Cuts.{AreTokens, StopsAt}
-use Rattle.model_program.specs.Names.{types_of, langs_of}
+use Rattle.model_program.specs.Names.{types_of}
 use Rattle.model_program.specs.WellFormed.{is_well_formed, is_bool}
 use Rattle.model_program.specs.Texts.{IsProgramText, IsBadUtf8At}
 use Rattle.model_report.specs.Words.{Form, run_form, IsForm, file_of}
 use Rattle.model_report.specs.Outcomes.{Outcome, AreOutcomes, lines_of, says_fail}
+use Rattle.model_report.specs.Causes.{Stop, HasCause, stop_code, stop_shows}
 
--- What is built so far: fields are truth values, and a rule's constructor has no children.
+-- What is built so far: fields are truth values.
 abbrev pub has_truths : TypeItem → Bool
 has_truths t = list_all (λ f. is_bool f.sort) t.fields
 
-abbrev pub has_leaves : LangItem → Bool
-has_leaves l = list_all (λ r. length r.vars == 0) l.rules
-
-abbrev pub are_built : List TypeItem → List LangItem → Bool
-are_built types langs = list_all has_truths types && list_all has_leaves langs
-
 abbrev pub is_built : List Item → Bool
-is_built items = are_built (types_of items) (langs_of items)
+is_built items = list_all has_truths (types_of items)
 
 -- The bytes are a text of these items, which are a well-formed program that is built.
 pub record IsProgram (bytes : List ℕ) (items : List Item) : Type 0 where
@@ -52,10 +47,17 @@ IsRefused bytes Token place = (length bytes ≤ 1048576) × IsUtf8 bytes × Stop
 IsRefused bytes NotYet place = (length bytes ≤ 1048576) × IsUtf8 bytes × IsMadeOfTokens bytes × ((items : List Item) → ¬ (IsProgram bytes items)) × (place ≡ start)
 IsRefused bytes code place = ⊥
 
--- `refused CODE NAME at FILE:LINE:COLUMN`
+-- `refused CODE NAME at FILE:LINE:COLUMN`, and what is shown behind it
+abbrev pub refusal_showing : List ℕ → Code → List ℕ → Pos → List ℕ
+refusal_showing shown code file place =
+    codes "refused " ++ (decimal (number_of code) ++ (codes " " ++ (name_of code ++ (codes " at " ++ (file ++ (codes ":" ++ (decimal place.line ++ (codes ":" ++ (decimal place.column ++ (shown ++ codes "\n"))))))))))
+
+-- the line of a refusal of a text, and of one of an item
 abbrev pub refusal_line : Code → List ℕ → Pos → List ℕ
-refusal_line code file place =
-    codes "refused " ++ (decimal (number_of code) ++ (codes " " ++ (name_of code ++ (codes " at " ++ (file ++ (codes ":" ++ (decimal place.line ++ (codes ":" ++ (decimal place.column ++ codes "\n")))))))))
+refusal_line = refusal_showing []
+
+abbrev pub stop_line : Stop → List ℕ → Pos → List ℕ
+stop_line stop = refusal_showing (stop_shows stop) (stop_code stop)
 
 abbrev pub usage_line : List ℕ
 usage_line = codes "usage: fast check FILE | run FILE [--classes N] | apply FILE NAME TREES | accepts FILE NAME TREES | self N\n"
@@ -64,9 +66,22 @@ usage_line = codes "usage: fast check FILE | run FILE [--classes N] | apply FILE
 abbrev pub IsWholeRun : List ℕ → Bool → List ℕ → Type 0
 IsWholeRun bytes fails report = (items : List Item) × (outcomes : List Outcome) × IsProgram bytes items × AreOutcomes items items outcomes × (fails ≡ list_any says_fail outcomes) × (report ≡ lines_of outcomes)
 
+-- A report that ends at an item: the lines of the items before it, and the refusal for a cause that it has.
+pub record EndsAtItem (file : List ℕ) (items : List Item) (report : List ℕ) : Type 0 where
+  pub before : List Item
+  pub item : Item
+  pub after : List Item
+  pub split : items ≡ before ++ item ∷ after
+  pub outcomes : List Outcome
+  pub are : AreOutcomes items before outcomes
+  pub stop : Stop
+  pub cause : HasCause items item.body stop
+  pub lines : report ≡ lines_of outcomes ++ stop_line stop file item.place
+
 abbrev pub IsFinished : Form → List ℕ → Status → List ℕ → Type 0
 IsFinished (run_form file) bytes Hold report = IsWholeRun bytes false report
 IsFinished (run_form file) bytes Fails report = IsWholeRun bytes true report
+IsFinished (run_form file) bytes RunRefused report = (items : List Item) × IsProgram bytes items × EndsAtItem file items report
 IsFinished (run_form file) bytes TextRefused report = (code : Code) × (place : Pos) × IsRefused bytes code place × (report ≡ refusal_line code file place)
 IsFinished form bytes status report = ⊥
 
@@ -103,11 +118,13 @@ IsReport words held status report =
 abbrev pub Reports : (Status → List ℕ → Type 0) → Status → Option (List ℕ) → Option (List ℕ) → Type 0
 Reports Legal status before after = (report : List ℕ) × Legal status report × Appends before after report
 
--- The words are a form over a text that is told and is a program that is built: nothing stands in the way of a report.
+-- The words are a form over a text that is told and is a program that is built, and no item has a cause to stop: nothing
+-- stands in the way of a report.
 pub record IsDoable (words : List (List ℕ)) (held : List ℕ → Option (List ℕ)) (form : Form) (bytes : List ℕ) (items : List Item) : Type 0 where
   pub is_form : IsForm words form
   pub told : held (file_of form) ≡ Some bytes
   pub program : IsProgram bytes items
+  pub free : (item : Item) → Contains items item → (stop : Stop) → ¬ (HasCause items item.body stop)
 
 -- the whole report came, or a fault or want of memory stopped it
 abbrev pub IsDoneOrStopped : Status → Type 0

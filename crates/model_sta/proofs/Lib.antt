@@ -3,3 +3,4 @@ pub mod Equiv
 pub mod Sets
 pub mod Reached
 pub mod Least
+pub mod Pairs

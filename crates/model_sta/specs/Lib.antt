@@ -4,3 +4,4 @@ pub mod Sets
 pub mod Reached
 pub mod Least
 pub mod Laws
+pub mod Pairwise

@@ -16,7 +16,7 @@ use Rattle.label_split.specs.declared.rows.SignRow.{SignRow}
 use Rattle.sta_core.specs.Machine.{PlainRule}
 use Rattle.sta_core.specs.Sta.{rule_meaning}
 use Rattle.sta_core.proofs.Meaning.{All_from_map}
-use Rattle.sta_classes.specs.Pairwise.{Pairwise}
+use Rattle.model_sta.specs.Pairwise.{Pairwise}
 use Rattle.sta_classes.specs.Copies.{IsCopy, meaning_of}
 use Rattle.sta_classes.specs.Guards.{state_guards, guards_of, all_guards, atoms_of_all, truths, GuardsFit, AreSplit}
 use Rattle.sta_classes.specs.Rows.{lists_of}

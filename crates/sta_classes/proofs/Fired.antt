@@ -14,7 +14,7 @@ use Rattle.label_core.specs.declared.formula.Formula.TheVariants.{And, Or}
 use Rattle.label_core.proofs.Formulas.{plain_and, plain_or, formula_holds_and, formula_holds_or}
 use Rattle.sta_core.specs.Machine.{PlainRule}
 use Rattle.sta_core.specs.Sta.{rule_meaning}
-use Rattle.sta_classes.specs.Pairwise.{Pairwise}
+use Rattle.model_sta.specs.Pairwise.{Pairwise}
 use Rattle.sta_classes.specs.Copies.{IsCopy, AddsCopies, meaning_of}
 use Rattle.sta_classes.specs.Guards.{firing_guards, all_guards, atoms_of_all}
 use Rattle.sta_classes.proofs.Copied.{adds_one, copies_among, among_more, among_append, atoms_append, kept_within}

@@ -12,12 +12,12 @@ use Rattle.model_sta.specs.Least.{Found, rows_of, rows_at, counts_of, relabel_fo
 use Rattle.model_sta.proofs.Least.{AreKids, no_kids, more_kids, assembled, least_at, witness_is_least}
 use Rattle.sta_core.specs.Machine.{Machine, PlainRule}
 use Rattle.sta_core.specs.Sta.{automaton_of, rule_meaning}
-use Rattle.sta_classes.specs.Pairwise.{Pairwise}
+use Rattle.model_sta.specs.Pairwise.{Pairwise}
 use Rattle.sta_classes.specs.Plain.{PlainTable, class_row, IsBuilt}
 use Rattle.sta_classes.specs.Copies.{meaning_of}
 use Rattle.sta_classes.specs.Rows.{plain_class, found_of, class_rows, class_rows_at}
 use Rattle.sta_classes.specs.declared.class.Class.{Class}
-use Rattle.sta_classes.proofs.Copied.{pairwise_append}
+use Rattle.model_sta.proofs.Pairs.{pairwise_append}
 
 -- the classes over labels, by their plain form
 abbrev pub plain_founds : {V : Type 0} → (V → Label) → List (Class V) → List (Found Label)

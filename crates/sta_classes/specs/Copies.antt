@@ -9,7 +9,7 @@ use Rattle.label_core.specs.declared.formula.Formula as code
 use Rattle.sta_core.specs.Machine.{PlainRule, plain_rule}
 use Rattle.sta_core.specs.Sta.{rule_meaning}
 use Rattle.sta_core.specs.declared.StaRule.{StaRule}
-use Rattle.sta_classes.specs.Pairwise.{Pairwise}
+use Rattle.model_sta.specs.Pairwise.{Pairwise}
 
 module _ {A : Type 0} where
   -- each state's rules, as plain data

@@ -1,4 +1,3 @@
-pub mod Pairwise
 pub mod Copies
 pub mod Guards
 pub mod Rows

@@ -3,7 +3,7 @@
 ghost use Rattle.std.specs.Prelude.{◌≡◌, map, IfOk};
 ghost use Rattle.label_core.specs.Formula.{plain_formula};
 ghost use Rattle.sta_core.specs.Machine.{plain_rule};
-ghost use Rattle.sta_classes.specs.Pairwise.{Pairwise};
+ghost use Rattle.model_sta.specs.Pairwise.{Pairwise};
 ghost use Rattle.sta_classes.specs.Copies.{IsCopy, IsRuleCopy, AreRuleCopies, plain_rules};
 
 use fast_fault::Memory;

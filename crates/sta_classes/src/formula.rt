@@ -7,7 +7,7 @@ ghost use Rattle.model_sta.specs.Sets.{rows_meet, step};
 ghost use Rattle.label_core.specs.Atoms.{EachHasEqual};
 ghost use Rattle.label_core.specs.Formula.{plain_formula, atoms_in};
 ghost use Rattle.sta_core.specs.Machine.{plain_rule};
-ghost use Rattle.sta_classes.specs.Pairwise.{Pairwise};
+ghost use Rattle.model_sta.specs.Pairwise.{Pairwise};
 ghost use Rattle.sta_classes.specs.Copies.{IsCopy, plain_rules, meaning_of};
 ghost use Rattle.sta_classes.specs.Guards.{firing_guards, all_guards, atoms_of_all};
 ghost use Rattle.sta_classes.specs.Rows.{class_rows_at};

@@ -3,7 +3,7 @@
 ghost use Rattle.std.specs.Prelude.{◌≤◌, length, map, IfOk, IfErr, OnOk};
 ghost use Rattle.label_core.specs.Formula.{plain_formula};
 ghost use Rattle.sta_core.specs.Machine.{plain_rule};
-ghost use Rattle.sta_classes.specs.Pairwise.{Pairwise};
+ghost use Rattle.model_sta.specs.Pairwise.{Pairwise};
 ghost use Rattle.sta_classes.specs.Copies.{IsCopy, AddsCopies, plain_rules};
 ghost use Rattle.label_split.specs.Split.{SplitsInto};
 ghost use Rattle.sta_classes.specs.Guards.{state_guards, guards_of, all_guards, atoms_of_all, truths, GuardsFit, AreSplit};

@@ -1,9 +1,10 @@
 use Rattle.std.proofs.Common.{ap, subst, map, ◌∙◌}
 use Rattle.label_core.specs.Formula.{plain_formula}
 use Rattle.label_core.proofs.Formulas.{plain_and, plain_or}
-use Rattle.sta_classes.specs.Pairwise.{Pairwise}
+use Rattle.model_sta.specs.Pairwise.{Pairwise}
 use Rattle.sta_classes.specs.Copies.{IsCopy}
-use Rattle.sta_classes.proofs.Copied.{pairwise_more, pairwise_done, copy_of_all, copy_of_some}
+use Rattle.model_sta.proofs.Pairs.{pairwise_more, pairwise_done}
+use Rattle.sta_classes.proofs.Copied.{copy_of_all, copy_of_some}
 use Rattle.sta_classes.proofs.copies.+copy_formula.Goals as goal
 
 pub every-preserved : goal.every-preserved

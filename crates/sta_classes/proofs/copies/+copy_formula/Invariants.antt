@@ -1,6 +1,6 @@
 use Rattle.std.proofs.Common.{map, take}
 use Rattle.label_core.specs.Formula.{plain_formula}
-use Rattle.sta_classes.specs.Pairwise.{Pairwise}
+use Rattle.model_sta.specs.Pairwise.{Pairwise}
 use Rattle.sta_classes.specs.Copies.{IsCopy}
 use Rattle.sta_classes.proofs.copies.+copy_formula.Given as goal
 

@@ -1,8 +1,8 @@
 use Rattle.std.proofs.Common.{arith, map, subst}
 use Rattle.sta_core.specs.Machine.{plain_rule}
-use Rattle.sta_classes.specs.Pairwise.{Pairwise}
+use Rattle.model_sta.specs.Pairwise.{Pairwise}
 use Rattle.sta_classes.specs.Copies.{IsRuleCopy}
-use Rattle.sta_classes.proofs.Copied.{pairwise_more, pairwise_done}
+use Rattle.model_sta.proofs.Pairs.{pairwise_more, pairwise_done}
 use Rattle.sta_classes.proofs.copies.copy_rules.Goals as goal
 
 pub loop-those-preserved : goal.loop-those-preserved

@@ -1,7 +1,7 @@
 use Rattle.std.proofs.Common.{arith, refl, ◌∙◌, ap, map}
 use Rattle.sta_core.specs.Machine.{plain_rule}
 use Rattle.sta_classes.specs.Copies.{IsRuleCopy}
-use Rattle.sta_classes.proofs.Copied.{pairwise_more, pairwise_done}
+use Rattle.model_sta.proofs.Pairs.{pairwise_more, pairwise_done}
 use Rattle.sta_classes.proofs.copies.copy_state.Goals as goal
 
 pub loop-rule-preserved : goal.loop-rule-preserved

@@ -1,6 +1,6 @@
 use Rattle.std.proofs.Common.{map, take}
 use Rattle.sta_core.specs.Machine.{plain_rule}
-use Rattle.sta_classes.specs.Pairwise.{Pairwise}
+use Rattle.model_sta.specs.Pairwise.{Pairwise}
 use Rattle.sta_classes.specs.Copies.{IsRuleCopy}
 use Rattle.sta_classes.proofs.copies.copy_state.Given as goal
 

@@ -1,6 +1,6 @@
 use Rattle.std.proofs.Common.{◌∙◌, subst, sym, map}
 use Rattle.label_core.specs.Formula.{plain_formula}
-use Rattle.sta_classes.specs.Pairwise.{Pairwise}
+use Rattle.model_sta.specs.Pairwise.{Pairwise}
 use Rattle.sta_classes.specs.Copies.{IsCopy, plain_rules}
 use Rattle.sta_classes.specs.Guards.{guards_of}
 use Rattle.sta_classes.proofs.Covered.{formulas_fit, split_of_guards, atoms_of_guards, unkept_of_guards}

@@ -2,7 +2,7 @@ use Rattle.std.proofs.Common.{◌<◌, take, map}
 use Rattle.model_tree.specs.Tree.{relabel}
 use Rattle.model_sta.specs.Least.{relabel_found, IsWitness}
 use Rattle.sta_core.specs.Sta.{automaton_of}
-use Rattle.sta_classes.specs.Pairwise.{Pairwise}
+use Rattle.model_sta.specs.Pairwise.{Pairwise}
 use Rattle.sta_classes.specs.declared.class.TheConstants.{CAP}
 use Rattle.sta_classes.proofs.table.Table.+build.Given as goal
 

@@ -1,8 +1,9 @@
 -- An element of a list and of what a list is mapped to.
-use Rattle.std.proofs.Common.{◌≡◌, ℕ, zero, suc, ◌<◌, Bool, true, false, ◌&&◌, List, [], ◌∷◌, map, length, get_or, refl, sym, ap, ◌∙◌, arith}
-use Rattle.std.specs.Prelude.{Contains}
+use Rattle.std.proofs.Common.{◌≡◌, ℕ, zero, suc, ◌<◌, Bool, true, false, ◌&&◌, List, [], ◌∷◌, map, length, get_or, refl, sym, ap, subst, ◌∙◌, ◌++◌, arith}
+use Rattle.std.specs.Prelude.{Contains, All}
 use Rattle.std.specs.List.{list_all}
-use Rattle.std.proofs.lemmas.List.{get_or-map, length-map}
+use Rattle.std.proofs.lemmas.List.{get_or-map, length-map, length-append, get_or_append_left}
+use Rattle.std.proofs.lemmas.List.Elements.{All-tail}
 
 -- the element at a place is mapped to the element at that place
 pub mapped_at : {A B : Type 0} (f : A → B) (xs : List A) (i : ℕ) (x : A) (d : B) → x ≡ get_or xs i x → i < length xs → get_or (map f xs) i d ≡ f x
@@ -30,3 +31,21 @@ all_contained p (y ∷ ys) (suc i) x all e h = all_contained p ys i x (second_tr
 
 pub all_mapped : {A B : Type 0} (p : B → Bool) (f : A → B) (xs : List A) (i : ℕ) (x : A) → list_all p (map f xs) ≡ true → x ≡ get_or xs i x → i < length xs → p (f x) ≡ true
 all_mapped p f xs i x all e h = all_contained p (map f xs) i (f x) all (sym (mapped_at f xs i x (f x) e h)) (mapped_below f xs i h)
+
+-- what holds of each of a list holds of each of its parts
+pub all_left : {A : Type 0} (P : A → Type 0) (xs ys : List A) → All P (xs ++ ys) → All P xs
+all_left P xs ys all k d low = subst P (get_or_append_left xs ys d k low) (all k d (omega (arith, low, length-append xs ys)))
+
+pub all_right : {A : Type 0} (P : A → Type 0) (xs ys : List A) → All P (xs ++ ys) → All P ys
+all_right P [] ys all = all
+all_right P (x ∷ xs) ys all = all_right P xs ys (All-tail P x (xs ++ ys) all)
+
+-- what holds of each holds of one that is contained
+pub all_of_contained : {A : Type 0} (P : A → Type 0) (xs : List A) (x : A) → All P xs → Contains xs x → P x
+all_of_contained P xs x all (k, low, is) = subst P is (all k x low)
+
+pub test_of_contained : {A : Type 0} (p : A → Bool) (xs : List A) (x : A) → list_all p xs ≡ true → Contains xs x → p x ≡ true
+test_of_contained p xs x all (k, low, is) = all_contained p xs k x all (sym is) low
+
+pub all_here : {A : Type 0} (P : A → Type 0) (xs : List A) (i : ℕ) (x : A) → All P xs → x ≡ get_or xs i x → i < length xs → P x
+all_here P xs i x all is low = subst P (sym is) (all i x low)

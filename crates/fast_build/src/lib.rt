@@ -1,0 +1,14 @@
+//! Automata of programs: for a language, one automaton of exactly the languages that it reaches.
+//!
+//! Its promise: a state of the automaton accepts exactly the trees of the type that are in the language of its number.
+#![tactic(auto)]
+
+mod automaton;
+mod declared;
+mod guards;
+mod numbers;
+mod reached;
+mod rules;
+
+pub use automaton::language;
+pub use declared::Declared;

@@ -1,0 +1,70 @@
+//! The languages that a language reaches.
+
+ghost use Rattle.std.specs.Prelude.{◌≡◌, [], ◌∷◌, IfOk, OnOk, map, true, is_some};
+ghost use Rattle.fast_syntax.specs.View.{plain_demand, plain_rule, plain_lang};
+ghost use Rattle.model_program.specs.Names.{langs_of, find_lang};
+ghost use Rattle.fast_build.specs.Items.{items_of, IsDeclared};
+ghost use Rattle.fast_build.specs.Reached.{demanded_by, demanded_in, IsGrown, IsReached};
+
+use crate::declared::Declared;
+use fast_fault::{Memory, Text};
+use fast_syntax::{Demand, LangItem, Rule};
+use indexmap::IndexSet;
+use std::alloc::Global;
+
+/// The languages that a language reaches, in the order in which they are met, itself first: their names, and at the same
+/// places their declarations.
+#[derive(Drop)]
+pub struct Reached<'p> {
+    pub names: IndexSet<Text>,
+    pub langs: Vec<&'p LangItem>,
+}
+
+/// Adds the name, unless it is there.
+fn add_name(alloc: Global, name: &Text, names: &mut IndexSet<Text>) -> Result<(), Memory>
+    ensures { OnOk result (IsGrown names.old.keys names.new.keys (name.now ∷ [])) }
+{
+    if !names.contains(name) {
+        names.insert(name.copy(alloc)?)?;
+    }
+    Ok(())
+}
+
+/// Adds the languages that are demanded.
+fn add_demanded(alloc: Global, given: &[Demand], names: &mut IndexSet<Text>) -> Result<(), Memory>
+    ensures { OnOk result (IsGrown names.old.keys names.new.keys (demanded_by (map plain_demand given.now))) }
+{
+    'given: for demand in given {
+        add_name(alloc, &demand.language.text, names)?;
+    }
+    Ok(())
+}
+
+/// Adds the languages that the rules demand.
+fn add_languages(alloc: Global, rules: &[Rule], names: &mut IndexSet<Text>) -> Result<(), Memory>
+    ensures { OnOk result (IsGrown names.old.keys names.new.keys (demanded_in (map plain_rule rules.now))) }
+{
+    'rules: for rule in rules {
+        add_demanded(alloc, &rule.given, names)?;
+    }
+    Ok(())
+}
+
+/// The languages that the language of this name reaches.
+pub fn reach<'p>(alloc: Global, declared: &Declared<'p>, name: &Text) -> Result<Reached<'p>, Memory>
+    requires stands { IsDeclared declared.now }
+    requires there { is_some (find_lang (langs_of (items_of declared.now)) name.now) ≡ true }
+    ensures { IfOk result (λ reached. IsReached (items_of declared.now) name.now reached) }
+{
+    let mut names = IndexSet::new(alloc);
+    add_name(alloc, name, &mut names)?;
+    let mut langs = Vec::new(alloc);
+    'reach: while langs.len() < names.len() {
+        let Some(lang) = declared.lang(&names.as_slice()[langs.len()]) else {
+            unreachable!()
+        };
+        add_languages(alloc, &lang.rules, &mut names)?;
+        langs.push(lang)?;
+    }
+    Ok(Reached { names, langs })
+}
