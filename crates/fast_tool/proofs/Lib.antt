@@ -1,8 +1,6 @@
-pub mod Elements
-pub mod Numbers
-pub mod Guards
-pub mod LeafMeaning
-pub mod Declarations
+pub mod Typed
+pub mod Tables
+pub mod Items
 pub mod Runs
-pub mod Complete
 pub mod Reading
+pub mod Complete

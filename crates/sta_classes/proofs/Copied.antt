@@ -1,5 +1,5 @@
 -- Facts on copies of formulas and rules.
-use Rattle.std.proofs.Common.{ℕ, suc, Vec, ◌≡◌, ◌≤◌, ◌<◌, ◌+◌, ◌==◌, ◌&&◌, ◌||◌, not, Bool, true, false, IsTrue, cond, All, get_or, ◌++◌, arith, List, [], ◌∷◌, map, filter, length, take, refl, sym, ap, ap₂, subst, subst₂, ◌∙◌, take_all, eqb-true, eq-eqb, append-nil, append_assoc}
+use Rattle.std.proofs.Common.{ℕ, suc, Vec, ◌≡◌, ◌<◌, ◌+◌, ◌==◌, ◌&&◌, ◌||◌, not, Bool, true, false, IsTrue, cond, All, get_or, ◌++◌, arith, List, [], ◌∷◌, map, filter, length, take, refl, sym, ap, ap₂, subst, subst₂, ◌∙◌, eqb-true, eq-eqb, append-nil, append_assoc}
 use Rattle.std.proofs.lemmas.List.{take_more, map-append, get_or-map, length-map}
 use Rattle.std.proofs.lemmas.List.Elements.{All-nil, All-cons, All-append}
 use Rattle.std.proofs.lemmas.List.Folds.{list_any-append}

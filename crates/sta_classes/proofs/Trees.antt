@@ -102,6 +102,11 @@ module _ {A V : Type 0} (m : Machine A) (cs : List (Class V)) (t : PlainTable A 
       ap (λ z. z.row.items) at ∙ sym (get_or-map (λ z. z.row.items) cs k x [] low_here)
       ∙ ap (λ z. get_or z k []) (sym (map-map (λ f. f.row) plain_class cs)) ∙ ap (λ z. class_row z k) is_view
 
+  pub nodes_here : x.nodes ≡ get_or (counts_of t.found) k 0
+  nodes_here =
+      ap (λ z. z.nodes) at ∙ sym (get_or-map (λ z. z.nodes) cs k x 0 low_here)
+      ∙ ap (λ z. get_or z k 0) (sym (map-map (λ f. f.nodes) plain_class cs)) ∙ ap (λ z. get_or (counts_of z.found) k 0) is_view
+
   module _ (label : V → Label) (cap : ℕ) (holds : A → Label → Bool) (keeps : Label → Type 0) (made : AreMade cap t.machine.ranks keeps (automaton_of holds t.machine) (map (relabel_found label) t.found)) where
     made_here : AreMade cap m.ranks keeps (automaton_of holds m) (plain_founds label cs)
     made_here = subst (λ z. AreMade cap z.machine.ranks keeps (automaton_of holds z.machine) (map (relabel_found label) z.found)) (sym is_view) made

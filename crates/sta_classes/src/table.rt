@@ -1,6 +1,6 @@
 //! Tables.
 
-ghost use Rattle.std.specs.Prelude.{◌≡◌, ◌≤◌, ◌<◌, ◌↔◌, IsTrue, length, map, IfOk, IfErr, MatchOption, All};
+ghost use Rattle.std.specs.Prelude.{◌≡◌, ◌≤◌, ◌<◌, ◌↔◌, IsTrue, length, map, get_or, IfOk, IfErr, MatchOption, All};
 ghost use Rattle.model_tree.specs.Label.{Label};
 ghost use Rattle.model_tree.specs.Formula.{formula_holds};
 ghost use Rattle.label_core.specs.Atoms.{EachHasEqual};
@@ -8,7 +8,7 @@ ghost use Rattle.label_core.specs.Formula.{plain_formula, atoms_in};
 ghost use Rattle.model_tree.specs.Tree.{relabel};
 ghost use Rattle.model_sta.specs.Sets.{has, step};
 ghost use Rattle.model_sta.specs.Reached.{IsTable, HasMoreSets};
-ghost use Rattle.model_sta.specs.Least.{rows_of, rows_at, relabel_found, AreMade, IsWitness, HasNoTreeBelow, IsLeastTree};
+ghost use Rattle.model_sta.specs.Least.{rows_of, counts_of, rows_at, relabel_found, AreMade, IsWitness, HasNoTreeBelow, IsLeastTree};
 ghost use Rattle.sta_core.specs.Sta.{automaton_of, AtomsFit};
 ghost use Rattle.sta_classes.specs.Guards.{all_guards, atoms_of_all, truths};
 ghost use Rattle.sta_classes.specs.Plain.{class_row, IsBuilt, IsSameMachine};
@@ -65,6 +65,14 @@ impl<A, V> Table<A, V> {
         ensures { result ≡ has (class_row self.now class) state }
     {
         row_has(&self.classes[class as usize].row, state)
+    }
+
+    /// The number of nodes of a least tree of the class, or 1,048,577 where that is more than 1,048,576. Takes no memory.
+    pub fn nodes(&self, class: u32) -> u64
+        requires { class < length self.now.found }
+        ensures { result ≡ get_or (counts_of self.now.found) class 0 }
+    {
+        self.classes[class as usize].nodes
     }
 }
 
@@ -152,8 +160,8 @@ pub fn classes<T: Theory>(
     ensures machine { IfOk result (λ t. IsSameMachine T.atom_holds T.Atom.eq t.machine sta.now) }
     ensures stop { IfErr result (ClassStopsFor (HasMoreSets sta.now.ranks (T.keeps_label theory.now) (automaton_of T.atom_holds sta.now) most) (T.has_label theory.now) (T.keeps_label theory.now) (truths T.atom_holds (all_guards sta.now.rules)) (λ chain. T.chain_over theory.now (atoms_of_all (all_guards sta.now.rules)) chain × T.chain_passes theory.now chain) (T.chain_is_far theory.now)) }
 {
-    // an automaton of so many constructors is out of reach of any memory
     let ranks = sta.ranks();
+    // an automaton of so many constructors is out of reach of any memory
     if ranks.len() > u32::MAX as usize {
         return Err(ClassStop::Memory);
     }

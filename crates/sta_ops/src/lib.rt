@@ -1,0 +1,8 @@
+//! Operations on languages of alternating tree automata, over any label theory.
+//!
+//! Its promise: an answer says of the language's trees, over all labels of the meaning, exactly what is asked.
+#![tactic(auto)]
+
+mod emptiness;
+
+pub use emptiness::{Found, empty};
