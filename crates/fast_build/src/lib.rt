@@ -12,3 +12,4 @@ mod rules;
 
 pub use automaton::language;
 pub use declared::Declared;
+pub use numbers::rank_of;

@@ -1,6 +1,6 @@
 -- The words have one form at most, and where nothing is wrong nothing is refused.
-use Rattle.std.proofs.Common.{ℕ, ◌≡◌, ◌<◌, ◌≤◌, List, [], ◌∷◌, Option, Some, length, get_or, arith, ap, ◌∙◌, sym, subst, inl, inr, ◌⊎◌, refl}
-use Rattle.std.specs.Prelude.{encode_utf8, encode_utf8_all, ◌++◌, take, drop}
+use Rattle.std.proofs.Common.{ℕ, ◌≡◌, ◌≤◌, List, [], ◌∷◌, Option, Some, length, get_or, arith, ap, ◌∙◌, sym, subst, inl, inr}
+use Rattle.std.specs.Prelude.{encode_utf8, encode_utf8_all, ◌++◌, take, drop, Contains}
 use Rattle.std.specs.Char.{IsScalar}
 use Rattle.std.specs.Str.{IsUtf8, all_scalars, chars}
 use Rattle.model_program.proofs.Unique.{stops_or_whole}
@@ -16,8 +16,10 @@ use Rattle.fast_fault.specs.declared.status.Status.TheVariants.{Hold, Fails, Wor
 use Rattle.model_program.specs.Syntax.{Item}
 use Rattle.model_program.specs.Texts.{IsBadUtf8At}
 use Rattle.model_report.specs.Words.{Form, run_form, file_of, IsForm}
-use Rattle.fast_tool.proofs.Elements.{first_true}
-use Rattle.model_report.specs.Report.{IsProgram, IsRefused, IsReport, FormReport, Reports, IsDoable, IsDoneOrStopped}
+use Rattle.fast_build.proofs.Elements.{first_true}
+use Rattle.std.proofs.lemmas.List.Elements.{Contains-append_right, Contains-get_or}
+use Rattle.model_report.specs.Causes.{Stop, HasCause}
+use Rattle.model_report.specs.Report.{IsProgram, IsRefused, EndsAtItem, IsReport, FormReport, Reports, IsDoable, IsDoneOrStopped}
 
 one_form : (words : List (List ℕ)) (f g : Form) → IsForm words f → IsForm words g → f ≡ g
 one_form words (run_form x) (run_form y) (n, e) (m, h) = ap (λ ws. run_form (get_or ws 1 [])) (sym e ∙ h)
@@ -42,12 +44,18 @@ not_refused bytes items Token place program (short, utf8, stops) = stops_or_whol
 not_refused bytes items NotYet place program (short, utf8, tokens, none, _) = none items program
 not_refused bytes items code place program refused = absurd refused
 
+-- where no item has a cause, none is refused
+item_free : (own items : List Item) → items ≡ own → (file report : List ℕ) → ((item : Item) → Contains items item → (stop : Stop) → ¬ (HasCause items item.body stop)) → EndsAtItem file own report → ⊥
+item_free own items same file report free ends =
+    free ends.item (subst (λ xs. Contains xs ends.item) (sym ends.split ∙ sym same) (Contains-append_right ends.before (ends.item ∷ ends.after) ends.item (Contains-get_or (ends.item ∷ ends.after) 0 ends.item (omega arith)))) ends.stop
+    (subst (λ xs. HasCause xs ends.item.body ends.stop) (sym same) ends.cause)
+
 form_done : (words : List (List ℕ)) (held : List ℕ → Option (List ℕ)) (form : Form) (bytes : List ℕ) (items : List Item) (report : List ℕ) (status : Status) → IsDoable words held form bytes items → FormReport form (Some bytes) status report → IsDoneOrStopped status
 form_done words held form bytes items report Hold d r = tt
 form_done words held form bytes items report Fails d r = tt
 form_done words held form bytes items report Words d r = r
 form_done words held (run_form file) bytes items report TextRefused d (code, place, refused, e) = not_refused bytes items code place d.program refused
-form_done words held (run_form file) bytes items report RunRefused d r = r
+form_done words held (run_form file) bytes items report RunRefused d (own, the, ends) = item_free own items (the.only items d.program) file report d.free ends
 form_done words held form bytes items report TextFault d r = tt
 form_done words held form bytes items report SinkFault d r = tt
 form_done words held form bytes items report Memory d r = tt

@@ -1,3 +1,4 @@
+pub mod Relabelled
 pub mod Typed
 pub mod Tables
 pub mod Items

@@ -1,6 +1,5 @@
 -- What was read, and what is refused.
-use Rattle.std.proofs.Common.{ℕ, ◌≡◌, ◌<◌, ◌≤◌, ◌^◌, Bool, true, false, ◌&&◌, List, Option, Some, None, IfSome, length, ap, ◌∙◌, sym, subst, refl, arith}
-use Rattle.std.specs.Str.{IsUtf8}
+use Rattle.std.proofs.Common.{ℕ, ◌≡◌, ◌<◌, Bool, true, false, ◌&&◌, List, Option, Some, None, IfSome, length, ◌∙◌, sym, subst, refl}
 use Rattle.fast_fault.specs.Taken.{IsGiven}
 use Rattle.fast_fault.specs.declared.place.Pos.{Pos}
 use Rattle.fast_fault.specs.declared.code.Code.{Code}
@@ -8,10 +7,10 @@ use Rattle.fast_fault.specs.declared.code.Code.TheVariants.{TooLong, NotUtf8, To
 use Rattle.model_program.specs.Syntax.{Item}
 use Rattle.model_program.specs.Texts.{IsProgramText}
 use Rattle.model_program.specs.WellFormed.{is_well_formed}
-use Rattle.model_report.specs.Report.{IsProgram, IsRefused, is_built, start}
+use Rattle.model_report.specs.Report.{IsProgram, IsTheProgram, IsRefused, is_built, start}
 use Rattle.fast_reader.specs.Refusals.{IsRefusal}
 use Rattle.fast_tool.specs.Runs.{IsProgramOf}
-use Rattle.fast_tool.proofs.Elements.{first_true, second_true}
+use Rattle.fast_build.proofs.Elements.{first_true, second_true}
 
 pub refusal_stands : (bytes : List ℕ) (code : Code) (place : Pos) → IsRefusal bytes code place → IsRefused bytes code place
 refusal_stands bytes TooLong place r = r
@@ -20,10 +19,13 @@ refusal_stands bytes Token place r = r
 refusal_stands bytes NotYet place (short, utf8, spells, at) = (short, utf8, (spells.tokens, spells.are), λ items program. spells.none items program.text, at)
 refusal_stands bytes code place r = absurd r
 
-pub program_read : (bytes : List ℕ) (items : List Item) (may : Bool) → IsProgramText bytes items → may ≡ (is_well_formed items && is_built items) → may ≡ true → IsProgram bytes items
-program_read bytes items may text e yes_may =
+pub program_read : (bytes : List ℕ) (items : List Item) (may : Bool) → IsProgramText bytes items → ((others : List Item) → IsProgramText bytes others → others ≡ items) → may ≡ (is_well_formed items && is_built items) → may ≡ true → IsTheProgram bytes items
+program_read bytes items may text only e yes_may =
     let all : (is_well_formed items && is_built items) ≡ true = sym e ∙ yes_may in
-    record { text = text; well_formed = first_true (is_well_formed items) (is_built items) all; built = second_true (is_well_formed items) (is_built items) all }
+    record {
+      is = record { text = text; well_formed = first_true (is_well_formed items) (is_built items) all; built = second_true (is_well_formed items) (is_built items) all };
+      only = λ others program. only others program.text;
+    }
 
 both_true : (a b : Bool) → a ≡ true → b ≡ true → (a && b) ≡ true
 both_true a b p q = λ i. p i && q i
@@ -38,9 +40,9 @@ program_refused bytes items may text only e no_may = (text.short, text.encoded, 
         absurd (cc)
 
 -- what is said of the bytes is said of what is held, where that is told
-pub given_program : (held : Option (List ℕ)) (bytes : List ℕ) (items : List Item) → IsGiven held bytes → IsProgram bytes items → IsProgramOf held items
+pub given_program : (held : Option (List ℕ)) (bytes : List ℕ) (items : List Item) → IsGiven held bytes → IsTheProgram bytes items → IsProgramOf held items
 given_program None bytes items given program = tt
-given_program (Some text) bytes items given program = subst (λ b. IsProgram b items) given program
+given_program (Some text) bytes items given program = subst (λ b. IsTheProgram b items) given program
 
 pub given_refused : (held : Option (List ℕ)) (bytes : List ℕ) (code : Code) (place : Pos) → IsGiven held bytes → IsRefused bytes code place → IfSome held (λ text. IsRefused text code place)
 given_refused None bytes code place given refused = tt

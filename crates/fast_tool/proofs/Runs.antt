@@ -1,19 +1,20 @@
 -- What was appended so far, and what that makes of the report at each end.
-use Rattle.std.proofs.Common.{ℕ, ◌≡◌, ◌<◌, ◌+◌, ◌≤◌, List, [], ◌∷◌, ◌++◌, Option, Some, None, IfSome, Bool, true, false, length, get_or, take, arith, append_assoc, append-nil, add-one, zero, suc, ap, ◌∙◌, sym, subst, inl, inr, ◌⊎◌, refl, ◌||◌}
+use Rattle.std.proofs.Common.{ℕ, ◌≡◌, ◌<◌, ◌+◌, List, [], ◌∷◌, ◌++◌, Option, Some, None, IfSome, Bool, true, false, length, get_or, take, drop, append_assoc, append-nil, add-one, suc, ap, ◌∙◌, sym, subst, inl, inr, refl, ◌||◌}
 use Rattle.std.specs.List.{list_any}
 use Rattle.std.proofs.lemmas.List.Folds.{list_any-append}
-use Rattle.std.proofs.Math.Seq.{take-suc}
+use Rattle.std.proofs.Math.Seq.{take-suc, drop-cons}
+use Rattle.std.proofs.lemmas.List.{take-append-drop}
 use Rattle.fast_fault.specs.Written.{Appends, AppendsPrefix}
-use Rattle.fast_fault.specs.Taken.{IsGiven}
 use Rattle.fast_fault.specs.declared.place.Pos.{Pos}
 use Rattle.fast_fault.specs.declared.code.Code.{Code}
 use Rattle.fast_fault.specs.declared.status.Status.{Status}
 use Rattle.fast_fault.specs.declared.status.Status.TheVariants.{Hold, Fails, Words, TextRefused, RunRefused, TextFault, SinkFault, Memory}
 use Rattle.model_program.specs.Syntax.{Item}
 use Rattle.model_report.specs.Words.{Form, run_form, file_of, IsForm}
-use Rattle.model_report.specs.Outcomes.{Outcome, silent, IsOutcome, AreOutcomes, line_of, lines_of, says_fail}
-use Rattle.model_report.specs.Report.{IsProgram, IsRefused, refusal_line, usage_line, IsFinished, IsUnfinished, FormReport, UsageReport, IsReport, Reports}
-use Rattle.fast_tool.specs.Runs.{IsFault, EndsWith, Past, IsBegun, AreLines, ItemsReport, IsDone, IsCutOff, IsStopped, IsProgramOf, TextAnswer}
+use Rattle.model_report.specs.Causes.{Stop, HasCause}
+use Rattle.model_report.specs.Outcomes.{Outcome, IsOutcome, AreOutcomes, line_of, lines_of, says_fail}
+use Rattle.model_report.specs.Report.{IsTheProgram, IsRefused, EndsAtItem, stop_line, refusal_line, usage_line, IsUnfinished, FormReport, UsageReport, IsReport, Reports}
+use Rattle.fast_tool.specs.Runs.{IsFault, EndsWith, Past, IsBegun, IsFront, ItemsReport, IsDone, IsEnded, IsStopped, IsProgramOf, TextAnswer}
 
 pub appends_both : (before middle after : Option (List ℕ)) (xs ys : List ℕ) → Appends before middle xs → Appends middle after ys → Appends before after (xs ++ ys)
 appends_both None middle after xs ys a b = tt
@@ -69,68 +70,98 @@ begun items k failed before now after item outcome (outcomes, so_far, fails, a) 
   appends_both before now after _ _ a b,
 )
 
-fault_begun : (items : List Item) (report : List ℕ) (status : Status) → IsFault status → IsBegun items report → ItemsReport items status report
-fault_begun items report status (inl e) u = rw e u
-fault_begun items report status (inr e) u = rw e u
+fault_begun : (file : List ℕ) (items : List Item) (report : List ℕ) (status : Status) → IsFault status → IsFront file items report → ItemsReport file items status report
+fault_begun file items report status (inl e) u = rw e u
+fault_begun file items report status (inr e) u = rw e u
 
-pub stops : (items : List Item) (k : ℕ) (failed : Bool) (before now after : Option (List ℕ)) (item : Item) (outcome : Outcome) (status : Status) → Past items k failed before now → k < length items → item ≡ get_or items k item → IsOutcome items item outcome → AppendsPrefix now after (line_of outcome) → IsFault status
-    → Reports (ItemsReport items) status before after
-stops items k failed before now after item outcome status past h e is front fault =
+pub stops : (file : List ℕ) (items : List Item) (k : ℕ) (failed : Bool) (before now after : Option (List ℕ)) (item : Item) (outcome : Outcome) (status : Status) → Past items k failed before now → k < length items → item ≡ get_or items k item → IsOutcome items item outcome → AppendsPrefix now after (line_of outcome) → IsFault status
+    → Reports (ItemsReport file items) status before after
+stops file items k failed before now after item outcome status past h e is front fault =
     let r = begun items k failed before now after item outcome past h e is front in
-    (r.0, fault_begun items r.0 status fault r.1, r.2)
+    (r.0, fault_begun file items r.0 status fault (inl r.1), r.2)
 
 -- want of memory between two lines
-pub no_memory : (items : List Item) (k : ℕ) (failed : Bool) (before now : Option (List ℕ)) → Past items k failed before now → Reports (ItemsReport items) Memory before now
-no_memory items k failed before now (outcomes, so_far, fails, a) = (lines_of outcomes, ([], k, outcomes, so_far, append-nil (lines_of outcomes)), a)
+pub no_memory : (file : List ℕ) (items : List Item) (k : ℕ) (failed : Bool) (before now : Option (List ℕ)) → Past items k failed before now → Reports (ItemsReport file items) Memory before now
+no_memory file items k failed before now (outcomes, so_far, fails, a) = (lines_of outcomes, inl ([], k, outcomes, so_far, append-nil (lines_of outcomes)), a)
 
 -- an item more, done or stopped
 pub item_done : (items : List Item) (k : ℕ) (failed fails : Bool) (before now after : Option (List ℕ)) (item : Item) → Past items k failed before now → k < length items → item ≡ get_or items k item → IsDone items item now after fails → Past items (k + 1) (failed || fails) before after
 item_done items k failed fails before now after item past h e done =
     subst (λ f. Past items (k + 1) (failed || f) before after) (sym done.fails_is) (step items k failed before now after item done.outcome past h e done.is done.appended)
 
-pub item_stopped : (items : List Item) (k : ℕ) (failed : Bool) (before now after : Option (List ℕ)) (item : Item) (status : Status) → Past items k failed before now → k < length items → item ≡ get_or items k item → IsStopped items item now after status
-    → Reports (ItemsReport items) status before after
-item_stopped items k failed before now after item status past h e (inl (is_memory, same)) =
-    rw is_memory (subst (λ z. Reports (ItemsReport items) Memory before z) (sym same) (no_memory items k failed before now past))
-item_stopped items k failed before now after item status past h e (inr cut) = stops items k failed before now after item cut.outcome status past h e cut.is cut.front cut.fault
+-- a refusal behind the lines of the items before
+ends_here : (file : List ℕ) (items : List Item) (k : ℕ) (outcomes : List Outcome) (item : Item) (stop : Stop) (report : List ℕ) → k < length items → item ≡ get_or items k item → AreOutcomes items (take k items) outcomes → HasCause items item.body stop
+    → report ≡ lines_of outcomes ++ stop_line stop file item.place → EndsAtItem file items report
+ends_here file items k outcomes item stop report h e so_far cause lines = record {
+  before = take k items;
+  item = item;
+  after = drop (suc k) items;
+  split = sym (take-append-drop k items) ∙ ap (λ xs. take k items ++ xs) (drop-cons items k item h ∙ ap (λ x. x ∷ drop (suc k) items) (sym e));
+  outcomes = outcomes;
+  are = so_far;
+  stop = stop;
+  cause = cause;
+  lines = lines;
+}
+
+pub ended : (file : List ℕ) (items : List Item) (k : ℕ) (failed : Bool) (before now after : Option (List ℕ)) (item : Item) (status : Status) → Past items k failed before now → k < length items → item ≡ get_or items k item → IsEnded file items item now after status
+    → Reports (ItemsReport file items) status before after
+ended file items k failed before now after item status (outcomes, so_far, fails, a) h e end = by end.ends
+  where
+    by : EndsWith now after (stop_line end.stop file item.place) RunRefused status → Reports (ItemsReport file items) status before after
+    by (inl (is_refused, b)) =
+        rw is_refused (lines_of outcomes ++ stop_line end.stop file item.place, ends_here file items k outcomes item end.stop _ h e so_far end.cause refl, appends_both before now after _ _ a b)
+    by (inr (fault, (front, back, joined, b))) = (
+      lines_of outcomes ++ front,
+      fault_begun file items (lines_of outcomes ++ front) status fault (inr (back, ends_here file items k outcomes item end.stop _ h e so_far end.cause (append_assoc (lines_of outcomes) front back ∙ ap (λ z. lines_of outcomes ++ z) joined))),
+      appends_both before now after _ _ a b,
+    )
+
+pub item_stopped : (file : List ℕ) (items : List Item) (k : ℕ) (failed : Bool) (before now after : Option (List ℕ)) (item : Item) (status : Status) → Past items k failed before now → k < length items → item ≡ get_or items k item → IsStopped file items item now after status
+    → Reports (ItemsReport file items) status before after
+item_stopped file items k failed before now after item status past h e (inl (is_memory, same)) =
+    rw is_memory (subst (λ z. Reports (ItemsReport file items) Memory before z) (sym same) (no_memory file items k failed before now past))
+item_stopped file items k failed before now after item status past h e (inr (inl cut)) = stops file items k failed before now after item cut.outcome status past h e cut.is cut.front cut.fault
+item_stopped file items k failed before now after item status past h e (inr (inr end)) = ended file items k failed before now after item status past h e end
 
 take_all : (items : List Item) → take (length items) items ≡ items
 take_all [] = refl
 take_all (x ∷ xs) = ap (λ ys. x ∷ ys) (take_all xs)
 
-pub holds : (items : List Item) (before now : Option (List ℕ)) → Past items (length items) false before now → Reports (ItemsReport items) Hold before now
-holds items before now (outcomes, so_far, fails, a) = (lines_of outcomes, (outcomes, subst (λ (xs : List Item). AreOutcomes items xs outcomes) (take_all items) so_far, sym fails, refl), a)
+pub holds : (file : List ℕ) (items : List Item) (before now : Option (List ℕ)) → Past items (length items) false before now → Reports (ItemsReport file items) Hold before now
+holds file items before now (outcomes, so_far, fails, a) = (lines_of outcomes, (outcomes, subst (λ (xs : List Item). AreOutcomes items xs outcomes) (take_all items) so_far, sym fails, refl), a)
 
-pub fails_some : (items : List Item) (before now : Option (List ℕ)) → Past items (length items) true before now → Reports (ItemsReport items) Fails before now
-fails_some items before now (outcomes, so_far, fails, a) = (lines_of outcomes, (outcomes, subst (λ (xs : List Item). AreOutcomes items xs outcomes) (take_all items) so_far, sym fails, refl), a)
+pub fails_some : (file : List ℕ) (items : List Item) (before now : Option (List ℕ)) → Past items (length items) true before now → Reports (ItemsReport file items) Fails before now
+fails_some file items before now (outcomes, so_far, fails, a) = (lines_of outcomes, (outcomes, subst (λ (xs : List Item). AreOutcomes items xs outcomes) (take_all items) so_far, sym fails, refl), a)
 
 pub ruleset on_runs = (begin, holds, fails_some)
 
 -- a form over its text, told or not
-begun_unfinished : (form : Form) (bytes : List ℕ) (items : List Item) (report : List ℕ) → IsProgram bytes items → IsBegun items report → IsUnfinished form bytes report
-begun_unfinished form bytes items report program (back, count, outcomes, so_far, e) = inr (inr (back, items, count, outcomes, program, so_far, e))
+begun_unfinished : (file bytes : List ℕ) (items : List Item) (report : List ℕ) → IsTheProgram bytes items → IsFront file items report → IsUnfinished (run_form file) bytes report
+begun_unfinished file bytes items report program (inl (back, count, outcomes, so_far, e)) = inr (inr (back, items, count, outcomes, program, so_far, e))
+begun_unfinished file bytes items report program (inr (back, ends)) = inr (inl (back, RunRefused, (items, program, ends)))
 
-items_form : (file bytes : List ℕ) (items : List Item) (status : Status) (report : List ℕ) → IsProgram bytes items → ItemsReport items status report → FormReport (run_form file) (Some bytes) status report
+items_form : (file bytes : List ℕ) (items : List Item) (status : Status) (report : List ℕ) → IsTheProgram bytes items → ItemsReport file items status report → FormReport (run_form file) (Some bytes) status report
 items_form file bytes items Hold report program (outcomes, are, fails, e) = (items, outcomes, program, are, fails, e)
 items_form file bytes items Fails report program (outcomes, are, fails, e) = (items, outcomes, program, are, fails, e)
-items_form file bytes items SinkFault report program u = begun_unfinished (run_form file) bytes items report program u
-items_form file bytes items Memory report program u = begun_unfinished (run_form file) bytes items report program u
+items_form file bytes items SinkFault report program u = begun_unfinished file bytes items report program u
+items_form file bytes items Memory report program u = begun_unfinished file bytes items report program u
 items_form file bytes items Words report program u = absurd u
 items_form file bytes items TextRefused report program u = absurd u
-items_form file bytes items RunRefused report program u = absurd u
+items_form file bytes items RunRefused report program u = (items, program, u)
 items_form file bytes items TextFault report program u = absurd u
 
-items_untold : (file : List ℕ) (items : List Item) (status : Status) (report : List ℕ) → ItemsReport items status report → FormReport (run_form file) None status report
+items_untold : (file : List ℕ) (items : List Item) (status : Status) (report : List ℕ) → ItemsReport file items status report → FormReport (run_form file) None status report
 items_untold file items Hold report u = tt
 items_untold file items Fails report u = tt
 items_untold file items SinkFault report u = tt
 items_untold file items Memory report u = tt
 items_untold file items Words report u = absurd u
 items_untold file items TextRefused report u = absurd u
-items_untold file items RunRefused report u = absurd u
+items_untold file items RunRefused report u = tt
 items_untold file items TextFault report u = absurd u
 
-pub ran_form : (file : List ℕ) (held : Option (List ℕ)) (items : List Item) (status : Status) (before after : Option (List ℕ)) → IsProgramOf held items → Reports (ItemsReport items) status before after → Reports (FormReport (run_form file) held) status before after
+pub ran_form : (file : List ℕ) (held : Option (List ℕ)) (items : List Item) (status : Status) (before after : Option (List ℕ)) → IsProgramOf held items → Reports (ItemsReport file items) status before after → Reports (FormReport (run_form file) held) status before after
 ran_form file None items status before after program (r, l, a) = (r, items_untold file items status r l, a)
 ran_form file (Some bytes) items status before after program (r, l, a) = (r, items_form file bytes items status r program l, a)
 

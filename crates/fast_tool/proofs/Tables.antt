@@ -1,22 +1,22 @@
--- What the classes of a language's automaton say of the language.
-use Rattle.std.proofs.Common.{◌≡◌, ℕ, zero, suc, ◌+◌, ◌<◌, ◌≤◌, Bool, true, false, IsTrue, List, [], ◌∷◌, map, length, get_or, All, Contains, refl, sym, ap, subst, ◌∙◌, inl, inr, ◌⊎◌, arith}
+-- What an automaton's trees and sets of states say of the language that it is of.
+use Rattle.std.proofs.Common.{◌≡◌, ℕ, suc, ◌<◌, ◌≤◌, Bool, true, false, List, [], ◌∷◌, map, length, get_or, All, refl, sym, ap, subst, ◌∙◌, arith}
 use Rattle.std.proofs.lemmas.List.{length-map, get_or-map}
 use Rattle.std.proofs.lemmas.List.Elements.{All-nil, All-cons, All-tail}
 use Rattle.model_tree.specs.Label.{Label}
-use Rattle.model_tree.specs.Tree.{Tree, node, LabelTree, node_count}
+use Rattle.model_tree.specs.Tree.{node, LabelTree}
 use Rattle.model_tree.specs.Signature.{ranks_of, HasType}
 use Rattle.model_program.specs.Syntax.{Name, TypeItem, Item, empty, named}
 use Rattle.model_report.specs.Meaning.{signature_of, type_of, is_in, IsTreeOf, IsTrue as IsTrueClaim, IsShownBy}
 use Rattle.model_report.specs.Report.{has_truths}
-use Rattle.model_report.specs.Causes.{Reaches, AreApart, EachTwo, HasMoreTrees, HasLargeTreesAlone}
-use Rattle.model_sta.specs.Automaton.{is_accepted}
+use Rattle.model_report.specs.Causes.{AreApart, EachTwo, HasMoreTrees, HasLargeTreesAlone}
+use Rattle.model_sta.specs.Automaton.{Rule, is_accepted}
 use Rattle.model_sta.specs.Sets.{Row, has, set_of, Fits}
-use Rattle.model_sta.specs.Reached.{IsReached, Apart, AreSets, HasMoreSets, IsComplete, IsTable}
-use Rattle.model_sta.specs.Least.{HasNoTreeBelow, IsLeastTree}
+use Rattle.model_sta.specs.Reached.{IsReached, Apart, HasMoreSets}
 use Rattle.model_sta.proofs.Sets.{set_is_accepted}
-use Rattle.model_sta.proofs.Reached.{same_default}
 use Rattle.sta_core.specs.Machine.{Machine}
 use Rattle.sta_core.specs.Sta.{automaton_of}
+use Rattle.sta_ops.specs.Empty.{IsLeastOf, HasBigAlone}
+use Rattle.sta_ops.specs.Empty as ops
 use Rattle.flat_label.specs.Bools.{IsBools, truth_at}
 use Rattle.flat_label.specs.declared.BoolAtom.{BoolAtom}
 use Rattle.fast_build.specs.Automaton.{IsAutomatonOf}
@@ -42,7 +42,8 @@ module _ (items : List Item) (name : List ℕ) (t : TypeItem) (typed : type_of i
   abbrev D : Label → Type 0
   D = IsBools (length t.fields)
 
-  abbrev rules = automaton_of (λ (a : BoolAtom). truth_at a.field) m
+  abbrev rules : List (List (Rule Label))
+  rules = automaton_of (λ (a : BoolAtom). truth_at a.field) m
 
   ranks_are : m.ranks ≡ ranks_of (signature_of t)
   ranks_are = is.ranks ∙ ap (λ s. ranks_of (signature_of s)) typed
@@ -57,38 +58,26 @@ module _ (items : List Item) (name : List ℕ) (t : TypeItem) (typed : type_of i
   told : (u : LabelTree) → Fits m.ranks D u → (k : ℕ) → k < length (name ∷ is.others) → has (set_of rules u) k ≡ is_in items u (get_or (name ∷ is.others) k [])
   told u h k low = set_is_accepted rules u k ∙ sym (is.means u (types u h) k low)
 
-  told_first : (u : LabelTree) → Fits m.ranks D u → has (set_of rules u) 0 ≡ is_in items u name
-  told_first u h = told u h 0 (omega arith)
+  tree_in : (u : LabelTree) → IsTreeOf items name u → ops.IsTreeOf m.ranks D D rules 0 u
+  tree_in u right = record { fits = fits u right.typed; accepted = sym (is.means u right.typed 0 (omega arith)) ∙ right.inside }
 
-  module _ (rows : List Row) (table : IsTable m.ranks D D rules rows) where
-    -- no class has the state, so no tree is in the language
-    pub none_in : (claim : Name) → claim.text ≡ name → ((k : ℕ) → k < length rows → has (get_or rows k []) 0 ≡ false) → IsTrueClaim items (empty (named claim))
-    none_in claim same none u tree_of =
-        let right = subst (λ n. IsTreeOf items n u) same tree_of in
-        let h = fits u right.typed in
-        let at = table.complete u h in
-        let no : true ≡ false = sym right.inside ∙ sym (told_first u h) ∙ ap (λ q. has q 0) (sym at.2 ∙ same_default rows at.0 (set_of rules u) [] at.1) ∙ none at.0 at.1 in absurd (cc)
+  in_tree : (u : LabelTree) → Fits m.ranks D u → is_accepted rules u 0 ≡ true → IsTreeOf items name u
+  in_tree u h accepted = record { typed = types u h; inside = is.means u (types u h) 0 (omega arith) ∙ accepted }
 
-    -- each class that has the state has large trees alone
-    pub large_in : (k : ℕ) → k < length rows → has (get_or rows k []) 0 ≡ true → ((j : ℕ) → j < length rows → has (get_or rows j []) 0 ≡ true → HasNoTreeBelow 1048577 m.ranks D rules (get_or rows j [])) → HasLargeTreesAlone items name
-    large_in k low yes none =
-        let one = table.sets.reached k [] low in
-        record {
-          tree = one.0;
-          right = record { typed = types one.0 one.1; inside = sym (told_first one.0 one.1) ∙ ap (λ q. has q 0) one.2 ∙ yes };
-          large = λ u right.
-              let h = fits u right.typed in
-              let at = table.complete u h in
-              let row_is = sym at.2 ∙ same_default rows at.0 (set_of rules u) [] at.1 in
-              omega (arith, none at.0 at.1 (sym (ap (λ q. has q 0) row_is) ∙ told_first u h ∙ right.inside) u h row_is);
-        }
+  -- no tree is in the language
+  pub none_in : (claim : Name) → claim.text ≡ name → ((u : LabelTree) → ¬ (ops.IsTreeOf m.ranks D D rules 0 u)) → IsTrueClaim items (empty (named claim))
+  none_in claim same none u right = none u (tree_in u (subst (λ n. IsTreeOf items n u) same right))
 
-  -- a least tree of a class that has the state
-  pub shown_in : (claim : Name) → claim.text ≡ name → (q : Row) (deep : ℕ) (u : LabelTree) → has q 0 ≡ true → deep ≤ 2000 → IsLeastTree 1048577 m.ranks D D rules deep q u → IsShownBy items (empty (named claim)) u
-  shown_in claim same q deep u yes low least = record {
-    tree_of = subst (λ n. IsTreeOf items n u) (sym same) (record { typed = types u least.fits; inside = sym (told_first u least.fits) ∙ ap (λ r. has r 0) least.set_is ∙ yes });
+  -- the trees of the language are all too large
+  pub large_in : HasBigAlone m.ranks D D rules 0 → HasLargeTreesAlone items name
+  large_in big = record { tree = big.tree; right = in_tree big.tree big.right.fits big.right.accepted; large = λ u right. big.big u (tree_in u right) }
+
+  -- a least tree of the language shows that it isn't empty
+  pub shown_in : (claim : Name) → claim.text ≡ name → (most : ℕ) → most ≤ 2000 → (u : LabelTree) → IsLeastOf m.ranks D D rules 0 most u → IsShownBy items (empty (named claim)) u
+  shown_in claim same most low u least = record {
+    tree_of = subst (λ n. IsTreeOf items n u) (sym same) (in_tree u least.fits least.accepted);
     kept = kept_if_fits m.ranks (length t.fields) u least.fits;
-    small = omega (arith, least.small);
+    small = least.small;
     shallow = omega (arith, least.shallow, low);
   }
 

@@ -1,10 +1,10 @@
 -- Trees of a type whose fields are truth values.
-use Rattle.std.proofs.Common.{◌≡◌, ℕ, suc, ◌<◌, Bool, true, false, cond, ◌&&◌, List, [], ◌∷◌, map, length, get_or, refl, sym, ap, ap₂, subst, ◌∙◌}
+use Rattle.std.proofs.Common.{◌≡◌, ℕ, suc, Bool, true, cond, ◌&&◌, List, [], ◌∷◌, map, length, refl, sym, ap, ap₂, subst, ◌∙◌}
 use Rattle.std.specs.Prelude.{codes}
 use Rattle.std.specs.List.{list_all}
 use Rattle.std.proofs.lemmas.Slice.Eq.{bytes_eq-Decides}
 use Rattle.model_tree.specs.Label.{Field, whole, truth, text, Label, row, pair}
-use Rattle.model_tree.specs.Tree.{Tree, node, Trees, no_trees, tree, list_of, LabelTree}
+use Rattle.model_tree.specs.Tree.{node, Trees, no_trees, tree, list_of, LabelTree}
 use Rattle.model_tree.specs.Signature.{Sort, wholes, truths, texts, ranks_of, sorts_of, HasSorts, HasType, EachHasType}
 use Rattle.model_tree.specs.Signature as signatures
 use Rattle.model_tree.specs.Kept.{is_kept_field, is_kept_label, is_kept, are_kept}
@@ -14,7 +14,7 @@ use Rattle.model_program.specs.WellFormed.{is_bool}
 use Rattle.model_report.specs.Meaning.{sort_of, signature_of}
 use Rattle.model_report.specs.Report.{has_truths}
 use Rattle.model_sta.specs.Sets.{width, Fits, FitsAll}
-use Rattle.flat_label.specs.Bools.{bools_label, IsBools}
+use Rattle.flat_label.specs.Bools.{IsBools}
 use Rattle.fast_build.proofs.Elements.{first_true, second_true}
 
 sort_is_truth : (s : Name) → is_bool s ≡ true → sort_of s ≡ truths

@@ -1,4 +1,3 @@
-pub mod Leaf
 pub mod Signatures
 pub mod Declarations
 pub mod Decided

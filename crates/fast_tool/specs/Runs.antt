@@ -1,12 +1,13 @@
 -- How a run goes on, and how it ends.
-use Rattle.std.specs.Prelude.{◌≡◌, ℕ, Bool, true, false, List, [], ◌++◌, Option, Some, None, IfSome, ◌⊎◌, take}
+use Rattle.std.specs.Prelude.{◌≡◌, ℕ, Bool, true, false, List, ◌++◌, Option, IfSome, ◌⊎◌, take}
 use Rattle.std.specs.List.{list_any}
 use Rattle.fast_fault.specs.declared.status.Status.{Status}
-use Rattle.fast_fault.specs.declared.status.Status.TheVariants.{Hold, Fails, SinkFault, Memory}
+use Rattle.fast_fault.specs.declared.status.Status.TheVariants.{Hold, Fails, RunRefused, SinkFault, Memory}
 use Rattle.fast_fault.specs.Written.{Appends, AppendsPrefix}
 use Rattle.model_program.specs.Syntax.{Item}
 use Rattle.model_report.specs.Outcomes.{Outcome, IsOutcome, AreOutcomes, line_of, lines_of, says_fail}
-use Rattle.model_report.specs.Report.{IsProgram, is_built, FormReport, Reports}
+use Rattle.model_report.specs.Causes.{Stop, HasCause}
+use Rattle.model_report.specs.Report.{IsTheProgram, is_built, EndsAtItem, stop_line, FormReport, Reports}
 use Rattle.model_program.specs.WellFormed.{is_well_formed}
 use Rattle.model_report.specs.Words.{Form, file_of}
 
@@ -31,8 +32,14 @@ pub record IsCutOff (items : List Item) (item : Item) (before after : Option (Li
   pub front : AppendsPrefix before after (line_of outcome)
   pub fault : IsFault status
 
-abbrev pub IsStopped : List Item → Item → Option (List ℕ) → Option (List ℕ) → Status → Type 0
-IsStopped items item before after status = ((status ≡ Memory) × (after ≡ before)) ⊎ IsCutOff items item before after status
+-- the refusal for a cause that the item has was put, or a front of it with a fault
+pub record IsEnded (file : List ℕ) (items : List Item) (item : Item) (before after : Option (List ℕ)) (status : Status) : Type 0 where
+  pub stop : Stop
+  pub cause : HasCause items item.body stop
+  pub ends : EndsWith before after (stop_line stop file item.place) RunRefused status
+
+abbrev pub IsStopped : List ℕ → List Item → Item → Option (List ℕ) → Option (List ℕ) → Status → Type 0
+IsStopped file items item before after status = ((status ≡ Memory) × (after ≡ before)) ⊎ IsCutOff items item before after status ⊎ IsEnded file items item before after status
 
 -- the lines of the first items were appended
 abbrev pub Past : List Item → ℕ → Bool → Option (List ℕ) → Option (List ℕ) → Type 0
@@ -45,17 +52,22 @@ IsBegun items begun = (back : List ℕ) × (count : ℕ) × (outcomes : List Out
 abbrev pub AreLines : List Item → Bool → List ℕ → Type 0
 AreLines items fails report = (outcomes : List Outcome) × AreOutcomes items items outcomes × (fails ≡ list_any says_fail outcomes) × (report ≡ lines_of outcomes)
 
+-- the same, or a front of a report that ends at an item
+abbrev pub IsFront : List ℕ → List Item → List ℕ → Type 0
+IsFront file items begun = IsBegun items begun ⊎ ((back : List ℕ) × EndsAtItem file items (begun ++ back))
+
 -- what a run of the items may report
-abbrev pub ItemsReport : List Item → Status → List ℕ → Type 0
-ItemsReport items Hold report = AreLines items false report
-ItemsReport items Fails report = AreLines items true report
-ItemsReport items SinkFault report = IsBegun items report
-ItemsReport items Memory report = IsBegun items report
-ItemsReport items status report = ⊥
+abbrev pub ItemsReport : List ℕ → List Item → Status → List ℕ → Type 0
+ItemsReport file items Hold report = AreLines items false report
+ItemsReport file items Fails report = AreLines items true report
+ItemsReport file items RunRefused report = EndsAtItem file items report
+ItemsReport file items SinkFault report = IsFront file items report
+ItemsReport file items Memory report = IsFront file items report
+ItemsReport file items status report = ⊥
 
 -- the items are a program that the bytes are, where these are told
 abbrev pub IsProgramOf : Option (List ℕ) → List Item → Type 0
-IsProgramOf held items = IfSome held (λ bytes. IsProgram bytes items)
+IsProgramOf held items = IfSome held (λ bytes. IsTheProgram bytes items)
 
 -- what a run that ends at its text reports
 abbrev pub TextAnswer : List ℕ → Option (List ℕ) → Option (List ℕ) → Option (List ℕ) → Status → Type 0

@@ -4,7 +4,7 @@
 #![tactic(auto)]
 
 mod built;
-mod leaves;
+mod labels;
 mod lines;
 mod signatures;
 mod top;

@@ -8,6 +8,7 @@ ghost use Rattle.fast_tool.specs.Signatures.{field_form, ctor_form};
 ghost use Rattle.model_program.specs.WellFormed.{is_rank_in_range};
 ghost use Rattle.model_report.specs.Meaning.{sort_of, rank_of, signature_of};
 
+use fast_build::rank_of;
 use fast_fault::Memory;
 use fast_syntax::{CtorItem, FieldItem, Name, TypeItem};
 use fast_tree::{CtorOf, FieldOf, Signature, Sort};
@@ -43,13 +44,6 @@ fn ctor_of(alloc: Global, ctor: &CtorItem) -> Result<CtorOf, Memory>
         name: ctor.name.text.copy(alloc)?,
         rank: rank_of(ctor),
     })
-}
-
-fn rank_of(ctor: &CtorItem) -> u32
-    requires { is_rank_in_range ctor.now.rank ≡ true }
-    ensures { result ≡ rank_of ctor.now.rank }
-{
-    ctor.rank as u32
 }
 
 fn fields_of(alloc: Global, fields: &[FieldItem]) -> Result<Vec<FieldOf>, Memory>

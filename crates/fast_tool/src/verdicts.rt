@@ -1,53 +1,34 @@
 //! The verdicts of assertions.
 
-ghost use Rattle.std.specs.Prelude.{◌≡◌, IfOk, MatchOption, Some, None, is_some, true};
-ghost use Rattle.model_tree.specs.Tree.{relabel};
-ghost use Rattle.fast_tree.specs.Entries.{label_meaning};
-ghost use Rattle.fast_syntax.specs.View.{plain_name, plain_type, plain_lang, plain_assert, plain_claim, plain_item};
-ghost use Rattle.model_program.specs.Syntax.{empty, named};
-ghost use Rattle.model_program.specs.Names.{langs_of, types_of, find_lang, find_type};
+ghost use Rattle.std.specs.Prelude.{◌≡◌, IfOk, IfErr, is_some, true};
 ghost use Rattle.std.specs.List.{list_all};
+ghost use Rattle.model_tree.specs.Tree.{relabel};
 ghost use Rattle.model_tree.specs.Signature.{HasType};
+ghost use Rattle.fast_tree.specs.Entries.{label_meaning};
+ghost use Rattle.fast_syntax.specs.View.{plain_name, plain_type, plain_assert, plain_claim, plain_item};
+ghost use Rattle.model_program.specs.Names.{langs_of, find_lang, language_of};
 ghost use Rattle.model_program.specs.WellFormed.{is_rank_in_range, is_claim_well_formed};
-ghost use Rattle.model_report.specs.Meaning.{IsTrue, signature_of};
-ghost use Rattle.model_report.specs.Outcomes.{IsVerdict, IsOutcome, silent, true_verdict, false_verdict};
-ghost use Rattle.fast_tool.specs.Declarations.{MayRun, items_of, may_judge};
-ghost use Rattle.fast_tool.specs.Decided.{IsDecided, SaysOf, IsSaid};
+ghost use Rattle.model_report.specs.Meaning.{signature_of};
+ghost use Rattle.model_report.specs.Outcomes.{IsVerdict, true_verdict, false_verdict};
+ghost use Rattle.fast_build.specs.Items.{items_of};
+ghost use Rattle.fast_tool.specs.Declarations.{MayRun, may_judge};
+ghost use Rattle.fast_tool.specs.Decided.{IsDecided, SaysOf, IsSaid, IsJudged, IsAsserted};
 
-use crate::leaves::find_leaf;
+use crate::labels::shown_tree;
 use crate::lines::{false_line, true_line};
 use crate::signatures::signature_of;
-use fast_fault::{Memory, Text};
-use fast_syntax::{AssertItem, Body, Claim, Item, LangItem, Name, Program, TypeItem, X};
+use fast_build::{Declared, language};
+use fast_fault::Memory;
+use fast_syntax::{AssertItem, Body, Claim, Item, LangItem, Name, TypeItem, X};
 use fast_tree::{Label, Tree};
-use sort_check::{find_lang, find_type};
+use flat_label::{BoolAtom, Bools};
+use sta_classes::ClassStop;
+use sta_core::Lang;
+use sta_ops::{Found, empty};
 use std::alloc::Global;
 
-/// A program with its types and its languages.
-#[derive(Drop)]
-pub struct Declared<'p> {
-    pub program: &'p Program,
-    pub types: Vec<&'p TypeItem>,
-    pub langs: Vec<&'p LangItem>,
-}
-
-impl<'p> Declared<'p> {
-    /// The first language of this name.
-    fn lang(&self, name: &Text) -> Option<&'p LangItem>
-        requires { MayRun self.now }
-        ensures { MatchOption result (find_lang (langs_of (items_of self.now)) name.now ≡ None) (λ l. find_lang (langs_of (items_of self.now)) name.now ≡ Some (plain_lang l.now)) }
-    {
-        find_lang(&self.langs, name)
-    }
-
-    /// The type of whose trees the language is.
-    fn type_of(&self, lang: &LangItem) -> Option<&'p TypeItem>
-        requires { MayRun self.now }
-        ensures { MatchOption result (find_type (types_of (items_of self.now)) lang.now.of.text ≡ None) (λ t. find_type (types_of (items_of self.now)) lang.now.of.text ≡ Some (plain_type t.now)) }
-    {
-        find_type(&self.types, &lang.of.text)
-    }
-}
+/// How many trees may be told apart.
+const CLASS_LIMIT: u32 = 1000;
 
 /// A tree that is in a language, and its type.
 #[derive(Drop)]
@@ -56,15 +37,29 @@ pub struct Shown<'p> {
     pub tree: Tree<Label>,
 }
 
-/// A tree of the language of this name, if there is one.
-fn decide<'p>(
-    alloc: Global,
-    declared: &Declared<'p>,
-    name: &Name,
-) -> Result<Option<Shown<'p>>, Memory>
+/// Why a run stops at an item.
+#[derive(Clone, Copy)]
+pub enum Stop {
+    /// More trees than this limit are told apart.
+    Classes(u32),
+    /// Each tree that shows it is too large.
+    TreeSize,
+}
+
+/// What is found of a language.
+#[derive(Drop)]
+pub enum Decided<'p> {
+    /// It has no trees.
+    Empty,
+    Shows(Shown<'p>),
+    Stopped(Stop),
+}
+
+/// What is found of the language of this name.
+fn decide<'p>(alloc: Global, declared: &Declared<'p>, name: &Name) -> Result<Decided<'p>, Memory>
     requires stands { MayRun declared.now }
     requires there { is_some (find_lang (langs_of (items_of declared.now)) name.now.text) ≡ true }
-    ensures { IfOk result (λ found. MatchOption found (IsTrue (items_of declared.now) (empty (named (plain_name name.now)))) (λ shown. IsDecided (items_of declared.now) (plain_name name.now) shown)) }
+    ensures { IfOk result (IsDecided (items_of declared.now) (plain_name name.now)) }
 {
     let Some(lang) = declared.lang(&name.text) else {
         unreachable!()
@@ -72,9 +67,18 @@ fn decide<'p>(
     let Some(of) = declared.type_of(lang) else {
         unreachable!()
     };
-    match find_leaf(alloc, of, lang)? {
-        Some(tree) => Ok(Some(Shown { of, tree })),
-        None => Ok(None),
+    let sta = language(alloc, declared, of, &name.text)?;
+    let theory = Bools::new(of.fields.len() as u32);
+    match empty(&theory, alloc, &Lang { sta, state: 0 }, CLASS_LIMIT) {
+        Ok(Found::Absent) => Ok(Decided::Empty),
+        Ok(Found::Shown(tree)) => {
+            let tree = shown_tree(alloc, &tree)?;
+            Ok(Decided::Shows(Shown { of, tree }))
+        }
+        Ok(Found::TooBig) => Ok(Decided::Stopped(Stop::TreeSize)),
+        Err(ClassStop::Classes) => Ok(Decided::Stopped(Stop::Classes(CLASS_LIMIT))),
+        Err(ClassStop::Wide(_)) => unreachable!(),
+        Err(ClassStop::Memory) => Err(Memory),
     }
 }
 
@@ -108,35 +112,43 @@ fn true_verdict(alloc: Global, line: u32, passes: bool) -> Result<Verdict, Memor
     })
 }
 
+/// What an item gives.
+#[derive(Drop)]
+pub enum Judged {
+    /// No line.
+    Silent,
+    Says(Verdict),
+    Stopped(Stop),
+}
+
 /// The verdict of an assertion in this line of the text.
 fn judge_assertion(
     alloc: Global,
     declared: &Declared,
     line: u32,
     assertion: &AssertItem,
-) -> Result<Verdict, Memory>
+) -> Result<Judged, Memory>
     requires stands { MayRun declared.now }
     requires there { is_claim_well_formed (langs_of (items_of declared.now)) (plain_claim assertion.now.claim) ≡ true }
-    ensures { IfOk result (λ v. IsSaid (IsVerdict (items_of declared.now) line (plain_assert assertion.now)) v) }
+    ensures { IfOk result (IsAsserted (items_of declared.now) line (plain_assert assertion.now)) }
 {
     let Claim::Empty(X::Named(name)) = &assertion.claim;
+    let wanted = assertion.wanted;
     match decide(alloc, declared, name)? {
-        Some(shown) => false_verdict(alloc, line, !assertion.wanted, &shown),
-        None => true_verdict(alloc, line, assertion.wanted),
+        Decided::Empty => Ok(Judged::Says(true_verdict(alloc, line, wanted)?)),
+        Decided::Shows(shown) => Ok(Judged::Says(false_verdict(alloc, line, !wanted, &shown)?)),
+        Decided::Stopped(stop) => Ok(Judged::Stopped(stop)),
     }
 }
 
 /// What an item gives: the verdict of an assertion, and of other items nothing.
-pub fn judge(alloc: Global, declared: &Declared, item: &Item) -> Result<Option<Verdict>, Memory>
+pub fn judge(alloc: Global, declared: &Declared, item: &Item) -> Result<Judged, Memory>
     requires stands { MayRun declared.now }
     requires there { may_judge (langs_of (items_of declared.now)) (plain_item item.now) ≡ true }
-    ensures { IfOk result (λ v. MatchOption v (IsOutcome (items_of declared.now) (plain_item item.now) silent) (λ w. IsSaid (IsOutcome (items_of declared.now) (plain_item item.now)) w)) }
+    ensures { IfOk result (IsJudged (items_of declared.now) (plain_item item.now)) }
 {
     match &item.body {
-        Body::Assert(assertion) => {
-            let verdict = judge_assertion(alloc, declared, item.place.line, assertion)?;
-            Ok(Some(verdict))
-        }
-        Body::Sorts(_) | Body::Lang(_) => Ok(None),
+        Body::Assert(assertion) => judge_assertion(alloc, declared, item.place.line, assertion),
+        Body::Sorts(_) | Body::Lang(_) => Ok(Judged::Silent),
     }
 }

@@ -32,6 +32,11 @@ pub record IsProgram (bytes : List ℕ) (items : List Item) : Type 0 where
   pub well_formed : is_well_formed items ≡ true
   pub built : is_built items ≡ true
 
+-- they are the only such program that the bytes are
+pub record IsTheProgram (bytes : List ℕ) (items : List Item) : Type 0 where
+  pub is : IsProgram bytes items
+  pub only : (others : List Item) → IsProgram bytes others → others ≡ items
+
 abbrev pub start : Pos
 start = record { line = 1; column = 1 }
 
@@ -64,7 +69,7 @@ usage_line = codes "usage: fast check FILE | run FILE [--classes N] | apply FILE
 
 -- A whole report of a form of words over its text, with the status that goes with it.
 abbrev pub IsWholeRun : List ℕ → Bool → List ℕ → Type 0
-IsWholeRun bytes fails report = (items : List Item) × (outcomes : List Outcome) × IsProgram bytes items × AreOutcomes items items outcomes × (fails ≡ list_any says_fail outcomes) × (report ≡ lines_of outcomes)
+IsWholeRun bytes fails report = (items : List Item) × (outcomes : List Outcome) × IsTheProgram bytes items × AreOutcomes items items outcomes × (fails ≡ list_any says_fail outcomes) × (report ≡ lines_of outcomes)
 
 -- A report that ends at an item: the lines of the items before it, and the refusal for a cause that it has.
 pub record EndsAtItem (file : List ℕ) (items : List Item) (report : List ℕ) : Type 0 where
@@ -81,7 +86,7 @@ pub record EndsAtItem (file : List ℕ) (items : List Item) (report : List ℕ) 
 abbrev pub IsFinished : Form → List ℕ → Status → List ℕ → Type 0
 IsFinished (run_form file) bytes Hold report = IsWholeRun bytes false report
 IsFinished (run_form file) bytes Fails report = IsWholeRun bytes true report
-IsFinished (run_form file) bytes RunRefused report = (items : List Item) × IsProgram bytes items × EndsAtItem file items report
+IsFinished (run_form file) bytes RunRefused report = (items : List Item) × IsTheProgram bytes items × EndsAtItem file items report
 IsFinished (run_form file) bytes TextRefused report = (code : Code) × (place : Pos) × IsRefused bytes code place × (report ≡ refusal_line code file place)
 IsFinished form bytes status report = ⊥
 
@@ -90,7 +95,7 @@ abbrev pub IsUnfinished : Form → List ℕ → List ℕ → Type 0
 IsUnfinished form bytes begun =
     (begun ≡ [])
     ⊎ ((back : List ℕ) × (status : Status) × IsFinished form bytes status (begun ++ back))
-    ⊎ ((back : List ℕ) × (items : List Item) × (count : ℕ) × (outcomes : List Outcome) × IsProgram bytes items × AreOutcomes items (take count items) outcomes × (begun ++ back ≡ lines_of outcomes))
+    ⊎ ((back : List ℕ) × (items : List Item) × (count : ℕ) × (outcomes : List Outcome) × IsTheProgram bytes items × AreOutcomes items (take count items) outcomes × (begun ++ back ≡ lines_of outcomes))
 
 -- What a form of words may report over what its file holds, where that is told. After a fault or for want of memory the
 -- report is an unfinished one; where the text couldn't be taken, nothing is written.

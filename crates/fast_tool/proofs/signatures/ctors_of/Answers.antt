@@ -1,6 +1,5 @@
-use Rattle.std.proofs.Common.{true}
 use Rattle.model_program.specs.WellFormed.{is_rank_in_range}
-use Rattle.fast_tool.proofs.Elements.{all_contained}
+use Rattle.fast_build.proofs.Elements.{all_contained}
 use Rattle.fast_tool.proofs.signatures.ctors_of.Goals as goal
 
 pub ctor_of-requires : goal.ctor_of-requires

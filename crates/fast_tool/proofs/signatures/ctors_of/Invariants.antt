@@ -1,4 +1,4 @@
-use Rattle.std.proofs.Common.{◌≡◌, List, map, take}
+use Rattle.std.proofs.Common.{◌≡◌, map, take}
 use Rattle.fast_tree.specs.Signatures.{plain_constructor}
 use Rattle.fast_tool.specs.Signatures.{ctor_form}
 use Rattle.fast_tool.proofs.signatures.ctors_of.Given as goal

@@ -1,6 +1,5 @@
-use Rattle.std.proofs.Common.{◌≡◌, List, map, take}
+use Rattle.std.proofs.Common.{◌≡◌, map, take}
 use Rattle.fast_tree.specs.Signatures.{plain_field}
-use Rattle.fast_syntax.specs.declared.FieldItem.{FieldItem}
 use Rattle.fast_tool.specs.Signatures.{field_form}
 use Rattle.fast_tool.proofs.signatures.fields_of.Given as goal
 

@@ -1,4 +1,4 @@
-use Rattle.std.proofs.Common.{◌≡◌, map, sym, ap, ◌∙◌}
+use Rattle.std.proofs.Common.{map, sym, ap, ◌∙◌}
 use Rattle.std.proofs.lemmas.Simd.{map-map}
 use Rattle.model_report.specs.Meaning.{sort_of, rank_of}
 use Rattle.fast_syntax.specs.View.{plain_field, plain_ctor}

@@ -1,6 +1,6 @@
 use Rattle.std.proofs.Common.{sym, ◌∙◌, ap, cond, ◌≡◌, Bool, true, false}
 use Rattle.std.specs.Str.{chars}
-use Rattle.model_tree.specs.Signature.{Sort, wholes, truths, texts}
+use Rattle.model_tree.specs.Signature.{wholes, truths, texts}
 use Rattle.fast_tool.proofs.signatures.sort_of.Goals as goal
 
 is_first : (a b : Bool) → a ≡ true → wholes ≡ cond a wholes (cond b truths texts)

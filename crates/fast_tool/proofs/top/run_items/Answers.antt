@@ -1,10 +1,11 @@
-use Rattle.std.proofs.Common.{◌≡◌, ◌<◌, arith, List, map, length, get_or, sym, ◌∙◌, ap, subst}
+use Rattle.std.proofs.Common.{◌≡◌, ◌<◌, arith, List, length, get_or, sym, subst}
 use Rattle.fast_syntax.specs.declared.Item.{Item}
 use Rattle.fast_syntax.specs.View.{plain_item}
 use Rattle.model_program.specs.Names.{langs_of}
-use Rattle.fast_tool.specs.Declarations.{items_of, may_judge}
-use Rattle.fast_tool.proofs.Elements.{mapped_at, mapped_below, all_mapped}
-use Rattle.fast_tool.proofs.Declarations.{all_may}
+use Rattle.fast_build.specs.Items.{items_of}
+use Rattle.fast_tool.specs.Declarations.{may_judge}
+use Rattle.fast_build.proofs.Elements.{mapped_at, mapped_below, all_mapped}
+use Rattle.fast_tool.proofs.Items.{all_may}
 use Rattle.fast_tool.proofs.Runs.{item_done, item_stopped}
 use Rattle.fast_tool.proofs.top.run_items.Goals as goal
 
@@ -14,7 +15,7 @@ do_item-requires g c =
     let below = subst (λ (xs : List Item). c.items.item-index < length xs) c.deref-item-items.ensures.value c.items-test.true in
     record {
       stands = c.requires;
-      there = all_mapped (may_judge (langs_of (items_of c.args.declared.now))) plain_item c.args.declared.now.program.now.items.items c.items.item-index c.item-item.result (all_may (items_of c.args.declared.now) c.requires.well_formed) at below;
+      there = all_mapped (may_judge (langs_of (items_of c.args.declared.now))) plain_item c.args.declared.now.program.now.items.items c.items.item-index c.item-item.result (all_may (items_of c.args.declared.now) c.requires.declared.well_formed) at below;
     }
 
 pub returns-in-Err-clause-report : goal.returns-in-Err-clause-report
@@ -22,7 +23,7 @@ returns-in-Err-clause-report g c =
     let at = subst (λ (xs : List Item). c.item-item.result ≡ get_or xs c.items.item-index c.item-item.result) c.deref-item-items.ensures.value c.item-item.is in
     let below = subst (λ (xs : List Item). c.items.item-index < length xs) c.deref-item-items.ensures.value c.items-test.true in
     let items = c.args.declared.now.program.now.items.items in
-    item_stopped (items_of c.args.declared.now) c.items.item-index c.items.failed _ _ _ (plain_item c.item-item.result) c.in-Err.fault c.items.invariant.0
+    item_stopped c.args.file.now (items_of c.args.declared.now) c.items.item-index c.items.failed _ _ _ (plain_item c.item-item.result) c.in-Err.fault c.items.invariant.0
     (mapped_below plain_item items c.items.item-index below) (sym (mapped_at plain_item items c.items.item-index c.item-item.result (plain_item c.item-item.result) at below)) c.in-Err.ensures.stopped
 
 pub items-preserved : goal.items-preserved

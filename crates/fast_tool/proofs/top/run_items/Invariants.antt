@@ -1,5 +1,5 @@
 use Rattle.std.proofs.Common.{◌≤◌}
-use Rattle.fast_tool.specs.Declarations.{items_of}
+use Rattle.fast_build.specs.Items.{items_of}
 use Rattle.fast_tool.specs.Runs.{Past}
 use Rattle.fast_tool.proofs.top.run_items.Given as goal
 

@@ -1,4 +1,4 @@
-use Rattle.std.proofs.Common.{rules, arith, ◌≡◌, Err, subst}
+use Rattle.std.proofs.Common.{rules, Err, subst}
 use Rattle.fast_fault.specs.declared.code.Code.TheVariants.{TooLong}
 use Rattle.fast_syntax.specs.declared.Program.{Program}
 use Rattle.fast_reader.specs.declared.text.ReadStop.{ReadStop}
