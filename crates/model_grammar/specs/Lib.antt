@@ -9,3 +9,5 @@ pub mod Wrong
 pub mod Nesting
 pub mod Examples
 pub mod Texts
+pub mod Printed
+pub mod Layout
