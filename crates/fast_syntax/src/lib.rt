@@ -3,7 +3,11 @@
 //! Its promise: each type has its plain form (`specs/View.antt`), which is all that contracts say of it.
 #![tactic(auto)]
 
+pub mod expressions;
+pub mod items;
+
 pub use fast_fault::{Pos, Text};
+pub use model_grammar::{Op1, Op2, Rel};
 
 /// A name where it stands.
 #[derive(Drop)]
