@@ -112,3 +112,11 @@ length_of_label n ts h = rw (same_from_label ts h.0 h.2) h.1
 pub equal_texts : (xs ys : List (List ℕ)) → (slice_cmp (slice_cmp nat_cmp) xs ys ≡ Equal) ↔ (texts_label xs ≡ texts_label ys)
 equal_texts xs ys =
     let exact = equal_lists (slice_cmp nat_cmp) (equal_lists nat_cmp cmp_exact) xs ys in (λ e. ap texts_label (exact.0 e), λ e. exact.1 (same_from_label xs ys e))
+
+-- equal atoms say the same of each label, and speak of the same fields
+module _ (E : TextSide → TextSide → Bool) (is : IsSideEq E) where
+  pub equal_atoms_hold : (a b : TextAtom) (l : Label) → (E a.left b.left && E a.right b.right) ≡ true → are_one_text a l ≡ are_one_text b l
+  equal_atoms_hold a b l e = ap (λ c. are_one_text c l) (one_atom E is a b e)
+
+  pub equal_atoms_fit : (fields : ℕ) (a b : TextAtom) → (E a.left b.left && E a.right b.right) ≡ true → SidesFit fields a → SidesFit fields b
+  equal_atoms_fit fields a b e fits = subst (SidesFit fields) (one_atom E is a b e) fits

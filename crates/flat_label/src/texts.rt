@@ -100,8 +100,7 @@ impl Theory for Texts {
     type Chain = Never;
 
     ghost use Rattle.std.specs.Prelude.{◌≡◌, refl};
-    ghost use Rattle.std.proofs.Common.{ap, subst};
-    ghost use Rattle.flat_label.specs.Texts.{texts_label, are_one_text, SidesFit, IsTexts, equal_texts, one_atom};
+    ghost use Rattle.flat_label.specs.Texts.{texts_label, are_one_text, SidesFit, IsTexts, equal_texts, equal_atoms_hold, equal_atoms_fit};
 
     ghost label_of = { λ v. texts_label v.items };
 
@@ -119,9 +118,9 @@ impl Theory for Texts {
 
     ghost chain_is_far = { λ t c. ⊥ };
 
-    ghost equal_atoms = { λ a b l e. ap (λ c. are_one_text c l) (one_atom ⟦<TextSide as PartialEq>⟧.eq (record { fields = λ _ _. refl; field_constant = λ _ _. refl; constant_field = λ _ _. refl; constants = λ _ _. refl }) a b e) };
+    ghost equal_atoms = { equal_atoms_hold ⟦<TextSide as PartialEq>⟧.eq (record { fields = λ _ _. refl; field_constant = λ _ _. refl; constant_field = λ _ _. refl; constants = λ _ _. refl }) };
 
-    ghost equal_atoms_fit = { λ t a b e fits. subst (SidesFit t.fields) (one_atom ⟦<TextSide as PartialEq>⟧.eq (record { fields = λ _ _. refl; field_constant = λ _ _. refl; constant_field = λ _ _. refl; constants = λ _ _. refl }) a b e) fits };
+    ghost equal_atoms_fit = { λ t. equal_atoms_fit ⟦<TextSide as PartialEq>⟧.eq (record { fields = λ _ _. refl; field_constant = λ _ _. refl; constant_field = λ _ _. refl; constants = λ _ _. refl }) t.fields };
 
     ghost equal_values = { λ v w. equal_texts v.items w.items };
 

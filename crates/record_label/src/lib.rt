@@ -1,0 +1,11 @@
+//! Labels of several fields, truth values and texts in the order of their type: the theory whose values are the labels of
+//! trees, and the guards over it.
+//!
+//! Its promise: a conjunction over the fields is decided exactly, whatever the order of their sorts.
+#![tactic(auto)]
+
+mod merges;
+mod reads;
+mod rows;
+
+pub use rows::{RowAtom, RowLabels};
