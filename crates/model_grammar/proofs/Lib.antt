@@ -5,3 +5,4 @@ pub mod Standing
 pub mod Written
 pub mod Tokens
 pub mod Constants
+pub mod WrittenExpressions
