@@ -6,3 +6,5 @@ pub mod Written
 pub mod Tokens
 pub mod Constants
 pub mod WrittenExpressions
+pub mod WrittenLists
+pub mod WrittenTerms
