@@ -8,3 +8,4 @@ pub mod Constants
 pub mod WrittenExpressions
 pub mod WrittenLists
 pub mod WrittenTerms
+pub mod WrittenItems

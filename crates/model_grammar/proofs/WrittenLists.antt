@@ -26,6 +26,20 @@ regrouped s = record {
   at_back = s.at_back.at_back;
 }
 
+-- and the other way
+pub flattened : {p q r : List Lexeme → Type 0} {tokens : List Lexeme} → ((p ⌢ q) ⌢ r) tokens → (p ⌢ (q ⌢ r)) tokens
+flattened s = record {
+  front = s.at_front.front;
+  back = s.at_front.back ++ s.back;
+  split = s.split ∙ ap (λ l. l ++ s.back) s.at_front.split ∙ append_assoc s.at_front.front s.at_front.back s.back;
+  at_front = s.at_front.at_front;
+  at_back = record { front = s.at_front.back; back = s.back; split = refl; at_front = s.at_front.at_back; at_back = s.at_back };
+}
+
+-- another form of the later tokens
+pub second_as : {p q r : List Lexeme → Type 0} {tokens : List Lexeme} → ((ts : List Lexeme) → q ts → r ts) → (p ⌢ q) tokens → (p ⌢ r) tokens
+second_as into s = record { front = s.front; back = s.back; split = s.split; at_front = s.at_front; at_back = into s.back s.at_back }
+
 -- another form of the first tokens
 pub first_as : {p q r : List Lexeme → Type 0} {tokens : List Lexeme} → ((ts : List Lexeme) → p ts → q ts) → (p ⌢ r) tokens → (q ⌢ r) tokens
 first_as into s = record { front = s.front; back = s.back; split = s.split; at_front = into s.front s.at_front; at_back = s.at_back }
