@@ -5,3 +5,7 @@ pub mod Standing
 pub mod Written
 pub mod Tokens
 pub mod Constants
+pub mod WrittenExpressions
+pub mod WrittenLists
+pub mod WrittenTerms
+pub mod WrittenItems

@@ -66,10 +66,10 @@ mutual
     -- | ( E )
     brackets : (left right : Lexeme) (e : Expr) (inside : List Lexeme) → left.word ≡ RoundOpen → right.word ≡ RoundClose → IsExpr E e inside → IsExpr Prim e (left ∷ inside ++ right ∷ [])
     -- | ( Many Prim Prim+ ), the same expression as its infix form from the left
-    many_before : (left op right : Lexeme) (kind : Chain) (first second : Expr) (others : List Expr) (front back : List Lexeme) → left.word ≡ RoundOpen → IsMany kind op.word → right.word ≡ RoundClose → IsExpr Prim first front → ArePrims (second ∷ others) back → IsExpr Prim (chain_of kind first (map (λ e. (op, e)) (second ∷ others))) (left ∷ op ∷ front ++ back ++ right ∷ [])
+    many_before : (left op right : Lexeme) (kind : Chain) (first second : Expr) (others : List Expr) (front back : List Lexeme) → left.word ≡ RoundOpen → IsMany kind op.word → right.word ≡ RoundClose → IsExpr Prim first front → ArePrims (second ∷ others) back → IsExpr Prim (chain_of kind first (map (λ e. (op, e)) (second ∷ others))) (left ∷ op ∷ front ++ (back ++ right ∷ []))
     -- | ( Two Prim Prim ), where Two ::= %, =, !=, <, <=, >, >=
-    remainder_before : (left op right : Lexeme) (a b : Expr) (front back : List Lexeme) → left.word ≡ RoundOpen → op.word ≡ Percent → right.word ≡ RoundClose → IsExpr Prim a front → IsExpr Prim b back → IsExpr Prim (chain_of Product a ((op, b) ∷ [])) (left ∷ op ∷ front ++ back ++ right ∷ [])
-    compared_before : (left op right : Lexeme) (rel : Rel) (a b : Expr) (front back : List Lexeme) → left.word ≡ RoundOpen → op.word ≡ rel_word rel → right.word ≡ RoundClose → IsExpr Prim a front → IsExpr Prim b back → IsExpr Prim (compare op.place rel a b) (left ∷ op ∷ front ++ back ++ right ∷ [])
+    remainder_before : (left op right : Lexeme) (a b : Expr) (front back : List Lexeme) → left.word ≡ RoundOpen → op.word ≡ Percent → right.word ≡ RoundClose → IsExpr Prim a front → IsExpr Prim b back → IsExpr Prim (chain_of Product a ((op, b) ∷ [])) (left ∷ op ∷ front ++ (back ++ right ∷ []))
+    compared_before : (left op right : Lexeme) (rel : Rel) (a b : Expr) (front back : List Lexeme) → left.word ≡ RoundOpen → op.word ≡ rel_word rel → right.word ≡ RoundClose → IsExpr Prim a front → IsExpr Prim b back → IsExpr Prim (compare op.place rel a b) (left ∷ op ∷ front ++ (back ++ right ∷ []))
 
   -- signs of a chain, each with an operand behind it
   pub data AreMore : Chain → List (Lexeme × Expr) → List Lexeme → Type 0 where

@@ -11,3 +11,4 @@ pub mod Examples
 pub mod Texts
 pub mod Printed
 pub mod Layout
+pub mod ReadsBack

@@ -2,7 +2,7 @@
 use Rattle.std.specs.Prelude.{List, map, Option, Some, None}
 use Rattle.fast_fault.specs.declared.place.Pos.{Pos}
 use Rattle.model_program.specs.Syntax.{Name, FieldItem, CtorItem, TypeItem, Demand}
-use Rattle.model_grammar.specs.Syntax.{Expr, field, number, text, truth, negation, compare, minus, chain, Parts, no_parts, part, X, named, one, two, literal, Xs, no_x, and_x, Out, child, call, node, Outs, no_out, and_out, Rule, OutRule, Claim, equal, member, empty, type_check, Body, sorts, tree, lang, trans, def, assertion, Item}
+use Rattle.model_grammar.specs.Syntax.{Expr, field, number, text, truth, negation, compare, minus, chain, Parts, no_parts, part, X, named, one, two, literal, Xs, no_x, and_x, Out, child, call, node, Outs, no_out, and_out, Rule, OutRule, TreeItem, LangItem, TransItem, DefItem, Claim, equal, member, empty, type_check, Body, sorts, tree, lang, trans, def, assertion, Item}
 
 abbrev pub nowhere : Pos
 nowhere = record { line = 1; column = 1 }
@@ -78,12 +78,24 @@ bare_claim (member x y) = member (bare_x x) (bare_x y)
 bare_claim (empty x) = empty (bare_x x)
 bare_claim (type_check x y z) = type_check (bare_x x) (bare_x y) (bare_x z)
 
+abbrev pub bare_tree : TreeItem → TreeItem
+bare_tree t = record { name = bare_name t.name; of = bare_name t.of; value = bare_x t.value }
+
+abbrev pub bare_lang : LangItem → LangItem
+bare_lang l = record { name = bare_name l.name; of = bare_name l.of; rules = map bare_rule l.rules }
+
+abbrev pub bare_trans : TransItem → TransItem
+bare_trans t = record { name = bare_name t.name; from = bare_name t.from; into = bare_name t.into; rules = map bare_out_rule t.rules }
+
+abbrev pub bare_def : DefItem → DefItem
+bare_def d = record { name = bare_name d.name; from = bare_name d.from; into = bare_into d.into; value = bare_x d.value }
+
 abbrev pub bare_body : Body → Body
 bare_body (sorts t) = sorts (bare_type t)
-bare_body (tree t) = tree (record { name = bare_name t.name; of = bare_name t.of; value = bare_x t.value })
-bare_body (lang l) = lang (record { name = bare_name l.name; of = bare_name l.of; rules = map bare_rule l.rules })
-bare_body (trans t) = trans (record { name = bare_name t.name; from = bare_name t.from; into = bare_name t.into; rules = map bare_out_rule t.rules })
-bare_body (def d) = def (record { name = bare_name d.name; from = bare_name d.from; into = bare_into d.into; value = bare_x d.value })
+bare_body (tree t) = tree (bare_tree t)
+bare_body (lang l) = lang (bare_lang l)
+bare_body (trans t) = trans (bare_trans t)
+bare_body (def d) = def (bare_def d)
 bare_body (assertion a) = assertion (record { wanted = a.wanted; claim = bare_claim a.claim })
 
 abbrev pub bare_item : Item → Item

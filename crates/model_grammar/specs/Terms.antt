@@ -31,9 +31,9 @@ mutual
     -- | ( Op1 X )
     on_one : (left op right : Lexeme) (kind : Op1) (x : X) (inside : List Lexeme) → left.word ≡ RoundOpen → op.word ≡ op1_word kind → right.word ≡ RoundClose → IsX x inside → IsX (one kind op.place x) (left ∷ op ∷ inside ++ right ∷ [])
     -- | ( Op2 X X )
-    on_two : (left op right : Lexeme) (kind : Op2) (x y : X) (front back : List Lexeme) → left.word ≡ RoundOpen → op.word ≡ op2_word kind → right.word ≡ RoundClose → IsX x front → IsX y back → IsX (two kind op.place x y) (left ∷ op ∷ front ++ back ++ right ∷ [])
+    on_two : (left op right : Lexeme) (kind : Op2) (x y : X) (front back : List Lexeme) → left.word ≡ RoundOpen → op.word ≡ op2_word kind → right.word ≡ RoundClose → IsX x front → IsX y back → IsX (two kind op.place x y) (left ∷ op ∷ front ++ (back ++ right ∷ []))
     -- | ( ID Labels X* )
-    new : (left right : Lexeme) (n : Name) (labels : List Expr) (xs : Xs) (head row children : List Lexeme) → left.word ≡ RoundOpen → right.word ≡ RoundClose → IsName n head → AreLabels labels row → AreXs xs children → IsX (literal n labels xs) (left ∷ head ++ row ++ children ++ right ∷ [])
+    new : (left right : Lexeme) (n : Name) (labels : List Expr) (xs : Xs) (head row children : List Lexeme) → left.word ≡ RoundOpen → right.word ≡ RoundClose → IsName n head → AreLabels labels row → AreXs xs children → IsX (literal n labels xs) (left ∷ head ++ (row ++ (children ++ right ∷ [])))
 
   -- X*
   pub data AreXs : Xs → List Lexeme → Type 0 where
@@ -45,9 +45,9 @@ mutual
     -- Out ::= ID
     unchanged : (n : Name) (tokens : List Lexeme) → IsName n tokens → IsOut (child n) tokens
     -- | ( ID ID )
-    called : (left right : Lexeme) (q y : Name) (head argument : List Lexeme) → left.word ≡ RoundOpen → right.word ≡ RoundClose → IsName q head → IsName y argument → IsOut (call q y) (left ∷ head ++ argument ++ right ∷ [])
+    called : (left right : Lexeme) (q y : Name) (head argument : List Lexeme) → left.word ≡ RoundOpen → right.word ≡ RoundClose → IsName q head → IsName y argument → IsOut (call q y) (left ∷ head ++ (argument ++ right ∷ []))
     -- | ( ID Labels Out* )
-    made : (left right : Lexeme) (n : Name) (labels : List Expr) (outs : Outs) (head row children : List Lexeme) → left.word ≡ RoundOpen → right.word ≡ RoundClose → IsName n head → AreLabels labels row → AreOuts outs children → IsOut (node n labels outs) (left ∷ head ++ row ++ children ++ right ∷ [])
+    made : (left right : Lexeme) (n : Name) (labels : List Expr) (outs : Outs) (head row children : List Lexeme) → left.word ≡ RoundOpen → right.word ≡ RoundClose → IsName n head → AreLabels labels row → AreOuts outs children → IsOut (node n labels outs) (left ∷ head ++ (row ++ (children ++ right ∷ [])))
 
   -- Out*
   pub data AreOuts : Outs → List Lexeme → Type 0 where

@@ -40,7 +40,7 @@ AreConstants labels = sign SquareOpen ⌢ Row IsConstant labels ⌢ sign SquareC
 mutual
   -- Tree ::= ( ID Labels Tree* )
   pub data IsTree : FileTree → List Lexeme → Type 0 where
-    a_tree : (left right : Lexeme) (n : Name) (labels : List Expr) (trees : FileTrees) (head row children : List Lexeme) → left.word ≡ RoundOpen → right.word ≡ RoundClose → IsName n head → AreConstants labels row → AreTrees trees children → IsTree (node left.place n labels trees) (left ∷ head ++ row ++ children ++ right ∷ [])
+    a_tree : (left right : Lexeme) (n : Name) (labels : List Expr) (trees : FileTrees) (head row children : List Lexeme) → left.word ≡ RoundOpen → right.word ≡ RoundClose → IsName n head → AreConstants labels row → AreTrees trees children → IsTree (node left.place n labels trees) (left ∷ head ++ (row ++ (children ++ right ∷ [])))
 
   -- Tree*
   pub data AreTrees : FileTrees → List Lexeme → Type 0 where

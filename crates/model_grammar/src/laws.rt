@@ -26,7 +26,7 @@ pub fn goes_wrong_once()
 /// An operator before its operands spells what it spells between them.
 pub fn prefix_is_infix()
     ensures { (kind : Chain) (left op right : Lexeme) (a b : Expr) (front back : List Lexeme) → left.word ≡ RoundOpen → right.word ≡ RoundClose → IsMany kind op.word → IsExpr Prim a front → IsExpr Prim b back
-        → IsE (chain_of kind a ((op, b) ∷ [])) (left ∷ op ∷ front ++ back ++ right ∷ []) × IsE (chain_of kind a ((op, b) ∷ [])) (front ++ op ∷ back) }
+        → IsE (chain_of kind a ((op, b) ∷ [])) (left ∷ op ∷ front ++ (back ++ right ∷ [])) × IsE (chain_of kind a ((op, b) ∷ [])) (front ++ op ∷ back) }
 {}
 
 /// 64 parentheses may be open since a `where`, a `to` or a bracket, and 2,000 elsewhere; what is closed doesn't count.
