@@ -1,3 +1,4 @@
 pub mod Rows
 pub mod SortCode
 pub mod Equal
+pub mod Guards

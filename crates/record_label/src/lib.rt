@@ -4,8 +4,11 @@
 //! Its promise: a conjunction over the fields is decided exactly, whatever the order of their sorts.
 #![tactic(auto)]
 
+mod guards;
+mod lookups;
 mod merges;
 mod reads;
 mod rows;
 
+pub use guards::guard_of;
 pub use rows::{RowAtom, RowLabels};
