@@ -1,19 +1,14 @@
 -- The parts of a conjunction or a disjunction as a list.
-use Rattle.std.proofs.Common.{◌≡◌, false, List, [], ◌∷◌, map, Vec, Global, refl, ap, ◌∙◌}
+use Rattle.std.proofs.Common.{◌≡◌, false, map, Vec, Global, refl, ap, ◌∙◌}
 use Rattle.fast_fault.specs.declared.place.Pos.{Pos}
 use Rattle.model_grammar.specs.declared.Chain.TheVariants.{Disjunction, Conjunction}
-use Rattle.model_grammar.specs.Syntax.{Parts, no_parts, part, chain}
-use Rattle.model_grammar.specs.Syntax as plain
+use Rattle.model_grammar.specs.Syntax.{part, chain}
+use Rattle.record_label.specs.Parts.{unmarked}
 use Rattle.fast_syntax.specs.Plain.{plain_expr, plain_node, plain_row}
 use Rattle.fast_syntax.specs.declared.expressions.Expr.{Expr}
 use Rattle.fast_syntax.specs.declared.expressions.Node.{Row_of-Expr, end_of-Expr, more_of-Expr, items-the_row-Expr, items_hidden-the_row-Expr-0}
 use Rattle.fast_syntax.specs.declared.expressions.Node.TheBlock.{hidden-the_row-Expr-0}
 use Rattle.fast_syntax.specs.declared.expressions.Node.TheVariants.{Or, And}
-
--- parts that carry no mark
-abbrev pub unmarked : List plain.Expr → Parts
-unmarked [] = no_parts
-unmarked (e ∷ es) = part false e (unmarked es)
 
 plain_row-items : {n : _} (row : Row_of-Expr n) → plain_row row ≡ unmarked (map plain_expr (items-the_row-Expr _ row))
 plain_row-items end_of-Expr = refl

@@ -27,7 +27,8 @@ use Rattle.fast_syntax.specs.declared.expressions.Expr.{Expr}
 use Rattle.fast_syntax.specs.declared.expressions.Node.TheVariants.{Or, And}
 use Rattle.label_core.specs.Formula.{plain_formula}
 use Rattle.label_core.specs.declared.formula.Formula as code
-use Rattle.record_label.proofs.ExprParts.{unmarked, plain_or, plain_and}
+use Rattle.record_label.specs.Parts.{unmarked}
+use Rattle.record_label.proofs.ExprParts.{plain_or, plain_and}
 
 module _ {A : Type 0} (P Q : A → Type 0) (weaker : (a : A) → P a → Q a) where
   mutual

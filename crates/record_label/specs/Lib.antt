@@ -2,3 +2,4 @@ pub mod Rows
 pub mod SortCode
 pub mod Equal
 pub mod Guards
+pub mod Parts

@@ -1,10 +1,11 @@
 //! The theory of labels of several fields.
 
-ghost use Rattle.std.specs.Prelude.{◌≡◌, ◌≤◌, IfOk, length};
+ghost use Rattle.std.specs.Prelude.{◌≡◌, ◌≤◌, ◌↔◌, IsTrue, IfOk, length};
 ghost use Rattle.model_tree.specs.Signature.{truths, texts};
 ghost use Rattle.model_tree.specs.Signature as model;
 ghost use Rattle.fast_tree.specs.Signatures.{plain_signature};
-ghost use Rattle.record_label.specs.Rows.{count_of};
+ghost use Rattle.flat_label.specs.Texts.{SideFits};
+ghost use Rattle.record_label.specs.Rows.{count_of, RowFits};
 
 use crate::merges::{count, merge};
 use crate::reads::{side_text, truth_at};
@@ -40,6 +41,16 @@ impl Model for RowLabels {
     ghost invariant = { λ t. length t.sorts.items ≤ 8 };
 }
 
+/// Whether the side speaks of one of so many texts.
+fn side_fits(side: &TextSide, texts: u32) -> bool
+    ensures { IsTrue result ↔ SideFits texts side.now }
+{
+    match side {
+        TextSide::Field(field) => *field < texts,
+        TextSide::Constant(_) => true,
+    }
+}
+
 impl RowLabels {
     /// The labels of a type of at most eight fields.
     pub fn new(alloc: Global, input: &Signature) -> Result<RowLabels, Memory>
@@ -51,6 +62,17 @@ impl RowLabels {
             sorts.push(field.sort)?;
         }
         Ok(RowLabels { sorts })
+    }
+
+    /// Whether the atom speaks of fields of these labels. Takes no memory.
+    pub fn fits(&self, atom: &RowAtom) -> bool
+        ensures { IsTrue result ↔ RowFits self.now atom.now }
+    {
+        let texts = count(&self.sorts, Sort::Text);
+        match atom {
+            PairAtom::Left(atom) => atom.field < count(&self.sorts, Sort::Bool),
+            PairAtom::Right(atom) => side_fits(&atom.left, texts) && side_fits(&atom.right, texts),
+        }
     }
 
     /// The theories of the truth values and of the texts.
