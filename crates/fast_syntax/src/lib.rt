@@ -5,6 +5,8 @@
 
 pub mod expressions;
 pub mod items;
+mod page;
+mod spelling;
 
 pub use fast_fault::{Pos, Text};
 pub use model_grammar::{Op1, Op2, Rel};
