@@ -1,8 +1,9 @@
 //! A text that grows by tokens and blanks.
 
-ghost use Rattle.std.specs.Prelude.{◌≡◌, ℕ, List, [], ◌∷◌, ◌++◌, IfOk, encode_utf8_all};
+ghost use Rattle.std.specs.Prelude.{◌≡◌, ℕ, List, [], ◌∷◌, ◌++◌, ◌<◌, IfOk, encode_utf8_all, string_bytes};
+ghost use Rattle.std.specs.Fmt.{signed_decimal};
 ghost use Rattle.std.specs.Str.{chars, IsUtf8};
-ghost use Rattle.model_tree.specs.Printed.{escaped, numbered};
+ghost use Rattle.model_tree.specs.Printed.{escaped, numbered, printed_text};
 ghost use Rattle.model_program.specs.Cuts.{texts_of};
 ghost use Rattle.model_program.specs.Pieces as pieces;
 ghost use Rattle.model_grammar.specs.Printed.{token, blank, line_end, piece, whole};
@@ -85,4 +86,56 @@ impl Page {
     {
         self.push_text(text.as_str())
     }
+
+    /// A number, with `-` where it is negative.
+    pub(crate) fn number(&mut self, alloc: Global, number: i128) -> Result<(), Memory>
+        ensures { IfOk result (λ _. Adds self.old self.new (whole number)) }
+    {
+        let digits = decimal(alloc, number)?;
+        self.push_text(digits.as_str())
+    }
+
+    /// A text in quotes, with its escapes.
+    pub(crate) fn quoted(&mut self, alloc: Global, text: &Text) -> Result<(), Memory>
+        ensures { IfOk result (λ _. Adds self.old self.new (piece pieces.Text (printed_text text.now) ∷ [])) }
+    {
+        self.push_character('"')?;
+        for character in text.as_str().chars() {
+            self.push_escaped(alloc, character)?;
+        }
+        self.push_character('"')
+    }
+
+    fn push_escaped(&mut self, alloc: Global, character: char) -> Result<(), Memory>
+        ensures { IfOk result (λ _. self.new ≡ self.old ++ escaped character) }
+    {
+        match character {
+            '"' => self.push_text("\\\""),
+            '\\' => self.push_text("\\\\"),
+            '\n' => self.push_text("\\n"),
+            '\t' => self.push_text("\\t"),
+            '\0'..='\u{1f}' | '\u{7f}' => self.push_by_number(alloc, character),
+            _ => self.push_character(character),
+        }
+    }
+
+    fn push_by_number(&mut self, alloc: Global, character: char) -> Result<(), Memory>
+        requires { character < 128 }
+        ensures { IfOk result (λ _. self.new ≡ self.old ++ numbered character) }
+    {
+        let number = escape_by_number(alloc, character)?;
+        self.push_text(number.as_str())
+    }
+}
+
+fn decimal(alloc: Global, number: i128) -> Result<String, Memory>
+    ensures { IfOk result (λ digits. string_bytes digits ≡ signed_decimal number) }
+{
+    Ok(format!(in alloc; "{number}")?)
+}
+
+fn escape_by_number(alloc: Global, character: char) -> Result<String, Memory>
+    ensures { IfOk result (λ escape. string_bytes escape ≡ numbered character) }
+{
+    Ok(format!(in alloc; "\\u{{{:x}}}", character as u32)?)
 }

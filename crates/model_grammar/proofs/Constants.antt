@@ -40,7 +40,7 @@ pub digit_characters : (text : List ℕ) → AllDigits 10 text → AllIn is_digi
 digit_characters [] all = tt
 digit_characters (c ∷ cs) all = (digit_character c all.0, digit_characters cs all.1)
 
-hexadecimal_characters : (text : List ℕ) → AllDigits 16 text → AllIn is_hexadecimal text
+pub hexadecimal_characters : (text : List ℕ) → AllDigits 16 text → AllIn is_hexadecimal text
 hexadecimal_characters [] all = tt
 hexadecimal_characters (c ∷ cs) all = (hexadecimal_character c all.0, hexadecimal_characters cs all.1)
 
