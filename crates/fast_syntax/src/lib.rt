@@ -6,6 +6,7 @@
 pub mod expressions;
 pub mod items;
 mod page;
+mod print_expressions;
 mod spelling;
 
 pub use fast_fault::{Pos, Text};
