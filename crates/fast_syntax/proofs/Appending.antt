@@ -36,6 +36,10 @@ pub left_none : (old first now : List ℕ) (ps rest none : List Piece) → Adds 
 left_none old first now ps rest none one empty left =
     adds_then one (record { is = sym (append-nil now) ∙ ap (λ l. now ++ texts_of l) (sym empty) ∙ left })
 
+-- all is written
+pub left_all : (old now : List ℕ) (all none : List Piece) → none ≡ [] → now ++ texts_of none ≡ old ++ texts_of all → Adds old now all
+left_all old now all none empty left = record { is = sym (append-nil now) ∙ ap (λ l. now ++ texts_of l) (sym empty) ∙ left }
+
 -- an operand behind its sign
 pub further_more : (k : Chain) (marked : Bool) (w : Word) (level : Level) (e : Expr) (rest all : Parts) (now new whole : List ℕ) → w ≡ chain_word k marked → level ≡ operand k → all ≡ part marked e rest
     → Adds now new (blank ∷ token w ∷ blank ∷ at_level level e (expression e)) → now ++ texts_of (further k all) ≡ whole → new ++ texts_of (further k rest) ≡ whole

@@ -7,6 +7,7 @@ pub mod expressions;
 pub mod items;
 mod page;
 mod print_expressions;
+mod print_lists;
 mod spelling;
 
 pub use fast_fault::{Pos, Text};

@@ -103,10 +103,14 @@ behind_bars printed (a ∷ others) = blank ∷ token Bar ∷ blank ∷ (printed 
 abbrev pub in_braces : List Piece → List Piece
 in_braces ps = token CurlyOpen ∷ blank ∷ (ps ++ blank ∷ token CurlyClose ∷ [])
 
+-- rules with bars between them
+abbrev pub with_bars : {A : Type 0} → (A → List Piece) → List A → List Piece
+with_bars printed [] = []
+with_bars printed (a ∷ others) = printed a ++ behind_bars printed others
+
 -- rules with bars between them, in braces
 abbrev pub rules_of : {A : Type 0} → (A → List Piece) → List A → List Piece
-rules_of printed [] = in_braces []
-rules_of printed (a ∷ others) = in_braces (printed a ++ behind_bars printed others)
+rules_of printed rules = in_braces (with_bars printed rules)
 
 -- how tightly each level binds
 abbrev pub rank : Level → ℕ
