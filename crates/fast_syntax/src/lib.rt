@@ -8,6 +8,7 @@ pub mod items;
 mod page;
 mod print_expressions;
 mod print_lists;
+mod print_terms;
 mod spelling;
 
 pub use fast_fault::{Pos, Text};
