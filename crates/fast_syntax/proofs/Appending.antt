@@ -1,5 +1,5 @@
 -- A text that goes on by pieces.
-use Rattle.std.proofs.Common.{◌≡◌, ℕ, ◌+◌, ◌<◌, suc, Bool, List, [], ◌∷◌, ◌++◌, length, get_or, drop, drop-cons, add-one, refl, sym, ap, ◌∙◌, subst, append_assoc, append-nil}
+use Rattle.std.proofs.Common.{◌≡◌, ℕ, ◌+◌, ◌<◌, suc, Bool, List, [], ◌∷◌, ◌++◌, length, get_or, drop, drop-cons, add-one, sym, ap, ◌∙◌, subst, append_assoc, append-nil}
 use Rattle.model_program.specs.declared.Word.{Word}
 use Rattle.model_program.specs.Cuts.{Piece, texts_of}
 use Rattle.model_grammar.specs.declared.Chain.{Chain}

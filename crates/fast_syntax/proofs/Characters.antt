@@ -1,10 +1,10 @@
 -- Characters of a text that grows.
 use mir.Syntax.{w128}
-use Rattle.std.proofs.Common.{ℤ, pos, negsuc, suc, FitsSigned, ◌^◌, ◌<◌, arith, ◌≡◌, ℕ, true, false,  ◌&&◌, List, [], ◌∷◌, ◌++◌, refl, sym, ap, ◌∙◌, subst, append-nil, append_assoc}
-use Rattle.std.specs.Prelude.{encode_utf8, encode_utf8_all, Result, Ok, Err, IfOk}
+use Rattle.std.proofs.Common.{ℤ, pos, negsuc, suc, FitsSigned, ◌^◌, ◌<◌, arith, ◌≡◌, ℕ, true, false, ◌&&◌, List, [], ◌∷◌, ◌++◌, refl, sym, ap, ◌∙◌, append-nil, append_assoc}
+use Rattle.std.specs.Prelude.{encode_utf8, Result, Ok, Err, IfOk}
 use Rattle.std.specs.Char.{IsScalar}
 use Rattle.std.specs.Str.{chars, IsUtf8, IsAscii}
-use Rattle.std.proofs.lemmas.Str.{chars-append, chars-encodes, encodes-chars, chars-IsAscii, IsAscii-append}
+use Rattle.std.proofs.lemmas.Str.{chars-append, chars-encodes, chars-IsAscii, IsAscii-append}
 use Rattle.std.proofs.lemmas.Fmt.{IsAscii-decimal_wide, digits_is_IsNumeral}
 use Rattle.std.proofs.lemmas.Str.Ascii.{IsAscii-cons, IsAscii-nil}
 use Rattle.std.proofs.lemmas.Bool.Decides.{nat_tests}

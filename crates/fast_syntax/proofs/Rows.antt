@@ -1,5 +1,5 @@
 -- The plain form of a node is that of its parts.
-use Rattle.std.proofs.Common.{◌≡◌, ℕ, false, List, [], ◌∷◌, map, refl, ap, ◌∙◌, Vec, Global}
+use Rattle.std.proofs.Common.{◌≡◌, false, map, refl, ap, ◌∙◌, Vec, Global}
 use mathlib.Core.Former.{Count}
 use Rattle.fast_fault.specs.declared.place.Pos.{Pos}
 use Rattle.fast_syntax.specs.declared.expressions.Expr.{Expr}

@@ -7,12 +7,15 @@ pub mod expressions;
 pub mod items;
 mod page;
 mod print_expressions;
+mod print_items;
 mod print_lists;
+mod print_rules;
 mod print_terms;
 mod spelling;
 
 pub use fast_fault::{Pos, Text};
 pub use model_grammar::{Op1, Op2, Rel};
+pub use print_items::print;
 
 /// A name where it stands.
 #[derive(Drop)]

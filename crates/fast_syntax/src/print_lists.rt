@@ -57,11 +57,7 @@ pub(crate) fn append_behind_blanks<T: Printed>(
 }
 
 /// Items, each behind a bar.
-fn append_behind_bars<T: Printed>(
-    alloc: Global,
-    page: &mut Page,
-    items: &[T],
-) -> Result<(), Memory>
+fn append_behind_bars<T: Printed>(alloc: Global, page: &mut Page, items: &[T]) -> Result<(), Memory>
     ensures { IfOk result (λ _. Adds page.old page.new (behind_bars T.pieces items.now)) }
 {
     for item in items {
@@ -74,11 +70,7 @@ fn append_behind_bars<T: Printed>(
 }
 
 /// Items with bars between them.
-fn append_with_bars<T: Printed>(
-    alloc: Global,
-    page: &mut Page,
-    items: &[T],
-) -> Result<(), Memory>
+fn append_with_bars<T: Printed>(alloc: Global, page: &mut Page, items: &[T]) -> Result<(), Memory>
     ensures { IfOk result (λ _. Adds page.old page.new (with_bars T.pieces items.now)) }
 {
     let Some((first, later)) = items.split_first() else {

@@ -1,8 +1,7 @@
-use Rattle.std.proofs.Common.{◌≡◌, ◌+◌, false, ◌∷◌, drop, refl, ap, sym, ◌∙◌, subst, arith, rules}
+use Rattle.std.proofs.Common.{◌≡◌, ◌+◌, false, ◌∷◌, drop, refl, ap, ◌∙◌, subst, arith, rules}
 use Rattle.std.proofs.lemmas.List.{drop_all}
 use Rattle.model_grammar.specs.declared.Chain.TheVariants.{Disjunction, Conjunction, Sum, Product}
-use Rattle.model_grammar.specs.Syntax.{Expr}
-use Rattle.model_grammar.specs.Printed.{expression, operands}
+use Rattle.model_grammar.specs.Printed.{operands}
 use Rattle.fast_syntax.specs.Adds.{Adds}
 use Rattle.fast_syntax.specs.Plain.{plain_node, plain_expr}
 use Rattle.fast_syntax.specs.Slices.{plain_operands, plain_sum_parts, plain_prod_parts}
@@ -18,8 +17,8 @@ pub append_expression-returns-in_ok-append_at-in-Compare : goal.append_expressio
 append_expression-returns-in_ok-append_at-in-Compare t c =
     let place = c.args.e.now.place in
     if_ok c.append_further.result (λ x last. adds_as (ap (λ n. plain_node n place) c.in-Compare.is)
-        (adds_compared place c.in-Compare.rel c.rel_word.result (plain_expr c.in-Compare.left.value) (plain_expr c.in-Compare.right.value) (plain_expr c.deref-in-Compare.result.now) (plain_expr c.deref-in-Compare-2.result.now) c.args.page.now c.append_at-in-Compare.new.page c.append_further.new.page
-          (ap plain_expr c.deref-in-Compare.ensures) (ap plain_expr c.deref-in-Compare-2.ensures) c.rel_word.ensures c.in_ok-append_at-in-Compare.ensures last)) c.append_further.ensures
+    (adds_compared place c.in-Compare.rel c.rel_word.result (plain_expr c.in-Compare.left.value) (plain_expr c.in-Compare.right.value) (plain_expr c.deref-in-Compare.result.now) (plain_expr c.deref-in-Compare-2.result.now) c.args.page.now c.append_at-in-Compare.new.page c.append_further.new.page
+    (ap plain_expr c.deref-in-Compare.ensures) (ap plain_expr c.deref-in-Compare-2.ensures) c.rel_word.ensures c.in_ok-append_at-in-Compare.ensures last)) c.append_further.ensures
 
 pub append_expression-returns-in-Or : goal.append_expression-returns-in-Or
 append_expression-returns-in-Or t c =

@@ -1,10 +1,9 @@
-use Rattle.std.proofs.Common.{◌≡◌, ◌+◌, ◌∷◌, ◌++◌, drop, ap, sym, ◌∙◌, subst, arith, rules}
+use Rattle.std.proofs.Common.{◌≡◌, ◌+◌, ◌∷◌, drop, ap, sym, subst, arith, rules}
 use Rattle.std.proofs.lemmas.List.{drop_all}
-use Rattle.model_program.specs.declared.Word.TheVariants.{Comma, Bar}
-use Rattle.model_grammar.specs.Printed.{blank, token, behind_commas, behind_blanks, behind_bars, with_commas, with_bars}
+use Rattle.model_program.specs.declared.Word.TheVariants.{Comma}
+use Rattle.model_grammar.specs.Printed.{blank, token, behind_commas, with_commas}
 use Rattle.fast_syntax.specs.Adds.{Adds}
-use Rattle.fast_syntax.proofs.Characters.{if_ok}
-use Rattle.fast_syntax.proofs.Appending.{drop_at, adds_then, adds_nothing, left_more, left_none, left_all}
+use Rattle.fast_syntax.proofs.Appending.{drop_at, adds_then, left_more, left_none}
 use Rattle.fast_syntax.proofs.print_lists.append_with_commas.Goals as goal
 
 pub loop-item-preserved : goal.loop-item-preserved

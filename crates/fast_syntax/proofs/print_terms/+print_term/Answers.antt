@@ -1,4 +1,4 @@
-use Rattle.std.proofs.Common.{◌≡◌, ◌+◌, ◌∷◌, [], ◌++◌, map, drop, ap, sym, ◌∙◌, subst, arith, rules}
+use Rattle.std.proofs.Common.{◌+◌, ◌∷◌, ◌++◌, map, drop, ap, ◌∙◌, subst, arith}
 use Rattle.std.proofs.lemmas.List.{drop_all}
 use Rattle.model_program.specs.declared.Word.TheVariants.{RoundOpen}
 use Rattle.model_grammar.specs.Printed.{blank, token, name, labels_of, term, terms}
@@ -28,14 +28,14 @@ append_children-returns t c =
 pub append_term-returns-in_ok-append_term-in-One : goal.append_term-returns-in_ok-append_term-in-One
 append_term-returns-in_ok-append_term-in-One t c =
     if_ok c.word-in-One-2.result (λ x last. adds_term (ap plain_x c.in-One.is)
-        (adds_one c.in-One.op c.in-One.field-1 c.op1_word.result (plain_x c.in-One.inside.value) (plain_x c.deref.result.now) c.args.page.now c.word-in-One-2.new.self c.op1_word.ensures (ap plain_x c.deref.ensures)
-          (adds_then c.in_ok-word-in-One.ensures (adds_then c.in_ok-word-in-One-2.ensures (adds_then c.in_ok-blank-in-One.ensures (adds_then c.in_ok-append_term-in-One.ensures last)))))) c.word-in-One-2.ensures
+    (adds_one c.in-One.op c.in-One.field-1 c.op1_word.result (plain_x c.in-One.inside.value) (plain_x c.deref.result.now) c.args.page.now c.word-in-One-2.new.self c.op1_word.ensures (ap plain_x c.deref.ensures)
+    (adds_then c.in_ok-word-in-One.ensures (adds_then c.in_ok-word-in-One-2.ensures (adds_then c.in_ok-blank-in-One.ensures (adds_then c.in_ok-append_term-in-One.ensures last)))))) c.word-in-One-2.ensures
 
 pub append_term-returns-in_ok-append_term-in-Two-2 : goal.append_term-returns-in_ok-append_term-in-Two-2
 append_term-returns-in_ok-append_term-in-Two-2 t c =
     if_ok c.word-in-Two-3.result (λ x last. adds_term (ap plain_x c.in-Two.is)
-        (adds_two c.in-Two.op c.in-Two.field-1 c.op2_word.result (plain_x c.in-Two.first.value) (plain_x c.in-Two.second.value) (plain_x c.deref-in-Two.result.now) (plain_x c.deref-in-Two-2.result.now) c.args.page.now c.word-in-Two-3.new.self c.op2_word.ensures (ap plain_x c.deref-in-Two.ensures) (ap plain_x c.deref-in-Two-2.ensures)
-          (adds_then c.in_ok-word-in-Two.ensures (adds_then c.in_ok-word-in-Two-2.ensures (adds_then c.in_ok-blank-in-Two.ensures (adds_then (adds_then c.in_ok-append_term-in-Two.ensures (adds_then c.in_ok-blank-in-Two-2.ensures c.in_ok-append_term-in-Two-2.ensures)) last)))))) c.word-in-Two-3.ensures
+    (adds_two c.in-Two.op c.in-Two.field-1 c.op2_word.result (plain_x c.in-Two.first.value) (plain_x c.in-Two.second.value) (plain_x c.deref-in-Two.result.now) (plain_x c.deref-in-Two-2.result.now) c.args.page.now c.word-in-Two-3.new.self c.op2_word.ensures (ap plain_x c.deref-in-Two.ensures) (ap plain_x c.deref-in-Two-2.ensures)
+    (adds_then c.in_ok-word-in-Two.ensures (adds_then c.in_ok-word-in-Two-2.ensures (adds_then c.in_ok-blank-in-Two.ensures (adds_then (adds_then c.in_ok-append_term-in-Two.ensures (adds_then c.in_ok-blank-in-Two-2.ensures c.in_ok-append_term-in-Two-2.ensures)) last)))))) c.word-in-Two-3.ensures
 
 pub append_term-returns-in_ok-append_children-in-Literal : goal.append_term-returns-in_ok-append_children-in-Literal
 append_term-returns-in_ok-append_children-in-Literal t c =
