@@ -1,5 +1,5 @@
 -- A printed program is made of its tokens and spells its items again.
-use Rattle.std.proofs.Common.{◌≡◌, ℕ, Bool, true, false, List, [], ◌∷◌, ◌++◌, refl, sym, ap, ◌∙◌, subst, append_assoc, append-nil, arith, length, ◌+◌, ◌≤◌}
+use Rattle.std.proofs.Common.{◌≡◌, ℕ, Bool, true, false, List, [], ◌∷◌, ◌++◌, refl, sym, ap, ◌∙◌, subst, append_assoc, append-nil, arith, length}
 use Rattle.std.specs.Prelude.{encode_utf8_all, encode_utf8}
 use Rattle.std.specs.Str.{chars, IsUtf8}
 use Rattle.std.proofs.lemmas.Str.{chars-encodes, encode_same, length-encode, len_utf8_bounds}
@@ -10,7 +10,7 @@ use Rattle.model_program.specs.Cuts.{Piece, IsCut, AreTokens, body_of, mark_of, 
 use Rattle.model_program.specs.TokenTexts.{HaveTexts}
 use Rattle.model_grammar.specs.Syntax.{Item, Claim, Body, sorts, tree, lang, trans, def, assertion}
 use Rattle.model_grammar.specs.Grammar.{IsProgram}
-use Rattle.model_grammar.specs.Printed.{item, line_end, lines, printed_program}
+use Rattle.model_grammar.specs.Printed.{lines, printed_program}
 use Rattle.model_grammar.specs.Layout.{AreLaid}
 use Rattle.model_grammar.specs.ReadsBack.{SpellsAgain}
 use Rattle.model_grammar.proofs.WrittenItems.{program_written}
