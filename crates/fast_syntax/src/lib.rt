@@ -123,3 +123,8 @@ pub enum Node {
     Truth(bool),
     Not(Box<Expr>),
 }
+
+#[cfg(test)]
+mod item_tests;
+#[cfg(test)]
+mod tests;
