@@ -5,9 +5,17 @@
 
 pub mod expressions;
 pub mod items;
+mod page;
+mod print_expressions;
+mod print_items;
+mod print_lists;
+mod print_rules;
+mod print_terms;
+mod spelling;
 
 pub use fast_fault::{Pos, Text};
 pub use model_grammar::{Op1, Op2, Rel};
+pub use print_items::print;
 
 /// A name where it stands.
 #[derive(Drop)]
@@ -115,3 +123,8 @@ pub enum Node {
     Truth(bool),
     Not(Box<Expr>),
 }
+
+#[cfg(test)]
+mod item_tests;
+#[cfg(test)]
+mod tests;

@@ -1,17 +1,17 @@
 -- Numbers and quoted texts are written.
-use Rattle.std.proofs.Common.{◌⊎◌, inl, inr, ◌≡◌, ℕ, ℤ, pos, negsuc, ◌+◌, ◌*◌, ◌^◌, ◌<◌, ◌≤◌, suc, Bool, true, false, ◌||◌, ◌&&◌, ◌==◌, nat_lt, if◌then◌else◌, List, [], ◌∷◌, ◌++◌, length, refl, sym, ap, ◌∙◌, subst, arith, Some, append_assoc}
+use Rattle.std.proofs.Common.{inl, inr, ◌≡◌, ℕ, ◌+◌, ◌*◌, ◌^◌, ◌<◌, ◌≤◌, Bool, true, false, ◌||◌, ◌==◌, nat_lt, if◌then◌else◌, List, [], ◌∷◌, ◌++◌, length, refl, sym, ap, ◌∙◌, subst, arith}
 use Rattle.std.specs.Prelude.{codes}
-use Rattle.std.specs.Char.{IsScalar, digit_value}
+use Rattle.std.specs.Char.{digit_value}
 use Rattle.std.specs.Fmt.{digits, decimal}
 use Rattle.std.specs.List.{flat_map}
-use Rattle.std.specs.Str.Parse.{AllDigits, IsNumeral, digits_value, digits_value_after}
+use Rattle.std.specs.Str.Parse.{AllDigits, digits_value, digits_value_after}
 use Rattle.std.proofs.lemmas.Str.Parse.{IsNumeralModel, numerals_by_value, tells_digits, digits_value_short}
 use Rattle.std.proofs.lemmas.Fmt.{digits_is_IsNumeral, decimal_is_IsNumeral_wide, length-decimal-le_wide, hex_one_digit, hex_two_digits}
 use Rattle.std.proofs.lemmas.Bool.Decides.{nat_tests}
 use Rattle.std.proofs.lemmas.Bool.{cases_lt, eqb-true}
 use Rattle.model_tree.specs.Printed.{escaped, numbered, printed_text}
 use Rattle.model_program.specs.Characters.{AllIn, is_digit, is_hexadecimal, in_quotes}
-use Rattle.model_program.specs.Quotes.{IsBraced, IsUnit, plain, short, long, AreUnits, no_units, unit, IsQuoted, escape, amount}
+use Rattle.model_program.specs.Quotes.{IsUnit, plain, short, long, AreUnits, no_units, unit, IsQuoted, amount}
 use Rattle.model_program.specs.Grammar.{IsDigits}
 
 model : IsNumeralModel (AllDigits 10) (digits_value 10)
@@ -40,7 +40,7 @@ pub digit_characters : (text : List ℕ) → AllDigits 10 text → AllIn is_digi
 digit_characters [] all = tt
 digit_characters (c ∷ cs) all = (digit_character c all.0, digit_characters cs all.1)
 
-hexadecimal_characters : (text : List ℕ) → AllDigits 16 text → AllIn is_hexadecimal text
+pub hexadecimal_characters : (text : List ℕ) → AllDigits 16 text → AllIn is_hexadecimal text
 hexadecimal_characters [] all = tt
 hexadecimal_characters (c ∷ cs) all = (hexadecimal_character c all.0, hexadecimal_characters cs all.1)
 
@@ -95,12 +95,15 @@ escaped_unit c = quotes ((c == 34) || (c == 92)) refl
     controls : ((c == 34) || (c == 92)) ≡ false → (c == 10) ≡ false → (b : Bool) → (nat_lt c 32 || (c == 127)) ≡ b → IsUnit (if_control c b) c
     controls one two true e = numbered_unit c (control_small c e)
     controls one two false e = plain c (plain_inside c one two)
+
     tabs : ((c == 34) || (c == 92)) ≡ false → (c == 10) ≡ false → (b : Bool) → (c == 9) ≡ b → IsUnit (if_tab c b) c
     tabs one two true e = subst (λ (d : ℕ). IsUnit (92 ∷ 116 ∷ []) d) (sym (eqb-true c 9 e)) (short 116 9 refl)
     tabs one two false e = controls one two (nat_lt c 32 || (c == 127)) refl
+
     lines : ((c == 34) || (c == 92)) ≡ false → (b : Bool) → (c == 10) ≡ b → IsUnit (if_line c b) c
     lines one true e = subst (λ (d : ℕ). IsUnit (92 ∷ 110 ∷ []) d) (sym (eqb-true c 10 e)) (short 110 10 refl)
     lines one false e = tabs one e (c == 9) refl
+
     quotes : (b : Bool) → ((c == 34) || (c == 92)) ≡ b → IsUnit (if b then 92 ∷ c ∷ [] else if_line c (c == 10)) c
     quotes true e = quote_unit c e
     quotes false e = lines e (c == 10) refl

@@ -9,3 +9,4 @@ pub mod WrittenExpressions
 pub mod WrittenLists
 pub mod WrittenTerms
 pub mod WrittenItems
+pub mod ReadBack

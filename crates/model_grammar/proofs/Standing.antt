@@ -1,16 +1,15 @@
 -- The tokens that are printed are the longest pieces where they stand.
-use Rattle.std.proofs.Common.{◌≡◌, ℕ, ◌+◌, ◌≤◌, Bool, true, false, ◌||◌, ◌&&◌, ◌==◌, List, [], ◌∷◌, ◌++◌, length, refl, sym, ap, ◌∙◌, subst, append_assoc, arith, ◌⊎◌, inl, inr, Some}
+use Rattle.std.proofs.Common.{◌≡◌, ℕ, ◌≤◌, Bool, true, false, ◌||◌, ◌==◌, List, [], ◌∷◌, ◌++◌, length, refl, sym, ap, ◌∙◌, subst, append_assoc, arith, ◌⊎◌, inl, inr}
 use Rattle.std.proofs.lemmas.List.{length-append}
 use Rattle.std.proofs.lemmas.Bool.Decides.{nat_tests}
-use Rattle.model_program.specs.declared.Word.{Word}
 use Rattle.model_program.specs.Characters.{AllIn, LeavesOff, in_name, is_digit, is_blank}
-use Rattle.model_program.specs.Spellings.{spelling, spelled, signs, hyphenated}
+use Rattle.model_program.specs.Spellings.{spelling, signs, hyphenated}
 use Rattle.model_program.specs.Quotes.{IsQuoted}
 use Rattle.model_program.specs.Pieces.{PieceKind, Name, Hyphenated, Digits, Text, Sign, Blank, Comment, IsPiece, IsName, IsOneOf, IsLongest}
 use Rattle.model_program.proofs.Spelled.{AllWords, spelled_among}
 use Rattle.model_program.proofs.Runs.{run_longest, same_run}
 use Rattle.model_program.proofs.QuoteLaws.{same_quoted}
-use Rattle.model_program.proofs.Families.{longest_alone, same_family, family, Family, Words, Numbers, Quotes, Gaps, Strokes, Others}
+use Rattle.model_program.proofs.Families.{longest_alone, same_family, family, Words}
 use Rattle.model_program.proofs.Unique.{halves_of, same_hyphenated, name_all}
 use Rattle.model_grammar.specs.Layout.{is_parting, IsParted}
 

@@ -1,14 +1,13 @@
 -- Single tokens are written.
 use Rattle.std.specs.Prelude.{encode_utf8_all}
-use Rattle.std.proofs.Common.{◌≡◌, ℕ, ◌≤◌, true, false, List, [], ◌∷◌, ◌++◌, length, refl, sym, ap, ◌∙◌, subst, Option, Some, None, ◌⊎◌, inl, inr}
+use Rattle.std.proofs.Common.{◌≡◌, ℕ, List, [], ◌∷◌, ◌++◌, length, refl, sym, ap, ◌∙◌, subst, Some, inl, inr}
 use Rattle.std.specs.Option.{unwrap_or}
 use Rattle.fast_fault.specs.declared.place.Pos.{Pos}
 use Rattle.model_program.specs.declared.Word.{Word}
 use Rattle.model_program.specs.declared.Word.TheVariants.{TypeWord, Tree, Lang, Trans, Def, Where, Given, To, Intersect, Union, Complement, Difference, Minimize, Domain, Compose, Restrict, Apply, In, And, Or, Not, True, False, AssertTrue, AssertFalse, PreImage, RestrictOut, GetWitness, IsEmpty, TypeCheck, Id, Number, Quoted, RoundOpen, RoundClose, SquareOpen, SquareClose, CurlyOpen, CurlyClose, Comma, Bar, Colon, Assign, Arrow, Same, Equal, NotEqual, AtMost, AtLeast, Less, Greater, Plus, Minus, Star, Percent, Element}
-use Rattle.model_program.specs.Characters.{AllIn, in_name}
 use Rattle.model_program.specs.Lexeme.{Lexeme}
 use Rattle.model_program.specs.Spellings.{spelling, spelled, keywords, hyphenated, signs}
-use Rattle.model_program.specs.Pieces.{PieceKind, Name, Hyphenated, Sign, IsLongest, IsName, word_of}
+use Rattle.model_program.specs.Pieces.{PieceKind, Name, Sign, IsLongest, word_of}
 use Rattle.model_program.specs.Cuts.{Piece, texts_of, lexeme_at, lexemes_after, place_after}
 use Rattle.model_program.specs.Grammar as grammar
 use Rattle.model_program.specs.Syntax as names

@@ -1,14 +1,10 @@
 -- Pieces that are written for a value: read again they give the same value, places aside.
-use Rattle.std.proofs.Common.{◌≡◌, ℕ, List, [], ◌∷◌, ◌++◌, map, refl, sym, ap, ◌∙◌, subst, append_assoc, append-nil, Option, Some, None, ◌⊎◌, inl, inr}
-use Rattle.model_program.specs.declared.Word.{Word}
-use Rattle.model_program.specs.declared.Word.TheVariants.{Comma}
+use Rattle.std.proofs.Common.{◌≡◌, ℕ, List, [], ◌∷◌, ◌++◌, refl, sym, ap, ◌∙◌, subst, append_assoc, append-nil}
 use Rattle.model_program.specs.Lexeme.{Lexeme}
-use Rattle.model_program.specs.Pieces.{PieceKind, IsLongest, word_of}
+use Rattle.model_program.specs.Pieces.{IsLongest, word_of}
 use Rattle.model_program.specs.Cuts.{Piece, texts_of, lexeme_at, lexemes_after}
-use Rattle.model_program.specs.Reads.{◌⌢◌, Nothing}
-use Rattle.model_program.specs.Grammar.{IsSign, IsWord, IsComma, Further, Items, Any, Many, sign}
 use Rattle.model_program.proofs.Forms.{◌⊗◌}
-use Rattle.model_grammar.specs.Printed.{blank, token, behind_commas, with_commas, behind_blanks}
+use Rattle.model_grammar.specs.Printed.{blank}
 use Rattle.model_grammar.specs.Layout.{IsParted, AreLaid}
 use Rattle.model_grammar.proofs.Standing.{blank_longest}
 

@@ -1,23 +1,21 @@
 -- What is printed of a label expression spells it again.
 use Rattle.std.proofs.lemmas.Bool.Decides.{nat_tests}
-use Rattle.std.proofs.Common.{append_assoc, arith, length, ◌≤◌, ◌≡◌, ℕ, ℤ, pos, negsuc, ◌^◌, ◌<◌, zero, suc, Bool, true, false, List, [], ◌∷◌, ◌++◌, map, refl, sym, ap, ◌∙◌, subst, Some, ◌⊎◌, inl, inr, if◌then◌else◌}
+use Rattle.std.proofs.Common.{append_assoc, arith, length, ◌≤◌, ◌≡◌, ℕ, pos, negsuc, ◌^◌, ◌<◌, zero, suc, Bool, true, false, List, [], ◌∷◌, ◌++◌, map, refl, sym, ap, ◌∙◌, subst, Some, inl, inr, if◌then◌else◌}
 use Rattle.std.specs.Fmt.{decimal}
 use Rattle.std.specs.Str.Parse.{digits_value}
 use Rattle.model_tree.specs.Printed.{printed_text}
 use Rattle.fast_fault.specs.declared.place.Pos.{Pos}
 use Rattle.model_program.specs.declared.Word.{Word}
-use Rattle.model_program.specs.declared.Word.TheVariants.{Not, True, False, Id, Number, Quoted, RoundOpen, RoundClose, Minus, Plus, Star, Percent, Or, And}
+use Rattle.model_program.specs.declared.Word.TheVariants.{Not, True, False, Id, Number, Quoted, RoundOpen, RoundClose, Minus}
 use Rattle.model_program.specs.Characters.{AllIn, begins_name, is_digit}
 use Rattle.model_program.specs.Lexeme.{Lexeme}
 use Rattle.std.specs.Option.{unwrap_or}
 use Rattle.model_program.proofs.TokenTexts.{piece_text}
 use Rattle.model_program.proofs.Families.{digit_no_name}
 use Rattle.model_program.specs.Spellings.{spelling, spelled, keywords}
-use Rattle.model_program.specs.Quotes.{IsQuoted}
-use Rattle.model_program.specs.Pieces.{IsName, Name, Digits, Text, Sign, IsLongest}
+use Rattle.model_program.specs.Pieces.{IsName, Name, Digits, Text, IsLongest}
 use Rattle.model_program.specs.Cuts.{Piece, texts_of, lexemes_after, place_after}
 use Rattle.model_program.specs.Reads.{IsOther}
-use Rattle.model_program.specs.Grammar.{IsDigits}
 use Rattle.model_program.specs.TokenTexts.{IsTextOf, HaveTexts}
 use Rattle.model_grammar.specs.declared.Rel.{Rel}
 use Rattle.model_grammar.specs.declared.Rel.TheVariants as rel
@@ -29,11 +27,11 @@ use Rattle.model_grammar.specs.Syntax.{Expr, field, number, text, truth, negatio
 use Rattle.model_grammar.specs.Places.{nowhere, bare, bare_parts}
 use Rattle.model_grammar.specs.Operators.{rel_word, is_marking, chain_word, IsSignOf, IsMany}
 use Rattle.model_grammar.specs.Expressions.{IsExpr, disjunction, conjunction, negated, not_negated, compared, not_compared, sum, product, negative_number, minus_of, no_minus, field_name, constant_number, constant_text, constant_true, constant_false, brackets, many_before, remainder_before, compared_before, AreMore, no_more, one_more, ArePrims, no_prims, prims, operand, parts_of, chain_of, negative}
-use Rattle.model_grammar.specs.Printed.{piece, blank, token, kind_of, whole, bracketed, own_level, chain_level, fits, at_level, stands_behind_minus, behind_minus, expression, operands, further, truth_word}
-use Rattle.model_grammar.specs.Layout.{IsParted, AreLaid}
+use Rattle.model_grammar.specs.Printed.{piece, blank, token, bracketed, own_level, chain_level, fits, at_level, behind_minus, expression, further}
+use Rattle.model_grammar.specs.Layout.{IsParted}
 use Rattle.model_grammar.proofs.Standing.{name_longest, digits_longest, text_longest, blank_longest, NoSecond}
 use Rattle.model_grammar.proofs.Levels.{chained, loosen, primary, loosest}
-use Rattle.model_grammar.proofs.Written.{Again, Written, Touches, lexemes_after-append, laid-append, texts_of-append}
+use Rattle.model_grammar.proofs.Written.{Again, Written, Touches, lexemes_after-append, laid-append}
 use Rattle.model_grammar.proofs.Tokens.{token_at, one_token, token_written, token_then, spelled_word, word_longest, minus_longest, word_of_name, bracket_tokens, bracket_laid, IsSpelled}
 use Rattle.model_grammar.proofs.Constants.{digits_small, decimal_digits, decimal_value, digit_characters, printed_quoted}
 
@@ -263,10 +261,13 @@ more_stands k sign e more is stands later =
             spelled = one_more k (token_at w there (spelling w)) one.value two.value _ _ (sign_of k m) one.spelled two.spelled;
             same = λ i. part (is_marking (sign_again k sign.word is i)) (one.same i) (two.same i);
           });
-      laid = λ after parted.
-          (blank_longest 32 (texts_of (token w ∷ blank ∷ (pe ++ pf)) ++ after) refl,
-            (word_longest w (spelled_sign k m) (texts_of (blank ∷ (pe ++ pf)) ++ after) refl,
-              (blank_longest 32 (texts_of (pe ++ pf) ++ after) refl, laid-append pe pf after (inside.laid (texts_of pf ++ after) (further_touch k (parts_of more) after parted)) (later.laid after parted))));
+      laid = λ after parted. (
+        blank_longest 32 (texts_of (token w ∷ blank ∷ (pe ++ pf)) ++ after) refl,
+        (
+          word_longest w (spelled_sign k m) (texts_of (blank ∷ (pe ++ pf)) ++ after) refl,
+          (blank_longest 32 (texts_of (pe ++ pf) ++ after) refl, laid-append pe pf after (inside.laid (texts_of pf ++ after) (further_touch k (parts_of more) after parted)) (later.laid after parted)),
+        ),
+      );
     }
 
 -- what a chain is made of, places aside

@@ -1,36 +1,35 @@
 -- Items are written.
-use Rattle.std.proofs.Common.{◌≡◌, ℕ, ℤ, pos, ◌^◌, ◌<◌, Bool, true, false, List, [], ◌∷◌, ◌++◌, map, refl, sym, ap, ◌∙◌, subst, append_assoc, Option, Some, None, ◌⊎◌, inl, inr, if◌then◌else◌}
+use Rattle.std.proofs.Common.{◌≡◌, ℕ, ℤ, pos, ◌^◌, ◌<◌, Bool, true, false, List, [], ◌∷◌, ◌++◌, map, refl, sym, ap, ◌∙◌, subst, append_assoc, Option, Some, None, inl, inr, if◌then◌else◌}
 use Rattle.std.specs.Prelude.{codes}
 use Rattle.std.specs.Str.{bytes_eq}
 use Rattle.std.specs.Str.Parse.{digits_value}
 use Rattle.std.specs.Fmt.{decimal}
 use Rattle.fast_fault.specs.declared.place.Pos.{Pos}
 use Rattle.model_program.specs.declared.Word.{Word}
-use Rattle.model_program.specs.declared.Word.TheVariants.{TypeWord, Tree, Lang, Trans, Def, Where, Given, To, In, IsEmpty, TypeCheck, Id, Number, RoundOpen, RoundClose, SquareOpen, SquareClose, CurlyOpen, CurlyClose, Bar, Comma, Colon, Assign, Arrow, Same}
+use Rattle.model_program.specs.declared.Word.TheVariants.{TypeWord, Tree, Lang, Trans, Def, Where, Given, To, In, IsEmpty, TypeCheck, Id, Number, RoundOpen, RoundClose, SquareOpen, SquareClose, CurlyOpen, CurlyClose, Bar, Colon, Assign, Arrow, Same}
 use Rattle.model_program.specs.Lexeme.{Lexeme}
-use Rattle.model_program.specs.Spellings.{spelling, spelled, keywords}
+use Rattle.model_program.specs.Spellings.{spelled, keywords}
 use Rattle.model_program.specs.Syntax.{Name, FieldItem, CtorItem, TypeItem, Demand}
 use Rattle.model_program.specs.Pieces.{Digits}
-use Rattle.model_program.specs.Pieces as pieces
-use Rattle.model_program.specs.Cuts.{Piece, texts_of, place_after}
-use Rattle.model_program.specs.Reads.{◌⌢◌, Nothing}
-use Rattle.model_program.specs.Grammar.{sign, IsSign, IsAt, IsName, IsNumber, IsDigits, IsComma, Items, Any, Many, AreVars, IsGiven, IsDemand, IsCtor, IsSort, IsField, sort_text, AreFields, AreFieldsOrNone, AreCtors, IsTypeItem, assert_word}
+use Rattle.model_program.specs.Cuts.{Piece, texts_of}
+use Rattle.model_program.specs.Reads.{◌⌢◌}
+use Rattle.model_program.specs.Grammar.{IsSign, IsAt, IsName, IsNumber, IsComma, Items, Any, Many, AreVars, IsGiven, IsDemand, IsCtor, IsSort, IsField, sort_text, AreFieldsOrNone, AreCtors, IsTypeItem, assert_word}
 use Rattle.model_program.specs.TokenTexts.{IsTextOf, HaveTexts}
 use Rattle.model_program.proofs.Forms.{◌⊗◌}
-use Rattle.model_grammar.specs.Syntax.{Expr, X, Rule, OutRule, TreeItem, LangItem, TransItem, DefItem, Claim, equal, member, empty, type_check, AssertItem, Body, sorts, tree, lang, trans, def, assertion, Item}
-use Rattle.model_grammar.specs.Places.{nowhere, bare_name, bare_field, bare_ctor, bare_type, bare_demand, bare_guard, bare_rule, bare_out_rule, bare_into, bare_tree, bare_lang, bare_trans, bare_def, bare_claim, bare_body, bare_item, bare_items, bare, bare_x, bare_out}
+use Rattle.model_grammar.specs.Syntax.{Expr, Rule, OutRule, TreeItem, LangItem, TransItem, DefItem, Claim, equal, member, empty, type_check, Body, sorts, tree, lang, trans, def, assertion, Item}
+use Rattle.model_grammar.specs.Places.{nowhere, bare_name, bare_field, bare_ctor, bare_type, bare_demand, bare_guard, bare_rule, bare_out_rule, bare_into, bare_tree, bare_lang, bare_trans, bare_def, bare_claim, bare_item, bare_items}
 use Rattle.model_grammar.specs.Terms.{IsX, IsOut}
 use Rattle.model_grammar.specs.Expressions.{IsE}
-use Rattle.model_grammar.specs.Grammar.{IsGuard, IsRule, IsOutRule, InBraces, IsTreeItem, IsLangItem, IsTransItem, IsInto, IsDefItem, IsIn, IsB, IsA, IsBody, IsItem, IsProgram}
-use Rattle.model_grammar.specs.Printed.{piece, blank, line_end, token, name, whole, bracketed, with_commas, behind_commas, behind_blanks, behind_bars, in_braces, rules_of, expression, term, output, demand, guarded, demands, rule, out_rule, field_of, ctor_of, type_item, tree_item, lang_item, trans_item, into_of, def_item, claim, item, lines}
+use Rattle.model_grammar.specs.Grammar.{IsGuard, IsRule, IsOutRule, InBraces, IsTreeItem, IsLangItem, IsTransItem, IsInto, IsDefItem, IsB, IsA, IsBody, IsItem, IsProgram}
+use Rattle.model_grammar.specs.Printed.{blank, line_end, token, name, whole, bracketed, with_commas, in_braces, rules_of, term, demand, guarded, demands, rule, out_rule, field_of, ctor_of, type_item, tree_item, lang_item, trans_item, into_of, def_item, claim, item, lines}
 use Rattle.model_grammar.specs.Layout.{IsParted}
 use Rattle.model_grammar.proofs.Standing.{digits_longest, blank_longest}
-use Rattle.model_grammar.proofs.Written.{Again, Written, AllWritten, Touches, both, joined, spaced, apart, as_written, before_fewer, nothing_written}
-use Rattle.model_grammar.proofs.Tokens.{alike, placed, sign_written, at_written, square_written, round_written, name_written, token_at, token_written, IsSpelled}
+use Rattle.model_grammar.proofs.Written.{Written, AllWritten, Touches, both, joined, spaced, apart, as_written, nothing_written}
+use Rattle.model_grammar.proofs.Tokens.{alike, sign_written, at_written, square_written, round_written, name_written, token_at, token_written, IsSpelled}
 use Rattle.model_grammar.proofs.Constants.{digits_small, decimal_digits, decimal_value, digit_characters}
 use Rattle.model_grammar.proofs.WrittenExpressions.{texts_front, texts_back, expression_written}
 use Rattle.model_grammar.proofs.WrittenLists.{flattened, second_as, items_commas, any_commas, items_bars, many_blanks, blanks_touch, all_many, all_items, all_any}
-use Rattle.model_grammar.proofs.WrittenTerms.{names_written, name_text, term_written, output_written}
+use Rattle.model_grammar.proofs.WrittenTerms.{names_written, term_written, output_written}
 
 -- the texts of the parts of joined tokens
 pub front_texts : {p q : List Lexeme → Type 0} {ts : List Lexeme} → (s : (p ⌢ q) ts) → HaveTexts ts → HaveTexts s.front
@@ -90,8 +89,8 @@ rule_written r ts is have =
     let t1 = back_texts is have in let t2 = back_texts s1 t1 in
     as_written {p = IsName ⊗ (AreVars ⊗ (IsGuard ⊗ IsGiven))} (λ v. record { ctor = v.0; vars = v.1.0; guard = v.1.1.0; given = v.1.1.1 }) (λ v us s. s) (λ v same i. record { ctor = (same i).0; vars = (same i).1.0; guard = (same i).1.1.0; given = (same i).1.1.1 })
     (joined (λ after fine. refl) (names_written r.ctor is.front is.at_front (front_texts is have))
-      (joined (guard_touch r.guard (demands r.given) (demands_touch r.given)) (vars_written r.vars s1.front s1.at_front (front_texts s1 t1))
-        (joined (demands_touch r.given) (guard_written r.guard s2.front s2.at_front (front_texts s2 t2)) (given_written r.given s2.back s2.at_back (back_texts s2 t2)))))
+    (joined (guard_touch r.guard (demands r.given) (demands_touch r.given)) (vars_written r.vars s1.front s1.at_front (front_texts s1 t1))
+    (joined (demands_touch r.given) (guard_written r.guard s2.front s2.at_front (front_texts s2 t2)) (given_written r.given s2.back s2.at_back (back_texts s2 t2)))))
 
 out_rule_written : (r : OutRule) (ts : List Lexeme) → IsOutRule r ts → HaveTexts ts → Written IsParted bare_out_rule IsOutRule r (out_rule r)
 out_rule_written r ts is have =
@@ -140,9 +139,11 @@ sort_known text is = first (bytes_eq text (codes "int")) refl
     third : bytes_eq text (codes "int") ≡ false → bytes_eq text (codes "bool") ≡ false → (b : Bool) → bytes_eq text (codes "string") ≡ b → IsSortName (if b then codes "String" else text)
     third one two true e = record { is_name = ((refl, (refl, (refl, (refl, (refl, (refl, tt)))))), refl); stays = refl }
     third one two false e = record { is_name = is; stays = λ i. if one i then codes "Int" else (if two i then codes "Bool" else (if e i then codes "String" else text)) }
+
     second : bytes_eq text (codes "int") ≡ false → (b : Bool) → bytes_eq text (codes "bool") ≡ b → IsSortName (if b then codes "Bool" else (if bytes_eq text (codes "string") then codes "String" else text))
     second one true e = record { is_name = ((refl, (refl, (refl, (refl, tt)))), refl); stays = refl }
     second one false e = third one e (bytes_eq text (codes "string")) refl
+
     first : (b : Bool) → bytes_eq text (codes "int") ≡ b → IsSortName (if b then codes "Int" else (if bytes_eq text (codes "bool") then codes "Bool" else (if bytes_eq text (codes "string") then codes "String" else text)))
     first true e = record { is_name = ((refl, (refl, (refl, tt))), refl); stays = refl }
     first false e = second e (bytes_eq text (codes "bool")) refl
@@ -199,7 +200,7 @@ type_written t ts is have =
     let s1 = is.at_back in let t1 = back_texts is have in
     as_written {p = IsName ⊗ (AreFieldsOrNone ⊗ AreCtors)} (λ v. record { name = v.0; fields = v.1.0; ctors = v.1.1 }) (λ v us s. s) (λ v same i. record { name = (same i).0; fields = (same i).1.0; ctors = (same i).1.1 })
     (apart (names_written t.name is.front is.at_front (front_texts is have))
-      (again_grouped (with_commas field_of t.fields) (in_braces (with_commas ctor_of t.ctors)) (apart (fields_written t.fields s1.front s1.at_front (front_texts s1 t1)) (ctors_written t.ctors s1.back s1.at_back (back_texts s1 t1)))))
+    (again_grouped (with_commas field_of t.fields) (in_braces (with_commas ctor_of t.ctors)) (apart (fields_written t.fields s1.front s1.at_front (front_texts s1 t1)) (ctors_written t.ctors s1.back s1.at_back (back_texts s1 t1)))))
   where
     again_grouped : {A C : Type 0} {f : A → C} {p : A → List Lexeme → Type 0} {a : A} (fields ctors : List Piece) → Written IsParted f p a ((token SquareOpen ∷ (fields ++ token SquareClose ∷ [])) ++ blank ∷ ctors) → Written IsParted f p a (token SquareOpen ∷ (fields ++ token SquareClose ∷ blank ∷ ctors))
     again_grouped {f} {p} {a} fields ctors written = subst (λ (l : List Piece). Written IsParted f p a (token SquareOpen ∷ l)) (append_assoc fields (token SquareClose ∷ []) (blank ∷ ctors)) written
@@ -210,7 +211,7 @@ tree_written t ts is have =
     let t1 = back_texts is have in let t2 = back_texts s1 t1 in let t3 = back_texts s2 t2 in
     as_written {p = IsName ⊗ (IsSign Colon ⊗ (IsName ⊗ (IsSign Assign ⊗ IsX)))} (λ v. record { name = v.0; of = v.1.1.0; value = v.1.1.1.1 }) (λ v us s. s) (λ v same i. record { name = (same i).0; of = (same i).1.1.0; value = (same i).1.1.1.1 })
     (apart (names_written t.name is.front is.at_front (front_texts is have)) (apart (sign_written Colon tt)
-      (apart (names_written t.of s2.front s2.at_front (front_texts s2 t2)) (apart (sign_written Assign tt) (term_written t.value s3.back s3.at_back (back_texts s3 t3))))))
+    (apart (names_written t.of s2.front s2.at_front (front_texts s2 t2)) (apart (sign_written Assign tt) (term_written t.value s3.back s3.at_back (back_texts s3 t3))))))
 
 lang_written : (l : LangItem) (ts : List Lexeme) → IsLangItem l ts → HaveTexts ts → Written IsParted bare_lang IsLangItem l (lang_item l)
 lang_written l ts is have =
@@ -218,7 +219,7 @@ lang_written l ts is have =
     let t1 = back_texts is have in let t2 = back_texts s1 t1 in
     as_written {p = IsName ⊗ (IsSign Colon ⊗ (IsName ⊗ InBraces IsRule))} (λ v. record { name = v.0; of = v.1.1.0; rules = v.1.1.1 }) (λ v us s. s) (λ v same i. record { name = (same i).0; of = (same i).1.1.0; rules = (same i).1.1.1 })
     (apart (names_written l.name is.front is.at_front (front_texts is have)) (apart (sign_written Colon tt)
-      (apart (names_written l.of s2.front s2.at_front (front_texts s2 t2)) (rules_written bare_rule IsRule rule rule_written l.rules s2.back s2.at_back (back_texts s2 t2)))))
+    (apart (names_written l.of s2.front s2.at_front (front_texts s2 t2)) (rules_written bare_rule IsRule rule rule_written l.rules s2.back s2.at_back (back_texts s2 t2)))))
 
 trans_written : (t : TransItem) (ts : List Lexeme) → IsTransItem t ts → HaveTexts ts → Written IsParted bare_trans IsTransItem t (trans_item t)
 trans_written t ts is have =
@@ -226,8 +227,8 @@ trans_written t ts is have =
     let t1 = back_texts is have in let t2 = back_texts s1 t1 in let t3 = back_texts s2 t2 in let t4 = back_texts s3 t3 in
     as_written {p = IsName ⊗ (IsSign Colon ⊗ (IsName ⊗ (IsSign Arrow ⊗ (IsName ⊗ InBraces IsOutRule))))} (λ v. record { name = v.0; from = v.1.1.0; into = v.1.1.1.1.0; rules = v.1.1.1.1.1 }) (λ v us s. s) (λ v same i. record { name = (same i).0; from = (same i).1.1.0; into = (same i).1.1.1.1.0; rules = (same i).1.1.1.1.1 })
     (apart (names_written t.name is.front is.at_front (front_texts is have)) (apart (sign_written Colon tt)
-      (apart (names_written t.from s2.front s2.at_front (front_texts s2 t2)) (apart (sign_written Arrow tt)
-          (apart (names_written t.into s4.front s4.at_front (front_texts s4 t4)) (rules_written bare_out_rule IsOutRule out_rule out_rule_written t.rules s4.back s4.at_back (back_texts s4 t4)))))))
+    (apart (names_written t.from s2.front s2.at_front (front_texts s2 t2)) (apart (sign_written Arrow tt)
+    (apart (names_written t.into s4.front s4.at_front (front_texts s4 t4)) (rules_written bare_out_rule IsOutRule out_rule out_rule_written t.rules s4.back s4.at_back (back_texts s4 t4)))))))
 
 into_written : (into : Option Name) (ts : List Lexeme) → IsInto into ts → HaveTexts ts → Written IsParted bare_into IsInto into (into_of into)
 into_written None ts is have = nothing_written None refl
@@ -245,8 +246,8 @@ def_written d ts is have =
     let t1 = back_texts is have in let t2 = back_texts s1 t1 in let t3 = back_texts s2 t2 in let t4 = back_texts s3 t3 in
     as_written {p = IsName ⊗ (IsSign Colon ⊗ (IsName ⊗ (IsInto ⊗ (IsSign Assign ⊗ IsX))))} (λ v. record { name = v.0; from = v.1.1.0; into = v.1.1.1.0; value = v.1.1.1.1.1 }) (λ v us s. s) (λ v same i. record { name = (same i).0; from = (same i).1.1.0; into = (same i).1.1.1.0; value = (same i).1.1.1.1.1 })
     (apart (names_written d.name is.front is.at_front (front_texts is have)) (apart (sign_written Colon tt)
-      (joined (into_touch d.into (token Assign ∷ blank ∷ term d.value)) (names_written d.from s2.front s2.at_front (front_texts s2 t2))
-          (apart (into_written d.into s3.front s3.at_front (front_texts s3 t3)) (apart (sign_written Assign tt) (term_written d.value s4.back s4.at_back (back_texts s4 t4)))))))
+    (joined (into_touch d.into (token Assign ∷ blank ∷ term d.value)) (names_written d.from s2.front s2.at_front (front_texts s2 t2))
+    (apart (into_written d.into s3.front s3.at_front (front_texts s3 t3)) (apart (sign_written Assign tt) (term_written d.value s4.back s4.at_back (back_texts s4 t4)))))))
 
 claim_written : (c : Claim) (ts : List Lexeme) → IsB c ts → HaveTexts ts → Written IsParted bare_claim IsA c (claim c)
 claim_written (equal x y) ts is have =

@@ -1,19 +1,17 @@
 -- Lists are written, with commas, bars or blanks between their items.
-use Rattle.std.proofs.Common.{◌≡◌, ℕ, List, [], ◌∷◌, ◌++◌, map, refl, sym, ap, ◌∙◌, subst, append_assoc, ◌⊎◌, inl, inr}
-use Rattle.model_program.specs.declared.Word.{Word}
-use Rattle.model_program.specs.declared.Word.TheVariants.{Comma, Bar, Minus, SquareOpen, SquareClose, CurlyOpen, CurlyClose, RoundOpen, RoundClose}
+use Rattle.std.proofs.Common.{List, [], ◌∷◌, ◌++◌, map, refl, sym, ap, ◌∙◌, subst, append_assoc, inl, inr}
+use Rattle.model_program.specs.declared.Word.TheVariants.{Comma, Bar}
 use Rattle.model_program.specs.Lexeme.{Lexeme}
-use Rattle.model_program.specs.Spellings.{spelling}
-use Rattle.model_program.specs.Cuts.{Piece, texts_of, lexemes_after}
-use Rattle.model_program.specs.Reads.{◌⌢◌, Nothing}
-use Rattle.model_program.specs.Grammar.{IsSign, IsComma, Further, Items, Any, Many, sign}
+use Rattle.model_program.specs.Cuts.{Piece}
+use Rattle.model_program.specs.Reads.{◌⌢◌}
+use Rattle.model_program.specs.Grammar.{IsSign, IsComma, Further, Items, Any, Many}
 use Rattle.model_program.specs.TokenTexts.{HaveTexts}
 use Rattle.model_program.proofs.Forms.{◌⊗◌}
 use Rattle.model_grammar.specs.Terms.{IsLater, Row}
-use Rattle.model_grammar.specs.Printed.{blank, token, bracketed, behind_commas, with_commas, behind_blanks, behind_bars, in_braces, rules_of}
+use Rattle.model_grammar.specs.Printed.{behind_commas, with_commas, behind_blanks, behind_bars}
 use Rattle.model_grammar.specs.Layout.{IsParted}
-use Rattle.model_grammar.proofs.Written.{Again, Written, AllWritten, Touches, both, joined, spaced, apart, as_written, before_fewer, nothing_written, anything}
-use Rattle.model_grammar.proofs.Tokens.{alike, sign_written, round_written, square_written, bracket_tokens, bracket_laid, token_at}
+use Rattle.model_grammar.proofs.Written.{Written, AllWritten, Touches, joined, spaced, as_written, nothing_written}
+use Rattle.model_grammar.proofs.Tokens.{sign_written}
 use Rattle.model_grammar.proofs.WrittenExpressions.{texts_front, texts_back}
 
 -- forms joined one behind the other
@@ -55,7 +53,6 @@ bars_touch printed (x ∷ xs) after parted = refl
 pub blanks_touch : {A : Type 0} (printed : A → List Piece) (xs : List A) → Touches IsParted (behind_blanks printed xs) IsParted
 blanks_touch printed [] after parted = parted
 blanks_touch printed (x ∷ xs) after parted = refl
-
 
 module _ {A C : Type 0} (f : A → C) (p : A → List Lexeme → Type 0) (printed : A → List Piece) where
   abbrev Each : List A → Type 0

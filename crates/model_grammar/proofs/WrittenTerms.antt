@@ -1,14 +1,14 @@
 -- Labels, expressions of languages, transformations and trees, and output terms are written.
-use Rattle.std.proofs.Common.{◌≡◌, ℕ, List, [], ◌∷◌, ◌++◌, map, refl, sym, ap, ◌∙◌, subst, append_assoc, ◌⊎◌, inl, inr}
+use Rattle.std.proofs.Common.{◌≡◌, List, [], ◌∷◌, ◌++◌, map, refl, sym, ap, ◌∙◌, subst, append_assoc}
 use Rattle.fast_fault.specs.declared.place.Pos.{Pos}
 use Rattle.model_program.specs.declared.Word.{Word}
 use Rattle.model_program.specs.declared.Word.TheVariants.{Id, SquareOpen, SquareClose, RoundOpen, RoundClose}
 use Rattle.model_program.specs.Lexeme.{Lexeme}
 use Rattle.model_program.specs.Spellings.{spelling}
 use Rattle.model_program.specs.Syntax.{Name}
-use Rattle.model_program.specs.Cuts.{Piece, texts_of, lexemes_after}
-use Rattle.model_program.specs.Reads.{◌⌢◌, Nothing}
-use Rattle.model_program.specs.Grammar.{IsSign, IsAt, IsName, Many, sign}
+use Rattle.model_program.specs.Cuts.{Piece, texts_of}
+use Rattle.model_program.specs.Reads.{◌⌢◌}
+use Rattle.model_program.specs.Grammar.{IsSign, IsAt, IsName}
 use Rattle.model_program.specs.TokenTexts.{IsTextOf, HaveTexts}
 use Rattle.model_program.proofs.Forms.{◌⊗◌}
 use Rattle.model_grammar.specs.declared.Op1.{Op1}
@@ -23,8 +23,8 @@ use Rattle.model_grammar.specs.Terms.{Row, AreLabels, IsX, name, on_one, on_two,
 use Rattle.model_grammar.specs.Printed.{piece, blank, token, bracketed, with_commas, expression, labels_of, term, terms, output, outputs}
 use Rattle.model_grammar.specs.Printed as printed
 use Rattle.model_grammar.specs.Layout.{IsParted}
-use Rattle.model_grammar.proofs.Written.{Again, Written, Touches, both, joined, spaced, apart, as_written, before_fewer, nothing_written}
-use Rattle.model_grammar.proofs.Tokens.{alike, placed, sign_written, at_written, square_written, name_written, bracket_tokens, bracket_laid, token_at, IsSpelled}
+use Rattle.model_grammar.proofs.Written.{Again, Written, Touches, joined, spaced, apart, as_written, nothing_written}
+use Rattle.model_grammar.proofs.Tokens.{sign_written, at_written, square_written, name_written, bracket_tokens, bracket_laid, token_at, IsSpelled}
 use Rattle.model_grammar.proofs.WrittenExpressions.{texts_front, texts_back, expression_written}
 use Rattle.model_grammar.proofs.WrittenLists.{row_commas, all_row}
 
@@ -119,12 +119,12 @@ mutual
   term_written x ts (on_two left op right kind y z front back opens is_op closes is_y is_z) have =
       in_parens {p = IsAt (op2_word kind) ⊗ (IsX ⊗ IsX)} (λ v. two kind v.0 v.1.0 v.1.1) (two_into kind) (λ v same i. two kind nowhere (same i).1.0 (same i).1.1)
       (apart (at_written (op2_word kind) op.place (spelled_op2 kind))
-        (apart (term_written y front is_y (texts_front front (back ++ right ∷ []) have.1.1)) (term_written z back is_z (texts_front back (right ∷ []) (texts_back front (back ++ right ∷ []) have.1.1)))))
+      (apart (term_written y front is_y (texts_front front (back ++ right ∷ []) have.1.1)) (term_written z back is_z (texts_front back (right ∷ []) (texts_back front (back ++ right ∷ []) have.1.1)))))
   term_written x ts (new left right n labels xs head row children opens closes is_n are are_xs) have =
       let behind = texts_back head (row ++ (children ++ right ∷ [])) have.1 in
       in_parens {p = IsName ⊗ (AreLabels ⊗ AreXs)} (λ v. literal v.0 v.1.0 v.1.1) new_into (λ v same i. literal (same i).0 (same i).1.0 (same i).1.1)
       (apart (names_written n head is_n (texts_front head (row ++ (children ++ right ∷ [])) have.1))
-        (joined (terms_touch xs) (labels_written labels row are (texts_front row (children ++ right ∷ []) behind)) (terms_written xs children are_xs (texts_front children (right ∷ []) (texts_back row (children ++ right ∷ []) behind)))))
+      (joined (terms_touch xs) (labels_written labels row are (texts_front row (children ++ right ∷ []) behind)) (terms_written xs children are_xs (texts_front children (right ∷ []) (texts_back row (children ++ right ∷ []) behind)))))
 
   pub terms_written : (xs : Xs) (ts : List Lexeme) → AreXs xs ts → HaveTexts ts → Written IsParted bare_xs AreXs xs (terms xs)
   terms_written xs ts no_more have = nothing_written no_x no_more
@@ -159,7 +159,7 @@ mutual
       let behind = texts_back head (row ++ (children ++ right ∷ [])) have.1 in
       in_parens {p = IsName ⊗ (AreLabels ⊗ AreOuts)} (λ v. node v.0 v.1.0 v.1.1) made_into (λ v same i. node (same i).0 (same i).1.0 (same i).1.1)
       (apart (names_written n head is_n (texts_front head (row ++ (children ++ right ∷ [])) have.1))
-        (joined (outputs_touch outs) (labels_written labels row are (texts_front row (children ++ right ∷ []) behind)) (outputs_written outs children are_outs (texts_front children (right ∷ []) (texts_back row (children ++ right ∷ []) behind)))))
+      (joined (outputs_touch outs) (labels_written labels row are (texts_front row (children ++ right ∷ []) behind)) (outputs_written outs children are_outs (texts_front children (right ∷ []) (texts_back row (children ++ right ∷ []) behind)))))
 
   pub outputs_written : (outs : Outs) (ts : List Lexeme) → AreOuts outs ts → HaveTexts ts → Written IsParted bare_outs AreOuts outs (outputs outs)
   outputs_written outs ts no_outs have = nothing_written no_out no_outs

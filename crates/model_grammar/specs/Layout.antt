@@ -1,5 +1,5 @@
 -- Pieces that stand as they are in a text.
-use Rattle.std.specs.Prelude.{◌≡◌, ℕ, Bool, true, false, ◌||◌, ◌==◌, List, [], ◌∷◌, ◌++◌}
+use Rattle.std.specs.Prelude.{◌≡◌, ℕ, Bool, true, ◌||◌, ◌==◌, List, [], ◌∷◌, ◌++◌}
 use Rattle.model_program.specs.Cuts.{Piece, texts_of}
 use Rattle.model_program.specs.Pieces.{IsLongest}
 

@@ -1,5 +1,5 @@
 -- The printed text of a program, as the list of its pieces: tokens, and the blanks between them. An item stands on a line of its own. Single blanks stand between tokens, save that none stands after `(` and `[`, before `)`, `]` and `,`, between a constructor of a head or type and its `(`, and after a `-` before one operand.
-use Rattle.std.specs.Prelude.{ℕ, ℤ, pos, negsuc, ◌+◌, suc, Bool, true, false, ◌||◌, nat_le, if◌then◌else◌, List, [], ◌∷◌, ◌++◌, Option, Some, None}
+use Rattle.std.specs.Prelude.{ℕ, ℤ, pos, negsuc, suc, Bool, true, false, nat_le, if◌then◌else◌, List, [], ◌∷◌, ◌++◌, Option, Some, None}
 use Rattle.std.specs.Fmt.{decimal}
 use Rattle.model_tree.specs.Printed.{printed_text}
 use Rattle.model_program.specs.declared.Word.{Word}
@@ -16,7 +16,7 @@ use Rattle.model_grammar.specs.declared.Chain.TheVariants.{Disjunction, Conjunct
 use Rattle.model_grammar.specs.declared.Chain.TheVariants as kind
 use Rattle.model_grammar.specs.declared.Level.{Level}
 use Rattle.model_grammar.specs.declared.Level.TheVariants.{E, Conj, Neg, Cmp, Sum, Prod, Unary, Prim}
-use Rattle.model_grammar.specs.Syntax.{Expr, field, number, text, truth, negation, compare, minus, chain, Parts, no_parts, part, X, named, one, two, literal, Xs, no_x, and_x, Out, child, call, node, Outs, no_out, and_out, Rule, OutRule, TreeItem, LangItem, TransItem, DefItem, Claim, equal, member, empty, type_check, AssertItem, Body, sorts, tree, lang, trans, def, assertion, Item}
+use Rattle.model_grammar.specs.Syntax.{Expr, field, number, text, truth, negation, compare, minus, chain, Parts, no_parts, part, X, named, one, two, literal, Xs, no_x, and_x, Out, child, call, node, Outs, no_out, and_out, Rule, OutRule, TreeItem, LangItem, TransItem, DefItem, Claim, equal, member, empty, type_check, sorts, tree, lang, trans, def, assertion, Item}
 use Rattle.model_grammar.specs.Operators.{op1_word, op2_word, rel_word, chain_word}
 use Rattle.model_grammar.specs.Expressions.{operand}
 
@@ -103,10 +103,14 @@ behind_bars printed (a ∷ others) = blank ∷ token Bar ∷ blank ∷ (printed 
 abbrev pub in_braces : List Piece → List Piece
 in_braces ps = token CurlyOpen ∷ blank ∷ (ps ++ blank ∷ token CurlyClose ∷ [])
 
+-- rules with bars between them
+abbrev pub with_bars : {A : Type 0} → (A → List Piece) → List A → List Piece
+with_bars printed [] = []
+with_bars printed (a ∷ others) = printed a ++ behind_bars printed others
+
 -- rules with bars between them, in braces
 abbrev pub rules_of : {A : Type 0} → (A → List Piece) → List A → List Piece
-rules_of printed [] = in_braces []
-rules_of printed (a ∷ others) = in_braces (printed a ++ behind_bars printed others)
+rules_of printed rules = in_braces (with_bars printed rules)
 
 -- how tightly each level binds
 abbrev pub rank : Level → ℕ
@@ -254,13 +258,13 @@ claim (type_check x y z) = bracketed (token TypeCheck ∷ blank ∷ (term x ++ b
 
 abbrev pub item : Item → List Piece
 item i = elim i.body [
-    sorts t ↦ token TypeWord ∷ blank ∷ type_item t
+  | sorts t ↦ token TypeWord ∷ blank ∷ type_item t
   | tree t ↦ token word.Tree ∷ blank ∷ tree_item t
   | lang l ↦ token Lang ∷ blank ∷ lang_item l
   | trans t ↦ token Trans ∷ blank ∷ trans_item t
   | def d ↦ token Def ∷ blank ∷ def_item d
   | assertion a ↦ token (assert_word a.wanted) ∷ blank ∷ claim a.claim
-  ]
+]
 
 -- each item on its line
 abbrev pub lines : List Item → List Piece
