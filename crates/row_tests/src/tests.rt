@@ -1,10 +1,12 @@
 //! Tests.
 
+ghost use Rattle.std.specs.Prelude.{◌<◌, IfSome, length};
+
 use super::{checked, checked_find, checked_guard};
 use fast_fault::{Memory, Text};
 use fast_syntax::expressions::{Expr, Node};
 use fast_syntax::{Pos, Rel};
-use fast_tree::{CtorOf, FieldOf, Label, Signature, Sort, Value};
+use fast_tree::{CtorOf, FieldOf, Label, Signature, Sort, Tree, Value};
 use flat_label::Never;
 use label_core::{Formula, Verdict};
 use record_label::{RowAtom, RowLabels};
@@ -65,16 +67,20 @@ fn signature(alloc: Global, fields: &[(&str, Sort)]) -> Result<Signature, Memory
     })
 }
 
-/// A label that satisfies the expressions together, if there is one.
-fn found(
-    alloc: Global,
-    signature: &Signature,
-    exprs: &[Expr],
-) -> Result<Option<Verdict<Label, Never>>, Memory> {
+/// The labels of a type of at most eight fields.
+fn theory_of(alloc: Global, signature: &Signature) -> Result<Option<RowLabels>, Memory> {
     if signature.fields.len() > 8 {
         return Ok(None);
     }
-    let theory = RowLabels::new(alloc, signature)?;
+    Ok(Some(RowLabels::new(alloc, signature)?))
+}
+
+/// The guards of the expressions, if they are tests.
+fn guards_of(
+    alloc: Global,
+    signature: &Signature,
+    exprs: &[Expr],
+) -> Result<Option<Vec<Formula<RowAtom>>>, Memory> {
     let mut guards = Vec::new(alloc);
     'each: for expr in exprs {
         match checked_guard(alloc, expr, signature)? {
@@ -82,7 +88,22 @@ fn found(
             Some(guard) => guards.push(guard)?,
         }
     }
-    checked_find(&theory, alloc, &guards)
+    Ok(Some(guards))
+}
+
+/// A label that satisfies the expressions together, if there is one.
+fn found(
+    alloc: Global,
+    signature: &Signature,
+    exprs: &[Expr],
+) -> Result<Option<Verdict<Label, Never>>, Memory> {
+    match theory_of(alloc, signature)? {
+        None => Ok(None),
+        Some(theory) => match guards_of(alloc, signature, exprs)? {
+            None => Ok(None),
+            Some(guards) => checked_find(&theory, alloc, &guards),
+        },
+    }
 }
 
 /// The text in this place, if there is one.
@@ -338,31 +359,37 @@ fn fields_stand_in_their_order(rt: HostRuntime) -> Result<(), Fail> {
     Ok(())
 }
 
+/// Two of the operands joined, and the third beside them: `first and second or third`, or with the operators exchanged.
+fn joined(alloc: Global, first: Expr, second: Expr, third: Expr, or: bool) -> Result<Expr, Memory> {
+    let inner = vec![in alloc; first, second]?;
+    if or {
+        let outer = vec![in alloc; at(Node::Or(inner)), third]?;
+        return Ok(at(Node::And(outer)));
+    }
+    let outer = vec![in alloc; at(Node::And(inner)), third]?;
+    Ok(at(Node::Or(outer)))
+}
+
 /// A test over the fields `b` and `c` of truth values and the text `s`, by its number.
 fn test(alloc: Global, number: u8) -> Result<Expr, Memory> {
     let b = field(alloc, "b")?;
     let c = field(alloc, "c")?;
     let x = is(alloc, "s", Rel::Equal, "x")?;
-    let no_x = is(alloc, "s", Rel::NotEqual, "x")?;
     match number {
         // b and c or s = "x"
-        0 => {
-            let both = at(Node::And(vec![in alloc; b, c]?));
-            Ok(at(Node::Or(vec![in alloc; both, x]?)))
-        }
-        // b and (c or s = "x")
-        1 => {
-            let either = at(Node::Or(vec![in alloc; c, x]?));
-            Ok(at(Node::And(vec![in alloc; b, either]?)))
-        }
+        0 => joined(alloc, b, c, x, false),
+        // (c or s = "x") and b
+        1 => joined(alloc, c, x, b, true),
         2 => compare(alloc, Rel::Equal, b, c),
         3 => compare(alloc, Rel::NotEqual, b, c),
-        // not (b or c or s != "x")
-        4 => not(alloc, at(Node::Or(vec![in alloc; b, c, no_x]?))),
+        // not ((b or c) and s = "x")
+        4 => not(alloc, joined(alloc, b, c, x, true)?),
         // (s = "x") = not b
         5 => compare(alloc, Rel::Equal, x, not(alloc, b)?),
-        // (s != "x") != true
-        6 => compare(alloc, Rel::NotEqual, no_x, at(Node::Truth(true))),
+        // s != "x"
+        6 => is(alloc, "s", Rel::NotEqual, "x"),
+        // (s = "x") != true
+        7 => compare(alloc, Rel::NotEqual, x, at(Node::Truth(true))),
         _ => Ok(at(Node::Truth(false))),
     }
 }
@@ -374,9 +401,10 @@ fn is_true(number: u8, b: bool, c: bool, x: bool) -> bool {
         1 => b && (c || x),
         2 => b == c,
         3 => b != c,
-        4 => !b && !c && x,
+        4 => !((b || c) && x),
         5 => x != b,
-        6 => x,
+        6 => !x,
+        7 => !x,
         _ => false,
     }
 }
@@ -417,7 +445,7 @@ fn guard_holds(
 #[test]
 fn guards_hold_where_their_tests_are_true(rt: HostRuntime) -> Result<(), Fail> {
     let alloc = rt.alloc();
-    for number in 0..8u8 {
+    for number in 0..9u8 {
         for place in 0..8u8 {
             let (b, c, x) = (place % 2 == 1, place / 2 % 2 == 1, place / 4 == 1);
             let wanted = is_true(number, b, c, x);
@@ -442,79 +470,70 @@ fn tag_guard(
     Ok(checked_guard(alloc, &expr, signature)?.unwrap_or(Formula::No))
 }
 
-/// The demands on children: of each at most one language.
-fn demands(alloc: Global, states: &[Option<u64>]) -> Result<Vec<Vec<u64>>, Memory> {
-    let mut all = Vec::new(alloc);
+/// The rule of a constructor, with what is demanded of its children: of each at most one language.
+fn rule(
+    alloc: Global,
+    constructor: u32,
+    guard: Formula<RowAtom>,
+    states: &[Option<u64>],
+) -> Result<StaRule<RowAtom>, Memory> {
+    let mut demands = Vec::new(alloc);
     'children: for state in states {
         let mut those = Vec::new(alloc);
         if let Some(state) = state {
             those.push(*state)?;
         }
-        all.push(those)?;
+        demands.push(those)?;
     }
-    Ok(all)
+    Ok(StaRule {
+        constructor,
+        guard,
+        demands,
+    })
+}
+
+/// The empty tag ends what has this rule.
+fn ended(
+    alloc: Global,
+    signature: &Signature,
+    rule_of: StaRule<RowAtom>,
+) -> Result<Vec<StaRule<RowAtom>>, Memory> {
+    let empty = tag_guard(alloc, signature, Rel::Equal, "")?;
+    let mut rules = Vec::new(alloc);
+    rules.push(rule(alloc, 0, empty, &[])?)?;
+    rules.push(rule_of)?;
+    Ok(rules)
+}
+
+/// What has a script in it.
+fn with_script(alloc: Global, signature: &Signature) -> Result<Vec<StaRule<RowAtom>>, Memory> {
+    let script = tag_guard(alloc, signature, Rel::Equal, "script")?;
+    let mut rules = Vec::new(alloc);
+    rules.push(rule(alloc, 3, script, &[None, None, None])?)?;
+    rules.push(rule(alloc, 3, Formula::Yes, &[None, Some(3), None])?)?;
+    rules.push(rule(alloc, 3, Formula::Yes, &[None, None, Some(3)])?)?;
+    Ok(rules)
 }
 
 /// Nodes with a tag, as of a page: the empty one, values, attributes and elements. The languages are those of elements, of
 /// attributes, of values, and of what has a script in it.
 fn page_rules(alloc: Global, signature: &Signature) -> Result<Vec<Vec<StaRule<RowAtom>>>, Memory> {
-    let mut languages = Vec::new(alloc);
-    for (constructor, first, next, last) in [
-        (3, Some(1), Some(0), Some(0)),
-        (2, Some(2), Some(1), None),
-    ] {
-        let children = [first, next, last];
-        let empty = tag_guard(alloc, signature, Rel::Equal, "")?;
-        languages.push(vec![in alloc;
-            StaRule {
-                constructor: 0,
-                guard: empty,
-                demands: Vec::new(alloc)
-            },
-            StaRule {
-                constructor,
-                guard: Formula::Yes,
-                demands: demands(alloc, &children[..constructor as usize])?
-            },
-        ]?)?;
-    }
-    let empty = tag_guard(alloc, signature, Rel::Equal, "")?;
     let other = tag_guard(alloc, signature, Rel::NotEqual, "")?;
-    languages.push(vec![in alloc;
-        StaRule {
-            constructor: 0,
-            guard: empty,
-            demands: Vec::new(alloc)
-        },
-        StaRule {
-            constructor: 1,
-            guard: other,
-            demands: demands(alloc, &[Some(2)])?
-        },
-    ]?)?;
-    let script = tag_guard(alloc, signature, Rel::Equal, "script")?;
-    languages.push(vec![in alloc;
-        StaRule {
-            constructor: 3,
-            guard: script,
-            demands: demands(alloc, &[None, None, None])?
-        },
-        StaRule {
-            constructor: 3,
-            guard: Formula::Yes,
-            demands: demands(alloc, &[None, Some(3), None])?
-        },
-        StaRule {
-            constructor: 3,
-            guard: Formula::Yes,
-            demands: demands(alloc, &[None, None, Some(3)])?
-        },
-    ]?)?;
+    let element = rule(alloc, 3, Formula::Yes, &[Some(1), Some(0), Some(0)])?;
+    let attribute = rule(alloc, 2, Formula::Yes, &[Some(2), Some(1)])?;
+    let value = rule(alloc, 1, other, &[Some(2)])?;
+    let mut languages = Vec::new(alloc);
+    languages.push(ended(alloc, signature, element)?)?;
+    languages.push(ended(alloc, signature, attribute)?)?;
+    languages.push(ended(alloc, signature, value)?)?;
+    languages.push(with_script(alloc, signature)?)?;
     Ok(languages)
 }
 
 /// The class that has exactly these languages.
-fn class_with(table: &Table<RowAtom, Label>, languages: &[u64]) -> Option<u32> {
+fn class_with(table: &Table<RowAtom, Label>, languages: &[u64]) -> Option<u32>
+    ensures { IfSome result (λ class. class < length table.now.found) }
+{
     for class in 0..table.len() {
         let mut all = true;
         for language in 0..4u64 {
@@ -530,43 +549,49 @@ fn class_with(table: &Table<RowAtom, Label>, languages: &[u64]) -> Option<u32> {
 }
 
 /// Each set of languages that some page has, with the nodes of a least page, and a tag that its root has or hasn't.
+const PAGES: [(&[u64], u64, bool, &str); 7] = [
+    (&[0, 1, 2], 1, true, ""),
+    (&[], 1, false, ""),
+    (&[2], 2, false, ""),
+    (&[1], 3, false, "none of these"),
+    (&[0], 4, false, "script"),
+    (&[0, 3], 4, true, "script"),
+    (&[3], 4, true, "script"),
+];
+
+/// Whether the tree has so many nodes, and its tag is this one or isn't.
+fn is_page(tree: &Tree<Label>, nodes: u64, has: bool, tag: &str) -> bool {
+    match text_of(tree.label(), 0) {
+        None => false,
+        Some(own) => tree.nodes_up_to(9) == Some(nodes) && own.is(tag) == has,
+    }
+}
+
 #[test]
 fn languages_of_pages(rt: HostRuntime) -> Result<(), Fail> {
     let alloc = rt.alloc();
     let signature = signature(alloc, &[("tag", Sort::Text)])?;
-    let theory = RowLabels::new(alloc, &signature)?;
     let ranks = vec![in alloc; 0, 1, 2, 3]?;
-    match checked(&theory, ranks, page_rules(alloc, &signature)?) {
-        None => panic!(rt; "does not fit"),
-        Some(sta) => match classes(&theory, alloc, &sta, 1000) {
-            Err(_) => panic!(rt; "no table"),
-            Ok(table) => {
-                assert!(rt; table.len() == 7);
-                let wanted: [(&[u64], u64, bool, &str); 7] = [
-                    (&[0, 1, 2], 1, true, ""),
-                    (&[], 1, false, ""),
-                    (&[2], 2, false, ""),
-                    (&[1], 3, false, "none of these"),
-                    (&[0], 4, false, "script"),
-                    (&[0, 3], 4, true, "script"),
-                    (&[3], 4, true, "script"),
-                ];
-                for (languages, nodes, has, tag) in wanted {
-                    match class_with(&table, languages) {
-                        None => panic!(rt; "no class"),
-                        Some(class) => match table.witness(&theory, alloc, class)? {
-                            None => panic!(rt; "no tree"),
-                            Some(tree) => {
-                                assert!(rt; tree.nodes_up_to(9) == Some(nodes));
-                                match text_of(tree.label(), 0) {
-                                    None => panic!(rt; "no tag"),
-                                    Some(own) => assert!(rt; own.is(tag) == has),
-                                }
-                            }
-                        },
+    let rules = page_rules(alloc, &signature)?;
+    match theory_of(alloc, &signature)? {
+        None => panic!(rt; "no theory"),
+        Some(theory) => match checked(&theory, ranks, rules) {
+            None => panic!(rt; "does not fit"),
+            Some(sta) => match classes(&theory, alloc, &sta, 1000) {
+                Err(_) => panic!(rt; "no table"),
+                Ok(table) => {
+                    assert!(rt; table.len() == 7);
+                    for (languages, nodes, has, tag) in PAGES {
+                        match class_with(&table, languages) {
+                            None => panic!(rt; "no class"),
+                            Some(class) => match table.witness(&theory, alloc, class)? {
+                                None => panic!(rt; "no tree"),
+                                Some(tree) => assert!(rt; is_page(&tree, nodes, has, tag)),
+                            },
+                        }
                     }
                 }
-            }
+            },
         },
     }
     Ok(())
