@@ -10,3 +10,4 @@ pub mod WrittenLists
 pub mod WrittenTerms
 pub mod WrittenItems
 pub mod ReadBack
+pub mod WrittenTrees

@@ -12,3 +12,4 @@ pub mod Texts
 pub mod Printed
 pub mod Layout
 pub mod ReadsBack
+pub mod PrintedTrees

@@ -1,6 +1,9 @@
 //! What holds of the grammar, whoever reads it.
 
-ghost use Rattle.std.specs.Prelude.{◌≡◌, ℕ, ◌+◌, List, [], ◌∷◌, ◌++◌, Some, None};
+ghost use Rattle.std.specs.Prelude.{◌≡◌, ℕ, ◌+◌, true, List, [], ◌∷◌, ◌++◌, Some, None};
+ghost use Rattle.model_tree.specs.Tree.{LabelTree};
+ghost use Rattle.model_tree.specs.Kept.{is_kept};
+ghost use Rattle.model_tree.specs.Printed.{printed_tree};
 ghost use Rattle.model_program.specs.declared.Word.{Word};
 ghost use Rattle.model_program.specs.declared.Word.TheVariants.{RoundOpen, RoundClose, SquareOpen, SquareClose, Where, To, Lang, Def};
 ghost use Rattle.model_program.specs.Lexeme.{Lexeme};
@@ -8,6 +11,7 @@ ghost use Rattle.model_grammar.specs.declared.Chain.{Chain};
 ghost use Rattle.model_grammar.specs.Syntax.{Expr, Item};
 ghost use Rattle.model_grammar.specs.Grammar.{IsProgram};
 ghost use Rattle.model_grammar.specs.TreeFiles.{FileTree, IsTreeFile};
+ghost use Rattle.model_grammar.specs.PrintedTrees.{AreNames, HasNames, ReadsAsTree};
 ghost use Rattle.model_grammar.specs.Operators.{IsMany};
 ghost use Rattle.model_grammar.specs.Expressions.{IsExpr, IsE, chain_of};
 ghost use Rattle.model_grammar.specs.declared.Level.TheVariants.{Prim};
@@ -21,6 +25,11 @@ pub fn goes_wrong_once()
     ensures programs_never { (tokens : List Lexeme) (k : ℕ) (items : List Item) → IsFirstWrong IsProgram tokens k → IsProgram items tokens → ⊥ }
     ensures trees { (tokens : List Lexeme) (j k : ℕ) → IsFirstWrong IsTreeFile tokens j → IsFirstWrong IsTreeFile tokens k → j ≡ k }
     ensures trees_never { (tokens : List Lexeme) (k : ℕ) (trees : List FileTree) → IsFirstWrong IsTreeFile tokens k → IsTreeFile trees tokens → ⊥ }
+{}
+
+/// A printed tree reads as the tree, where its constructors have names that are no keywords and its numbers are kept.
+pub fn printed_trees_read_back()
+    ensures { (names : List (List ℕ)) (t : LabelTree) → AreNames names → HasNames names t → is_kept t ≡ true → ReadsAsTree names t (printed_tree names t) }
 {}
 
 /// An operator before its operands spells what it spells between them.

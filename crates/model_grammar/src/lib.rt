@@ -7,7 +7,7 @@
 
 mod laws;
 
-pub use laws::{goes_wrong_once, nesting_is_limited, prefix_is_infix};
+pub use laws::{goes_wrong_once, nesting_is_limited, prefix_is_infix, printed_trees_read_back};
 
 /// An operation on one operand.
 #[derive(Clone, Copy, PartialEq, Eq)]
