@@ -1,5 +1,5 @@
 -- A loop that stops at the first element of which P does not hold.
-use Rattle.std.proofs.Common.{ℕ, ◌≡◌, ◌<◌, ◌≤◌, ◌+◌, List, length, take, take_all, map, get_or, All, subst, sym, suc, [], ◌∷◌, arith}
+use Rattle.std.proofs.Common.{ℕ, ◌≡◌, ◌<◌, ◌≤◌, ◌+◌, List, length, take, take_all, map, get_or, All, subst, suc, [], ◌∷◌, arith}
 use Rattle.std.proofs.lemmas.List.Elements.{All-more, All-nil, All-cons}
 
 pub one_more : {X : Type 0} (P : X → Type 0) (xs : List X) (i : ℕ) (x : X) → i < length xs → x ≡ get_or xs i x → P x → All P (take i xs) → All P (take (i + 1) xs)

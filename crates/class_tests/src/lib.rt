@@ -38,7 +38,7 @@ fn demands_fit(demands: &[Vec<u64>], states: usize) -> bool
 }
 
 /// Whether the rule fits.
-fn rule_fits(ranks: &[u32], states: usize, rule: &StaRule<BoolAtom>) -> bool
+fn rule_fits<A>(ranks: &[u32], states: usize, rule: &StaRule<A>) -> bool
     ensures { IsTrue result → RuleFits ranks.now states rule.now }
 {
     let constructor = rule.constructor as usize;
@@ -52,7 +52,7 @@ fn rule_fits(ranks: &[u32], states: usize, rule: &StaRule<BoolAtom>) -> bool
 }
 
 /// Whether the rules of a state fit.
-fn state_fits(ranks: &[u32], states: usize, rules: &[StaRule<BoolAtom>]) -> bool
+fn state_fits<A>(ranks: &[u32], states: usize, rules: &[StaRule<A>]) -> bool
     ensures { IsTrue result → All (RuleFits ranks.now states) rules.now }
 {
     for rule in rules {
@@ -64,7 +64,7 @@ fn state_fits(ranks: &[u32], states: usize, rules: &[StaRule<BoolAtom>]) -> bool
 }
 
 /// Whether the rules of all states fit.
-fn rules_fit(ranks: &[u32], rules: &[Vec<StaRule<BoolAtom>>]) -> bool
+pub fn rules_fit<A>(ranks: &[u32], rules: &[Vec<StaRule<A>>]) -> bool
     ensures { IsTrue result → RulesFit ranks.now rules.now }
 {
     for those in rules {

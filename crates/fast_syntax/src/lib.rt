@@ -3,7 +3,19 @@
 //! Its promise: each type has its plain form (`specs/View.antt`), which is all that contracts say of it.
 #![tactic(auto)]
 
+pub mod expressions;
+pub mod items;
+mod page;
+mod print_expressions;
+mod print_items;
+mod print_lists;
+mod print_rules;
+mod print_terms;
+mod spelling;
+
 pub use fast_fault::{Pos, Text};
+pub use model_grammar::{Op1, Op2, Rel};
+pub use print_items::print;
 
 /// A name where it stands.
 #[derive(Drop)]
@@ -111,3 +123,8 @@ pub enum Node {
     Truth(bool),
     Not(Box<Expr>),
 }
+
+#[cfg(test)]
+mod item_tests;
+#[cfg(test)]
+mod tests;

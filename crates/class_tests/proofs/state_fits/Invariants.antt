@@ -3,4 +3,4 @@ use Rattle.sta_core.specs.Fits.{RuleFits}
 use Rattle.class_tests.proofs.state_fits.Given as goal
 
 abbrev pub invariant-loop-rule : goal.invariant-loop-rule
-invariant-loop-rule l = All (RuleFits l.ranks l.states) (take l.rule-index l.rules)
+invariant-loop-rule g l = All (RuleFits l.ranks l.states) (take l.rule-index l.rules)

@@ -3,8 +3,8 @@ use Rattle.model_tree.specs.Label.{Label}
 use Rattle.label_core.specs.Lit.{SatisfiesAll}
 use Rattle.label_core.specs.declared.theory.Lit.{Lit}
 use Rattle.flat_label.specs.Bools.{truth_at}
-use Rattle.flat_label.specs.declared.BoolAtom.{BoolAtom}
-use Rattle.flat_label.proofs.BoolsTheory.decide.Given as goal
+use Rattle.flat_label.specs.declared.bools.BoolAtom.{BoolAtom}
+use Rattle.flat_label.proofs.bools.BoolsTheory.decide.Given as goal
 
 abbrev pub invariant-write : goal.invariant-write
 invariant-write l =

@@ -1,0 +1,4 @@
+pub mod Characters
+pub mod Appending
+pub mod Rows
+pub mod AppendingTerms

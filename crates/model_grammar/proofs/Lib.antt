@@ -1,0 +1,13 @@
+pub mod Levels
+pub mod FirstWrong
+pub mod Infix
+pub mod Standing
+pub mod Written
+pub mod Tokens
+pub mod Constants
+pub mod WrittenExpressions
+pub mod WrittenLists
+pub mod WrittenTerms
+pub mod WrittenItems
+pub mod ReadBack
+pub mod WrittenTrees

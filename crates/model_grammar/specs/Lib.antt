@@ -1,0 +1,15 @@
+pub mod Syntax
+pub mod Places
+pub mod Operators
+pub mod Expressions
+pub mod Terms
+pub mod Grammar
+pub mod TreeFiles
+pub mod Wrong
+pub mod Nesting
+pub mod Examples
+pub mod Texts
+pub mod Printed
+pub mod Layout
+pub mod ReadsBack
+pub mod PrintedTrees

@@ -1,0 +1,4 @@
+pub mod Fields
+pub mod Meaning
+pub mod Tests
+pub mod Examples

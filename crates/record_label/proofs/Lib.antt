@@ -1,0 +1,4 @@
+pub mod RowFacts
+pub mod ExprParts
+pub mod FieldFacts
+pub mod GuardFacts

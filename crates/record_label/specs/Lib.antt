@@ -1,0 +1,5 @@
+pub mod Rows
+pub mod SortCode
+pub mod Equal
+pub mod Guards
+pub mod Parts

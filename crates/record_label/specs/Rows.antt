@@ -1,0 +1,57 @@
+-- Labels of fields of several sorts, and their parts of one sort. Fields are numbered within their sort, in the order of the type.
+use Rattle.std.specs.Prelude.{◌≡◌, ◌<◌, ℕ, suc, pos, Bool, true, false, cond, List, [], ◌∷◌}
+use Rattle.model_tree.specs.Label.{Field, whole, truth, text, Label, row, pair}
+use Rattle.model_tree.specs.Signature.{Sort, wholes, truths, texts, HasSorts}
+use Rattle.model_tree.specs.Kept.{is_kept_label}
+use Rattle.model_label.specs.Fields.{same_sort}
+use Rattle.label_core.specs.declared.pair.PairAtom.{PairAtom}
+use Rattle.label_core.specs.Pair.{pair_holds, OfAtom}
+use Rattle.flat_label.specs.declared.bools.BoolAtom.{BoolAtom}
+use Rattle.flat_label.specs.declared.texts.TextAtom.{TextAtom}
+use Rattle.flat_label.specs.Bools.{bools_label, truth_at}
+use Rattle.flat_label.specs.Texts.{texts_label, are_one_text, SidesFit}
+
+-- the truth values among the fields, in their order
+abbrev pub truths_in : List Field → List Bool
+truths_in [] = []
+truths_in (whole n ∷ fields) = truths_in fields
+truths_in (truth b ∷ fields) = b ∷ truths_in fields
+truths_in (text t ∷ fields) = truths_in fields
+
+-- the texts among the fields, in their order
+abbrev pub texts_in : List Field → List (List ℕ)
+texts_in [] = []
+texts_in (whole n ∷ fields) = texts_in fields
+texts_in (truth b ∷ fields) = texts_in fields
+texts_in (text t ∷ fields) = t ∷ texts_in fields
+
+-- the label of the truth values, and that of the texts
+abbrev pub parts_of : Label → Label
+parts_of (row fields) = pair (bools_label (truths_in fields)) (texts_label (texts_in fields))
+parts_of (pair l m) = pair (bools_label []) (texts_label [])
+
+-- whether an atom holds of a label of several fields: it depends on the label alone
+abbrev pub row_holds : PairAtom BoolAtom TextAtom → Label → Bool
+row_holds a l = pair_holds (λ (b : BoolAtom). truth_at b.field) are_one_text a (parts_of l)
+
+-- how many of the sorts are this one
+abbrev pub count_of : Sort → List Sort → ℕ
+count_of sort [] = 0
+count_of sort (s ∷ sorts) = cond (same_sort s sort) (suc (count_of sort sorts)) (count_of sort sorts)
+
+-- an atom speaks of truth values and texts that there are
+abbrev pub RowFits : List Sort → PairAtom BoolAtom TextAtom → Type 0
+RowFits sorts = OfAtom (λ (b : BoolAtom). b.field < count_of truths sorts) (SidesFit (count_of texts sorts))
+
+-- a label whose fields have these sorts, and whose whole numbers are kept
+abbrev pub KeepsSorts : List Sort → Label → Type 0
+KeepsSorts sorts l = HasSorts sorts l × (is_kept_label l ≡ true)
+
+-- fields of these sorts with these truth values and texts in their order; a whole number is 0
+abbrev pub merged : List Sort → List Bool → List (List ℕ) → List Field
+merged [] bs ts = []
+merged (wholes ∷ sorts) bs ts = whole (pos 0) ∷ merged sorts bs ts
+merged (truths ∷ sorts) [] ts = truth false ∷ merged sorts [] ts
+merged (truths ∷ sorts) (b ∷ bs) ts = truth b ∷ merged sorts bs ts
+merged (texts ∷ sorts) bs [] = text [] ∷ merged sorts bs []
+merged (texts ∷ sorts) bs (t ∷ ts) = text t ∷ merged sorts bs ts

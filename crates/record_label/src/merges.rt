@@ -1,0 +1,49 @@
+//! Labels of fields of several sorts from their truth values and texts.
+
+ghost use Rattle.std.specs.Prelude.{◌≡◌, ◌≤◌, IfOk, length, map};
+ghost use Rattle.model_tree.specs.Label.{row};
+ghost use Rattle.model_tree.specs.Signature as model;
+ghost use Rattle.fast_tree.specs.Entries.{label_meaning};
+ghost use Rattle.fast_tree.specs.Signatures.{plain_sort};
+ghost use Rattle.record_label.specs.Rows.{count_of, merged};
+
+use fast_fault::{Memory, Text};
+use fast_tree::{Label, Sort, Value};
+use std::alloc::Global;
+
+/// How many of the sorts are this one.
+pub fn count(sorts: &[Sort], sort: Sort) -> u32
+    requires { length sorts.now ≤ 8 }
+    ensures { result ≡ count_of (plain_sort sort) (map plain_sort sorts.now) }
+{
+    let mut count = 0;
+    for other in sorts {
+        if *other == sort {
+            count += 1;
+        }
+    }
+    count
+}
+
+/// The label of fields of these sorts with these truth values and texts, in their order.
+pub fn merge(
+    alloc: Global,
+    sorts: &[Sort],
+    mut truths: Vec<bool>,
+    mut texts: Vec<Text>,
+) -> Result<Label, Memory>
+    requires truths { length truths.items ≡ count_of model.truths (map plain_sort sorts.now) }
+    requires texts { length texts.items ≡ count_of model.texts (map plain_sort sorts.now) }
+    ensures { IfOk result (λ label. label_meaning label ≡ row (merged (map plain_sort sorts.now) truths.items texts.items)) }
+{
+    let mut values = Vec::new(alloc);
+    for sort in sorts {
+        let value = match sort {
+            Sort::Int => Value::Int(0),
+            Sort::Bool => Value::Bool(truths.remove(0)),
+            Sort::Text => Value::Text(texts.remove(0)),
+        };
+        values.push(value)?;
+    }
+    Ok(Label::new(values))
+}

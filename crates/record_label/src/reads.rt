@@ -1,0 +1,54 @@
+//! Fields of a label by their numbers within their sort.
+
+ghost use Rattle.std.specs.Prelude.{◌≡◌, length, map, false, slice_index_or, slice_get};
+ghost use Rattle.std.specs.Option.{option_map};
+ghost use Rattle.fast_tree.specs.Entries.{field_of};
+ghost use Rattle.flat_label.specs.Texts.{SideFits, side_text, texts_label};
+ghost use Rattle.record_label.specs.Rows.{truths_in, texts_in};
+
+use fast_fault::Text;
+use fast_tree::Value;
+use flat_label::TextSide;
+
+/// The truth value with this number.
+pub fn truth_at(values: &[Value], number: u32) -> bool
+    ensures { result ≡ slice_index_or (truths_in (map field_of values.now)) number false }
+{
+    let mut before = number;
+    for value in values {
+        if let Value::Bool(truth) = value {
+            if before == 0 {
+                return *truth;
+            }
+            before -= 1;
+        }
+    }
+    false
+}
+
+/// The text with this number.
+fn text_at(values: &[Value], number: u32) -> Option<&Text>
+    ensures { option_map (λ text. text.now) result ≡ slice_get (texts_in (map field_of values.now)) number }
+{
+    let mut before = number;
+    for value in values {
+        if let Value::Text(text) = value {
+            if before == 0 {
+                return Some(text);
+            }
+            before -= 1;
+        }
+    }
+    None
+}
+
+/// The text of a side.
+pub fn side_text<'v>(side: &'v TextSide, values: &'v [Value]) -> Option<&'v Text>
+    requires { SideFits (length (texts_in (map field_of values.now))) side.now }
+    ensures { option_map (λ text. text.now) result ≡ Some (side_text side.now (texts_label (texts_in (map field_of values.now)))) }
+{
+    match side {
+        TextSide::Field(number) => text_at(values, *number),
+        TextSide::Constant(text) => Some(text),
+    }
+}
