@@ -1,5 +1,5 @@
 -- What is printed runs where the tokens that were read do.
-use Rattle.std.proofs.Common.{◌≡◌, ℕ, List, [], ◌∷◌, ◌++◌, refl, sym, ap, ◌∙◌, subst, Some}
+use Rattle.std.proofs.Common.{◌≡◌, ℕ, List, [], ◌∷◌, ◌++◌, sym, subst, Some}
 use Rattle.model_program.specs.declared.Word.{Word}
 use Rattle.model_program.specs.declared.Word.TheVariants.{Id, RoundOpen, RoundClose}
 use Rattle.model_program.specs.Lexeme.{Lexeme}
@@ -10,7 +10,7 @@ use Rattle.model_program.specs.TokenTexts.{IsTextOf}
 use Rattle.model_grammar.specs.Printed.{piece, blank, token, bracketed}
 use Rattle.model_grammar.proofs.Written.{lexemes_after-append}
 use Rattle.model_grammar.proofs.Tokens.{IsSpelled, token_at, token_then, one_token, word_of_name}
-use Rattle.grammar_laws.specs.Nests.{Runs, NoDeeper}
+use Rattle.grammar_laws.specs.Nests.{NoDeeper}
 use Rattle.grammar_laws.proofs.Runs.{no_deeper-append, no_deeper_nothing, same_word, added, dropped, IsPlain, IsBalanced, parens_dropped}
 
 -- wherever the pieces stand, their tokens nest no deeper than these

@@ -1,14 +1,14 @@
 -- Printed label expressions nest no deeper than those that were read.
-use Rattle.std.proofs.Common.{◌≡◌, ℕ, ℤ, pos, negsuc, zero, suc, Bool, true, false, List, [], ◌∷◌, ◌++◌, map, refl, sym, ap, ◌∙◌, subst, append_assoc, append-nil, Some, ◌⊎◌, inl, inr, if◌then◌else◌, nat_le, ◌≤◌, arith}
+use Rattle.std.proofs.Common.{◌≡◌, ℕ, pos, zero, suc, Bool, true, false, List, [], ◌∷◌, ◌++◌, map, refl, sym, ap, ◌∙◌, subst, append_assoc, append-nil, inr, if◌then◌else◌, nat_le, ◌≤◌, arith}
 use Rattle.std.proofs.lemmas.Bool.Decides.{nat_tests}
 use Rattle.std.specs.Fmt.{decimal}
 use Rattle.std.specs.Str.Parse.{digits_value}
 use Rattle.model_tree.specs.Printed.{printed_text}
 use Rattle.fast_fault.specs.declared.place.Pos.{Pos}
 use Rattle.model_program.specs.declared.Word.{Word}
-use Rattle.model_program.specs.declared.Word.TheVariants.{Not, True, False, Id, Number, Quoted, RoundOpen, RoundClose, Minus, Plus, Star, Percent, Or, And}
+use Rattle.model_program.specs.declared.Word.TheVariants.{Not, True, False, Id, Number, Quoted, RoundOpen, RoundClose, Minus, Percent}
 use Rattle.model_program.specs.Lexeme.{Lexeme}
-use Rattle.model_program.specs.Pieces.{Name, Digits, Text}
+use Rattle.model_program.specs.Pieces.{Digits, Text}
 use Rattle.model_program.specs.Cuts.{Piece}
 use Rattle.model_program.specs.Reads.{IsOther}
 use Rattle.model_program.specs.TokenTexts.{IsTextOf, HaveTexts}
@@ -18,13 +18,12 @@ use Rattle.model_grammar.specs.declared.Chain.{Chain}
 use Rattle.model_grammar.specs.declared.Chain.TheVariants as kind
 use Rattle.model_grammar.specs.declared.Level.{Level}
 use Rattle.model_grammar.specs.declared.Level.TheVariants.{E, Conj, Neg, Cmp, Sum, Prod, Unary, Prim}
-use Rattle.model_grammar.specs.Syntax.{Expr, field, number, text, truth, negation, compare, minus, chain, Parts, no_parts, part}
+use Rattle.model_grammar.specs.Syntax.{Expr, field, number, text, truth, negation, compare, minus}
 use Rattle.model_grammar.specs.Operators.{rel_word, is_marking, chain_word, IsSignOf, IsMany}
 use Rattle.model_grammar.specs.Expressions.{IsExpr, disjunction, conjunction, negated, not_negated, compared, not_compared, sum, product, negative_number, minus_of, no_minus, field_name, constant_number, constant_text, constant_true, constant_false, brackets, many_before, remainder_before, compared_before, AreMore, no_more, one_more, ArePrims, no_prims, prims, operand, parts_of, chain_of, negative}
-use Rattle.model_grammar.specs.Printed.{piece, blank, token, whole, bracketed, rank, own_level, chain_level, fits, at_level, stands_behind_minus, behind_minus, expression, operands, further}
+use Rattle.model_grammar.specs.Printed.{bracketed, rank, own_level, chain_level, fits, at_level, stands_behind_minus, behind_minus, expression, further}
 use Rattle.model_grammar.proofs.Levels.{tighter}
-use Rattle.model_grammar.proofs.Tokens.{IsSpelled}
-use Rattle.model_grammar.proofs.WrittenExpressions.{texts_front, texts_back}
+use Rattle.model_grammar.proofs.WrittenExpressions.{texts_front, texts_back, sign_again, spelled_sign, spelled_rel, many_signs}
 use Rattle.model_grammar.specs.Nesting.{Mark, passes, marked}
 use Rattle.grammar_laws.proofs.Runs.{IsPlain, IsBalanced, balanced_nothing, balanced-append, balanced_word, balanced_round}
 use Rattle.grammar_laws.proofs.Keeps.{Keeps, keeps-append, keeps_nothing, keeps_blank, keeps_word, keeps_added, keeps_dropped, keeps_one, keeps_name, keeps_bracketed, keeps_unbracketed}
@@ -47,36 +46,6 @@ chain_plain kind.Sum false = record { passes_not = λ m. refl; marks_not = λ m.
 chain_plain kind.Sum true = record { passes_not = λ m. refl; marks_not = λ m. refl }
 chain_plain kind.Product false = record { passes_not = λ m. refl; marks_not = λ m. refl }
 chain_plain kind.Product true = record { passes_not = λ m. refl; marks_not = λ m. refl }
-
-spelled_rel : (r : Rel) → IsSpelled (rel_word r)
-spelled_rel rel.Equal = tt
-spelled_rel rel.NotEqual = tt
-spelled_rel rel.Less = tt
-spelled_rel rel.AtMost = tt
-spelled_rel rel.Greater = tt
-spelled_rel rel.AtLeast = tt
-
-spelled_sign : (k : Chain) (marked : Bool) → IsSpelled (chain_word k marked)
-spelled_sign kind.Disjunction marked = tt
-spelled_sign kind.Conjunction marked = tt
-spelled_sign kind.Sum false = tt
-spelled_sign kind.Sum true = tt
-spelled_sign kind.Product false = tt
-spelled_sign kind.Product true = tt
-
-sign_again : (k : Chain) (w : Word) → IsSignOf k w → chain_word k (is_marking w) ≡ w
-sign_again kind.Disjunction w is = sym is
-sign_again kind.Conjunction w is = sym is
-sign_again kind.Sum w (inl is) = ap (λ v. chain_word kind.Sum (is_marking v)) is ∙ sym is
-sign_again kind.Sum w (inr is) = ap (λ v. chain_word kind.Sum (is_marking v)) is ∙ sym is
-sign_again kind.Product w (inl is) = ap (λ v. chain_word kind.Product (is_marking v)) is ∙ sym is
-sign_again kind.Product w (inr is) = ap (λ v. chain_word kind.Product (is_marking v)) is ∙ sym is
-
-many_signs : (k : Chain) (w : Word) → IsMany k w → IsSignOf k w
-many_signs kind.Disjunction w is = is
-many_signs kind.Conjunction w is = is
-many_signs kind.Sum w is = is
-many_signs kind.Product w is = inl is
 
 sign_plain : (k : Chain) (t : Lexeme) → IsSignOf k t.word → IsPlain t.word
 sign_plain k t is = subst IsPlain (sign_again k t.word is) (chain_plain k (is_marking t.word))
@@ -106,7 +75,7 @@ fits_looser : (a b c : ℕ) → a ≤ b → nat_le b c ≡ true → nat_le a c �
 fits_looser a b c less test = grind (arith, nat_tests)
 
 -- what fits a level fits the next looser one
-step_fits : (l own : Level) → fits (tighter l) own ≡ true → fits l own ≡ true
+pub step_fits : (l own : Level) → fits (tighter l) own ≡ true → fits l own ≡ true
 step_fits l own is = fits_looser (rank l) (rank (tighter l)) (rank own) (step_rank l) is
 
 kept_step : (l : Level) (e : Expr) (tokens : List Lexeme) → KeptAt (tighter l) e tokens → KeptAt l e tokens
@@ -146,7 +115,7 @@ keeps_negative : (sign digits : Lexeme) (p : Pos) (n : ℕ) → sign.word ≡ Mi
 keeps_negative sign digits p zero is_minus is_number = keeps_dropped sign (plain_as sign.word Minus (record { passes_not = λ m. refl; marks_not = λ m. refl }) is_minus) (keeps_one digits Number Digits (decimal 0) refl is_number)
 keeps_negative sign digits p (suc n) is_minus is_number = keeps_word Minus sign tt is_minus (keeps_one digits Number Digits (decimal (suc n)) refl is_number)
 
-negative_fits : (p : Pos) (n : ℕ) → fits Unary (own_level (number p (negative n))) ≡ true
+pub negative_fits : (p : Pos) (n : ℕ) → fits Unary (own_level (number p (negative n))) ≡ true
 negative_fits p zero = refl
 negative_fits p (suc n) = refl
 
@@ -156,13 +125,13 @@ kept_more k sign e more front back is kept later = record {
   balanced = balanced-append (sign ∷ []) (front ++ back) (balanced_word sign (sign_plain k sign is)) (balanced-append front back kept.balanced later.balanced);
 }
 
-chain_fits : (k : Chain) → fits (chain_level k) (chain_level k) ≡ true
+pub chain_fits : (k : Chain) → fits (chain_level k) (chain_level k) ≡ true
 chain_fits kind.Disjunction = refl
 chain_fits kind.Conjunction = refl
 chain_fits kind.Sum = refl
 chain_fits kind.Product = refl
 
-operand_step : (k : Chain) → tighter (chain_level k) ≡ operand k
+pub operand_step : (k : Chain) → tighter (chain_level k) ≡ operand k
 operand_step kind.Disjunction = refl
 operand_step kind.Conjunction = refl
 operand_step kind.Sum = refl

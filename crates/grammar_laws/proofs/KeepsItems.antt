@@ -1,32 +1,30 @@
 -- Printed items nest no deeper than those that were read.
-use Rattle.std.proofs.Common.{false, true, Bool, ◌≡◌, ℕ, ℤ, List, [], ◌∷◌, ◌++◌, refl, sym, ap, ◌∙◌, subst, append_assoc, Option, Some, None, ◌⊎◌, inl, inr}
+use Rattle.std.proofs.Common.{◌≡◌, ℕ, ℤ, List, [], ◌∷◌, ◌++◌, refl, sym, ap, ◌∙◌, subst, append_assoc, Option, Some, None, inl, inr}
 use Rattle.std.specs.Prelude.{pos}
 use Rattle.std.specs.Fmt.{decimal}
 use Rattle.std.specs.Str.Parse.{digits_value}
 use Rattle.fast_fault.specs.declared.place.Pos.{Pos}
 use Rattle.model_program.specs.declared.Word.{Word}
-use Rattle.model_program.specs.declared.Word.TheVariants.{TypeWord, Tree, Lang, Trans, Def, Where, Given, To, In, IsEmpty, TypeCheck, Number, Id, RoundOpen, RoundClose, SquareOpen, SquareClose, CurlyOpen, CurlyClose, Colon, Assign, Arrow, Same, Element}
+use Rattle.model_program.specs.declared.Word.TheVariants.{TypeWord, Tree, Lang, Trans, Def, Where, Given, To, In, IsEmpty, TypeCheck, Number, RoundOpen, RoundClose, SquareOpen, SquareClose, CurlyOpen, CurlyClose, Colon, Assign, Arrow, Same, Element}
 use Rattle.model_program.specs.Lexeme.{Lexeme}
 use Rattle.model_program.specs.Syntax.{Name, FieldItem, CtorItem, TypeItem, Demand}
 use Rattle.model_program.specs.Pieces.{Digits}
 use Rattle.model_program.specs.Cuts.{Piece, lexemes_after}
-use Rattle.model_program.specs.Reads.{◌⌢◌, Nothing}
-use Rattle.model_program.specs.Grammar.{sign, IsSign, IsAt, IsName, IsNumber, IsComma, Items, Any, Many, AreVars, IsGiven, IsDemand, IsCtor, IsSort, IsField, AreFieldsOrNone, sort_text, AreCtors, IsTypeItem, assert_word}
-use Rattle.model_program.specs.TokenTexts.{IsTextOf, HaveTexts}
+use Rattle.model_program.specs.Reads.{◌⌢◌}
+use Rattle.model_program.specs.Grammar.{IsAt, IsName, IsNumber, Many, AreVars, IsGiven, IsDemand, IsCtor, IsSort, IsField, AreFieldsOrNone, AreCtors, IsTypeItem, assert_word}
+use Rattle.model_program.specs.TokenTexts.{HaveTexts}
 use Rattle.model_grammar.specs.Nesting.{nested_at}
 use Rattle.model_grammar.specs.Syntax.{Expr, X, Rule, OutRule, TreeItem, LangItem, TransItem, DefItem, Claim, equal, member, empty, type_check, Body, sorts, tree, lang, trans, def, assertion, Item}
 use Rattle.model_grammar.specs.Terms.{IsX}
 use Rattle.model_grammar.specs.declared.Level.TheVariants.{E}
 use Rattle.model_grammar.specs.Grammar.{IsGuard, IsRule, IsOutRule, InBraces, IsTreeItem, IsLangItem, IsTransItem, IsInto, IsDefItem, IsIn, IsB, IsA, IsBody, IsItem, IsProgram}
-use Rattle.model_grammar.specs.Printed.{piece, blank, line_end, token, name, whole, bracketed, with_commas, in_braces, rules_of, with_bars, expression, term, output, demand, guarded, demands, rule, out_rule, field_of, ctor_of, type_item, tree_item, lang_item, trans_item, into_of, def_item, claim, item, lines}
+use Rattle.model_grammar.specs.Printed.{blank, token, name, whole, bracketed, with_commas, in_braces, rules_of, term, demand, guarded, demands, rule, out_rule, field_of, ctor_of, type_item, tree_item, lang_item, trans_item, into_of, def_item, claim, item, lines}
 use Rattle.model_grammar.proofs.Tokens.{IsSpelled, token_at, token_then}
-use Rattle.std.specs.Prelude.{codes, if◌then◌else◌}
-use Rattle.std.specs.Str.{bytes_eq}
-use Rattle.model_program.specs.Spellings.{spelling, spelled, keywords}
-use Rattle.model_grammar.proofs.WrittenItems.{front_texts, back_texts}
-use Rattle.grammar_laws.specs.Nests.{Runs, NoDeeper}
-use Rattle.grammar_laws.proofs.Runs.{IsPlain, IsBalanced, balanced-append, balanced_word, balanced_round, shallow_runs, runs_shallow, parens_dropped}
-use Rattle.grammar_laws.proofs.Keeps.{Keeps, keeps-append, keeps_nothing, keeps_blank, keeps_word, keeps_added, keeps_dropped, keeps_one, keeps_name, keeps_unbracketed}
+use Rattle.model_program.specs.Spellings.{spelling}
+use Rattle.model_grammar.proofs.WrittenItems.{front_texts, back_texts, sorted_name, spelled_assert}
+use Rattle.grammar_laws.specs.Nests.{NoDeeper}
+use Rattle.grammar_laws.proofs.Runs.{IsPlain, balanced-append, balanced_word, shallow_runs, runs_shallow}
+use Rattle.grammar_laws.proofs.Keeps.{Keeps, keeps_nothing, keeps_blank, keeps_word, keeps_added, keeps_dropped, keeps_one, keeps_name, keeps_unbracketed}
 use Rattle.grammar_laws.proofs.KeepsExpressions.{plain_as, expression_kept}
 use Rattle.grammar_laws.proofs.KeepsTerms.{KeptAs, kept-append, kept_blank, kept_word, kept_parens, kept_as, plain_word, sign_first, joined_kept, sign_kept, names_kept, items_kept, any_kept, bars_kept, many_kept, term_kept, output_kept}
 
@@ -78,32 +76,13 @@ ctor_keeps c ts is have =
     let s1 = is.at_back in let s2 = s1.at_back in
     joined_kept is (name_keeps c.name is.front is.at_front (front_texts is have)) (sign_first RoundOpen tt s1 (joined_kept s2 (number_keeps c.rank s2.front s2.at_front) (sign_kept RoundClose s2.back tt s2.at_back)))
 
--- the name of a sort is a name
-sort_is_name : (text : List ℕ) → IsTextOf Id text → IsTextOf Id (sort_text text)
-unfolding spelled keywords
-sort_is_name text is = first (bytes_eq text (codes "int"))
-  where
-    third : (b : Bool) → IsTextOf Id (if b then codes "String" else text)
-    third true = ((refl, (refl, (refl, (refl, (refl, (refl, tt)))))), refl)
-    third false = is
-    second : (b : Bool) → IsTextOf Id (if b then codes "Bool" else (if bytes_eq text (codes "string") then codes "String" else text))
-    second true = ((refl, (refl, (refl, (refl, tt)))), refl)
-    second false = third (bytes_eq text (codes "string"))
-    first : (b : Bool) → IsTextOf Id (if b then codes "Int" else (if bytes_eq text (codes "bool") then codes "Bool" else (if bytes_eq text (codes "string") then codes "String" else text)))
-    first true = ((refl, (refl, (refl, tt))), refl)
-    first false = second (bytes_eq text (codes "bool"))
-
 sort_keeps : (s : Name) (ts : List Lexeme) → IsSort s ts → HaveTexts ts → Keeps (name s) ts
-sort_keeps s ts is have = subst (λ (l : List Lexeme). Keeps (name s) l) (sym is.1.0) (keeps_name is.0 s.text (sorted s ts is have) is.1.1)
-  where
-    sorted : (s : Name) (ts : List Lexeme) (is : IsSort s ts) → HaveTexts ts → IsTextOf Id s.text
-    sorted s ts is have = subst (λ (n : Name). IsTextOf Id n.text) (sym is.2) (sort_is_name is.0.text (subst (λ (w : Word). IsTextOf w is.0.text) is.1.1 (subst HaveTexts is.1.0 have).0))
+sort_keeps s ts is have = subst (λ (l : List Lexeme). Keeps (name s) l) (sym is.1.0) (keeps_name is.0 s.text (sorted_name s ts is have).is_name is.1.1)
 
 field_keeps : (f : FieldItem) (ts : List Lexeme) → IsField f ts → HaveTexts ts → Keeps (field_of f) ts
 field_keeps f ts is have =
     let s1 = is.at_back in
     joined_kept is (name_keeps f.name is.front is.at_front (front_texts is have)) (keeps_blank (sign_first Colon tt s1 (keeps_blank (sort_keeps f.sort s1.back s1.at_back (back_texts s1 (back_texts is have))))))
-
 
 -- empty brackets
 brackets_keep : (before : List ℕ) → NoDeeper (lexemes_after before (token SquareOpen ∷ token SquareClose ∷ [])) []
@@ -129,29 +108,29 @@ type_keeps t ts is have =
     let s1 = is.at_back in let t1 = back_texts is have in
     joined_kept is (name_keeps t.name is.front is.at_front (front_texts is have))
     (keeps_blank (subst (λ (ps : List Piece). Keeps (token SquareOpen ∷ ps) is.back) (append_assoc (with_commas field_of t.fields) (token SquareClose ∷ []) (blank ∷ in_braces (with_commas ctor_of t.ctors)))
-        (joined_kept s1 (fields_keep t.fields s1.front s1.at_front (front_texts s1 t1)) (keeps_blank (ctors_keep t.ctors s1.back s1.at_back (back_texts s1 t1))))))
+    (joined_kept s1 (fields_keep t.fields s1.front s1.at_front (front_texts s1 t1)) (keeps_blank (ctors_keep t.ctors s1.back s1.at_back (back_texts s1 t1))))))
 
 tree_keeps : (t : TreeItem) (ts : List Lexeme) → IsTreeItem t ts → HaveTexts ts → Keeps (tree_item t) ts
 tree_keeps t ts is have =
     let s1 = is.at_back in let s2 = s1.at_back in let s3 = s2.at_back in
     let t1 = back_texts is have in let t2 = back_texts s1 t1 in let t3 = back_texts s2 t2 in
     joined_kept is (name_keeps t.name is.front is.at_front (front_texts is have)) (keeps_blank (sign_first Colon tt s1 (keeps_blank
-          (joined_kept s2 (name_keeps t.of s2.front s2.at_front (front_texts s2 t2)) (keeps_blank (sign_first Assign tt s3 (keeps_blank (term_keeps t.value s3.back s3.at_back (back_texts s3 t3)))))))))
+    (joined_kept s2 (name_keeps t.of s2.front s2.at_front (front_texts s2 t2)) (keeps_blank (sign_first Assign tt s3 (keeps_blank (term_keeps t.value s3.back s3.at_back (back_texts s3 t3)))))))))
 
 lang_keeps : (l : LangItem) (ts : List Lexeme) → IsLangItem l ts → HaveTexts ts → Keeps (lang_item l) ts
 lang_keeps l ts is have =
     let s1 = is.at_back in let s2 = s1.at_back in
     let t1 = back_texts is have in let t2 = back_texts s1 t1 in
     joined_kept is (name_keeps l.name is.front is.at_front (front_texts is have)) (keeps_blank (sign_first Colon tt s1 (keeps_blank
-          (joined_kept s2 (name_keeps l.of s2.front s2.at_front (front_texts s2 t2)) (keeps_blank (rules_keep IsRule rule rule_keeps l.rules s2.back s2.at_back (back_texts s2 t2)))))))
+    (joined_kept s2 (name_keeps l.of s2.front s2.at_front (front_texts s2 t2)) (keeps_blank (rules_keep IsRule rule rule_keeps l.rules s2.back s2.at_back (back_texts s2 t2)))))))
 
 trans_keeps : (t : TransItem) (ts : List Lexeme) → IsTransItem t ts → HaveTexts ts → Keeps (trans_item t) ts
 trans_keeps t ts is have =
     let s1 = is.at_back in let s2 = s1.at_back in let s3 = s2.at_back in let s4 = s3.at_back in
     let t1 = back_texts is have in let t2 = back_texts s1 t1 in let t3 = back_texts s2 t2 in let t4 = back_texts s3 t3 in
     joined_kept is (name_keeps t.name is.front is.at_front (front_texts is have)) (keeps_blank (sign_first Colon tt s1 (keeps_blank
-          (joined_kept s2 (name_keeps t.from s2.front s2.at_front (front_texts s2 t2)) (keeps_blank (sign_first Arrow tt s3 (keeps_blank
-                  (joined_kept s4 (name_keeps t.into s4.front s4.at_front (front_texts s4 t4)) (keeps_blank (rules_keep IsOutRule out_rule out_rule_keeps t.rules s4.back s4.at_back (back_texts s4 t4)))))))))))
+    (joined_kept s2 (name_keeps t.from s2.front s2.at_front (front_texts s2 t2)) (keeps_blank (sign_first Arrow tt s3 (keeps_blank
+    (joined_kept s4 (name_keeps t.into s4.front s4.at_front (front_texts s4 t4)) (keeps_blank (rules_keep IsOutRule out_rule out_rule_keeps t.rules s4.back s4.at_back (back_texts s4 t4)))))))))))
 
 into_keeps : (into : Option Name) (ts : List Lexeme) → IsInto into ts → HaveTexts ts → Keeps (into_of into) ts
 into_keeps None ts is have = subst (λ (l : List Lexeme). Keeps [] l) (sym is) keeps_nothing
@@ -162,7 +141,7 @@ def_keeps d ts is have =
     let s1 = is.at_back in let s2 = s1.at_back in let s3 = s2.at_back in let s4 = s3.at_back in
     let t1 = back_texts is have in let t2 = back_texts s1 t1 in let t3 = back_texts s2 t2 in let t4 = back_texts s3 t3 in
     joined_kept is (name_keeps d.name is.front is.at_front (front_texts is have)) (keeps_blank (sign_first Colon tt s1 (keeps_blank
-          (joined_kept s2 (name_keeps d.from s2.front s2.at_front (front_texts s2 t2)) (joined_kept s3 (into_keeps d.into s3.front s3.at_front (front_texts s3 t3)) (keeps_blank (sign_first Assign tt s4 (keeps_blank (term_keeps d.value s4.back s4.at_back (back_texts s4 t4))))))))))
+    (joined_kept s2 (name_keeps d.from s2.front s2.at_front (front_texts s2 t2)) (joined_kept s3 (into_keeps d.into s3.front s3.at_front (front_texts s3 t3)) (keeps_blank (sign_first Assign tt s4 (keeps_blank (term_keeps d.value s4.back s4.at_back (back_texts s4 t4))))))))))
 
 between_kept : (w : Word) (x y : X) (front middle back : List Lexeme) (t : Lexeme) → IsSpelled w → IsPlain w → t.word ≡ w → middle ≡ t ∷ [] → KeptAs (term x) front → KeptAs (term y) back → KeptAs (term x ++ blank ∷ token w ∷ blank ∷ term y) (front ++ (middle ++ back))
 between_kept w x y front middle back t is plain same one kept_x kept_y = kept_as (ap (λ l. front ++ (l ++ back)) (sym one)) (kept-append kept_x (kept_blank (kept_word w t is plain same (kept_blank kept_y))))
@@ -172,7 +151,7 @@ in_kept x y front middle back (inl s) kept_x kept_y = between_kept In x y front 
 in_kept x y front middle back (inr s) kept_x kept_y =
     let plain = plain_as s.0.word Element (plain_word Element (λ m. refl) (λ m. refl)) s.1.1 in
     kept_as (ap (λ l. front ++ (l ++ back)) (sym s.1.0)) (kept-append kept_x (kept_blank
-          (record { own = keeps_added In tt (plain_word In (λ m. refl) (λ m. refl)) (keeps_dropped s.0 plain (keeps_blank kept_y.own)); balanced = balanced-append (s.0 ∷ []) back (balanced_word s.0 plain) kept_y.balanced })))
+    (record { own = keeps_added In tt (plain_word In (λ m. refl) (λ m. refl)) (keeps_dropped s.0 plain (keeps_blank kept_y.own)); balanced = balanced-append (s.0 ∷ []) back (balanced_word s.0 plain) kept_y.balanced })))
 
 claim_kept : (c : Claim) (ts : List Lexeme) → IsB c ts → HaveTexts ts → KeptAs (claim c) ts
 claim_kept (equal x y) ts is have =
@@ -195,7 +174,7 @@ claim_kept (type_check x y z) ts is have =
     let inner : s1.back ≡ s2.front ++ (s3.front ++ (s4.front ++ r ∷ [])) = s2.split ∙ ap (λ k. s2.front ++ k) (s3.split ∙ ap (λ k. s3.front ++ k) (s4.split ∙ ap (λ k. s4.front ++ k) s4.at_back.1.0)) in
     let split : ts ≡ l ∷ op ∷ (s2.front ++ (s3.front ++ s4.front)) ++ r ∷ [] = is.split ∙ ap (λ k. k ++ is.back) is.at_front.1.0 ∙ ap (λ k. l ∷ k) (s1.split ∙ ap (λ k. k ++ s1.back) s1.at_front.1.0 ∙ ap (λ k. op ∷ k) (inner ∙ flat)) in
     kept_as (sym split) (kept_parens l r is.at_front.1.1 s4.at_back.1.1 (kept_word TypeCheck op tt (plain_word TypeCheck (λ m. refl) (λ m. refl)) s1.at_front.1.1 (kept_blank
-            (kept-append (term_kept x s2.front s2.at_front (front_texts s2 t2)) (kept_blank (kept-append (term_kept y s3.front s3.at_front (front_texts s3 t3)) (kept_blank (term_kept z s4.front s4.at_front (front_texts s4 t4)))))))))
+    (kept-append (term_kept x s2.front s2.at_front (front_texts s2 t2)) (kept_blank (kept-append (term_kept y s3.front s3.at_front (front_texts s3 t3)) (kept_blank (term_kept z s4.front s4.at_front (front_texts s4 t4)))))))))
 
 assertion_keeps : (c : Claim) (ts : List Lexeme) → IsA c ts → HaveTexts ts → Keeps (claim c) ts
 assertion_keeps c ts (inl is) have = (claim_kept c ts is have).own
@@ -209,10 +188,6 @@ assertion_keeps c ts (inr is) have =
 at_first : {q : List Lexeme → Type 0} {qs : List Piece} {ts : List Lexeme} (w : Word) (p : Pos) → IsSpelled w → (s : (IsAt w p ⌢ q) ts) → Keeps qs s.back → Keeps (token w ∷ qs) ts
 at_first {q} {qs} {ts} w p is s later = subst (λ (l : List Lexeme). Keeps (token w ∷ qs) l) (sym (s.split ∙ ap (λ l. l ++ s.back) s.at_front.1.0)) (keeps_word w s.at_front.0 is s.at_front.1.1 later)
 
-spelled_claim : (wanted : Bool) → IsSpelled (assert_word wanted)
-spelled_claim true = tt
-spelled_claim false = tt
-
 item_keeps : (i : Item) (ts : List Lexeme) → IsItem i ts → HaveTexts ts → Keeps (item i) ts
 item_keeps i ts is have = by i.body i.place is
   where
@@ -222,7 +197,7 @@ item_keeps i ts is have = by i.body i.place is
     by (lang l) p s = at_first Lang p tt s (keeps_blank (lang_keeps l s.back s.at_back (back_texts s have)))
     by (trans t) p s = at_first Trans p tt s (keeps_blank (trans_keeps t s.back s.at_back (back_texts s have)))
     by (def d) p s = at_first Def p tt s (keeps_blank (def_keeps d s.back s.at_back (back_texts s have)))
-    by (assertion a) p s = at_first (assert_word a.wanted) p (spelled_claim a.wanted) s (keeps_blank (assertion_keeps a.claim s.back s.at_back (back_texts s have)))
+    by (assertion a) p s = at_first (assert_word a.wanted) p (spelled_assert a.wanted) s (keeps_blank (assertion_keeps a.claim s.back s.at_back (back_texts s have)))
 
 lines_keep : (items : List Item) (ts : List Lexeme) → Many IsItem items ts → HaveTexts ts → Keeps (lines items) ts
 lines_keep [] ts is have = subst (λ (l : List Lexeme). Keeps [] l) (sym is) keeps_nothing

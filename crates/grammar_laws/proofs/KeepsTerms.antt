@@ -1,21 +1,20 @@
 -- Printed lists and terms nest no deeper than those that were read.
-use Rattle.std.proofs.Common.{false, ◌≡◌, ℕ, List, [], ◌∷◌, ◌++◌, map, refl, sym, ap, ◌∙◌, subst, append_assoc, append-nil, ◌⊎◌, inl, inr}
+use Rattle.std.proofs.Common.{false, ◌≡◌, List, [], ◌∷◌, ◌++◌, refl, sym, ap, ◌∙◌, subst, append_assoc, inl, inr}
 use Rattle.model_program.specs.declared.Word.{Word}
-use Rattle.model_program.specs.declared.Word.TheVariants.{Id, Comma, Bar, Minus, SquareOpen, SquareClose, RoundOpen, RoundClose}
+use Rattle.model_program.specs.declared.Word.TheVariants.{Id, Comma, Bar, SquareOpen, SquareClose, RoundOpen, RoundClose}
 use Rattle.model_program.specs.Lexeme.{Lexeme}
 use Rattle.model_program.specs.Syntax.{Name}
-use Rattle.model_program.specs.Pieces as pieces
 use Rattle.model_program.specs.Cuts.{Piece}
-use Rattle.model_program.specs.Reads.{◌⌢◌, Nothing}
-use Rattle.model_program.specs.Grammar.{IsSign, IsAt, IsName, IsComma, Further, Items, Any, Many, sign}
-use Rattle.model_program.specs.TokenTexts.{IsTextOf, HaveTexts}
+use Rattle.model_program.specs.Reads.{◌⌢◌}
+use Rattle.model_program.specs.Grammar.{IsSign, IsName, IsComma, Further, Items, Any, Many}
+use Rattle.model_program.specs.TokenTexts.{HaveTexts}
 use Rattle.model_grammar.specs.declared.Op1.{Op1}
 use Rattle.model_grammar.specs.declared.Op1.TheVariants as op1
 use Rattle.model_grammar.specs.declared.Op2.{Op2}
 use Rattle.model_grammar.specs.declared.Op2.TheVariants as op2
 use Rattle.model_grammar.specs.declared.Level.TheVariants.{E}
 use Rattle.model_grammar.specs.Nesting.{Mark, passes, marked}
-use Rattle.model_grammar.specs.Syntax.{Expr, X, named, one, two, literal, Xs, no_x, and_x, Out, child, call, node, Outs, no_out, and_out}
+use Rattle.model_grammar.specs.Syntax.{Expr, X, Xs, Out, Outs}
 use Rattle.model_grammar.specs.Operators.{op1_word, op2_word}
 use Rattle.model_grammar.specs.Expressions.{IsE}
 use Rattle.model_grammar.specs.Terms.{IsLater, Row, AreLabels, IsX, name, on_one, on_two, new, AreXs, no_more, one_more, IsOut, unchanged, called, made, AreOuts, no_outs, outs_on}
@@ -23,10 +22,10 @@ use Rattle.model_grammar.specs.Printed.{piece, blank, token, bracketed, behind_c
 use Rattle.model_grammar.specs.Printed as printed
 use Rattle.model_grammar.proofs.Tokens.{IsSpelled}
 use Rattle.model_grammar.proofs.WrittenExpressions.{texts_front, texts_back}
-use Rattle.model_grammar.proofs.WrittenTerms.{name_text}
+use Rattle.model_grammar.proofs.WrittenTerms.{name_text, spelled_op1, spelled_op2}
 use Rattle.model_grammar.proofs.WrittenItems.{front_texts, back_texts}
 use Rattle.grammar_laws.proofs.Runs.{IsPlain, IsBalanced, balanced_nothing, balanced-append, balanced_word, balanced_round, balanced_square}
-use Rattle.grammar_laws.proofs.Keeps.{Keeps, keeps-append, keeps_nothing, keeps_blank, keeps_word, keeps_added, keeps_dropped, keeps_name, keeps_bracketed}
+use Rattle.grammar_laws.proofs.Keeps.{Keeps, keeps-append, keeps_nothing, keeps_blank, keeps_word, keeps_added, keeps_name, keeps_bracketed}
 use Rattle.grammar_laws.proofs.KeepsExpressions.{plain_as, expression_kept}
 
 -- pieces whose tokens were read, which are balanced
@@ -155,22 +154,6 @@ op2_plain op2.Restrict = record { passes_not = λ m. refl; marks_not = λ m. ref
 op2_plain op2.RestrictOut = record { passes_not = λ m. refl; marks_not = λ m. refl }
 op2_plain op2.Apply = record { passes_not = λ m. refl; marks_not = λ m. refl }
 
-spelled_one : (op : Op1) → IsSpelled (op1_word op)
-spelled_one op1.Complement = tt
-spelled_one op1.Minimize = tt
-spelled_one op1.Domain = tt
-spelled_one op1.GetWitness = tt
-
-spelled_two : (op : Op2) → IsSpelled (op2_word op)
-spelled_two op2.Intersect = tt
-spelled_two op2.Union = tt
-spelled_two op2.Difference = tt
-spelled_two op2.PreImage = tt
-spelled_two op2.Compose = tt
-spelled_two op2.Restrict = tt
-spelled_two op2.RestrictOut = tt
-spelled_two op2.Apply = tt
-
 in_two : (left right : Lexeme) (a b : List Lexeme) → left ∷ (a ++ b) ++ right ∷ [] ≡ left ∷ a ++ (b ++ right ∷ [])
 in_two left right a b = ap (λ l. left ∷ l) (append_assoc a b (right ∷ []))
 
@@ -181,16 +164,16 @@ mutual
   pub term_kept : (x : X) (ts : List Lexeme) → IsX x ts → HaveTexts ts → KeptAs (term x) ts
   term_kept x ts (name n us is) have = names_kept n us is have
   term_kept x ts (on_one left op right kind y inside opens is_op closes is) have =
-      kept_parens left right opens closes (kept_word (op1_word kind) op (spelled_one kind) (op1_plain kind) is_op (kept_blank (term_kept y inside is (texts_front inside (right ∷ []) have.1.1))))
+      kept_parens left right opens closes (kept_word (op1_word kind) op (spelled_op1 kind) (op1_plain kind) is_op (kept_blank (term_kept y inside is (texts_front inside (right ∷ []) have.1.1))))
   term_kept x ts (on_two left op right kind y z front back opens is_op closes is_y is_z) have =
       kept_as (in_two left right (op ∷ front) back)
-      (kept_parens left right opens closes (kept_word (op2_word kind) op (spelled_two kind) (op2_plain kind) is_op (kept_blank
-            (kept-append (term_kept y front is_y (texts_front front (back ++ right ∷ []) have.1.1)) (kept_blank (term_kept z back is_z (texts_front back (right ∷ []) (texts_back front (back ++ right ∷ []) have.1.1))))))))
+      (kept_parens left right opens closes (kept_word (op2_word kind) op (spelled_op2 kind) (op2_plain kind) is_op (kept_blank
+      (kept-append (term_kept y front is_y (texts_front front (back ++ right ∷ []) have.1.1)) (kept_blank (term_kept z back is_z (texts_front back (right ∷ []) (texts_back front (back ++ right ∷ []) have.1.1))))))))
   term_kept x ts (new left right n labels xs head row children opens closes is_n are are_xs) have =
       let behind = texts_back head (row ++ (children ++ right ∷ [])) have.1 in
       kept_as (in_three left right head row children)
       (kept_parens left right opens closes (kept-append (names_kept n head is_n (texts_front head (row ++ (children ++ right ∷ [])) have.1)) (kept_blank
-            (kept-append (labels_kept labels row are (texts_front row (children ++ right ∷ []) behind)) (terms_kept xs children are_xs (texts_front children (right ∷ []) (texts_back row (children ++ right ∷ []) behind)))))))
+      (kept-append (labels_kept labels row are (texts_front row (children ++ right ∷ []) behind)) (terms_kept xs children are_xs (texts_front children (right ∷ []) (texts_back row (children ++ right ∷ []) behind)))))))
 
   pub terms_kept : (xs : Xs) (ts : List Lexeme) → AreXs xs ts → HaveTexts ts → KeptAs (terms xs) ts
   terms_kept xs ts no_more have = kept_nothing
@@ -206,7 +189,7 @@ mutual
       let behind = texts_back head (row ++ (children ++ right ∷ [])) have.1 in
       kept_as (in_three left right head row children)
       (kept_parens left right opens closes (kept-append (names_kept n head is_n (texts_front head (row ++ (children ++ right ∷ [])) have.1)) (kept_blank
-            (kept-append (labels_kept labels row are (texts_front row (children ++ right ∷ []) behind)) (outputs_kept outs children are_outs (texts_front children (right ∷ []) (texts_back row (children ++ right ∷ []) behind)))))))
+      (kept-append (labels_kept labels row are (texts_front row (children ++ right ∷ []) behind)) (outputs_kept outs children are_outs (texts_front children (right ∷ []) (texts_back row (children ++ right ∷ []) behind)))))))
 
   pub outputs_kept : (outs : Outs) (ts : List Lexeme) → AreOuts outs ts → HaveTexts ts → KeptAs (outputs outs) ts
   outputs_kept outs ts no_outs have = kept_nothing

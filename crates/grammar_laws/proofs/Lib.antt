@@ -3,3 +3,4 @@ pub mod Keeps
 pub mod KeepsExpressions
 pub mod KeepsTerms
 pub mod KeepsItems
+pub mod Needed

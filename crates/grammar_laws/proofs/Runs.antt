@@ -1,10 +1,10 @@
 -- How tokens run within the limits of nesting.
-use Rattle.std.proofs.Common.{◌≡◌, ℕ, ◌+◌, ◌<◌, ◌≤◌, Bool, true, false, nat_lt, List, [], ◌∷◌, ◌++◌, refl, sym, ap, ◌∙◌, subst, append-nil, append_assoc, arith, Option, Some, None, if◌then◌else◌}
+use Rattle.std.proofs.Common.{◌≡◌, ℕ, ◌+◌, ◌≤◌, Bool, true, false, nat_lt, List, [], ◌∷◌, ◌++◌, refl, sym, ap, ◌∙◌, subst, arith, Some, None, if◌then◌else◌}
 use Rattle.std.proofs.lemmas.Bool.Decides.{nat_tests}
 use Rattle.model_program.specs.declared.Word.{Word}
 use Rattle.model_program.specs.declared.Word.TheVariants.{RoundOpen, RoundClose, SquareOpen, SquareClose}
 use Rattle.model_program.specs.Lexeme.{Lexeme}
-use Rattle.model_grammar.specs.Nesting.{Mark, round, square, part, item, close_round, close_square, passes, marked, level, limit, nested_from, nested_at}
+use Rattle.model_grammar.specs.Nesting.{Mark, round, square, part, item, passes, marked, level, limit, nested_from}
 use Rattle.grammar_laws.specs.Nests.{Runs, NoDeeper}
 
 pub runs-append : (marks middle left : List Mark) (a b : List Lexeme) → Runs marks a middle → Runs middle b left → Runs marks (a ++ b) left
@@ -120,10 +120,11 @@ balanced_round l r inside opens closes balanced = record {
   closes = λ marks left all. (inside_round marks left l r inside opens closes balanced all).2;
   freer = λ before marks all.
       let part = inside_round (before ++ round ∷ marks) (before ++ round ∷ marks) l r inside opens closes balanced all in
-      let freed = balanced.freer (round ∷ before) marks part.1 in
-      (ap (λ w. passes w (before ++ marks)) opens ∙ open_freer before marks part.0,
+      let freed = balanced.freer (round ∷ before) marks part.1 in (
+        ap (λ w. passes w (before ++ marks)) opens ∙ open_freer before marks part.0,
         subst (λ (w : Word). Runs (marked w (before ++ marks)) (inside ++ r ∷ []) (before ++ marks)) (sym opens)
-        (runs-append (round ∷ (before ++ marks)) (round ∷ (before ++ marks)) (before ++ marks) inside (r ∷ []) freed (ap (λ w. passes w (round ∷ (before ++ marks))) closes, ap (λ w. marked w (round ∷ (before ++ marks))) closes)));
+            (runs-append (round ∷ (before ++ marks)) (round ∷ (before ++ marks)) (before ++ marks) inside (r ∷ []) freed (ap (λ w. passes w (round ∷ (before ++ marks))) closes, ap (λ w. marked w (round ∷ (before ++ marks))) closes)),
+      );
 }
 
 pub balanced_square : (l r : Lexeme) (inside : List Lexeme) → l.word ≡ SquareOpen → r.word ≡ SquareClose → IsBalanced inside → IsBalanced (l ∷ inside ++ r ∷ [])
@@ -131,10 +132,11 @@ balanced_square l r inside opens closes balanced = record {
   closes = λ marks left all. (within marks left all).1;
   freer = λ before marks all.
       let part = within (before ++ round ∷ marks) (before ++ round ∷ marks) all in
-      let freed = balanced.freer (square ∷ before) marks part.0 in
-      (ap (λ w. passes w (before ++ marks)) opens,
+      let freed = balanced.freer (square ∷ before) marks part.0 in (
+        ap (λ w. passes w (before ++ marks)) opens,
         subst (λ (w : Word). Runs (marked w (before ++ marks)) (inside ++ r ∷ []) (before ++ marks)) (sym opens)
-        (runs-append (square ∷ (before ++ marks)) (square ∷ (before ++ marks)) (before ++ marks) inside (r ∷ []) freed (ap (λ w. passes w (square ∷ (before ++ marks))) closes, ap (λ w. marked w (square ∷ (before ++ marks))) closes)));
+            (runs-append (square ∷ (before ++ marks)) (square ∷ (before ++ marks)) (before ++ marks) inside (r ∷ []) freed (ap (λ w. passes w (square ∷ (before ++ marks))) closes, ap (λ w. marked w (square ∷ (before ++ marks))) closes)),
+      );
 }
   where
     within : (marks left : List Mark) → Runs marks (l ∷ inside ++ r ∷ []) left → Runs (square ∷ marks) inside (square ∷ marks) × (left ≡ marks)

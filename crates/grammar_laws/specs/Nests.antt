@@ -1,9 +1,7 @@
 -- Tokens that stay within the limits of nesting.
-use Rattle.std.specs.Prelude.{◌≡◌, false, List, [], ◌∷◌, ◌++◌}
-use Rattle.model_program.specs.declared.Word.{Word}
+use Rattle.std.specs.Prelude.{◌≡◌, false, List, [], ◌∷◌}
 use Rattle.model_program.specs.Lexeme.{Lexeme}
-use Rattle.model_program.specs.Cuts.{Piece, lexemes_after}
-use Rattle.model_grammar.specs.Nesting.{Mark, round, passes, marked}
+use Rattle.model_grammar.specs.Nesting.{Mark, passes, marked}
 
 -- behind these marks no token passes its limit, and these marks are left
 abbrev pub Runs : List Mark → List Lexeme → List Mark → Type 0
