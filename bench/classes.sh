@@ -1,7 +1,7 @@
 #!/usr/bin/env bash
 # Measures emptiness: a cycle of K languages over lists, each of which takes the lists whose length has its remainder by
-# K, and a chain of K languages whose trees double. Prints milliseconds, the best of three, with the ratio for each
-# doubling of K.
+# K, and a chain of K languages whose trees double. Prints milliseconds of a processor, the best of three, with the
+# ratio for each doubling of K.
 set -u
 here=$(cd "$(dirname "${BASH_SOURCE[0]}")/.." && pwd)
 folder=$(mktemp -d)
@@ -31,27 +31,31 @@ chain() {
 }
 
 measure() {
-  local least= start took
+  local least= took TIMEFORMAT=%U
   for _ in 1 2 3; do
-    start=$(date +%s%N)
-    "$program" run "$1" >/dev/null
-    took=$((($(date +%s%N) - start) / 1000))
+    took=$( { time "$program" run "$1" >/dev/null 2>&1; } 2>&1 | tr -d .)
+    took=$((10#$took))
     if [ -z "$least" ] || [ "$took" -lt "$least" ]; then least=$took; fi
   done
   echo "$least"
 }
 
-for kind in cycle chain; do
+# Times runs of programs of this kind, for each of these K.
+table() {
+  local kind=$1 count took previous=
+  shift
   printf '%6s %6s %14s %8s\n' "$kind" K milliseconds ratio
-  previous=
-  for count in 50 100 200 400 800; do
+  for count in "$@"; do
     "$kind" "$count" >"$folder/text"
     took=$(measure "$folder/text")
-    awk -v kind='' -v count="$count" -v took="$took" -v previous="$previous" 'BEGIN {
-      printf "%6s %6d %14.1f", kind, count, took / 1000
-      if (previous != "") printf " %8.2f", took / previous
+    awk -v count="$count" -v took="$took" -v previous="$previous" 'BEGIN {
+      printf "%6s %6d %14d", "", count, took
+      if (previous > 0) printf " %8.2f", took / previous
       printf "\n"
     }'
     previous=$took
   done
-done
+}
+
+table cycle 50 100 200 400 800
+table chain 50 100 200 400

@@ -123,8 +123,3 @@ pub enum Node {
     Truth(bool),
     Not(Box<Expr>),
 }
-
-#[cfg(test)]
-mod item_tests;
-#[cfg(test)]
-mod tests;

@@ -1,5 +1,5 @@
 -- A printed program is made of its tokens and spells its items again.
-use Rattle.std.proofs.Common.{◌≡◌, ℕ, Bool, true, false, List, [], ◌∷◌, ◌++◌, refl, sym, ap, ◌∙◌, subst, append_assoc, append-nil, arith, length}
+use Rattle.std.proofs.Common.{◌≡◌, ℕ, Bool, true, false, List, [], ◌∷◌, ◌++◌, refl, sym, ap, ◌∙◌, subst, append_assoc, append-nil, arith, length, None}
 use Rattle.std.specs.Prelude.{encode_utf8_all, encode_utf8}
 use Rattle.std.specs.Str.{chars, IsUtf8}
 use Rattle.std.proofs.lemmas.Str.{chars-encodes, encode_same, length-encode, len_utf8_bounds}
@@ -11,6 +11,7 @@ use Rattle.model_program.specs.TokenTexts.{HaveTexts}
 use Rattle.model_grammar.specs.Syntax.{Item, Claim, Body, sorts, tree, lang, trans, def, assertion}
 use Rattle.model_grammar.specs.Grammar.{IsProgram}
 use Rattle.model_grammar.specs.Printed.{lines, printed_program}
+use Rattle.model_grammar.specs.Nesting.{nested_at}
 use Rattle.model_grammar.specs.Layout.{AreLaid}
 use Rattle.model_grammar.specs.ReadsBack.{SpellsAgain}
 use Rattle.model_grammar.proofs.WrittenItems.{program_written}
@@ -54,8 +55,8 @@ encodes_one (c ∷ cs) (d ∷ ds) same = let e = encode_same c d (encode_utf8_al
 pub characters : (bytes cs : List ℕ) → IsUtf8 bytes → bytes ≡ encode_utf8_all cs → chars bytes ≡ cs
 characters bytes cs utf8 same = sym (ap chars utf8.1.1) ∙ chars-encodes utf8.0 utf8.1.0 ∙ encodes_one utf8.0 cs (utf8.1.1 ∙ same)
 
-pub spells_again : (items : List Item) (tokens : List Lexeme) (bytes : List ℕ) → IsProgram items tokens → HaveTexts tokens → IsUtf8 bytes → bytes ≡ encode_utf8_all (printed_program items) → SpellsAgain bytes items
-spells_again items tokens bytes is have utf8 same =
+pub spells_again : (items : List Item) (tokens : List Lexeme) (bytes : List ℕ) → IsProgram items tokens → HaveTexts tokens → IsUtf8 bytes → bytes ≡ encode_utf8_all (printed_program items) → nested_at (lexemes_after [] (lines items)) ≡ None → SpellsAgain bytes items
+spells_again items tokens bytes is have utf8 same shallow =
     let written = program_written items tokens is have in
     let once = written.again [] in
     let cut : IsCut (printed_program items) (lines items) [] = subst (λ (l : List ℕ). IsCut l (lines items) []) (append-nil (printed_program items)) (laid_cut (lines items) [] (written.laid [] tt)) in
@@ -65,6 +66,7 @@ spells_again items tokens bytes is have utf8 same =
       encoded = utf8;
       tokens = lexemes_after [] (lines items);
       are = subst (λ (l : List ℕ). AreTokens l (lexemes_after [] (lines items))) (sym (characters bytes (printed_program items) utf8 same)) are;
+      shallow = shallow;
       again = once.value;
       spelled = once.spelled;
       same = once.same;

@@ -133,7 +133,7 @@ negation_stands p e stands =
       laid = λ after parted. (word_longest Not tt (texts_of (blank ∷ at_level Cmp e (expression e)) ++ after) refl, (blank_longest 32 (texts_of (at_level Cmp e (expression e)) ++ after) refl, inside.laid after parted));
     }
 
-spelled_rel : (r : Rel) → IsSpelled (rel_word r)
+pub spelled_rel : (r : Rel) → IsSpelled (rel_word r)
 spelled_rel rel.Equal = tt
 spelled_rel rel.NotEqual = tt
 spelled_rel rel.Less = tt
@@ -210,7 +210,7 @@ minus_stands p e stands =
 abbrev pub MoreStand : Chain → List (Lexeme × Expr) → Type 0
 MoreStand k more = Written IsParted (λ m. bare_parts (parts_of m)) (AreMore k) more (further k (parts_of more))
 
-spelled_sign : (k : Chain) (marked : Bool) → IsSpelled (chain_word k marked)
+pub spelled_sign : (k : Chain) (marked : Bool) → IsSpelled (chain_word k marked)
 spelled_sign kind.Disjunction marked = tt
 spelled_sign kind.Conjunction marked = tt
 spelled_sign kind.Sum false = tt
@@ -227,7 +227,7 @@ sign_of kind.Product false = inl refl
 sign_of kind.Product true = inr refl
 
 -- a sign's mark gives the sign
-sign_again : (k : Chain) (w : Word) → IsSignOf k w → chain_word k (is_marking w) ≡ w
+pub sign_again : (k : Chain) (w : Word) → IsSignOf k w → chain_word k (is_marking w) ≡ w
 sign_again kind.Disjunction w is = sym is
 sign_again kind.Conjunction w is = sym is
 sign_again kind.Sum w (inl is) = ap (λ v. chain_word kind.Sum (is_marking v)) is ∙ sym is
@@ -294,7 +294,7 @@ abbrev pub AllStand : List Expr → Type 0
 AllStand [] = Unit {0}
 AllStand (e ∷ es) = Stands e × AllStand es
 
-many_signs : (k : Chain) (w : Word) → IsMany k w → IsSignOf k w
+pub many_signs : (k : Chain) (w : Word) → IsMany k w → IsSignOf k w
 many_signs kind.Disjunction w is = is
 many_signs kind.Conjunction w is = is
 many_signs kind.Sum w is = is

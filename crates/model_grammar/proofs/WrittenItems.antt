@@ -128,9 +128,9 @@ ctor_written c ts is have =
     (joined (λ after fine. refl) (names_written c.name is.front is.at_front (front_texts is have)) (parens_written (rank_written c.rank s2.front s2.at_front)))
 
 -- The name of a sort is one that stays as it is.
-record IsSortName (text : List ℕ) : Type 0 where
-  is_name : IsTextOf Id text
-  stays : sort_text text ≡ text
+pub record IsSortName (text : List ℕ) : Type 0 where
+  pub is_name : IsTextOf Id text
+  pub stays : sort_text text ≡ text
 
 sort_known : (text : List ℕ) → IsTextOf Id text → IsSortName (sort_text text)
 unfolding spelled keywords
@@ -148,7 +148,7 @@ sort_known text is = first (bytes_eq text (codes "int")) refl
     first true e = record { is_name = ((refl, (refl, (refl, tt))), refl); stays = refl }
     first false e = second e (bytes_eq text (codes "bool")) refl
 
-sorted_name : (s : Name) (ts : List Lexeme) → IsSort s ts → HaveTexts ts → IsSortName s.text
+pub sorted_name : (s : Name) (ts : List Lexeme) → IsSort s ts → HaveTexts ts → IsSortName s.text
 sorted_name s ts is have =
     let text : IsTextOf Id is.0.text = subst (λ (w : Word). IsTextOf w is.0.text) is.1.1 (subst HaveTexts is.1.0 have).0 in
     subst (λ (n : Name). IsSortName n.text) (sym is.2) (sort_known is.0.text text)
@@ -274,7 +274,7 @@ assertion_written : (c : Claim) (ts : List Lexeme) → IsA c ts → HaveTexts ts
 assertion_written c ts (inl is) have = claim_written c ts is have
 assertion_written c ts (inr is) have = let inside = is.at_back in claim_written c inside.front inside.at_front (front_texts inside (back_texts is have))
 
-spelled_assert : (wanted : Bool) → IsSpelled (assert_word wanted)
+pub spelled_assert : (wanted : Bool) → IsSpelled (assert_word wanted)
 spelled_assert true = tt
 spelled_assert false = tt
 

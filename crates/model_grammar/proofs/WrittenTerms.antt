@@ -57,13 +57,13 @@ in_parens {g} {q} {a} {ps} to into same written = record {
   laid = bracket_laid ps written.laid;
 }
 
-spelled_op1 : (op : Op1) → IsSpelled (op1_word op)
+pub spelled_op1 : (op : Op1) → IsSpelled (op1_word op)
 spelled_op1 op1.Complement = tt
 spelled_op1 op1.Minimize = tt
 spelled_op1 op1.Domain = tt
 spelled_op1 op1.GetWitness = tt
 
-spelled_op2 : (op : Op2) → IsSpelled (op2_word op)
+pub spelled_op2 : (op : Op2) → IsSpelled (op2_word op)
 spelled_op2 op2.Intersect = tt
 spelled_op2 op2.Union = tt
 spelled_op2 op2.Difference = tt

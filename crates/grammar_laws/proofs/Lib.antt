@@ -1,0 +1,6 @@
+pub mod Runs
+pub mod Keeps
+pub mod KeepsExpressions
+pub mod KeepsTerms
+pub mod KeepsItems
+pub mod Needed
