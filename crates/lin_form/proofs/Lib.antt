@@ -5,3 +5,4 @@ pub mod Kept
 pub mod Likes
 pub mod Outside
 pub mod Putting
+pub mod Hashing

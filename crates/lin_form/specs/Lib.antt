@@ -2,3 +2,4 @@ pub mod Terms
 pub mod Falls
 pub mod Stops
 pub mod Gathered
+pub mod Hashed

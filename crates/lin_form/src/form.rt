@@ -19,7 +19,7 @@ pub struct FieldTerm {
 
 /// A coefficient of the remainder of a form by a divisor.
 #[cycle(form)]
-#[derive(Drop)]
+#[derive(Debug, Drop)]
 pub struct RemTerm {
     pub coefficient: i64,
     pub inner: Form,
@@ -28,7 +28,7 @@ pub struct RemTerm {
 
 /// A constant, coefficients of fields and coefficients of remainders: like terms are merged, and no coefficient is 0.
 #[cycle(form)]
-#[derive(Drop)]
+#[derive(Debug, Drop)]
 pub struct Form {
     pub(crate) constant: i128,
     pub(crate) fields: Vec<FieldTerm>,

@@ -6,6 +6,7 @@ ghost use Rattle.model_form.specs.Same.{same_form, ordered, members, IsIn};
 ghost use Rattle.lin_form.specs.Terms.{plain_fields, plain_remainders, member};
 
 use crate::{FieldTerm, Form, RemTerm};
+use std::hash::{Hash, Hasher};
 
 impl PartialEq for Form {
     ghost use Rattle.model_form.specs.Same.{same_form};
@@ -25,6 +26,21 @@ impl Eq for Form {
     ghost use Rattle.model_form.proofs.Equals.{same_laws};
 
     ghost laws = { same_laws };
+}
+
+// Equal forms have the same constant and as many terms.
+impl Hash for Form {
+    ghost use Rattle.lin_form.specs.Hashed.{hashed, same_hashed};
+
+    ghost hash_input = { hashed };
+
+    ghost respects_eq = { same_hashed };
+
+    fn hash<H: Hasher>(&self, state: &mut H) {
+        self.constant.hash(state);
+        self.fields.len().hash(state);
+        self.remainders.len().hash(state);
+    }
 }
 
 impl Form {

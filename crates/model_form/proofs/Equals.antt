@@ -109,7 +109,7 @@ items-remainders : (xs : List Item) → items (remainders xs) ≡ xs
 items-remainders [] = refl
 items-remainders (x ∷ xs) = ap (λ ys. x ∷ ys) (items-remainders xs)
 
-same_parts : (c d : ℤ) (ts us : List Term) (rs qs : Remainders) → same_form (form c ts rs) (form d us qs) ≡ true → (c ≡ d) × (ts ≡ us) × (ordered_all rs ≡ ordered_all qs)
+pub same_parts : (c d : ℤ) (ts us : List Term) (rs qs : Remainders) → same_form (form c ts rs) (form d us qs) ≡ true → (c ≡ d) × (ts ≡ us) × (ordered_all rs ≡ ordered_all qs)
 same_parts c d ts us rs qs e =
     let o = same_out (form c ts rs) (form d us qs) e in
     (ap constant_of o, ap fields_of o, sym (items-remainders (ordered_all rs)) ∙ ap (λ f. items (remainders_of f)) o ∙ items-remainders (ordered_all qs))

@@ -4,3 +4,4 @@ pub mod Sorted
 pub mod Equals
 pub mod Values
 pub mod Gathering
+pub mod Over

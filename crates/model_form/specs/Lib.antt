@@ -6,3 +6,4 @@ pub mod Ranges
 pub mod Meaning
 pub mod Laws
 pub mod Gathered
+pub mod Over

@@ -1,0 +1,9 @@
+pub mod Multiples
+pub mod Numbers
+pub mod Scaled
+pub mod Putting
+pub mod Listed
+pub mod Skipped
+pub mod Stepping
+pub mod Telling
+pub mod Closed

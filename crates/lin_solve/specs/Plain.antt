@@ -1,0 +1,48 @@
+-- Comparisons, literals and remainders as plain data.
+use Rattle.std.specs.Prelude.{ℕ, ℤ, ◌<◌, ◌≤◌, List, [], ◌∷◌, map, unsigned_abs, Bool}
+use Rattle.std.specs.List.{All}
+use Rattle.math_cooper.specs.Line.{AtLeastZero}
+use Rattle.math_cooper.specs.System.{Condition}
+use Rattle.model_form.specs.Form.{Form}
+use Rattle.model_form.specs.Sums.{sign}
+use Rattle.model_chain.specs.Literals as plain
+use Rattle.label_core.specs.declared.theory.Lit.{Lit}
+use Rattle.lin_form.specs.declared.form.RemTerm.{RemTerm}
+use Rattle.lin_solve.specs.declared.compare.Relation.{Relation}
+use Rattle.lin_solve.specs.declared.compare.Relation.TheVariants.{Less, AtMost, Equal}
+use Rattle.lin_solve.specs.declared.compare.Compare.{Compare}
+use Rattle.lin_solve.specs.declared.numbering.Remainder.{Remainder}
+
+abbrev pub plain_relation : Relation → plain.Relation
+plain_relation Less = plain.less
+plain_relation AtMost = plain.at_most
+plain_relation Equal = plain.equal
+
+abbrev pub plain_compare : Compare → plain.Compare
+plain_compare c = record { left = c.left; relation = plain_relation c.relation; right = c.right }
+
+abbrev pub plain_literal : Lit Compare → plain.Literal
+plain_literal l = record { compare = plain_compare l.atom; positive = l.sign }
+
+abbrev pub plain_literals : List (Lit Compare) → List plain.Literal
+plain_literals ls = map plain_literal ls
+
+abbrev pub plain_remainder : Remainder → plain.Remainder
+plain_remainder r = record { inner = r.inner; divisor = r.divisor }
+
+abbrev pub plain_known : List Remainder → List plain.Remainder
+plain_known rs = map plain_remainder rs
+
+abbrev pub plain_term : RemTerm → plain.Remainder
+plain_term t = record { inner = t.inner; divisor = t.divisor }
+
+abbrev pub ArePositive : List Remainder → Type 0
+ArePositive rs = All (λ r. 0 < r.divisor) rs
+
+-- each number is at most so great
+abbrev pub Within : ℕ → List ℤ → Type 0
+Within b row = All (λ z. unsigned_abs z ≤ b) row
+
+-- so many times one variable, and a constant, is at least 0
+abbrev pub single : List plain.Remainder → ℕ → Bool → ℤ → Condition
+single R n minus k = record { kind = AtLeastZero; constant = k; coefficients = plain.add_at n (sign minus) (plain.zeros R) }

@@ -1,0 +1,38 @@
+-- Chains as plain data, and what an answer says.
+use Rattle.std.specs.Prelude.{ℕ, ℤ, ◌≡◌, Bool, List, ◌++◌, map, length, FitsSigned}
+use Rattle.std.specs.Int.{w64}
+use Rattle.std.specs.List.{All}
+use Rattle.math_cooper.specs.Puts as plain
+use Rattle.cooper_solve.specs.Told.{put_of}
+use Rattle.model_chain.specs.Literals as chain
+use Rattle.model_chain.specs.Literals.{HoldsAll}
+use Rattle.model_chain.specs.Chains as chains
+use Rattle.model_chain.specs.Chains.{side_choices, Passes, IsFar}
+use Rattle.label_core.specs.declared.theory.Lit.{Lit}
+use Rattle.label_core.specs.declared.theory.Verdict.{Verdict}
+use Rattle.label_core.specs.declared.theory.Verdict.TheVariants.{Sat, Unsat, Wide}
+use Rattle.lin_solve.specs.declared.compare.Compare.{Compare}
+use Rattle.lin_solve.specs.declared.chain.Choice.{Choice}
+use Rattle.lin_solve.specs.declared.chain.Choice.TheVariants.{Side, Put}
+use Rattle.lin_solve.specs.declared.chain.Chain.{Chain}
+use Rattle.lin_solve.specs.Plain.{plain_literals}
+
+abbrev pub plain_choice : Choice → chains.Choice
+plain_choice (Side k b) = chains.side k b
+plain_choice (Put p) = chains.take_put (put_of p)
+
+abbrev pub plain_chain : Chain → chains.Chain
+plain_chain c = record { literals = plain_literals c.literals.items; choices = map plain_choice c.choices.items; bounded = c.bounded }
+
+abbrev pub choices_of : List chain.Literal → List Bool → List plain.Put → List chains.Choice
+choices_of ls sides ps = side_choices 0 ls sides ++ map chains.take_put ps
+
+abbrev pub AllKept : List ℤ → Type 0
+AllKept us = All (FitsSigned w64) us
+
+-- values of the eight fields at which the literals hold, that there are none, or a chain of the literals that passes
+-- its width; where it is far, no values of 64 bits satisfy the literals
+abbrev pub Answers : {V : Type 0} → (V → List ℤ) → List (Lit Compare) → Verdict V Chain → Type 0
+Answers values_of ls (Sat v) = (length (values_of v) ≡ 8) × HoldsAll (plain_literals ls) (values_of v)
+Answers values_of ls Unsat = (us : List ℤ) → length us ≡ 8 → HoldsAll (plain_literals ls) us → ⊥
+Answers values_of ls (Wide c) = (c.literals.items ≡ ls) × Passes c.bits (plain_chain c) × (IsFar (plain_chain c) → (us : List ℤ) → length us ≡ 8 → AllKept us → HoldsAll (plain_literals ls) us → ⊥)

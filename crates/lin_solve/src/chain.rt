@@ -1,0 +1,102 @@
+//! Chains of Cooper's method, as the answers show them.
+
+ghost use Rattle.std.specs.Prelude.{◌≡◌, ◌++◌, ◌∷◌, [], IfOk, map, cond};
+ghost use Rattle.cooper_solve.specs.Told.{puts_of};
+ghost use Rattle.model_chain.specs.Chains.{side_choices, take_put, side as chain_side};
+ghost use Rattle.lin_solve.specs.Plain.{plain_literals};
+ghost use Rattle.lin_solve.specs.Shown.{plain_choice, choices_of};
+
+use crate::compare::Compare;
+use crate::system::{needs_side, side_at, step_on};
+use crate::tried::Stuck;
+use cooper_solve::Put;
+use fast_fault::Memory;
+use label_core::Lit;
+use std::alloc::Global;
+
+/// A side of the negated equality with this number, where the positive one is that the left side is the greater; or a
+/// put.
+#[derive(Clone, Copy, Debug, PartialEq, Eq)]
+pub enum Choice {
+    Side(u64, bool),
+    Put(Put),
+}
+
+/// The choices that lead from literals to a solution that is far off, or to a number that is too wide.
+#[derive(Drop)]
+pub struct Chain {
+    pub literals: Vec<Lit<Compare>>,
+    pub choices: Vec<Choice>,
+    pub bounded: bool,
+    pub bits: u32,
+}
+
+fn copy_literals(alloc: Global, literals: &[Lit<Compare>]) -> Result<Vec<Lit<Compare>>, Memory>
+    ensures { IfOk result (λ r. r.items ≡ literals.now) }
+{
+    let mut out = Vec::new(alloc);
+    for literal in literals {
+        out.push(Lit {
+            atom: literal.atom.copy(alloc)?,
+            sign: literal.sign,
+        })?;
+    }
+    Ok(out)
+}
+
+fn push_side(index: usize, side: bool, needed: bool, out: &mut Vec<Choice>) -> Result<(), Memory>
+    ensures { IfOk result (λ _. map plain_choice out.new.items ≡ map plain_choice out.old.items ++ cond needed (chain_side index side ∷ []) []) }
+{
+    if needed {
+        out.push(Choice::Side(index as u64, side))?;
+    }
+    Ok(())
+}
+
+fn push_sides(
+    literals: &[Lit<Compare>],
+    sides: &[bool],
+    out: &mut Vec<Choice>,
+) -> Result<(), Memory>
+    ensures { IfOk result (λ _. map plain_choice out.new.items ≡ map plain_choice out.old.items ++ side_choices 0 (plain_literals literals.now) sides.now) }
+{
+    let mut next = 0;
+    for i in 0..literals.len() {
+        let needed = needs_side(&literals[i]);
+        push_side(i, side_at(sides, next, needed), needed, out)?;
+        next = step_on(next, needed);
+    }
+    Ok(())
+}
+
+// The puts, of which the first stands last.
+fn push_puts(puts: &[Put], out: &mut Vec<Choice>) -> Result<(), Memory>
+    ensures { IfOk result (λ _. map plain_choice out.new.items ≡ map plain_choice out.old.items ++ map take_put (puts_of puts.now)) }
+{
+    for i in 0..puts.len() {
+        out.push(Choice::Put(puts[puts.len() - 1 - i]))?;
+    }
+    Ok(())
+}
+
+/// The chain of the sides and the puts.
+pub(crate) fn chain_of(
+    alloc: Global,
+    literals: &[Lit<Compare>],
+    bounded: bool,
+    bits: u32,
+    stuck: &Stuck,
+) -> Result<Chain, Memory>
+    ensures { IfOk result (λ c. (c.literals.items ≡ literals.now) × (map plain_choice c.choices.items ≡ choices_of (plain_literals literals.now) stuck.now.sides.items (puts_of stuck.now.puts.items)) × (c.bounded ≡ bounded) × (c.bits ≡ bits)) }
+{
+    let copies = copy_literals(alloc, literals)?;
+    let mut choices = Vec::new(alloc);
+    push_sides(literals, &stuck.sides, &mut choices)?;
+    push_puts(&stuck.puts, &mut choices)?;
+    Ok(Chain {
+        literals: copies,
+        choices,
+        bounded,
+        bits,
+    })
+}

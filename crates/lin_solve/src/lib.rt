@@ -1,0 +1,21 @@
+//! Conjunctions of comparisons of forms, decided by Cooper's method.
+//!
+//! Its promise: `decide` gives values that satisfy the literals, or says that no whole numbers do, or shows a chain of
+//! the literals that passes its width.
+#![tactic(auto)]
+
+mod chain;
+mod compare;
+mod decision;
+mod numbering;
+mod over;
+mod rows;
+mod system;
+mod tried;
+
+pub use chain::{Chain, Choice};
+pub use decision::decide;
+pub use compare::{Compare, Relation};
+
+#[cfg(test)]
+mod tests;

@@ -1,0 +1,4 @@
+pub mod Line
+pub mod System
+pub mod Puts
+pub mod Laws

@@ -1,0 +1,4 @@
+pub mod Literals
+pub mod Chains
+pub mod Sides
+pub mod Laws
