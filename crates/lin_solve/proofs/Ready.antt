@@ -76,10 +76,11 @@ module _ (R : List Remainder) where
   bounds_good ls n (suc m) = All-append IsPositive (cond (field_in n ls) (bound_conditions R least greatest n) []) (bounds_conditions R least greatest ls (suc n) m) (bound_good n (field_in n ls)) (bounds_good ls (suc n) m)
 
 pub first_ready : (ls : List Literal) (bounded : Bool) (sides : List Bool) → AreDivisorsPositive ls → IsSystem (count_variables ls) (first_system ls bounded sides)
-first_ready ls bounded sides some = let R = remainders_in ls in
-    (first_wide ls bounded sides,
-    All-append IsPositive (literals_conditions R ls sides ++ remainders_conditions R 8 R) (cond bounded (bounds_conditions R least greatest ls 0 8) [])
-    (All-append IsPositive (literals_conditions R ls sides) (remainders_conditions R 8 R) (literals_good R ls sides) (remainders_good R 8 R some)) (by bounded))
+first_ready ls bounded sides some = let R = remainders_in ls in (
+  first_wide ls bounded sides,
+  All-append IsPositive (literals_conditions R ls sides ++ remainders_conditions R 8 R) (cond bounded (bounds_conditions R least greatest ls 0 8) [])
+      (All-append IsPositive (literals_conditions R ls sides) (remainders_conditions R 8 R) (literals_good R ls sides) (remainders_good R 8 R some)) (by bounded),
+)
   where
     by : (b : Bool) → All IsPositive (cond b (bounds_conditions (remainders_in ls) least greatest ls 0 8) [])
     by true = bounds_good (remainders_in ls) ls 0 8

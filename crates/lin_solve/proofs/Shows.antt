@@ -33,6 +33,6 @@ puts_step puts k p h =
     let many : length (map put_of puts) ≡ length puts = length-map puts put_of in
     let whole : length (puts_of puts) ≡ length puts = length-reverse (map put_of puts) ∙ many in
     let own : get_or (puts_of puts) k (put_of p) ≡ put_of (get_or puts (length puts - 1 - k) p) =
-        get_or-reverse (map put_of puts) k (put_of p) (omega arith) ∙ ap (λ n. get_or (map put_of puts) (n - 1 - k) (put_of p)) many
-        ∙ get_or-map put_of puts (length puts - 1 - k) p (put_of p) (omega arith) in
+    get_or-reverse (map put_of puts) k (put_of p) (omega arith) ∙ ap (λ n. get_or (map put_of puts) (n - 1 - k) (put_of p)) many
+    ∙ get_or-map put_of puts (length puts - 1 - k) p (put_of p) (omega arith) in
     at_drop_more (map take_put) (puts_of puts) k (put_of p) (omega arith) ∙ ap (λ x. take_put x ∷ map take_put (drop (k + 1) (puts_of puts))) own

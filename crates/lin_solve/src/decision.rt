@@ -51,10 +51,7 @@ fn decide_bounded(
 }
 
 /// Decides whether the literals hold at some values of the eight fields.
-pub fn decide(
-    alloc: Global,
-    literals: &[Lit<Compare>],
-) -> Result<Verdict<Vec<i64>, Chain>, Memory>
+pub fn decide(alloc: Global, literals: &[Lit<Compare>]) -> Result<Verdict<Vec<i64>, Chain>, Memory>
     ensures { IfOk result (Answers vec_items literals.now) }
 {
     are_over(literals);

@@ -14,8 +14,8 @@ mod system;
 mod tried;
 
 pub use chain::{Chain, Choice};
-pub use decision::decide;
 pub use compare::{Compare, Relation};
+pub use decision::decide;
 
 #[cfg(test)]
 mod tests;

@@ -52,7 +52,11 @@ fn add_places(row: &mut Vec<i128>, minus: bool, terms: &[RemTerm], known: &[Rema
     ensures small { (b : ℕ) → Within b row.old.items → Within (b + length terms.now * 2 ^ 31) row.new.items }
 {
     for term in terms {
-        add_at(row, 8 + place_of(term, known), signed(minus, term.coefficient));
+        add_at(
+            row,
+            8 + place_of(term, known),
+            signed(minus, term.coefficient),
+        );
     }
 }
 

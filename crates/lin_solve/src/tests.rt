@@ -39,8 +39,14 @@ fn linear(alloc: Global, constant: i64, terms: &[(i64, u32)]) -> Result<Form, Fo
 
 fn sum(alloc: Global, first: Form, second: Form) -> Result<Form, FormStop> {
     let mut parts = Vec::new(alloc);
-    parts.push(Signed { minus: false, form: first })?;
-    parts.push(Signed { minus: false, form: second })?;
+    parts.push(Signed {
+        minus: false,
+        form: first,
+    })?;
+    parts.push(Signed {
+        minus: false,
+        form: second,
+    })?;
     of_parts(alloc, &parts)
 }
 
@@ -51,7 +57,11 @@ fn push(
     right: Form,
     sign: bool,
 ) -> Result<(), Memory> {
-    let atom = Compare { left, relation, right };
+    let atom = Compare {
+        left,
+        relation,
+        right,
+    };
     literals.push(Lit { atom, sign })?;
     Ok(())
 }
@@ -72,7 +82,11 @@ fn told(alloc: Global, literals: &[Lit<Compare>]) -> Result<&'static str, Memory
             if chain.literals.len() != literals.len() {
                 return Ok("a chain of other literals");
             }
-            if chain.bits == 64 { Ok("far") } else { Ok("wide") }
+            if chain.bits == 64 {
+                Ok("far")
+            } else {
+                Ok("wide")
+            }
         }
     }
 }
@@ -93,7 +107,12 @@ fn pair<'a>(
     other: i64,
     others: &'a [(i64, u32)],
 ) -> Row<'a> {
-    Row { left: (constant, terms), relation, right: (other, others), sign: true }
+    Row {
+        left: (constant, terms),
+        relation,
+        right: (other, others),
+        sign: true,
+    }
 }
 
 fn told_of(alloc: Global, rows: &[Row<'_>]) -> Result<&'static str, FormStop> {
@@ -107,6 +126,7 @@ fn told_of(alloc: Global, rows: &[Row<'_>]) -> Result<&'static str, FormStop> {
 }
 
 const MOST: i64 = 9223372036854775807;
+
 const LEAST: i64 = -9223372036854775808;
 
 /// The answers were found by hand.
@@ -118,26 +138,115 @@ fn decides_linear_literals(rt: HostRuntime) -> Result<(), Fail> {
     let y: &[(i64, u32)] = &[(1, 1)];
     let cases: &[(&str, &[Row<'_>], &str)] = &[
         ("x > 2^63 - 1", &[pair(MOST, &[], Less, 0, x)], "far"),
-        ("2x = 2y + 1", &[pair(0, &[(2, 0)], Equal, 1, &[(2, 1)])], "none"),
-        ("x = 2^63 - 1, y = 2x", &[pair(0, x, Equal, MOST, &[]), pair(0, y, Equal, 0, &[(2, 0)])], "far"),
-        ("x > 2^63 - 1, x < 0", &[pair(MOST, &[], Less, 0, x), pair(0, x, Less, 0, &[])], "none"),
+        (
+            "2x = 2y + 1",
+            &[pair(0, &[(2, 0)], Equal, 1, &[(2, 1)])],
+            "none",
+        ),
+        (
+            "x = 2^63 - 1, y = 2x",
+            &[
+                pair(0, x, Equal, MOST, &[]),
+                pair(0, y, Equal, 0, &[(2, 0)]),
+            ],
+            "far",
+        ),
+        (
+            "x > 2^63 - 1, x < 0",
+            &[pair(MOST, &[], Less, 0, x), pair(0, x, Less, 0, &[])],
+            "none",
+        ),
         ("x <= -2^63", &[pair(0, x, AtMost, LEAST, &[])], "values"),
         ("x < -2^63", &[pair(0, x, Less, LEAST, &[])], "far"),
         ("x >= 2^63 - 1", &[pair(MOST, &[], AtMost, 0, x)], "values"),
-        ("y < x, x = -2^63", &[pair(0, y, Less, 0, x), pair(0, x, Equal, LEAST, &[])], "far"),
-        ("2^63 - 1 < x + y", &[pair(MOST, &[], Less, 0, &[(1, 0), (1, 1)])], "values"),
-        ("6x = 10y, 10y = 15z, x > 0", &[pair(0, &[(6, 0)], Equal, 0, &[(10, 1)]), pair(0, &[(10, 1)], Equal, 0, &[(15, 2)]), pair(0, &[], Less, 0, x)], "values"),
-        ("6x + 10y + 15z = 1", &[pair(0, &[(6, 0), (10, 1), (15, 2)], Equal, 1, &[])], "values"),
-        ("6x + 10y = 1", &[pair(0, &[(6, 0), (10, 1)], Equal, 1, &[])], "none"),
-        ("6x + 15y = 2", &[pair(0, &[(6, 0), (15, 1)], Equal, 2, &[])], "none"),
-        ("10x + 15y = 7", &[pair(0, &[(10, 0), (15, 1)], Equal, 7, &[])], "none"),
-        ("3x + 5y = 7, x >= 0, y >= 0", &[pair(0, &[(3, 0), (5, 1)], Equal, 7, &[]), pair(0, &[], AtMost, 0, x), pair(0, &[], AtMost, 0, y)], "none"),
-        ("3x + 5y = 8, x >= 0, y >= 0", &[pair(0, &[(3, 0), (5, 1)], Equal, 8, &[]), pair(0, &[], AtMost, 0, x), pair(0, &[], AtMost, 0, y)], "values"),
-        ("3 <= 2x <= 3", &[pair(3, &[], AtMost, 0, &[(2, 0)]), pair(0, &[(2, 0)], AtMost, 3, &[])], "none"),
-        ("3 <= 2x <= 4", &[pair(3, &[], AtMost, 0, &[(2, 0)]), pair(0, &[(2, 0)], AtMost, 4, &[])], "values"),
-        ("x < y, y < x + 1", &[pair(0, x, Less, 0, y), pair(0, y, Less, 1, x)], "none"),
-        ("2147483647 x = 5", &[pair(0, &[(2147483647, 0)], Equal, 5, &[])], "none"),
-        ("2147483647 x = 6442450941", &[pair(0, &[(2147483647, 0)], Equal, 6442450941, &[])], "values"),
+        (
+            "y < x, x = -2^63",
+            &[pair(0, y, Less, 0, x), pair(0, x, Equal, LEAST, &[])],
+            "far",
+        ),
+        (
+            "2^63 - 1 < x + y",
+            &[pair(MOST, &[], Less, 0, &[(1, 0), (1, 1)])],
+            "values",
+        ),
+        (
+            "6x = 10y, 10y = 15z, x > 0",
+            &[
+                pair(0, &[(6, 0)], Equal, 0, &[(10, 1)]),
+                pair(0, &[(10, 1)], Equal, 0, &[(15, 2)]),
+                pair(0, &[], Less, 0, x),
+            ],
+            "values",
+        ),
+        (
+            "6x + 10y + 15z = 1",
+            &[pair(0, &[(6, 0), (10, 1), (15, 2)], Equal, 1, &[])],
+            "values",
+        ),
+        (
+            "6x + 10y = 1",
+            &[pair(0, &[(6, 0), (10, 1)], Equal, 1, &[])],
+            "none",
+        ),
+        (
+            "6x + 15y = 2",
+            &[pair(0, &[(6, 0), (15, 1)], Equal, 2, &[])],
+            "none",
+        ),
+        (
+            "10x + 15y = 7",
+            &[pair(0, &[(10, 0), (15, 1)], Equal, 7, &[])],
+            "none",
+        ),
+        (
+            "3x + 5y = 7, x >= 0, y >= 0",
+            &[
+                pair(0, &[(3, 0), (5, 1)], Equal, 7, &[]),
+                pair(0, &[], AtMost, 0, x),
+                pair(0, &[], AtMost, 0, y),
+            ],
+            "none",
+        ),
+        (
+            "3x + 5y = 8, x >= 0, y >= 0",
+            &[
+                pair(0, &[(3, 0), (5, 1)], Equal, 8, &[]),
+                pair(0, &[], AtMost, 0, x),
+                pair(0, &[], AtMost, 0, y),
+            ],
+            "values",
+        ),
+        (
+            "3 <= 2x <= 3",
+            &[
+                pair(3, &[], AtMost, 0, &[(2, 0)]),
+                pair(0, &[(2, 0)], AtMost, 3, &[]),
+            ],
+            "none",
+        ),
+        (
+            "3 <= 2x <= 4",
+            &[
+                pair(3, &[], AtMost, 0, &[(2, 0)]),
+                pair(0, &[(2, 0)], AtMost, 4, &[]),
+            ],
+            "values",
+        ),
+        (
+            "x < y, y < x + 1",
+            &[pair(0, x, Less, 0, y), pair(0, y, Less, 1, x)],
+            "none",
+        ),
+        (
+            "2147483647 x = 5",
+            &[pair(0, &[(2147483647, 0)], Equal, 5, &[])],
+            "none",
+        ),
+        (
+            "2147483647 x = 6442450941",
+            &[pair(0, &[(2147483647, 0)], Equal, 6442450941, &[])],
+            "values",
+        ),
     ];
     for (name, rows, want) in cases {
         let Ok(found) = told_of(alloc, rows) else {
@@ -161,21 +270,51 @@ fn remainder(alloc: Global, form: Form, more: i64, divisor: u32) -> Result<Form,
     by_divisor(alloc, &sum(alloc, form, number(alloc, more)?)?, divisor)
 }
 
-fn told_of_remainders(alloc: Global, start: i64, want: i64, other: i64) -> Result<&'static str, FormStop> {
+fn told_of_remainders(
+    alloc: Global,
+    start: i64,
+    want: i64,
+    other: i64,
+) -> Result<&'static str, FormStop> {
     let mut literals = Vec::new(alloc);
     let x = field(alloc, 0)?;
     let nested = remainder(alloc, remainder(alloc, x, 5, 26)?, 0, 2)?;
-    push(&mut literals, nested, Relation::Equal, number(alloc, want)?, true)?;
+    push(
+        &mut literals,
+        nested,
+        Relation::Equal,
+        number(alloc, want)?,
+        true,
+    )?;
     let single = remainder(alloc, field(alloc, 0)?, 0, 26)?;
-    push(&mut literals, single, Relation::Equal, number(alloc, other)?, true)?;
-    push(&mut literals, number(alloc, start)?, Relation::Less, field(alloc, 0)?, true)?;
+    push(
+        &mut literals,
+        single,
+        Relation::Equal,
+        number(alloc, other)?,
+        true,
+    )?;
+    push(
+        &mut literals,
+        number(alloc, start)?,
+        Relation::Less,
+        field(alloc, 0)?,
+        true,
+    )?;
     Ok(told(alloc, &literals)?)
 }
 
 /// `((x + 5) % 26) % 2` is 1 exactly where x is even.
 #[test]
 fn decides_nested_remainders(rt: HostRuntime) -> Result<(), Fail> {
-    for (want, other, is) in [(1, 12, "values"), (1, 13, "none"), (0, 13, "values"), (0, 12, "none"), (2, 0, "none"), (1, 26, "none")] {
+    for (want, other, is) in [
+        (1, 12, "values"),
+        (1, 13, "none"),
+        (0, 13, "values"),
+        (0, 12, "none"),
+        (2, 0, "none"),
+        (1, 26, "none"),
+    ] {
         let Ok(found) = told_of_remainders(rt.alloc(), 1000, want, other) else {
             panic!(rt; "no form");
         };
@@ -190,15 +329,33 @@ fn told_of_deep(alloc: Global, want: i64) -> Result<&'static str, FormStop> {
     for _ in 0..3 {
         form = remainder(alloc, form, 1, 4096)?;
     }
-    push(&mut literals, form, Relation::Equal, number(alloc, want)?, true)?;
-    push(&mut literals, number(alloc, 1000000)?, Relation::Less, field(alloc, 0)?, true)?;
+    push(
+        &mut literals,
+        form,
+        Relation::Equal,
+        number(alloc, want)?,
+        true,
+    )?;
+    push(
+        &mut literals,
+        number(alloc, 1000000)?,
+        Relation::Less,
+        field(alloc, 0)?,
+        true,
+    )?;
     Ok(told(alloc, &literals)?)
 }
 
 /// Three nested remainders by 4096 of x and 3 in all.
 #[test]
 fn decides_deep_remainders(rt: HostRuntime) -> Result<(), Fail> {
-    for (want, is) in [(0, "values"), (5, "values"), (4095, "values"), (4096, "none"), (-1, "none")] {
+    for (want, is) in [
+        (0, "values"),
+        (5, "values"),
+        (4095, "values"),
+        (4096, "none"),
+        (-1, "none"),
+    ] {
         let Ok(found) = told_of_deep(rt.alloc(), want) else {
             panic!(rt; "no form");
         };
@@ -210,10 +367,28 @@ fn decides_deep_remainders(rt: HostRuntime) -> Result<(), Fail> {
 fn told_of_apart(alloc: Global, most: i64) -> Result<&'static str, FormStop> {
     let mut literals = Vec::new(alloc);
     for n in 0..8i64 {
-        push(&mut literals, field(alloc, 3)?, Relation::Equal, number(alloc, n)?, false)?;
+        push(
+            &mut literals,
+            field(alloc, 3)?,
+            Relation::Equal,
+            number(alloc, n)?,
+            false,
+        )?;
     }
-    push(&mut literals, number(alloc, 0)?, Relation::AtMost, field(alloc, 3)?, true)?;
-    push(&mut literals, field(alloc, 3)?, Relation::AtMost, number(alloc, most)?, true)?;
+    push(
+        &mut literals,
+        number(alloc, 0)?,
+        Relation::AtMost,
+        field(alloc, 3)?,
+        true,
+    )?;
+    push(
+        &mut literals,
+        field(alloc, 3)?,
+        Relation::AtMost,
+        number(alloc, most)?,
+        true,
+    )?;
     Ok(told(alloc, &literals)?)
 }
 
@@ -233,9 +408,21 @@ fn told_of_eight(alloc: Global, least: i64) -> Result<&'static str, FormStop> {
     let mut whole = number(alloc, 0)?;
     for n in 0..8u32 {
         whole = sum(alloc, whole, field(alloc, n)?)?;
-        push(&mut literals, number(alloc, least)?, Relation::AtMost, field(alloc, n)?, true)?;
+        push(
+            &mut literals,
+            number(alloc, least)?,
+            Relation::AtMost,
+            field(alloc, n)?,
+            true,
+        )?;
     }
-    push(&mut literals, whole, Relation::Equal, number(alloc, 100)?, true)?;
+    push(
+        &mut literals,
+        whole,
+        Relation::Equal,
+        number(alloc, 100)?,
+        true,
+    )?;
     Ok(told(alloc, &literals)?)
 }
 
@@ -252,7 +439,11 @@ fn decides_over_eight_fields(rt: HostRuntime) -> Result<(), Fail> {
 }
 
 /// `c + a x + b y + d z + r ((x + e y) % k)`, by relation 0, 1 or 2 to 0, or not.
-fn push_drawn(alloc: Global, row: &[i64; 9], literals: &mut Vec<Lit<Compare>>) -> Result<(), FormStop> {
+fn push_drawn(
+    alloc: Global,
+    row: &[i64; 9],
+    literals: &mut Vec<Lit<Compare>>,
+) -> Result<(), FormStop> {
     let plain = linear(alloc, row[2], &[(row[3], 0), (row[4], 1), (row[5], 2)])?;
     let inner = linear(alloc, 0, &[(1, 0), (row[7], 1)])?;
     let term = by_divisor(alloc, &inner, row[8] as u32)?.scaled(alloc, row[6] as i128)?;
@@ -261,7 +452,13 @@ fn push_drawn(alloc: Global, row: &[i64; 9], literals: &mut Vec<Lit<Compare>>) -
         1 => Relation::AtMost,
         _ => Relation::Equal,
     };
-    push(literals, sum(alloc, plain, term)?, relation, number(alloc, 0)?, row[1] == 1)?;
+    push(
+        literals,
+        sum(alloc, plain, term)?,
+        relation,
+        number(alloc, 0)?,
+        row[1] == 1,
+    )?;
     Ok(())
 }
 
@@ -271,8 +468,20 @@ fn told_of_drawn(alloc: Global, rows: &[[i64; 9]]) -> Result<&'static str, FormS
         push_drawn(alloc, row, &mut literals)?;
     }
     for n in 0..3u32 {
-        push(&mut literals, number(alloc, -2)?, Relation::AtMost, field(alloc, n)?, true)?;
-        push(&mut literals, field(alloc, n)?, Relation::AtMost, number(alloc, 2)?, true)?;
+        push(
+            &mut literals,
+            number(alloc, -2)?,
+            Relation::AtMost,
+            field(alloc, n)?,
+            true,
+        )?;
+        push(
+            &mut literals,
+            field(alloc, n)?,
+            Relation::AtMost,
+            number(alloc, 2)?,
+            true,
+        )?;
     }
     Ok(told(alloc, &literals)?)
 }
@@ -281,30 +490,139 @@ fn told_of_drawn(alloc: Global, rows: &[[i64; 9]]) -> Result<&'static str, FormS
 #[test]
 fn decides_drawn_literals(rt: HostRuntime) -> Result<(), Fail> {
     let cases: &[(bool, &[[i64; 9]])] = &[
-        (true, &[[0, 0, 3, -3, 0, 0, -2, 0, 2], [0, 1, -2, -3, -2, 0, 1, 0, 2]]),
-        (false, &[[0, 1, 1, -3, 2, 0, 0, -1, 2], [1, 1, 5, 1, -2, 0, -2, -1, 2]]),
-        (true, &[[1, 0, 3, 3, -1, 0, 1, -1, 3], [2, 0, 3, -3, 2, 0, 1, -1, 3], [1, 0, 4, 1, -1, 0, 1, -1, 3]]),
+        (
+            true,
+            &[
+                [0, 0, 3, -3, 0, 0, -2, 0, 2],
+                [0, 1, -2, -3, -2, 0, 1, 0, 2],
+            ],
+        ),
+        (
+            false,
+            &[
+                [0, 1, 1, -3, 2, 0, 0, -1, 2],
+                [1, 1, 5, 1, -2, 0, -2, -1, 2],
+            ],
+        ),
+        (
+            true,
+            &[
+                [1, 0, 3, 3, -1, 0, 1, -1, 3],
+                [2, 0, 3, -3, 2, 0, 1, -1, 3],
+                [1, 0, 4, 1, -1, 0, 1, -1, 3],
+            ],
+        ),
         (true, &[[0, 1, -2, 0, 2, 0, 1, 1, 2]]),
-        (true, &[[2, 1, -1, -2, -1, 0, -2, 1, 3], [1, 0, 4, -1, 2, 0, 1, 1, 3]]),
-        (true, &[[0, 0, 3, 0, -1, 0, 1, 0, 3], [1, 1, 1, -3, -2, 0, -2, 0, 3]]),
-        (false, &[[2, 1, 2, 1, 1, 0, 0, 0, 3], [0, 1, 2, 2, -2, 0, 0, 0, 3], [2, 1, 4, 2, 1, 0, 1, 0, 3]]),
-        (true, &[[2, 0, 2, -1, -1, 0, -2, 1, 3], [0, 1, -5, -2, 0, 0, 0, 1, 3], [1, 1, 1, 3, 1, 0, 0, 1, 3]]),
+        (
+            true,
+            &[
+                [2, 1, -1, -2, -1, 0, -2, 1, 3],
+                [1, 0, 4, -1, 2, 0, 1, 1, 3],
+            ],
+        ),
+        (
+            true,
+            &[[0, 0, 3, 0, -1, 0, 1, 0, 3], [1, 1, 1, -3, -2, 0, -2, 0, 3]],
+        ),
+        (
+            false,
+            &[
+                [2, 1, 2, 1, 1, 0, 0, 0, 3],
+                [0, 1, 2, 2, -2, 0, 0, 0, 3],
+                [2, 1, 4, 2, 1, 0, 1, 0, 3],
+            ],
+        ),
+        (
+            true,
+            &[
+                [2, 0, 2, -1, -1, 0, -2, 1, 3],
+                [0, 1, -5, -2, 0, 0, 0, 1, 3],
+                [1, 1, 1, 3, 1, 0, 0, 1, 3],
+            ],
+        ),
         (true, &[[2, 0, 1, 3, 2, 0, 1, 0, 3]]),
-        (true, &[[2, 0, -3, -3, -1, 0, 0, 0, 3], [1, 1, -2, -3, 1, 0, -2, 0, 3], [1, 1, -1, -3, -1, 0, 1, 0, 3]]),
-        (true, &[[2, 0, 3, 1, -2, 0, 1, 1, 3], [2, 1, 1, 0, -2, 0, 1, 1, 3], [2, 0, -2, -3, -1, 0, 1, 1, 3]]),
+        (
+            true,
+            &[
+                [2, 0, -3, -3, -1, 0, 0, 0, 3],
+                [1, 1, -2, -3, 1, 0, -2, 0, 3],
+                [1, 1, -1, -3, -1, 0, 1, 0, 3],
+            ],
+        ),
+        (
+            true,
+            &[
+                [2, 0, 3, 1, -2, 0, 1, 1, 3],
+                [2, 1, 1, 0, -2, 0, 1, 1, 3],
+                [2, 0, -2, -3, -1, 0, 1, 1, 3],
+            ],
+        ),
         (false, &[[0, 0, -5, 1, -1, 0, -2, 0, 2]]),
         (true, &[[0, 0, -2, 1, 1, 0, 0, 1, 3]]),
-        (false, &[[2, 1, -4, -3, 1, 0, 1, 0, 3], [2, 1, -1, -3, -1, 0, 0, 0, 3], [2, 1, -1, 0, -1, 0, -2, 0, 3]]),
+        (
+            false,
+            &[
+                [2, 1, -4, -3, 1, 0, 1, 0, 3],
+                [2, 1, -1, -3, -1, 0, 0, 0, 3],
+                [2, 1, -1, 0, -1, 0, -2, 0, 3],
+            ],
+        ),
         (true, &[[2, 0, 3, -3, 2, 0, 1, 1, 2]]),
-        (false, &[[2, 1, 0, -2, 0, 0, 0, 1, 2], [2, 1, -2, 1, -1, 0, 0, 1, 2], [2, 1, -2, -2, 2, 0, 1, 1, 2]]),
-        (false, &[[2, 1, -1, -2, 2, 0, 1, -1, 2], [2, 1, 0, -1, -2, 0, 0, -1, 2]]),
+        (
+            false,
+            &[
+                [2, 1, 0, -2, 0, 0, 0, 1, 2],
+                [2, 1, -2, 1, -1, 0, 0, 1, 2],
+                [2, 1, -2, -2, 2, 0, 1, 1, 2],
+            ],
+        ),
+        (
+            false,
+            &[
+                [2, 1, -1, -2, 2, 0, 1, -1, 2],
+                [2, 1, 0, -1, -2, 0, 0, -1, 2],
+            ],
+        ),
         (true, &[[1, 1, -2, 0, 2, 0, -2, 0, 2]]),
-        (false, &[[1, 1, 5, -1, -2, 0, -2, 0, 2], [2, 1, 1, 2, -2, 0, -2, 0, 2], [1, 0, -3, -3, -1, 0, -2, 0, 2]]),
-        (false, &[[2, 1, 0, -2, 2, 0, -2, 1, 2], [1, 0, -5, 3, -2, 0, -2, 1, 2]]),
-        (false, &[[1, 0, -5, -1, -1, 0, 1, 0, 2], [1, 1, 0, -1, 2, 0, 1, 0, 2], [1, 0, 0, 0, 2, 0, -2, 0, 2]]),
-        (false, &[[1, 1, 3, -3, 1, 0, 0, 1, 2], [0, 0, -3, -2, 1, 0, -2, 1, 2]]),
-        (false, &[[2, 1, -2, 2, 2, 0, 1, 0, 3], [1, 1, -3, 0, -2, 0, 1, 0, 3], [2, 1, -4, 2, -1, 0, 1, 0, 3]]),
-        (false, &[[2, 0, 0, -3, 0, 0, -2, 0, 2], [2, 1, -5, 0, 0, 0, -2, 0, 2]]),
+        (
+            false,
+            &[
+                [1, 1, 5, -1, -2, 0, -2, 0, 2],
+                [2, 1, 1, 2, -2, 0, -2, 0, 2],
+                [1, 0, -3, -3, -1, 0, -2, 0, 2],
+            ],
+        ),
+        (
+            false,
+            &[
+                [2, 1, 0, -2, 2, 0, -2, 1, 2],
+                [1, 0, -5, 3, -2, 0, -2, 1, 2],
+            ],
+        ),
+        (
+            false,
+            &[
+                [1, 0, -5, -1, -1, 0, 1, 0, 2],
+                [1, 1, 0, -1, 2, 0, 1, 0, 2],
+                [1, 0, 0, 0, 2, 0, -2, 0, 2],
+            ],
+        ),
+        (
+            false,
+            &[[1, 1, 3, -3, 1, 0, 0, 1, 2], [0, 0, -3, -2, 1, 0, -2, 1, 2]],
+        ),
+        (
+            false,
+            &[
+                [2, 1, -2, 2, 2, 0, 1, 0, 3],
+                [1, 1, -3, 0, -2, 0, 1, 0, 3],
+                [2, 1, -4, 2, -1, 0, 1, 0, 3],
+            ],
+        ),
+        (
+            false,
+            &[[2, 0, 0, -3, 0, 0, -2, 0, 2], [2, 1, -5, 0, 0, 0, -2, 0, 2]],
+        ),
     ];
     for (is_solvable, rows) in cases {
         let want = if *is_solvable { "values" } else { "none" };

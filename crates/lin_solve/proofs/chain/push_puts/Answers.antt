@@ -12,5 +12,5 @@ loop-i-preserved c =
     let puts = c.args.puts.now in
     let lt = c.loop-i-test.true in
     went_on (map plain_choice c.args.out.now.items ++ map take_put (puts_of puts)) (map plain_choice c.loop-i.out.items) (take_put (put_of (get_or puts (length puts - 1 - c.loop-i.i) _)) ∷ []) (map take_put (drop (c.loop-i.i + 1) (puts_of puts))) (map plain_choice c.push.new.self.items)
-      (sym (ap (λ l. map plain_choice c.loop-i.out.items ++ l) (puts_step puts c.loop-i.i _ lt)) ∙ c.loop-i.invariant)
-      (ap (map plain_choice) push ∙ map-append plain_choice c.loop-i.out.items _)
+    (sym (ap (λ l. map plain_choice c.loop-i.out.items ++ l) (puts_step puts c.loop-i.i _ lt)) ∙ c.loop-i.invariant)
+    (ap (map plain_choice) push ∙ map-append plain_choice c.loop-i.out.items _)

@@ -44,4 +44,4 @@ returns-in-Unsat c =
     let m = c.in_ok-chain_of-in-Unsat.ensures {u = tt} in
     let far = c.args.far.now in
     far_for c.args.literals.now c.in_ok-chain_of-in-Unsat.field-0 far.sides.items (puts_of far.puts.items) m.0 m.1 m.2 m.3 (c.requires.sides ∙ c.requires.count) c.requires.far
-      (λ us l kept holds. unsat_for ls true us c.requires.over h.1 none l (λ f. kept_at us l kept) holds)
+    (λ us l kept holds. unsat_for ls true us c.requires.over h.1 none l (λ f. kept_at us l kept) holds)

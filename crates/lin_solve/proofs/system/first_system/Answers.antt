@@ -14,8 +14,7 @@ returns c =
     let e = ap plain_known c.deref.ensures.value ∙ known in
     let e2 = ap plain_known c.deref-2.ensures.value ∙ known in
     let e3 = ap plain_known c.deref-3.ensures.value ∙ known in
-    let count = c.len-count.ensures in
-    (
+    let count = c.len-count.ensures in (
       system_pushed ls c.args.sides.now c.args.bounded _ _ _ _ _ _ _ e e2 e3 c.new-out.ensures.items (c.in_ok-push_literals.ensures {u = tt}) (c.in_ok-push_remainders.ensures {u = tt}) (c.in_ok-push_bounds.ensures {u = tt}),
       omega (arith, count, known_length K, ap length known),
       positives K (remainders_in ls) known (c.in_ok-known.ensures {u = tt}).1,

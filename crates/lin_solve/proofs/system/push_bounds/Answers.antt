@@ -15,4 +15,4 @@ loop-field-preserved c =
     let rest = bounds_conditions R least greatest ls (n + 1) (8 - (n + 1)) in
     let step = bounds_step R least greatest ls n (omega arith) in
     carried (c.args.out.now.items ++ bounds_conditions R least greatest ls 0 8) c.loop-field.out.items own rest c.push_bound.new.out.items
-      (sym (ap (λ l. c.loop-field.out.items ++ l) step) ∙ c.loop-field.invariant) (c.in_ok-push_bound.ensures {u = tt})
+    (sym (ap (λ l. c.loop-field.out.items ++ l) step) ∙ c.loop-field.invariant) (c.in_ok-push_bound.ensures {u = tt})

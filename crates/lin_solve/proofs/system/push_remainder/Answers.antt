@@ -25,6 +25,6 @@ returns c =
     let fd = fits_signed_from_abs w128 (to_z w128 r.divisor -ℤ pos 1) (omega (arith, ints)) in
     let row = c.add_at.ensures.row ∙ ap (add_at n (negsuc 0)) (c.add_form.ensures.row ∙ ap (add_terms R (pos 1) r.inner) (c.in_ok-coefficients.ensures {u = tt}).0) in
     three_pushed R n (plain_remainder r) c.args.out.now.items _ _ _ _ _ _
-      ((c.in_ok-push.ensures {u = tt}).items) ((c.in_ok-push-2.ensures {u = tt}).items) ((c.in_ok-push-3.ensures {u = tt}).items)
-      (c.in_ok-one_at.ensures {u = tt}) (c.in_ok-one_at-2.ensures {u = tt} ∙ least_is _ _ _ (to_z-of_z w128 (to_z w128 r.divisor -ℤ pos 1) fd ∙ ap (λ z. z -ℤ pos 1) back))
-      (divided_is R r.divisor _ n r.inner _ _ (ap unsigned_abs back) (to_z-of_z w128 c.constant.result fc ∙ c.constant.ensures.value) row)
+    ((c.in_ok-push.ensures {u = tt}).items) ((c.in_ok-push-2.ensures {u = tt}).items) ((c.in_ok-push-3.ensures {u = tt}).items)
+    (c.in_ok-one_at.ensures {u = tt}) (c.in_ok-one_at-2.ensures {u = tt} ∙ least_is _ _ _ (to_z-of_z w128 (to_z w128 r.divisor -ℤ pos 1) fd ∙ ap (λ z. z -ℤ pos 1) back))
+    (divided_is R r.divisor _ n r.inner _ _ (ap unsigned_abs back) (to_z-of_z w128 c.constant.result fc ∙ c.constant.ensures.value) row)

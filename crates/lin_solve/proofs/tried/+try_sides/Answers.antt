@@ -16,4 +16,4 @@ returns t c =
     let h = c.in_ok-values.ensures {u = tt} in
     let none = subst (TellsSides ls b c.deref.result.now (n - 1)) c.in-Unsat.is h.0 in
     IfOk-weaker c.try_sides-2.result (λ f. TellsSides ls b c.deref-2.result.now (n - 1) f × AreDivisorsPositive ls) (λ f. TellsSides ls b ss n f × AreDivisorsPositive ls)
-      (λ f k. (second ls b ss c.deref.result.now c.deref-2.result.now (n - 1) n (c.deref.ensures.value ∙ c.in_ok-one.ensures {u = tt}) (c.deref-2.ensures.value ∙ c.in_ok-other.ensures {u = tt}) (omega arith) none f k.0, k.1)) c.try_sides-2.ensures
+    (λ f k. (second ls b ss c.deref.result.now c.deref-2.result.now (n - 1) n (c.deref.ensures.value ∙ c.in_ok-one.ensures {u = tt}) (c.deref-2.ensures.value ∙ c.in_ok-other.ensures {u = tt}) (omega arith) none f k.0, k.1)) c.try_sides-2.ensures
