@@ -1,11 +1,12 @@
 -- Characters and escapes at the front of the inside of a quoted text.
-use Rattle.std.proofs.Common.{◌≡◌, ℕ, ◌≤◌, ◌<◌, true, List, [], ◌∷◌, ◌++◌, length, refl, sym, ap, ◌∙◌, subst, append_assoc, arith, inl, inr, ◌⊎◌, Option, Some, None, Bor}
+use Rattle.std.proofs.Common.{◌≡◌, ℕ, ◌≤◌, ◌<◌, true, List, [], ◌∷◌, ◌++◌, length, refl, sym, ap, ◌∙◌, subst, append_assoc, arith, inl, inr, ◌⊎◌, Option, Some, None, Bor, is_some, false}
 use Rattle.std.specs.Prelude.{encode_utf8_all, MatchOption}
 use Rattle.std.specs.Str.{chars}
 use Rattle.std.specs.Char.{IsScalar}
 use Rattle.std.proofs.lemmas.List.{append-nil, length-append}
 use Rattle.std.proofs.lemmas.Str.{length-le-encodes}
 use Rattle.std.proofs.lemmas.Bool.Decides.{nat_tests}
+use Rattle.model_program.specs.declared.Word.{Word}
 use Rattle.model_program.specs.declared.Word.TheVariants.{Quoted}
 use Rattle.model_program.specs.Characters.{is_hexadecimal, in_quotes}
 use Rattle.model_program.specs.Pieces.{Text}
@@ -13,7 +14,7 @@ use Rattle.model_program.specs.Quotes.{IsBraced, IsUnit, plain, short, long, Are
 use Rattle.model_program.proofs.Runs.{same_run}
 use Rattle.model_program.proofs.QuoteLaws.{not_plain, braces_open, units_front, same_quoted}
 use Rattle.fast_lex.specs.Runs.{IsBehind, IsRun, IsNext, HasNone}
-use Rattle.fast_lex.specs.Units.{IsNextBraced, HasNoBraced, IsNextUnit, HasNoUnit, IsNextEnd, HasNoEnd}
+use Rattle.fast_lex.specs.Units.{IsNextBraced, HasNoBraced, IsNextUnit, HasNoUnit, IsNextEnd, HasNoEnd, IsQuotedText}
 use Rattle.fast_lex.proofs.RunLemmas.{behind_both, behind_none}
 
 -- what a number in braces at the front of a text has to be
@@ -203,3 +204,16 @@ quoted_next text inside rest c first quote end =
       longest = λ other more same is2. let e = same_quoted (c ∷ (end.inside ++ 34 ∷ [])) other (chars rest) more end.values is2.0 is is2.1 same in omega arith;
       named = refl;
     }
+
+-- a quoted text behind which more follows isn't the whole text
+pub quoted_no_more : (text rest after : List ℕ) (word : Option Word) (c : ℕ) → IsNext Text word text rest → chars rest ≡ c ∷ after → IsQuotedText (chars text) → ⊥
+quoted_no_more text rest after word c next more quoted =
+    let e = next.longest (chars text) [] (sym next.behind.characters ∙ sym (append-nil (chars text))) (quoted.values, quoted.is) in
+    let f = ap (λ (l : List ℕ). length l) next.behind.characters in
+    let g = length-append next.front (chars rest) in
+    let h = ap (λ (l : List ℕ). length l) more in
+    omega (arith, e, f, g, h)
+
+pub quoted_goes_on : {T : Type 0} (text rest : List ℕ) (word : Option Word) (first : T → ℕ) (after : T → List ℕ) (next : Option T) → IsNext Text word text rest → MatchOption next (chars rest ≡ []) (λ x. chars rest ≡ first x ∷ after x) → is_some next ≡ true → IsQuotedText (chars text) → ⊥
+quoted_goes_on text rest word first after None found is some quoted = let e : false ≡ true = some in cc
+quoted_goes_on text rest word first after (Some x) found is some quoted = quoted_no_more text rest (after x) word (first x) found is quoted

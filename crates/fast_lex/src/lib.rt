@@ -28,7 +28,7 @@ use piece::piece;
 pub use place::place_behind;
 use scan::{front, next_char};
 use std::alloc::Global;
-pub use values::{number_value, quoted_value};
+pub use values::{is_quoted, number_value, quoted_value};
 
 /// A token: which word it is, its text, and the byte and the place at which it starts.
 #[derive(Clone, Copy)]

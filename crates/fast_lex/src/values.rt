@@ -1,12 +1,12 @@
 //! What numbers and quoted texts stand for.
 
-ghost use Rattle.std.specs.Prelude.{◌≡◌, ◌<◌, ◌≤◌, ◌^◌, length, IfOk};
+ghost use Rattle.std.specs.Prelude.{◌≡◌, ◌<◌, ◌≤◌, ◌^◌, true, false, length, IfOk};
 ghost use Rattle.std.specs.Str.{chars};
 ghost use Rattle.model_program.specs.Characters.{AllIn, is_digit};
 ghost use Rattle.model_program.specs.Quotes.{number_value, quoted_value};
 ghost use Rattle.fast_lex.specs.Units.{IsQuotedText, IsInsideOf};
 
-use crate::quoted::unit;
+use crate::quoted::{quoted, unit};
 use crate::scan::next_char;
 use fast_fault::{Memory, Text};
 use std::alloc::Global;
@@ -25,6 +25,17 @@ pub fn number_value(digits: &str) -> u128
         rest = after;
     }
     value
+}
+
+/// Whether the text is one quoted text, from its first character to its last.
+pub fn is_quoted(text: &str) -> bool
+    ensures yes { result ≡ true → IsQuotedText (chars text.now) }
+    ensures no { result ≡ false → IsQuotedText (chars text.now) → ⊥ }
+{
+    match quoted(text) {
+        Some(found) => next_char(found.rest).is_none(),
+        None => false,
+    }
 }
 
 /// The characters that the text of a STRING token stands for.

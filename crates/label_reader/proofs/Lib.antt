@@ -1,0 +1,11 @@
+pub mod Exits
+pub mod Wholes
+pub mod Names
+pub mod Digits
+pub mod Joins
+pub mod Closings
+pub mod LevelForms
+pub mod Gathered
+pub mod Primaries
+pub mod Insides
+pub mod Further

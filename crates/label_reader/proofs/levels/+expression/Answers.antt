@@ -1,0 +1,223 @@
+use Rattle.std.proofs.Common.{sym, ap, ◌∙◌, arith, refl, inr}
+use Rattle.model_program.specs.declared.Word.TheVariants.{Not, Minus, Percent, RoundOpen, RoundClose}
+use Rattle.model_program.proofs.Forms.{as_read, as_fails, then_read, then_fails, first_fails, ends_closed, closed_read, closed_fails, sample_pair, read_at}
+use Rattle.model_program.proofs.Words.{word_read, next_of, sample_sign}
+use Rattle.model_grammar.specs.declared.Level.TheVariants.{Unary, Prim}
+use Rattle.model_grammar.specs.Syntax.{negation, compare, minus, number, chain}
+use Rattle.fast_lex.specs.Tokens.{lexeme}
+use Rattle.fast_syntax.specs.Plain.{plain_expr}
+use Rattle.label_reader.specs.Levels.{GoesOn, BeginsAt}
+use Rattle.label_reader.specs.Operands.{marked, parts_from}
+use Rattle.label_reader.proofs.Digits.{negated_number_is}
+use Rattle.label_reader.proofs.Exits.{exit, reads_as, reads_wider, shorter, not_longer, taken}
+use Rattle.label_reader.proofs.Joins.{chained_read, chained_fails, chained_first_fails, without_read, without_fails}
+use Rattle.label_reader.proofs.LevelForms.{level_begins, sample_prim, wider_read, wider_fails, first_operand_fails, one_operand, chain_fails, negated_makes, not_negated_makes, cmp_in_neg, left_fails, left_alone, right_fails, both_read, rel_read}
+use Rattle.label_reader.proofs.Gathered.{chaining_starts, chaining_more, chaining_ends, operand_fails, operand_read}
+use Rattle.label_reader.proofs.Primaries.{minus_makes, no_minus_makes, negated_number, negated_other, sample_without, closed_by, open_makes}
+use Rattle.label_reader.proofs.Insides.{further_fails, two_makes, many_makes, many_read, sample_behind_first, percent_makes, percent_is, rel_makes, nested_makes, ends_e, minus_whole_fails, minus_further_fails, minus_further_read, minus_close_fails, minus_close_read}
+use Rattle.label_reader.proofs.Further.{further_begins, further_goes_on, further_next_fails, further_end_fails, further_ends}
+use Rattle.label_reader.proofs.levels.+expression.Goals as goal
+
+-- Chains.
+
+pub read_chain-returns-in_err-first : goal.read_chain-returns-in_err-first
+read_chain-returns-in_err-first t c = exit _ _ _ c.from_residual.result c.from_residual.ensures.1 (first_operand_fails _ _ _ (operand_fails _ _ _ _ c.operand.ensures c.in_err-first.ensures))
+
+pub read_chain-returns-in_default : goal.read_chain-returns-in_default
+read_chain-returns-in_default t c = one_operand _ _ _ _ (operand_read _ _ c.operand.ensures c.in_ok-first.ensures) c.in_default.ensures
+
+pub read_chain-parts-init : goal.read_chain-parts-init
+read_chain-parts-init t c = let e = c.in-Some.ensures in (
+  chaining_starts _ _ _ _ _ _ _ _ _ c.new.ensures.kind c.new.ensures.none c.in_ok-parts.ensures.more (operand_read _ _ c.operand.ensures c.in_ok-first.ensures) e.0,
+  c.in_ok-parts.ensures.kind ∙ c.new.ensures.kind,
+)
+
+pub read_chain-returns-in_err-part : goal.read_chain-returns-in_err-part
+read_chain-returns-in_err-part t c = let e = c.in-Some-sign_at.ensures in
+    exit _ _ _ c.from_residual-in_err-part.result c.from_residual-in_err-part.ensures.1 (chain_fails _ _ _ _ _ _ _ c.parts.invariant.0.part_way e.0 e.1 (operand_fails _ _ _ _ c.operand-in-Some-sign_at.ensures c.in_err-part.ensures))
+
+pub read_chain-parts-preserved : goal.read_chain-parts-preserved
+read_chain-parts-preserved t c = let e = c.in-Some-sign_at.ensures in (
+  chaining_more _ _ _ _ _ _ _ _ _ _ c.parts.invariant.0 e.0 e.1 (operand_read _ _ c.operand-in-Some-sign_at.ensures c.in_ok-part.ensures) _ c.parts.invariant.1 _ c.is_marking.ensures c.in_ok-parts-2.ensures.more,
+  c.in_ok-parts-2.ensures.kind ∙ c.parts.invariant.1,
+)
+
+pub read_chain-returns : goal.read_chain-returns
+read_chain-returns t c =
+    let place = c.in-Some.sign.place in
+    chaining_ends _ _ _ _ _ _ c.parts.invariant.0 c.in-Some.ensures.1 c.in_default-sign_at.ensures (c.into_node-node.ensures place ∙ ap (λ k. chain k place (parts_from (marked c.parts.parts))) c.parts.invariant.1)
+
+-- Negations.
+
+pub read_negation-returns-in_default : goal.read_negation-returns-in_default
+read_negation-returns-in_default t c = reads_as _ _ _ (not_negated_makes _ c.in_default.ensures) (reads_wider _ _ _ _ _ _ cmp_in_neg c.read_level.ensures)
+
+pub read_negation-returns-in_err-inside : goal.read_negation-returns-in_err-inside
+read_negation-returns-in_err-inside t c = let e = c.in-Some.ensures in
+    exit _ _ _ c.from_residual.result c.from_residual.ensures.1 (as_fails _ (negated_makes _ (next_of Not _ _ _ e.0 e.1)) (then_fails _ (ends_closed _ _) (word_read Not _ _ _ e.0 e.1) (wider_fails _ cmp_in_neg c.in_err-inside.ensures)))
+
+pub read_negation-returns : goal.read_negation-returns
+read_negation-returns t c = let e = c.in-Some.ensures in
+    read_at (ap (λ x. negation c.in-Some.sign.place (plain_expr x)) (sym c.in_ok-new.ensures.ok)) (as_read (negated_makes _ (next_of Not _ _ _ e.0 e.1)) (then_read (ends_closed _ _) (word_read Not _ _ _ e.0 e.1) (wider_read cmp_in_neg c.in_ok-inside.ensures)))
+
+-- Comparisons.
+
+pub read_comparison-returns-in_err-left : goal.read_comparison-returns-in_err-left
+read_comparison-returns-in_err-left t c = exit _ _ _ c.from_residual.result c.from_residual.ensures.1 (left_fails _ _ c.in_err-left.ensures)
+
+pub read_comparison-returns-in_default : goal.read_comparison-returns-in_default
+read_comparison-returns-in_default t c = left_alone _ _ _ c.in_ok-left.ensures c.in_default.ensures
+
+pub read_comparison-returns-in_err-right : goal.read_comparison-returns-in_err-right
+read_comparison-returns-in_err-right t c = let e = c.in-Some.ensures in
+    exit _ _ _ c.from_residual-in_err-right.result c.from_residual-in_err-right.ensures.1 (right_fails _ _ _ _ _ _ _ c.in_ok-left.ensures e.0 e.1 c.in_err-right.ensures)
+
+pub read_comparison-returns : goal.read_comparison-returns
+read_comparison-returns t c = let e = c.in-Some.ensures in
+    let a = c.in_ok-new.ensures.ok in let b = c.in_ok-new-2.ensures.ok in
+    read_at (λ i. compare c.in-Some.sign.place c.in-Some.rel (plain_expr (sym a i)) (plain_expr (sym b i))) (both_read _ _ _ _ _ _ _ _ c.in_ok-left.ensures e.0 e.1 c.in_ok-right.ensures)
+
+-- Minus.
+
+pub read_unary-returns-in_default : goal.read_unary-returns-in_default
+read_unary-returns-in_default t c = reads_as _ _ _ (no_minus_makes _ c.in_default.ensures) (reads_wider _ _ _ _ _ _ (closed_by (GoesOn Unary)) c.read_primary.ensures)
+
+pub read_unary-returns-in_err-_digits : goal.read_unary-returns-in_err-_digits
+read_unary-returns-in_err-_digits t c = let e = c.in-Some.ensures in
+    exit _ _ _ c.from_residual.result c.from_residual.ensures.1 (as_fails _ (minus_makes _ (next_of Minus _ _ _ e.0 e.1)) (then_fails _ (ends_closed _ _) (word_read Minus _ _ _ e.0 e.1) (as_fails _ (negated_number _ _ (c.is_next.ensures.yes c.if-is_next.true)) (closed_fails _ c.in_err-_digits.ensures.read))))
+
+pub read_unary-returns-then-is_next : goal.read_unary-returns-then-is_next
+read_unary-returns-then-is_next t c = let e = c.in-Some.ensures in let v = c.in_ok-_digits.ensures.value in
+    read_at (ap (λ n. number c.in-Some.sign.place n) (sym (negated_number_is _ _ v.0 v.1)))
+    (as_read (minus_makes _ (next_of Minus _ _ _ e.0 e.1)) (then_read (ends_closed _ _) (word_read Minus _ _ _ e.0 e.1) (as_read (negated_number _ _ (c.is_next.ensures.yes c.if-is_next.true)) (closed_read c.in_ok-_digits.ensures.read))))
+
+pub read_unary-returns-in_err-inside : goal.read_unary-returns-in_err-inside
+read_unary-returns-in_err-inside t c = let e = c.in-Some.ensures in let other = c.is_next.ensures.no c.if-is_next.false in
+    exit _ _ _ c.from_residual-in_err-inside.result c.from_residual-in_err-inside.ensures.1 (as_fails _ (minus_makes _ (next_of Minus _ _ _ e.0 e.1)) (then_fails _ (ends_closed _ _) (word_read Minus _ _ _ e.0 e.1) (as_fails _ (negated_other _ _ other) (without_fails _ _ sample_without other (closed_fails _ c.in_err-inside.ensures)))))
+
+pub read_unary-returns : goal.read_unary-returns
+read_unary-returns t c = let e = c.in-Some.ensures in let other = c.is_next.ensures.no c.if-is_next.false in
+    read_at (ap (λ x. minus c.in-Some.sign.place (plain_expr x)) (sym c.in_ok-new.ensures.ok)) (as_read (minus_makes _ (next_of Minus _ _ _ e.0 e.1)) (then_read (ends_closed _ _) (word_read Minus _ _ _ e.0 e.1) (as_read (negated_other _ _ other) (without_read _ other (closed_read c.in_ok-inside.ensures)))))
+
+-- Parentheses.
+
+pub read_primary-returns-in_err-inside : goal.read_primary-returns-in_err-inside
+read_primary-returns-in_err-inside t c = let e = c.in-Some.ensures in
+    exit _ _ _ c.from_residual.result c.from_residual.ensures.1 (as_fails _ (open_makes _ (next_of RoundOpen _ _ _ e.0 e.1)) (then_fails _ (ends_closed _ _) (word_read RoundOpen _ _ _ e.0 e.1) c.in_err-inside.ensures))
+
+pub read_primary-returns : goal.read_primary-returns
+read_primary-returns t c = let e = c.in-Some.ensures in
+    as_read (open_makes _ (next_of RoundOpen _ _ _ e.0 e.1)) (then_read (ends_closed _ _) (word_read RoundOpen _ _ _ e.0 e.1) c.in_ok-inside.ensures)
+
+pub read_two-returns-in_err-left : goal.read_two-returns-in_err-left
+read_two-returns-in_err-left t c = exit _ _ _ c.from_residual.result c.from_residual.ensures.1 (as_fails _ (two_makes _) (first_fails _ (ends_closed _ _) (sample_pair sample_prim (sample_sign RoundClose)) c.in_err-left.ensures))
+
+pub read_two-read_primary-requires-2 : goal.read_two-read_primary-requires-2
+read_two-read_primary-requires-2 t c = let a = not_longer _ _ c.in_ok-left.ensures in (omega (arith, a, c.decreases), tt)
+
+pub read_two-returns-in_err-right : goal.read_two-returns-in_err-right
+read_two-returns-in_err-right t c = exit _ _ _ c.from_residual-in_err-right.result c.from_residual-in_err-right.ensures.1 (as_fails _ (two_makes _) (then_fails _ (ends_closed _ _) c.in_ok-left.ensures (first_fails _ (ends_closed _ _) (sample_sign RoundClose) c.in_err-right.ensures)))
+
+pub read_two-returns-in_err-end : goal.read_two-returns-in_err-end
+read_two-returns-in_err-end t c = exit _ _ _ c.from_residual-in_err-end.result c.from_residual-in_err-end.ensures.1 (as_fails _ (two_makes _) (then_fails _ (ends_closed _ _) c.in_ok-left.ensures (then_fails _ (ends_closed _ _) c.in_ok-right.ensures c.in_err-end.ensures)))
+
+pub read_two-returns : goal.read_two-returns
+read_two-returns t c = as_read (two_makes _) (then_read (ends_closed _ _) c.in_ok-left.ensures (then_read (ends_closed _ _) c.in_ok-right.ensures c.in_ok-end.ensures))
+
+pub read_further-returns-in_err-second : goal.read_further-returns-in_err-second
+read_further-returns-in_err-second t c = exit _ _ _ c.from_residual.result c.from_residual.ensures.1 (further_fails _ _ _ _ _ c.in_err-second.ensures)
+
+pub read_further-parts-init : goal.read_further-parts-init
+read_further-parts-init t c = (
+  further_begins _ _ _ _ _ _ _ _ _ _ _ _ c.requires c.in_ok-second.ensures c.new.ensures.none c.in_ok-with.ensures.more c.is_marking-mark.ensures (c.in_ok-with.ensures.kind ∙ c.new.ensures.kind) c.in_ok-parts.ensures.more,
+  c.in_ok-parts.ensures.kind ∙ c.in_ok-with.ensures.kind ∙ c.new.ensures.kind,
+  c.is_marking-mark.ensures,
+)
+
+pub read_further-returns-in_err-next : goal.read_further-returns-in_err-next
+read_further-returns-in_err-next t c = exit _ _ _ c.from_residual-in_err-next.result c.from_residual-in_err-next.ensures.1 (further_next_fails _ _ _ _ _ _ _ c.parts.invariant.0 (c.is_next.ensures.no c.parts-test.true) c.in_err-next.ensures)
+
+pub read_further-parts-smaller : goal.read_further-parts-smaller
+read_further-parts-smaller t c = shorter (BeginsAt Prim) _ _ (level_begins Prim) c.in_ok-next.ensures
+
+pub read_further-parts-preserved : goal.read_further-parts-preserved
+read_further-parts-preserved t c = (
+  further_goes_on _ _ _ _ _ _ _ _ _ _ _ c.requires c.parts.invariant.0 (c.is_next.ensures.no c.parts-test.true) c.in_ok-next.ensures c.parts.invariant.2 c.parts.invariant.1 c.in_ok-parts-2.ensures.more,
+  c.in_ok-parts-2.ensures.kind ∙ c.parts.invariant.1,
+  c.parts.invariant.2,
+)
+
+pub read_further-returns-in_err-end : goal.read_further-returns-in_err-end
+read_further-returns-in_err-end t c = exit _ _ _ c.from_residual-in_err-end.result c.from_residual-in_err-end.ensures.1 (further_end_fails _ _ _ _ _ _ _ c.parts.invariant.0 (c.is_next.ensures.yes c.parts-test.false) c.in_err-end.ensures)
+
+pub read_further-returns : goal.read_further-returns
+read_further-returns t c =
+    let place = c.args.op.place in
+    further_ends _ _ _ _ _ _ _ _ c.parts.invariant.0 (c.is_next.ensures.yes c.parts-test.false) c.in_ok-end.ensures (c.into_node-node.ensures place ∙ ap (λ k. chain k place (parts_from (marked c.parts.parts))) c.parts.invariant.1)
+
+pub read_inside-returns-in_err-first : goal.read_inside-returns-in_err-first
+read_inside-returns-in_err-first t c = let e = c.in-Some-many_at.ensures in
+    exit _ _ _ c.from_residual.result c.from_residual.ensures.1 (as_fails _ (many_makes _ _ _ _ e.0 e.1 c.in_default.ensures) (chained_fails _ (λ x. ends_closed _ _) (many_read _ _ _ _ e.0 e.1) (chained_first_fails _ (λ x. ends_closed _ _) (λ x. sample_behind_first _ _ x) c.in_err-first.ensures)))
+
+pub read_inside-read_further-requires : goal.read_inside-read_further-requires
+read_inside-read_further-requires t c = let e = c.in-Some-many_at.ensures in let a = not_longer _ _ c.in_ok-first.ensures in let b = taken _ _ _ e.0 in (omega (arith, a, b, c.decreases), e.1)
+
+pub read_inside-returns-in_err-all : goal.read_inside-returns-in_err-all
+read_inside-returns-in_err-all t c = let e = c.in-Some-many_at.ensures in
+    exit _ _ _ c.from_residual-in_err-all.result c.from_residual-in_err-all.ensures.1 (as_fails _ (many_makes _ _ _ _ e.0 e.1 c.in_default.ensures) (chained_fails _ (λ x. ends_closed _ _) (many_read _ _ _ _ e.0 e.1) (chained_fails _ (λ x. ends_closed _ _) c.in_ok-first.ensures c.in_err-all.ensures)))
+
+pub read_inside-returns-in-Some-many_at : goal.read_inside-returns-in-Some-many_at
+read_inside-returns-in-Some-many_at t c = let e = c.in-Some-many_at.ensures in
+    as_read (many_makes _ _ _ _ e.0 e.1 c.in_default.ensures) (chained_read (λ x. ends_closed _ _) (many_read _ _ _ _ e.0 e.1) (chained_read (λ x. ends_closed _ _) c.in_ok-first.ensures c.in_ok-all.ensures))
+
+pub read_inside-returns-in_err-left : goal.read_inside-returns-in_err-left
+read_inside-returns-in_err-left t c = let e = c.in-Some-next_if.ensures in
+    exit _ _ _ c.from_residual-in_err-left.result c.from_residual-in_err-left.ensures.1 (as_fails _ (percent_makes _ (next_of Percent _ _ _ e.0 e.1)) (then_fails _ (ends_closed _ _) (word_read Percent _ _ _ e.0 e.1) c.in_err-left.ensures))
+
+pub read_inside-returns-in-Some-next_if : goal.read_inside-returns-in-Some-next_if
+read_inside-returns-in-Some-next_if t c = let e = c.in-Some-next_if.ensures in
+    let place = c.in-Some-next_if.op.place in
+    read_at (percent_is place (lexeme c.in-Some-next_if.op) _ _ _ _ _ _ _ _ _ e.1 refl c.new.ensures.kind c.new.ensures.none c.in_ok-parts.ensures.kind c.in_ok-parts.ensures.more c.in_ok-with.ensures.kind c.in_ok-with.ensures.more (c.into_node-node.ensures place))
+    (as_read (percent_makes _ (next_of Percent _ _ _ e.0 e.1)) (then_read (ends_closed _ _) (word_read Percent _ _ _ e.0 e.1) c.in_ok-left.ensures))
+
+pub read_inside-returns-in_err-left-2 : goal.read_inside-returns-in_err-left-2
+read_inside-returns-in_err-left-2 t c = let e = c.in-Some-rel_at.ensures in
+    exit _ _ _ c.from_residual-in_err-left-2.result c.from_residual-in_err-left-2.ensures.1 (as_fails _ (rel_makes _ _ _ _ e.0 e.1) (then_fails _ (ends_closed _ _) (rel_read _ _ _ _ e.0 e.1) c.in_err-left-2.ensures))
+
+pub read_inside-returns-in-Some-rel_at : goal.read_inside-returns-in-Some-rel_at
+read_inside-returns-in-Some-rel_at t c = let e = c.in-Some-rel_at.ensures in
+    let a = c.in_ok-new.ensures.ok in let b = c.in_ok-new-2.ensures.ok in
+    read_at (λ i. compare c.in-Some-rel_at.op.place c.in-Some-rel_at.rel (plain_expr (sym a i)) (plain_expr (sym b i))) (as_read (rel_makes _ _ _ _ e.0 e.1) (then_read (ends_closed _ _) (rel_read _ _ _ _ e.0 e.1) c.in_ok-left-2.ensures))
+
+pub read_inside-returns-in_err-inside : goal.read_inside-returns-in_err-inside
+read_inside-returns-in_err-inside t c = exit _ _ _ c.from_residual-in_err-inside.result c.from_residual-in_err-inside.ensures.1
+    (as_fails _ (nested_makes _ c.in_default.ensures c.in_default-many_at.ensures c.in_default-next_if.ensures c.in_default-rel_at.ensures) (first_fails _ ends_e (sample_sign RoundClose) c.in_err-inside.ensures))
+
+pub read_inside-returns-in_err-end : goal.read_inside-returns-in_err-end
+read_inside-returns-in_err-end t c = exit _ _ _ c.from_residual-in_err-end.result c.from_residual-in_err-end.ensures.1
+    (as_fails _ (nested_makes _ c.in_default.ensures c.in_default-many_at.ensures c.in_default-next_if.ensures c.in_default-rel_at.ensures) (then_fails _ ends_e c.in_ok-inside.ensures c.in_err-end.ensures))
+
+pub read_inside-returns : goal.read_inside-returns
+read_inside-returns t c = as_read (nested_makes _ c.in_default.ensures c.in_default-many_at.ensures c.in_default-next_if.ensures c.in_default-rel_at.ensures) (then_read ends_e c.in_ok-inside.ensures c.in_ok-end.ensures)
+
+-- Parentheses that begin with `-`.
+
+pub read_behind_minus-returns-in_err-whole : goal.read_behind_minus-returns-in_err-whole
+read_behind_minus-returns-in_err-whole t c = exit _ _ _ c.from_residual.result c.from_residual.ensures.1 (minus_whole_fails _ _ (next_of Minus _ _ _ c.requires.here c.requires.minus) c.in_err-whole.ensures)
+
+pub read_behind_minus-read_further-requires : goal.read_behind_minus-read_further-requires
+read_behind_minus-read_further-requires t c = let a = not_longer _ _ c.in_ok-whole.ensures in (omega (arith, a, c.decreases), inr c.requires.minus)
+
+pub read_behind_minus-returns-in_err-all-in-Ok : goal.read_behind_minus-returns-in_err-all-in-Ok
+read_behind_minus-returns-in_err-all-in-Ok t c = exit _ _ _ c.from_residual-in_err-all-in-Ok.result c.from_residual-in_err-all-in-Ok.ensures.1
+    (minus_further_fails _ (record { read = c.in_ok-whole.ensures; here = c.requires.here; word = c.requires.minus }) c.in-Ok.ensures c.in_err-all-in-Ok.ensures)
+
+pub read_behind_minus-returns-in_err-end-in-Err : goal.read_behind_minus-returns-in_err-end-in-Err
+read_behind_minus-returns-in_err-end-in-Err t c = exit _ _ _ c.from_residual-in_err-end-in-Err.result c.from_residual-in_err-end-in-Err.ensures.1
+    (minus_close_fails _ (record { read = c.in_ok-whole.ensures; here = c.requires.here; word = c.requires.minus }) c.in-Err.ensures c.in_err-end-in-Err.ensures)
+
+pub read_behind_minus-returns-in_ok-all-in-Ok : goal.read_behind_minus-returns-in_ok-all-in-Ok
+read_behind_minus-returns-in_ok-all-in-Ok t c = minus_further_read (record { read = c.in_ok-whole.ensures; here = c.requires.here; word = c.requires.minus }) c.in-Ok.ensures c.in_ok-all-in-Ok.ensures
+
+pub read_behind_minus-returns-in_ok-end-in-Err : goal.read_behind_minus-returns-in_ok-end-in-Err
+read_behind_minus-returns-in_ok-end-in-Err t c = minus_close_read (record { read = c.in_ok-whole.ensures; here = c.requires.here; word = c.requires.minus }) c.in-Err.ensures c.in_ok-end-in-Err.ensures

@@ -1,0 +1,5 @@
+pub mod Results
+pub mod Levels
+pub mod Operands
+pub mod Inside
+pub mod Constants

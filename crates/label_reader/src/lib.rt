@@ -1,0 +1,17 @@
+//! Names, constants and label expressions, read from tokens.
+//!
+//! Its promise: each reader has one clause, which says what it read, that no other front of the tokens spells anything, or
+//! the first token with which no spelling goes on (`Reads` in `specs/Results.antt`).
+#![tactic(auto)]
+
+mod constants;
+mod levels;
+mod operands;
+mod operators;
+mod stop;
+mod words;
+
+pub use constants::{read_numeral, read_string};
+pub use levels::read_level;
+pub use stop::Stop;
+pub use words::{is_next, is_same, next_if, read_name, read_sign, read_word, skip_comma};

@@ -1,0 +1,133 @@
+//! Which tokens are operators.
+
+ghost use Rattle.std.specs.Prelude.{◌≡◌, ◌∷◌, true, false, MatchOption};
+ghost use Rattle.model_grammar.specs.Operators.{IsSignOf, IsMany, rel_word, is_marking};
+ghost use Rattle.model_grammar.specs.Expressions.{operand};
+ghost use Rattle.model_program.specs.Reads.{Stops};
+ghost use Rattle.model_grammar.specs.declared.Level.TheVariants.{Prim};
+ghost use Rattle.fast_lex.specs.Tokens.{lexeme};
+ghost use Rattle.label_reader.specs.Results.{lexemes};
+ghost use Rattle.label_reader.specs.Levels.{BeginsAt, NoSign, IsNoRel, NoRel, IsNoMany, NoMany};
+ghost use Rattle.label_reader.specs.Inside.{StartsPrimary};
+
+use crate::words::{is_next, is_same};
+use fast_lex::{Token, Word};
+use model_grammar::{Chain, Level, Rel};
+
+/// The level of the operands of a chain.
+pub(crate) fn operand(kind: Chain) -> Level
+    ensures { result ≡ operand kind }
+{
+    match kind {
+        Chain::Disjunction => Level::Conj,
+        Chain::Conjunction => Level::Neg,
+        Chain::Sum => Level::Prod,
+        Chain::Product => Level::Unary,
+    }
+}
+
+/// Whether the operand behind the sign is subtracted, or the remainder by it is taken.
+pub(crate) fn is_marking(sign: Word) -> bool
+    ensures { result ≡ is_marking sign }
+{
+    matches!(sign, Word::Minus | Word::Percent)
+}
+
+fn is_sign_of(kind: Chain, word: Word) -> bool
+    ensures yes { result ≡ true → IsSignOf kind word }
+    ensures no { result ≡ false → IsSignOf kind word → ⊥ }
+{
+    match kind {
+        Chain::Disjunction => is_same(word, Word::Or),
+        Chain::Conjunction => is_same(word, Word::And),
+        Chain::Sum => is_same(word, Word::Plus) || is_same(word, Word::Minus),
+        Chain::Product => is_same(word, Word::Star) || is_same(word, Word::Percent),
+    }
+}
+
+/// The next token and those behind it, where it is a sign between operands of the chain.
+pub(crate) fn sign_at<'t>(
+    kind: Chain,
+    tokens: &'t [Token<'t>],
+) -> Option<(Token<'t>, &'t [Token<'t>])>
+    ensures { MatchOption result (NoSign kind (lexemes tokens.now)) (λ x. (lexemes tokens.now ≡ lexeme x.0 ∷ lexemes x.1.now) × IsSignOf kind x.0.word) }
+{
+    match tokens.split_first() {
+        Some((first, rest)) if is_sign_of(kind, first.word) => Some((*first, rest)),
+        _ => None,
+    }
+}
+
+fn rel_of(word: Word) -> Option<Rel>
+    ensures { MatchOption result (IsNoRel word) (λ rel. word ≡ rel_word rel) }
+{
+    if is_same(word, Word::Equal) {
+        return Some(Rel::Equal);
+    }
+    if is_same(word, Word::NotEqual) {
+        return Some(Rel::NotEqual);
+    }
+    if is_same(word, Word::Less) {
+        return Some(Rel::Less);
+    }
+    if is_same(word, Word::AtMost) {
+        return Some(Rel::AtMost);
+    }
+    if is_same(word, Word::Greater) {
+        return Some(Rel::Greater);
+    }
+    if is_same(word, Word::AtLeast) {
+        return Some(Rel::AtLeast);
+    }
+    None
+}
+
+/// The comparison with which the tokens begin.
+pub(crate) fn rel_at<'t>(tokens: &'t [Token<'t>]) -> Option<(Token<'t>, Rel, &'t [Token<'t>])>
+    ensures { MatchOption result (NoRel (lexemes tokens.now)) (λ x. (lexemes tokens.now ≡ lexeme x.0 ∷ lexemes x.2.now) × (x.0.word ≡ rel_word x.1)) }
+{
+    let (first, rest) = tokens.split_first()?;
+    let rel = rel_of(first.word)?;
+    Some((*first, rel, rest))
+}
+
+fn many_of(word: Word) -> Option<Chain>
+    ensures { MatchOption result (IsNoMany word) (λ kind. IsMany kind word) }
+{
+    if is_same(word, Word::Or) {
+        return Some(Chain::Disjunction);
+    }
+    if is_same(word, Word::And) {
+        return Some(Chain::Conjunction);
+    }
+    if is_same(word, Word::Plus) {
+        return Some(Chain::Sum);
+    }
+    if is_same(word, Word::Star) {
+        return Some(Chain::Product);
+    }
+    None
+}
+
+/// The operator, other than `-`, of any number of operands with which the tokens begin.
+pub(crate) fn many_at<'t>(tokens: &'t [Token<'t>]) -> Option<(Token<'t>, Chain, &'t [Token<'t>])>
+    ensures { MatchOption result (NoMany (lexemes tokens.now)) (λ x. (lexemes tokens.now ≡ lexeme x.0 ∷ lexemes x.2.now) × IsMany x.1 x.0.word) }
+{
+    let (first, rest) = tokens.split_first()?;
+    let kind = many_of(first.word)?;
+    Some((*first, kind, rest))
+}
+
+/// Whether a primary expression comes next, if any expression does that doesn't begin with `-` or `not`.
+pub(crate) fn starts_primary(tokens: &[Token]) -> bool
+    ensures yes { result ≡ true → StartsPrimary (lexemes tokens.now) }
+    ensures no { result ≡ false → Stops (BeginsAt Prim) (lexemes tokens.now) }
+{
+    match tokens.split_first() {
+        Some((first, _)) => matches!(
+            first.word,
+            Word::Id | Word::Number | Word::Quoted | Word::True | Word::False | Word::RoundOpen
+        ),
+        None => false,
+    }
+}

@@ -1,0 +1,47 @@
+//! Why a reader of tokens stops.
+
+ghost use Rattle.std.specs.Prelude.{◌≡◌};
+
+use fast_fault::Memory;
+use fast_lex::Token;
+use std::alloc::{AllocError, AllocFailed};
+
+/// Memory ran out, or the tokens from here on are refused.
+#[derive(Drop)]
+pub enum Stop<'t> {
+    Memory,
+    At(&'t [Token<'t>]),
+}
+
+impl<'t> From<Memory> for Stop<'t> {
+    ghost use Rattle.std.specs.Prelude.{◌≡◌};
+    ghost use Rattle.label_reader.specs.declared.stop.Stop.TheVariants.{Memory};
+
+    ghost from_gives = { λ _ e. e ≡ Memory };
+
+    fn from(_: Memory) -> Self {
+        Stop::Memory
+    }
+}
+
+impl<'t> From<AllocError> for Stop<'t> {
+    ghost use Rattle.std.specs.Prelude.{◌≡◌};
+    ghost use Rattle.label_reader.specs.declared.stop.Stop.TheVariants.{Memory};
+
+    ghost from_gives = { λ _ e. e ≡ Memory };
+
+    fn from(_: AllocError) -> Self {
+        Stop::Memory
+    }
+}
+
+impl<'t, T: Drop> From<AllocFailed<T>> for Stop<'t> {
+    ghost use Rattle.std.specs.Prelude.{◌≡◌};
+    ghost use Rattle.label_reader.specs.declared.stop.Stop.TheVariants.{Memory};
+
+    ghost from_gives = { λ _ e. e ≡ Memory };
+
+    fn from(_: AllocFailed<T>) -> Self {
+        Stop::Memory
+    }
+}

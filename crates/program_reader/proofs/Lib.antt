@@ -1,0 +1,10 @@
+pub mod Sorts
+pub mod TypeForms
+pub mod RowForms
+pub mod OutForms
+pub mod XForms
+pub mod RuleForms
+pub mod AssertForms
+pub mod Rows
+pub mod ItemForms
+pub mod Texts

@@ -1,0 +1,170 @@
+-- Of what rules are made.
+use Rattle.std.proofs.Common.{◌≡◌, List, [], ◌∷◌, ◌++◌, refl, sym, ap, ◌∙◌, subst, Option, Some, None, ◌⊎◌, inl, inr, arith}
+use Rattle.model_program.specs.declared.Word.{Word}
+use Rattle.model_program.specs.declared.Word.TheVariants.{Where, Given, To, Id, RoundOpen, RoundClose, CurlyOpen, CurlyClose, Bar}
+use Rattle.model_program.specs.Lexeme.{Lexeme}
+use Rattle.model_program.specs.Syntax.{Name, Demand}
+use Rattle.model_program.specs.Reads.{◌⌢◌, IsRead, IsNext, IsOther, StartsIn, closed}
+use Rattle.model_program.specs.Grammar.{IsSign, sign, IsName, IsComma, comma, Further, Many, IsDemand, AreVars, IsGiven}
+use Rattle.model_program.proofs.Forms.{◌⊗◌, Ends, Makes, HasSample, AllStartIn, as_read, as_fails, then_read, then_fails, sample_pair, sample_as, remade, stands, left_out, ends_left_out, ends_starting, ends_closed, starts_joined, starts_wider, starts_next, stops_other, other_than}
+use Rattle.model_program.proofs.Words.{sample_sign, sign_starts, word_other}
+use Rattle.model_program.proofs.Lists.{IsPartWay, IsListed, comma_listed, tail_of, sample_tail, sample_any, items_to, items_make}
+use Rattle.model_grammar.specs.declared.Level.TheVariants.{E}
+use Rattle.model_grammar.specs.Syntax.{Expr, Rule, Out}
+use Rattle.model_grammar.specs.Expressions.{IsE}
+use Rattle.model_grammar.specs.Terms.{IsOut}
+use Rattle.model_grammar.specs.Grammar.{IsGuard, IsRule, IsOutRule, InBraces}
+use Rattle.label_reader.specs.Levels.{strength, GoesOn}
+use Rattle.label_reader.proofs.Names.{sample_name, name_starts}
+use Rattle.program_reader.specs.Goings.{guard_words, given_words, rule_words}
+use Rattle.program_reader.proofs.OutForms.{sample_out}
+
+-- no sign between operands
+no_sign : (v w : Word) → strength v ≡ 0 → w ≡ v → GoesOn E w → ⊥
+no_sign v w none is goes = let e : strength w ≡ 0 = ap strength is ∙ none in omega arith
+
+abbrev pub demand_parts : Unit {0} × (Name × (Name × Unit {0})) → List Lexeme → Type 0
+demand_parts = IsSign RoundOpen ⊗ (IsName ⊗ (IsName ⊗ IsSign RoundClose))
+
+pub demand_makes : (goes_on : Word → Type 0) (tokens : List Lexeme) → Makes demand_parts IsDemand (λ v. record { language = v.1.0; child = v.1.1.0 }) goes_on tokens
+demand_makes goes_on tokens = remade (λ v ts spelled. spelled) (λ d ts spelled. ((tt, (d.language, (d.child, tt))), spelled, refl))
+
+pub sample_demand : HasSample IsDemand
+sample_demand = sample_as (λ (v : Unit {0} × (Name × (Name × Unit {0}))). record { language = v.1.0; child = v.1.1.0 }) (λ v ts spelled. spelled) (sample_pair (sample_sign RoundOpen) (sample_pair sample_name (sample_pair sample_name (sample_sign RoundClose))))
+
+pub demand_starts : AllStartIn (λ w. w ≡ RoundOpen) IsDemand
+demand_starts = record { starts = λ d ts spelled. starts_joined (λ w. w ≡ RoundOpen) _ _ ts ((sign_starts RoundOpen).starts tt) spelled }
+
+pub vars_listed : IsListed IsComma comma IsName closed RoundClose
+vars_listed = comma_listed IsName RoundClose name_starts (λ h. cc) (λ h. cc)
+
+pub sample_vars : HasSample AreVars
+sample_vars = sample_as (λ (v : Unit {0} × List Name). v.1) (λ v ts spelled. spelled) (sample_pair (sample_sign RoundOpen) (sample_any IsComma IsName RoundClose))
+
+pub guard_makes : (tokens : List Lexeme) → IsNext Where tokens → Makes (IsSign Where ⊗ IsE) IsGuard (λ v. Some v.1) guard_words tokens
+guard_makes tokens is_next = stands tokens (λ v ts spelled. spelled) (λ g ts spelled. back g ts spelled) (starts_next Where guard_words tokens is_next (inl refl))
+  where
+    back : (g : Option Expr) (ts : List Lexeme) → IsGuard g ts → (ts ≡ []) ⊎ ((v : Unit {0} × Expr) × (IsSign Where ⊗ IsE) v ts × (g ≡ Some v.1))
+    back None ts spelled = inl spelled
+    back (Some e) ts spelled = inr ((tt, e), spelled, refl)
+
+pub guard_none : (tokens : List Lexeme) → IsOther Where tokens → IsRead IsGuard guard_words tokens None tokens
+guard_none tokens is_other = left_out (λ w. w ≡ Where) tokens None refl (λ g ts spelled. back g ts spelled) (stops_other Where tokens is_other)
+  where
+    back : (g : Option Expr) (ts : List Lexeme) → IsGuard g ts → ((g ≡ None) × (ts ≡ [])) ⊎ StartsIn (λ w. w ≡ Where) ts
+    back None ts spelled = inl (refl, spelled)
+    back (Some e) ts spelled = inr (starts_joined (λ w. w ≡ Where) _ _ ts ((sign_starts Where).starts tt) spelled)
+
+pub in_guard : (w : Word) → GoesOn E w → guard_words w
+in_guard w goes = inr goes
+
+pub sample_guard : HasSample IsGuard
+sample_guard = record { value = None; tokens = []; spelled = refl }
+
+pub given_starts : (g : List Demand) (ts : List Lexeme) → IsGiven g ts → ((g ≡ []) × (ts ≡ [])) ⊎ StartsIn (λ w. w ≡ Given) ts
+given_starts [] ts spelled = inl (refl, spelled)
+given_starts (d ∷ ds) ts spelled = inr (starts_joined (λ w. w ≡ Given) _ _ ts ((sign_starts Given).starts tt) spelled)
+
+pub given_makes : (tokens : List Lexeme) → IsNext Given tokens → Makes (IsSign Given ⊗ (IsDemand ⊗ Many IsDemand)) IsGiven (λ v. v.1.0 ∷ v.1.1) given_words tokens
+given_makes tokens is_next = stands tokens (λ v ts spelled. spelled) (λ g ts spelled. back g ts spelled) (starts_next Given given_words tokens is_next (inl (inl refl)))
+  where
+    back : (g : List Demand) (ts : List Lexeme) → IsGiven g ts → (ts ≡ []) ⊎ ((v : Unit {0} × (Demand × List Demand)) × (IsSign Given ⊗ (IsDemand ⊗ Many IsDemand)) v ts × (g ≡ v.1.0 ∷ v.1.1))
+    back [] ts spelled = inl spelled
+    back (d ∷ ds) ts spelled = inr ((tt, (d, ds)), spelled, refl)
+
+pub given_none : (tokens : List Lexeme) → IsOther Given tokens → IsRead IsGiven given_words tokens [] tokens
+given_none tokens is_other = left_out (λ w. w ≡ Given) tokens [] refl given_starts (stops_other Given tokens is_other)
+
+pub demand_goes_on : given_words RoundOpen
+demand_goes_on = inl (inr refl)
+
+-- the first demand is read
+pub given_first : {tokens middle rest : List Lexeme} {x : Demand} (all : List Demand) → IsNext Given tokens → IsRead (IsSign Given) closed tokens tt middle → IsRead IsDemand closed middle x rest → all ≡ x ∷ []
+    → IsPartWay IsGiven (Many IsDemand) given_words (λ b. all ++ b) tokens rest
+given_first {tokens} {rest = rest} all is_next first item is_first = subst (λ (l : List Demand). IsPartWay IsGiven (Many IsDemand) given_words (λ b. l ++ b) tokens rest) (sym is_first) (record {
+  read = λ b end more. as_read (given_makes tokens is_next) (then_read (ends_closed (IsDemand ⊗ Many IsDemand) given_words) first (then_read (ends_closed (Many IsDemand) given_words) item more));
+  fails = λ bad more. as_fails bad (given_makes tokens is_next) (then_fails bad (ends_closed (IsDemand ⊗ Many IsDemand) given_words) first (then_fails bad (ends_closed (Many IsDemand) given_words) item more));
+})
+
+pub sample_given : HasSample IsGiven
+sample_given = record { value = []; tokens = []; spelled = refl }
+
+pub ends_guard : Ends guard_words IsGiven given_words
+ends_guard = ends_left_out (λ w. w ≡ Given) IsGiven given_words (λ w is goes. apart w is goes) (λ w goes. inr goes)
+    (λ g ts spelled. elim (given_starts g ts spelled) [ inl none ↦ inl none.1 | inr starts ↦ inr starts ])
+  where
+    apart : (w : Word) → w ≡ Given → guard_words w → ⊥
+    apart w is (inl where_is) = let e : Given ≡ Where = sym is ∙ where_is in cc
+    apart w is (inr goes) = no_sign Given w refl is goes
+
+abbrev pub rule_parts : Name × (List Name × (Option Expr × List Demand)) → List Lexeme → Type 0
+rule_parts = IsName ⊗ (AreVars ⊗ (IsGuard ⊗ IsGiven))
+
+pub rule_makes : (goes_on : Word → Type 0) (tokens : List Lexeme) → Makes rule_parts IsRule (λ v. record { ctor = v.0; vars = v.1.0; guard = v.1.1.0; given = v.1.1.1 }) goes_on tokens
+rule_makes goes_on tokens = remade (λ v ts spelled. spelled) (λ r ts spelled. ((r.ctor, (r.vars, (r.guard, r.given))), spelled, refl))
+
+pub sample_rule : HasSample IsRule
+sample_rule = sample_as (λ (v : Name × (List Name × (Option Expr × List Demand))). record { ctor = v.0; vars = v.1.0; guard = v.1.1.0; given = v.1.1.1 }) (λ v ts spelled. spelled) (sample_pair sample_name (sample_pair sample_vars (sample_pair sample_guard sample_given)))
+
+pub rule_starts : AllStartIn (λ w. w ≡ Id) IsRule
+rule_starts = record { starts = λ r ts spelled. starts_joined (λ w. w ≡ Id) _ _ ts (name_starts.starts r.ctor) spelled }
+
+abbrev pub out_rule_parts : Rule × (Unit {0} × Out) → List Lexeme → Type 0
+out_rule_parts = IsRule ⊗ (IsSign To ⊗ IsOut)
+
+pub out_rule_makes : (goes_on : Word → Type 0) (tokens : List Lexeme) → Makes out_rule_parts IsOutRule (λ v. record { rule = v.0; out = v.1.1 }) goes_on tokens
+out_rule_makes goes_on tokens = remade (λ v ts spelled. spelled) (λ r ts spelled. ((r.rule, (tt, r.out)), spelled, refl))
+
+pub sample_out_rule : HasSample IsOutRule
+sample_out_rule = sample_as (λ (v : Rule × (Unit {0} × Out)). record { rule = v.0; out = v.1.1 }) (λ v ts spelled. spelled) (sample_pair sample_rule (sample_pair (sample_sign To) sample_out))
+
+pub out_rule_starts : AllStartIn (λ w. w ≡ Id) IsOutRule
+out_rule_starts = record { starts = λ r ts spelled. starts_joined (λ w. w ≡ Id) _ _ ts (rule_starts.starts r.rule) spelled }
+
+-- a word that goes on no rule
+no_rule_word : (v w : Word) → (v ≡ Where → ⊥) → (v ≡ Given → ⊥) → (v ≡ RoundOpen → ⊥) → strength v ≡ 0 → w ≡ v → rule_words w → ⊥
+no_rule_word v w a b d none is (inl (inl x)) = b (sym is ∙ x)
+no_rule_word v w a b d none is (inl (inr x)) = d (sym is ∙ x)
+no_rule_word v w a b d none is (inr (inl x)) = a (sym is ∙ x)
+no_rule_word v w a b d none is (inr (inr x)) = no_sign v w none is x
+
+pub ends_rule : Ends rule_words (IsSign To ⊗ IsOut) closed
+ends_rule = ends_starting (IsSign To ⊗ IsOut) closed (λ w is goes. no_rule_word To w (λ e. cc) (λ e. cc) (λ e. cc) refl is goes)
+    (record { starts = λ v ts spelled. starts_joined (λ w. w ≡ To) _ _ ts ((sign_starts To).starts tt) spelled })
+
+-- Rules in braces.
+
+abbrev pub bar_or_close : Word → Type 0
+bar_or_close w = (w ≡ Bar) ⊎ (w ≡ CurlyClose)
+
+tail_starts : {A : Type 0} (form : A → List Lexeme → Type 0) → AllStartIn bar_or_close (tail_of (IsSign Bar) form CurlyClose)
+tail_starts {A} form = record { starts = λ v ts spelled. each v.0 ts spelled }
+  where
+    each : (rules : List A) (ts : List Lexeme) → (Further (IsSign Bar) form rules ⌢ sign CurlyClose) ts → StartsIn bar_or_close ts
+    each [] ts spelled = subst (λ (l : List Lexeme). StartsIn bar_or_close l) (sym (spelled.split ∙ ap (λ l. l ++ spelled.back) spelled.at_front))
+        (starts_wider (λ w. w ≡ CurlyClose) bar_or_close spelled.back (λ w h. inr h) ((sign_starts CurlyClose).starts tt spelled.back spelled.at_back))
+    each (r ∷ rs) ts spelled = starts_joined bar_or_close _ _ ts (λ l joined. starts_joined bar_or_close _ _ l (λ k is_bar. starts_wider (λ w. w ≡ Bar) bar_or_close k (λ w h. inl h) ((sign_starts Bar).starts tt k is_bar)) joined) spelled
+
+bar_listed : {A : Type 0} (form : A → List Lexeme → Type 0) (goes_on : Word → Type 0) → AllStartIn (λ w. w ≡ Id) form → ((w : Word) → bar_or_close w → goes_on w → ⊥) → IsListed (IsSign Bar) closed form goes_on CurlyClose
+bar_listed form goes_on begins apart = record {
+  apart = λ x ts joined. starts_joined (other_than CurlyClose) _ _ ts (λ l is_bar. word_other CurlyClose Bar is_bar.0 l (λ h. cc) is_bar.1) joined;
+  first_apart = record { starts = λ x ts spelled. starts_wider (λ w. w ≡ Id) (other_than CurlyClose) ts (λ w is_id is_close. let e : Id ≡ CurlyClose = sym is_id ∙ is_close in cc) (begins.starts x ts spelled) };
+  item_ends = ends_starting (tail_of (IsSign Bar) form CurlyClose) closed apart (tail_starts form);
+  between_ends = ends_closed (form ⊗ tail_of (IsSign Bar) form CurlyClose) closed;
+}
+
+pub rules_listed : IsListed (IsSign Bar) closed IsRule rule_words CurlyClose
+rules_listed = bar_listed IsRule rule_words rule_starts (λ w is goes. apart w is goes)
+  where
+    apart : (w : Word) → bar_or_close w → rule_words w → ⊥
+    apart w (inl is) goes = no_rule_word Bar w (λ e. cc) (λ e. cc) (λ e. cc) refl is goes
+    apart w (inr is) goes = no_rule_word CurlyClose w (λ e. cc) (λ e. cc) (λ e. cc) refl is goes
+
+pub out_rules_listed : IsListed (IsSign Bar) closed IsOutRule closed CurlyClose
+out_rules_listed = bar_listed IsOutRule closed out_rule_starts (λ w is goes. goes)
+
+pub sample_braces : {A : Type 0} (form : A → List Lexeme → Type 0) → HasSample form → HasSample (InBraces form)
+sample_braces {A} form sample = sample_as (λ (v : Unit {0} × List A). v.1) (λ v ts spelled. spelled) (sample_pair (sample_sign CurlyOpen) (sample_as (λ (v : A × (List A × Unit {0})). v.0 ∷ v.1.0) ((items_make (IsSign Bar) form CurlyClose []).into) (sample_pair sample (sample_tail (IsSign Bar) form CurlyClose))))
+
+pub sample_items : {A : Type 0} (between : Unit {0} → List Lexeme → Type 0) (form : A → List Lexeme → Type 0) (close : Word) → HasSample form → HasSample (items_to between form close)
+sample_items {A} between form close sample = sample_as (λ (v : A × (List A × Unit {0})). v.0 ∷ v.1.0) ((items_make between form close []).into) (sample_pair sample (sample_tail between form close))

@@ -1,0 +1,90 @@
+-- Of what types are made.
+use Rattle.std.specs.Str.Parse.{digits_value}
+use Rattle.std.proofs.Common.{◌≡◌, ℤ, pos, List, [], ◌∷◌, refl, sym, ◌∙◌, ◌⊎◌, inl, inr}
+use Rattle.model_program.specs.declared.Word.{Word}
+use Rattle.model_program.specs.declared.Word.TheVariants.{Id, RoundOpen, RoundClose, SquareOpen, SquareClose, CurlyOpen, CurlyClose, Colon}
+use Rattle.model_program.specs.Lexeme.{Lexeme}
+use Rattle.model_program.specs.Syntax.{Name, FieldItem, CtorItem}
+use Rattle.model_program.specs.Reads.{IsRead, IsNext, IsOther, StartsIn, closed}
+use Rattle.model_program.specs.Grammar.{IsWord, IsSign, IsName, IsNumber, IsComma, comma, IsCtor, sort_text, IsSort, IsField, AreFields, AreFieldsOrNone, square_word, AreCtors, IsTypeItem}
+use Rattle.model_program.proofs.Forms.{◌⊗◌, Ends, Makes, HasSample, AllStartIn, sample_pair, sample_as, remade, stands, left_out, ends_starting, starts_joined, starts_next, stops_other}
+use Rattle.model_program.proofs.Words.{sample_word, sample_sign, sign_starts}
+use Rattle.model_program.proofs.Lists.{IsListed, comma_listed, items_to, items_make, sample_tail}
+use Rattle.label_reader.specs.Constants.{IsNumeral}
+use Rattle.label_reader.proofs.Names.{sample_name, name_starts}
+use Rattle.label_reader.proofs.Primaries.{sample_numeral}
+
+pub sort_makes : (goes_on : Word → Type 0) (tokens : List Lexeme) → Makes (IsWord Id) IsSort (λ t. record { text = sort_text t.text; place = t.place }) goes_on tokens
+sort_makes goes_on tokens = remade (λ t ts is_word. (t, is_word, refl)) (λ n ts is_sort. (is_sort.0, is_sort.1, is_sort.2))
+
+pub sample_sort : HasSample IsSort
+sample_sort = sample_as (λ t. record { text = sort_text t.text; place = t.place }) (λ t ts is_word. (t, is_word, refl)) (sample_word Id)
+
+pub number_makes : (goes_on : Word → Type 0) (tokens : List Lexeme) → Makes IsNumeral IsNumber (λ t. pos (digits_value 10 t.text)) goes_on tokens
+number_makes goes_on tokens = remade (λ t ts spelled. (t, spelled.0, spelled.1, refl)) (λ n ts spelled. (spelled.0, (spelled.1, spelled.2), spelled.3))
+
+pub sample_number : HasSample IsNumber
+sample_number = sample_as (λ t. pos (digits_value 10 t.text)) (λ t ts spelled. (t, spelled.0, spelled.1, refl)) sample_numeral
+
+abbrev pub ctor_parts : Name × (Unit {0} × (ℤ × Unit {0})) → List Lexeme → Type 0
+ctor_parts = IsName ⊗ (IsSign RoundOpen ⊗ (IsNumber ⊗ IsSign RoundClose))
+
+pub ctor_makes : (goes_on : Word → Type 0) (tokens : List Lexeme) → Makes ctor_parts IsCtor (λ v. record { name = v.0; rank = v.1.1.0 }) goes_on tokens
+ctor_makes goes_on tokens = remade (λ v ts spelled. spelled) (λ c ts spelled. ((c.name, (tt, (c.rank, tt))), spelled, refl))
+
+pub sample_ctor : HasSample IsCtor
+sample_ctor = sample_as (λ (v : Name × (Unit {0} × (ℤ × Unit {0}))). record { name = v.0; rank = v.1.1.0 }) (λ v ts spelled. spelled) (sample_pair sample_name (sample_pair (sample_sign RoundOpen) (sample_pair sample_number (sample_sign RoundClose))))
+
+pub ctor_starts : AllStartIn (λ w. w ≡ Id) IsCtor
+ctor_starts = record { starts = λ c ts spelled. starts_joined (λ w. w ≡ Id) _ _ ts (name_starts.starts c.name) spelled }
+
+pub ctors_listed : IsListed IsComma comma IsCtor closed CurlyClose
+ctors_listed = comma_listed IsCtor CurlyClose ctor_starts (λ h. cc) (λ h. cc)
+
+pub sample_items : {A : Type 0} (between : Unit {0} → List Lexeme → Type 0) (form : A → List Lexeme → Type 0) (close : Word) → HasSample form → HasSample (items_to between form close)
+sample_items {A} between form close sample = sample_as (λ (v : A × (List A × Unit {0})). v.0 ∷ v.1.0) ((items_make between form close []).into) (sample_pair sample (sample_tail between form close))
+
+pub sample_ctors : HasSample AreCtors
+sample_ctors = sample_as (λ (v : Unit {0} × List CtorItem). v.1) (λ v ts spelled. spelled) (sample_pair (sample_sign CurlyOpen) (sample_items IsComma IsCtor CurlyClose sample_ctor))
+
+abbrev pub field_parts : Name × (Unit {0} × Name) → List Lexeme → Type 0
+field_parts = IsName ⊗ (IsSign Colon ⊗ IsSort)
+
+pub field_makes : (goes_on : Word → Type 0) (tokens : List Lexeme) → Makes field_parts IsField (λ v. record { name = v.0; sort = v.1.1 }) goes_on tokens
+field_makes goes_on tokens = remade (λ v ts spelled. spelled) (λ f ts spelled. ((f.name, (tt, f.sort)), spelled, refl))
+
+pub field_starts : AllStartIn (λ w. w ≡ Id) IsField
+field_starts = record { starts = λ f ts spelled. starts_joined (λ w. w ≡ Id) _ _ ts (name_starts.starts f.name) spelled }
+
+pub fields_listed : IsListed IsComma comma IsField closed SquareClose
+fields_listed = comma_listed IsField SquareClose field_starts (λ h. cc) (λ h. cc)
+
+pub fields_make : (tokens : List Lexeme) → IsNext SquareOpen tokens → Makes AreFields AreFieldsOrNone (λ fs. fs) square_word tokens
+fields_make tokens is_next = stands tokens (λ fs ts spelled. inr spelled) (λ fs ts spelled. back fs ts spelled) (starts_next SquareOpen square_word tokens is_next refl)
+  where
+    back : (fs : List FieldItem) (ts : List Lexeme) → AreFieldsOrNone fs ts → (ts ≡ []) ⊎ ((gs : List FieldItem) × AreFields gs ts × (fs ≡ gs))
+    back fs ts (inl none) = inl none.1
+    back fs ts (inr spelled) = inr (fs, spelled, refl)
+
+fields_start : (fs : List FieldItem) (ts : List Lexeme) → AreFieldsOrNone fs ts → ((fs ≡ []) × (ts ≡ [])) ⊎ StartsIn square_word ts
+fields_start fs ts (inl none) = inl none
+fields_start fs ts (inr spelled) = inr (starts_joined square_word _ _ ts ((sign_starts SquareOpen).starts tt) spelled)
+
+pub fields_none : (tokens : List Lexeme) → IsOther SquareOpen tokens → IsRead AreFieldsOrNone square_word tokens [] tokens
+fields_none tokens is_other = left_out square_word tokens [] (inl (refl, refl)) fields_start (stops_other SquareOpen tokens is_other)
+
+pub sample_fields : HasSample AreFieldsOrNone
+sample_fields = record { value = []; tokens = []; spelled = inl (refl, refl) }
+
+pub ends_fields : Ends square_word AreCtors closed
+ends_fields = ends_starting AreCtors closed (λ w is_curly is_square. let e : CurlyOpen ≡ SquareOpen = sym is_curly ∙ is_square in cc)
+    (record { starts = λ cs ts spelled. starts_joined (λ w. w ≡ CurlyOpen) _ _ ts ((sign_starts CurlyOpen).starts tt) spelled })
+
+abbrev pub type_parts : Name × (List FieldItem × List CtorItem) → List Lexeme → Type 0
+type_parts = IsName ⊗ (AreFieldsOrNone ⊗ AreCtors)
+
+pub type_makes : (goes_on : Word → Type 0) (tokens : List Lexeme) → Makes type_parts IsTypeItem (λ v. record { name = v.0; fields = v.1.0; ctors = v.1.1 }) goes_on tokens
+type_makes goes_on tokens = remade (λ v ts spelled. spelled) (λ t ts spelled. ((t.name, (t.fields, t.ctors)), spelled, refl))
+
+pub sample_type : HasSample IsTypeItem
+sample_type = sample_as (λ (v : Name × (List FieldItem × List CtorItem)). record { name = v.0; fields = v.1.0; ctors = v.1.1 }) (λ v ts spelled. spelled) (sample_pair sample_name (sample_pair sample_fields sample_ctors))

@@ -1,0 +1,28 @@
+use Rattle.model_program.proofs.Forms.{as_read, as_fails, then_read, then_fails, first_fails, ends_closed, sample_pair}
+use Rattle.model_program.proofs.Words.{sample_sign}
+use Rattle.label_reader.proofs.Exits.{exit}
+use Rattle.label_reader.proofs.Names.{sample_name}
+use Rattle.program_reader.proofs.XForms.{sample_x}
+use Rattle.program_reader.proofs.ItemForms.{def_makes, sample_into, ends_into}
+use Rattle.program_reader.proofs.items.read_def_item.Goals as goal
+
+pub returns-in_err-name : goal.returns-in_err-name
+returns-in_err-name c = exit _ _ _ c.from_residual.result c.from_residual.ensures.1 (as_fails _ (def_makes _ _) (first_fails _ (ends_closed _ _) (sample_pair (sample_sign _) (sample_pair sample_name (sample_pair sample_into (sample_pair (sample_sign _) sample_x)))) c.in_err-name.ensures))
+
+pub returns-in_err-rest : goal.returns-in_err-rest
+returns-in_err-rest c = exit _ _ _ c.from_residual-in_err-rest.result c.from_residual-in_err-rest.ensures.1 (as_fails _ (def_makes _ _) (then_fails _ (ends_closed _ _) c.in_ok-name.ensures (first_fails _ (ends_closed _ _) (sample_pair sample_name (sample_pair sample_into (sample_pair (sample_sign _) sample_x))) c.in_err-rest.ensures)))
+
+pub returns-in_err-from : goal.returns-in_err-from
+returns-in_err-from c = exit _ _ _ c.from_residual-in_err-from.result c.from_residual-in_err-from.ensures.1 (as_fails _ (def_makes _ _) (then_fails _ (ends_closed _ _) c.in_ok-name.ensures (then_fails _ (ends_closed _ _) c.in_ok-rest.ensures (first_fails _ (ends_closed _ _) (sample_pair sample_into (sample_pair (sample_sign _) sample_x)) c.in_err-from.ensures))))
+
+pub returns-in_err-into : goal.returns-in_err-into
+returns-in_err-into c = exit _ _ _ c.from_residual-in_err-into.result c.from_residual-in_err-into.ensures.1 (as_fails _ (def_makes _ _) (then_fails _ (ends_closed _ _) c.in_ok-name.ensures (then_fails _ (ends_closed _ _) c.in_ok-rest.ensures (then_fails _ (ends_closed _ _) c.in_ok-from.ensures (first_fails _ ends_into (sample_pair (sample_sign _) sample_x) c.in_err-into.ensures)))))
+
+pub returns-in_err-rest-2 : goal.returns-in_err-rest-2
+returns-in_err-rest-2 c = exit _ _ _ c.from_residual-in_err-rest-2.result c.from_residual-in_err-rest-2.ensures.1 (as_fails _ (def_makes _ _) (then_fails _ (ends_closed _ _) c.in_ok-name.ensures (then_fails _ (ends_closed _ _) c.in_ok-rest.ensures (then_fails _ (ends_closed _ _) c.in_ok-from.ensures (then_fails _ ends_into c.in_ok-into.ensures (first_fails _ (ends_closed _ _) sample_x c.in_err-rest-2.ensures))))))
+
+pub returns-in_err-value : goal.returns-in_err-value
+returns-in_err-value c = exit _ _ _ c.from_residual-in_err-value.result c.from_residual-in_err-value.ensures.1 (as_fails _ (def_makes _ _) (then_fails _ (ends_closed _ _) c.in_ok-name.ensures (then_fails _ (ends_closed _ _) c.in_ok-rest.ensures (then_fails _ (ends_closed _ _) c.in_ok-from.ensures (then_fails _ ends_into c.in_ok-into.ensures (then_fails _ (ends_closed _ _) c.in_ok-rest-2.ensures c.in_err-value.ensures))))))
+
+pub returns : goal.returns
+returns c = as_read (def_makes _ _) (then_read (ends_closed _ _) c.in_ok-name.ensures (then_read (ends_closed _ _) c.in_ok-rest.ensures (then_read (ends_closed _ _) c.in_ok-from.ensures (then_read ends_into c.in_ok-into.ensures (then_read (ends_closed _ _) c.in_ok-rest-2.ensures c.in_ok-value.ensures)))))

@@ -1,0 +1,6 @@
+pub mod Operations
+pub mod Goings
+pub mod Nodes
+pub mod Assertions
+pub mod Items
+pub mod Refusals

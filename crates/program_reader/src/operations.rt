@@ -1,0 +1,77 @@
+//! Which keywords are operations.
+
+ghost use Rattle.std.specs.Prelude.{◌≡◌, ◌∷◌, MatchOption};
+ghost use Rattle.model_grammar.specs.Operators.{op1_word, op2_word};
+ghost use Rattle.fast_lex.specs.Tokens.{lexeme};
+ghost use Rattle.label_reader.specs.Results.{lexemes};
+ghost use Rattle.program_reader.specs.Operations.{IsNoOp1, IsNoOp2, NoOp1, NoOp2};
+
+use fast_lex::{Token, Word};
+use fast_syntax::{Op1, Op2};
+use label_reader::is_same;
+
+fn op1_of(word: Word) -> Option<Op1>
+    ensures { MatchOption result (IsNoOp1 word) (λ op. word ≡ op1_word op) }
+{
+    if is_same(word, Word::Complement) {
+        return Some(Op1::Complement);
+    }
+    if is_same(word, Word::Minimize) {
+        return Some(Op1::Minimize);
+    }
+    if is_same(word, Word::Domain) {
+        return Some(Op1::Domain);
+    }
+    if is_same(word, Word::GetWitness) {
+        return Some(Op1::GetWitness);
+    }
+    None
+}
+
+fn op2_of(word: Word) -> Option<Op2>
+    ensures { MatchOption result (IsNoOp2 word) (λ op. word ≡ op2_word op) }
+{
+    if is_same(word, Word::Intersect) {
+        return Some(Op2::Intersect);
+    }
+    if is_same(word, Word::Union) {
+        return Some(Op2::Union);
+    }
+    if is_same(word, Word::Difference) {
+        return Some(Op2::Difference);
+    }
+    if is_same(word, Word::PreImage) {
+        return Some(Op2::PreImage);
+    }
+    if is_same(word, Word::Compose) {
+        return Some(Op2::Compose);
+    }
+    if is_same(word, Word::Restrict) {
+        return Some(Op2::Restrict);
+    }
+    if is_same(word, Word::RestrictOut) {
+        return Some(Op2::RestrictOut);
+    }
+    if is_same(word, Word::Apply) {
+        return Some(Op2::Apply);
+    }
+    None
+}
+
+/// The operation on one operand with which the tokens begin.
+pub(crate) fn op1_at<'t>(tokens: &'t [Token<'t>]) -> Option<(Token<'t>, Op1, &'t [Token<'t>])>
+    ensures { MatchOption result (NoOp1 (lexemes tokens.now)) (λ x. (lexemes tokens.now ≡ lexeme x.0 ∷ lexemes x.2.now) × (x.0.word ≡ op1_word x.1)) }
+{
+    let (first, rest) = tokens.split_first()?;
+    let op = op1_of(first.word)?;
+    Some((*first, op, rest))
+}
+
+/// The operation on two operands with which the tokens begin.
+pub(crate) fn op2_at<'t>(tokens: &'t [Token<'t>]) -> Option<(Token<'t>, Op2, &'t [Token<'t>])>
+    ensures { MatchOption result (NoOp2 (lexemes tokens.now)) (λ x. (lexemes tokens.now ≡ lexeme x.0 ∷ lexemes x.2.now) × (x.0.word ≡ op2_word x.1)) }
+{
+    let (first, rest) = tokens.split_first()?;
+    let op = op2_of(first.word)?;
+    Some((*first, op, rest))
+}

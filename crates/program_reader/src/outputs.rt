@@ -1,0 +1,62 @@
+//! Output terms.
+
+ghost use Rattle.std.specs.Prelude.{map, []};
+ghost use Rattle.model_program.specs.Reads.{closed};
+ghost use Rattle.model_grammar.specs.Terms.{IsOut};
+ghost use Rattle.fast_syntax.specs.Plain.{plain_out};
+ghost use Rattle.label_reader.specs.Results.{lexemes, Reads};
+ghost use Rattle.program_reader.specs.Nodes.{AreOutsToClose};
+
+use crate::labels::read_labels;
+use fast_lex::{Token, Word};
+use fast_syntax::items::Out;
+use label_reader::{Stop, is_next, read_name, read_sign};
+use std::alloc::Global;
+
+/// A child, a transformation of a child, or a new node.
+#[cycle(output)]
+pub(crate) fn read_out<'t>(
+    alloc: Global,
+    tokens: &'t [Token<'t>],
+) -> Result<(Out, &'t [Token<'t>]), Stop<'t>>
+    ensures { Reads IsOut closed tokens.now (λ x. (plain_out x.0, lexemes x.1.now)) result }
+{
+    if is_next(tokens, Word::Id) {
+        let (name, rest) = read_name(alloc, tokens)?;
+        return Ok((Out::Child(name), rest));
+    }
+    let rest = read_sign(tokens, Word::RoundOpen)?;
+    let (name, rest) = read_name(alloc, rest)?;
+    if is_next(rest, Word::Id) {
+        let (child, rest) = read_name(alloc, rest)?;
+        let rest = read_sign(rest, Word::RoundClose)?;
+        return Ok((Out::Call(name, child), rest));
+    }
+    let (labels, rest) = read_labels(alloc, rest)?;
+    let (children, rest) = read_outs(alloc, rest)?;
+    Ok((Out::Node(name, labels, children), rest))
+}
+
+/// The children of a new node, and the closing parenthesis.
+#[cycle(output)]
+fn read_outs<'t>(
+    alloc: Global,
+    tokens: &'t [Token<'t>],
+) -> Result<(Vec<Out>, &'t [Token<'t>]), Stop<'t>>
+    ensures { Reads AreOutsToClose closed tokens.now (λ x. (map plain_out x.0.items, lexemes x.1.now)) result }
+{
+    let mut all = Vec::new(alloc);
+    if is_next(tokens, Word::RoundClose) {
+        let rest = read_sign(tokens, Word::RoundClose)?;
+        return Ok((all, rest));
+    }
+    let (first, mut rest) = read_out(alloc, tokens)?;
+    all.push(first)?;
+    'items: while !is_next(rest, Word::RoundClose) {
+        let (next, after) = read_out(alloc, rest)?;
+        all.push(next)?;
+        rest = after;
+    }
+    let rest = read_sign(rest, Word::RoundClose)?;
+    Ok((all, rest))
+}

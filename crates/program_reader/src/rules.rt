@@ -1,0 +1,163 @@
+//! The rules of languages and transformations.
+
+ghost use Rattle.std.specs.Prelude.{map};
+ghost use Rattle.model_program.specs.Reads.{closed};
+ghost use Rattle.model_program.specs.Grammar.{IsDemand, AreVars, IsGiven};
+ghost use Rattle.model_grammar.specs.Grammar.{IsGuard, IsRule, IsOutRule, InBraces};
+ghost use Rattle.fast_syntax.specs.View.{plain_name, plain_demand};
+ghost use Rattle.fast_syntax.specs.Plain.{plain_guard, plain_rule, plain_out_rule};
+ghost use Rattle.label_reader.specs.Results.{lexemes, Reads};
+ghost use Rattle.program_reader.specs.Goings.{guard_words, given_words, rule_words};
+
+use crate::outputs::read_out;
+use fast_lex::{Token, Word};
+use fast_syntax::expressions::Expr;
+use fast_syntax::items::{OutRule, Rule};
+use fast_syntax::{Demand, Name};
+use label_reader::{Stop, is_next, read_level, read_name, read_sign, skip_comma};
+use model_grammar::Level;
+use std::alloc::Global;
+
+fn read_demand<'t>(
+    alloc: Global,
+    tokens: &'t [Token<'t>],
+) -> Result<(Demand, &'t [Token<'t>]), Stop<'t>>
+    ensures { Reads IsDemand closed tokens.now (λ x. (plain_demand x.0, lexemes x.1.now)) result }
+{
+    let rest = read_sign(tokens, Word::RoundOpen)?;
+    let (language, rest) = read_name(alloc, rest)?;
+    let (child, rest) = read_name(alloc, rest)?;
+    let rest = read_sign(rest, Word::RoundClose)?;
+    Ok((Demand { language, child }, rest))
+}
+
+fn read_vars<'t>(
+    alloc: Global,
+    tokens: &'t [Token<'t>],
+) -> Result<(Vec<Name>, &'t [Token<'t>]), Stop<'t>>
+    ensures { Reads AreVars closed tokens.now (λ x. (map plain_name x.0.items, lexemes x.1.now)) result }
+{
+    let start = read_sign(tokens, Word::RoundOpen)?;
+    let mut all = Vec::new(alloc);
+    if is_next(start, Word::RoundClose) {
+        let rest = read_sign(start, Word::RoundClose)?;
+        return Ok((all, rest));
+    }
+    let (first, mut rest) = read_name(alloc, start)?;
+    all.push(first)?;
+    'items: while !is_next(rest, Word::RoundClose) {
+        let (next, after) = read_name(alloc, skip_comma(rest))?;
+        all.push(next)?;
+        rest = after;
+    }
+    let rest = read_sign(rest, Word::RoundClose)?;
+    Ok((all, rest))
+}
+
+fn read_guard<'t>(
+    alloc: Global,
+    tokens: &'t [Token<'t>],
+) -> Result<(Option<Expr>, &'t [Token<'t>]), Stop<'t>>
+    ensures { Reads IsGuard guard_words tokens.now (λ x. (plain_guard x.0, lexemes x.1.now)) result }
+{
+    if !is_next(tokens, Word::Where) {
+        return Ok((None, tokens));
+    }
+    let rest = read_sign(tokens, Word::Where)?;
+    let (guard, rest) = read_level(alloc, Level::E, rest)?;
+    Ok((Some(guard), rest))
+}
+
+fn read_given<'t>(
+    alloc: Global,
+    tokens: &'t [Token<'t>],
+) -> Result<(Vec<Demand>, &'t [Token<'t>]), Stop<'t>>
+    ensures { Reads IsGiven given_words tokens.now (λ x. (map plain_demand x.0.items, lexemes x.1.now)) result }
+{
+    let mut all = Vec::new(alloc);
+    if !is_next(tokens, Word::Given) {
+        return Ok((all, tokens));
+    }
+    let start = read_sign(tokens, Word::Given)?;
+    let (first, mut rest) = read_demand(alloc, start)?;
+    all.push(first)?;
+    'items: while is_next(rest, Word::RoundOpen) {
+        let (next, after) = read_demand(alloc, rest)?;
+        all.push(next)?;
+        rest = after;
+    }
+    Ok((all, rest))
+}
+
+fn read_rule<'t>(
+    alloc: Global,
+    tokens: &'t [Token<'t>],
+) -> Result<(Rule, &'t [Token<'t>]), Stop<'t>>
+    ensures { Reads IsRule rule_words tokens.now (λ x. (plain_rule x.0, lexemes x.1.now)) result }
+{
+    let (ctor, rest) = read_name(alloc, tokens)?;
+    let (vars, rest) = read_vars(alloc, rest)?;
+    let (guard, rest) = read_guard(alloc, rest)?;
+    let (given, rest) = read_given(alloc, rest)?;
+    Ok((
+        Rule {
+            ctor,
+            vars,
+            guard,
+            given,
+        },
+        rest,
+    ))
+}
+
+fn read_out_rule<'t>(
+    alloc: Global,
+    tokens: &'t [Token<'t>],
+) -> Result<(OutRule, &'t [Token<'t>]), Stop<'t>>
+    ensures { Reads IsOutRule closed tokens.now (λ x. (plain_out_rule x.0, lexemes x.1.now)) result }
+{
+    let (rule, rest) = read_rule(alloc, tokens)?;
+    let rest = read_sign(rest, Word::To)?;
+    let (out, rest) = read_out(alloc, rest)?;
+    Ok((OutRule { rule, out }, rest))
+}
+
+pub(crate) fn read_rules<'t>(
+    alloc: Global,
+    tokens: &'t [Token<'t>],
+) -> Result<(Vec<Rule>, &'t [Token<'t>]), Stop<'t>>
+    ensures { Reads (InBraces IsRule) closed tokens.now (λ x. (map plain_rule x.0.items, lexemes x.1.now)) result }
+{
+    let start = read_sign(tokens, Word::CurlyOpen)?;
+    let mut all = Vec::new(alloc);
+    let (first, mut rest) = read_rule(alloc, start)?;
+    all.push(first)?;
+    'items: while !is_next(rest, Word::CurlyClose) {
+        let behind = read_sign(rest, Word::Bar)?;
+        let (next, after) = read_rule(alloc, behind)?;
+        all.push(next)?;
+        rest = after;
+    }
+    let rest = read_sign(rest, Word::CurlyClose)?;
+    Ok((all, rest))
+}
+
+pub(crate) fn read_out_rules<'t>(
+    alloc: Global,
+    tokens: &'t [Token<'t>],
+) -> Result<(Vec<OutRule>, &'t [Token<'t>]), Stop<'t>>
+    ensures { Reads (InBraces IsOutRule) closed tokens.now (λ x. (map plain_out_rule x.0.items, lexemes x.1.now)) result }
+{
+    let start = read_sign(tokens, Word::CurlyOpen)?;
+    let mut all = Vec::new(alloc);
+    let (first, mut rest) = read_out_rule(alloc, start)?;
+    all.push(first)?;
+    'items: while !is_next(rest, Word::CurlyClose) {
+        let behind = read_sign(rest, Word::Bar)?;
+        let (next, after) = read_out_rule(alloc, behind)?;
+        all.push(next)?;
+        rest = after;
+    }
+    let rest = read_sign(rest, Word::CurlyClose)?;
+    Ok((all, rest))
+}

@@ -1,0 +1,3 @@
+pub mod Counting
+pub mod Readings
+pub mod Once

@@ -1,0 +1,3 @@
+pub mod ConstantForms
+pub mod TreeForms
+pub mod Rows
