@@ -1,0 +1,4 @@
+pub mod Carry
+pub mod Told
+pub mod Sight
+pub mod Wider

@@ -1,0 +1,5 @@
+use Rattle.model_meaning.proofs.Definitions.{definitions}
+use Rattle.model_meaning.proofs.definitions_stand_for_expressions.Goals as goal
+
+pub returns : goal.returns
+returns c = definitions

@@ -1,0 +1,11 @@
+pub mod Apart
+pub mod Fronts
+pub mod Shown
+pub mod Lines
+pub mod Laws
+pub mod Unread
+pub mod Forms
+pub mod Complete
+pub mod Told
+pub mod Free
+pub mod Far

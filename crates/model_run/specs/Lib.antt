@@ -1,0 +1,17 @@
+pub mod Parts
+pub mod Seen
+pub mod Plain
+pub mod Loads
+pub mod Counts
+pub mod Order
+pub mod Causes
+pub mod Words
+pub mod Outcomes
+pub mod Texts
+pub mod Built
+pub mod Generator
+pub mod Scripts
+pub mod Lines
+pub mod Report
+pub mod Examples
+pub mod Laws

@@ -1,0 +1,140 @@
+-- When two output terms are the same, and transformations of which no two rules meet, or none copies a child.
+use Rattle.std.specs.Prelude.{◌≡◌, ◌⊎◌, ◌<◌, ℕ, Bool, true, ◌&&◌, ◌||◌, ◌==◌, nat_lt, List, [], ◌∷◌, Some, map, slice_get}
+use Rattle.fast_fault.specs.declared.place.Pos.{Pos}
+use Rattle.model_tree.specs.Tree.{LabelTree}
+use Rattle.model_tree.specs.Signature.{PlainField, HasType}
+use Rattle.model_program.specs.Syntax.{Name}
+use Rattle.model_grammar.specs.declared.Op2.TheVariants.{Intersect, Union, Difference, PreImage, Compose, Restrict, RestrictOut, Apply}
+use Rattle.model_grammar.specs.Syntax.{Expr, Out, child, call, node, Outs, no_out, and_out, X, named, one, two, literal, Xs, no_x, and_x, OutRule, Item}
+use Rattle.model_grammar.specs.Places.{bare}
+use Rattle.model_form.specs.Same.{same_form}
+use Rattle.model_names.specs.Declared.{out_rules_of}
+use Rattle.model_meaning.specs.Types.{input_of}
+use Rattle.model_meaning.specs.Languages.{applies}
+use Rattle.model_meaning.specs.Outputs.{number_named}
+use Rattle.model_meaning.specs.Closed.{closed}
+use Rattle.model_meaning.specs.Reached.{Reaches}
+use Rattle.model_guard.specs.Forms.{is_whole, form_of}
+
+-- ---- the same terms
+
+-- the children that two variables name have one place
+abbrev pub IsSamePlace : List Name → Name → List Name → Name → Type 0
+IsSamePlace vars y others z = number_named (map (λ v. v.text) vars) y.text ≡ number_named (map (λ v. v.text) others) z.text
+
+module _ (fields : List PlainField) where
+  -- the same written expression, places aside, or whole numbers with equal forms
+  abbrev pub IsSameLabel : Expr → Expr → Type 0
+  IsSameLabel d e = (bare d ≡ bare e) ⊎ ((is_whole fields d ≡ true) × (is_whole fields e ≡ true) × (same_form (form_of fields d) (form_of fields e) ≡ true))
+
+  abbrev pub AreSameLabels : List Expr → List Expr → Type 0
+  AreSameLabels [] [] = Unit {0}
+  AreSameLabels [] (e ∷ es) = ⊥
+  AreSameLabels (d ∷ ds) [] = ⊥
+  AreSameLabels (d ∷ ds) (e ∷ es) = IsSameLabel d e × AreSameLabels ds es
+
+  module _ (vars others : List Name) where
+    abbrev mutual
+      -- two terms of rules with these variables have one shape, and the same labels at each place
+      pub IsSameTerm : Out → Out → Type 0
+      IsSameTerm (child y) (child z) = IsSamePlace vars y others z
+      IsSameTerm (child y) (call q z) = ⊥
+      IsSameTerm (child y) (node n es outs) = ⊥
+      IsSameTerm (call p y) (child z) = ⊥
+      IsSameTerm (call p y) (call q z) = (p.text ≡ q.text) × IsSamePlace vars y others z
+      IsSameTerm (call p y) (node n es outs) = ⊥
+      IsSameTerm (node m ds parts) (child z) = ⊥
+      IsSameTerm (node m ds parts) (call q z) = ⊥
+      IsSameTerm (node m ds parts) (node n es outs) = (m.text ≡ n.text) × AreSameLabels ds es × AreSameTerms parts outs
+
+      pub AreSameTerms : Outs → Outs → Type 0
+      AreSameTerms no_out no_out = Unit {0}
+      AreSameTerms no_out (and_out out outs) = ⊥
+      AreSameTerms (and_out part parts) no_out = ⊥
+      AreSameTerms (and_out part parts) (and_out out outs) = IsSameTerm part out × AreSameTerms parts outs
+
+-- ---- terms that name a child twice
+
+abbrev mutual
+  -- the term names the child
+  pub Names : Out → List ℕ → Type 0
+  Names (child y) v = y.text ≡ v
+  Names (call q y) v = y.text ≡ v
+  Names (node n labels outs) v = NamesInOne outs v
+
+  pub NamesInOne : Outs → List ℕ → Type 0
+  NamesInOne no_out v = ⊥
+  NamesInOne (and_out out outs) v = Names out v ⊎ NamesInOne outs v
+
+abbrev mutual
+  -- in two places
+  pub NamesTwice : Out → List ℕ → Type 0
+  NamesTwice (child y) v = ⊥
+  NamesTwice (call q y) v = ⊥
+  NamesTwice (node n labels outs) v = NamesTwiceIn outs v
+
+  pub NamesTwiceIn : Outs → List ℕ → Type 0
+  NamesTwiceIn no_out v = ⊥
+  NamesTwiceIn (and_out out outs) v = NamesTwice out v ⊎ (Names out v × NamesInOne outs v) ⊎ NamesTwiceIn outs v
+
+-- ---- plain and linear transformations
+
+-- P holds of some name that a transformation in the closed expression reaches: of both parts of a composition, and of what a restriction restricts
+abbrev pub ReachesSome : List Item → (List ℕ → Type 0) → X → Type 0
+ReachesSome items P (named n) = (q : List ℕ) × Reaches items n.text q × P q
+ReachesSome items P (one op place x) = ⊥
+ReachesSome items P (two Compose place x y) = ReachesSome items P x ⊎ ReachesSome items P y
+ReachesSome items P (two Restrict place x y) = ReachesSome items P x
+ReachesSome items P (two RestrictOut place x y) = ReachesSome items P x
+ReachesSome items P (two Intersect place x y) = ⊥
+ReachesSome items P (two Union place x y) = ⊥
+ReachesSome items P (two Difference place x y) = ⊥
+ReachesSome items P (two PreImage place x y) = ⊥
+ReachesSome items P (two Apply place x y) = ⊥
+ReachesSome items P (literal name labels xs) = ⊥
+
+module _ (items : List Item) where
+  -- Rules are numbered from 0 here, and from 1 in a report.
+  -- two rules of a transformation, the first with the smaller number, have different terms and both apply to a tree
+  abbrev pub Meet : List ℕ → ℕ → ℕ → LabelTree → Type 0
+  Meet q i j t =
+      (i < j) × (r s : OutRule) × (slice_get (out_rules_of items q) i ≡ Some r) × (slice_get (out_rules_of items q) j ≡ Some s)
+      × ¬ (IsSameTerm (input_of items q).fields r.rule.vars s.rule.vars r.out s.out)
+      × HasType (input_of items q) t × (applies items (input_of items q) r.rule t ≡ true) × (applies items (input_of items q) s.rule t ≡ true)
+
+  -- the rule of a transformation names a child twice in its term
+  abbrev pub Copies : List ℕ → ℕ → OutRule → Type 0
+  Copies q i r = (slice_get (out_rules_of items q) i ≡ Some r) × ((v : List ℕ) × NamesTwice r.out v)
+
+  -- no two rules of a transformation that is reached meet
+  abbrev pub IsPlain : X → Type 0
+  IsPlain x = ¬ (ReachesSome items (λ q. (i j : ℕ) × (t : LabelTree) × Meet q i j t) (closed items x))
+
+  -- no rule of one copies
+  abbrev pub IsLinear : X → Type 0
+  IsLinear x = ¬ (ReachesSome items (λ q. (i : ℕ) × (r : OutRule) × Copies q i r) (closed items x))
+
+-- ---- compositions in an expression, as it is written
+
+abbrev mutual
+  -- (compose x y) stands in the expression
+  pub IsComposedIn : X → X → X → Type 0
+  IsComposedIn x y (named n) = ⊥
+  IsComposedIn x y (one op place e) = IsComposedIn x y e
+  IsComposedIn x y (two Compose place e f) = ((x ≡ e) × (y ≡ f)) ⊎ IsComposedIn x y e ⊎ IsComposedIn x y f
+  IsComposedIn x y (two Intersect place e f) = IsComposedIn x y e ⊎ IsComposedIn x y f
+  IsComposedIn x y (two Union place e f) = IsComposedIn x y e ⊎ IsComposedIn x y f
+  IsComposedIn x y (two Difference place e f) = IsComposedIn x y e ⊎ IsComposedIn x y f
+  IsComposedIn x y (two PreImage place e f) = IsComposedIn x y e ⊎ IsComposedIn x y f
+  IsComposedIn x y (two Restrict place e f) = IsComposedIn x y e ⊎ IsComposedIn x y f
+  IsComposedIn x y (two RestrictOut place e f) = IsComposedIn x y e ⊎ IsComposedIn x y f
+  IsComposedIn x y (two Apply place e f) = IsComposedIn x y e ⊎ IsComposedIn x y f
+  IsComposedIn x y (literal name labels xs) = IsComposedInOne x y xs
+
+  pub IsComposedInOne : X → X → Xs → Type 0
+  IsComposedInOne x y no_x = ⊥
+  IsComposedInOne x y (and_x e es) = IsComposedIn x y e ⊎ IsComposedInOne x y es
+
+-- a place that is before another
+abbrev pub is_before : Pos → Pos → Bool
+is_before p q = nat_lt p.line q.line || ((p.line == q.line) && nat_lt p.column q.column)
