@@ -1,0 +1,61 @@
+#!/usr/bin/env bash
+# Measures `fast check`: programs of K items, each a language, definition or assertion that names earlier and later ones,
+# and programs of one language with K rules. Prints milliseconds of a processor, the best of three, with the ratio for
+# each doubling of K.
+set -u
+here=$(cd "$(dirname "${BASH_SOURCE[0]}")/.." && pwd)
+folder=$(mktemp -d)
+trap 'rm -rf "$folder"' EXIT
+
+"$here/fast" run /dev/null >/dev/null
+program=$here/crates/fast/out/fast
+
+items() {
+  awk -v count="$1" 'BEGIN {
+    print "type L[i : Int, s : String, b : Bool]{nil(0), cons(1)}"
+    for (own = 1; own < count; own += 3) {
+      printf "lang p%d : L { nil() where i %% 7 = 3 | cons(y) where s != \"%d\" and (b or 2 * i < %d) given (p%d y) }\n", own, own, own, own + 3 < count ? own + 3 : 1
+      printf "def d%d : L := (union p%d (complement p1))\n", own, own
+      printf "assert-true d%d == p%d\n", own, own
+    }
+  }'
+}
+
+rules() {
+  awk -v count="$1" 'BEGIN {
+    print "type L[i : Int]{nil(0), cons(1)}"
+    printf "lang p : L { nil()"
+    for (own = 1; own < count; own++) printf "\n  | cons(y) where i = %d given (p y)", own
+    print " }"
+  }'
+}
+
+measure() {
+  local least= took TIMEFORMAT=%U
+  for _ in 1 2 3; do
+    took=$( { time "$program" check "$1" >/dev/null 2>&1; } 2>&1 | tr -d .)
+    took=$((10#$took))
+    if [ -z "$least" ] || [ "$took" -lt "$least" ]; then least=$took; fi
+  done
+  echo "$least"
+}
+
+# Times checks of programs of this kind, for each of these K.
+table() {
+  local kind=$1 count took previous=
+  shift
+  printf '%6s %6s %8s %14s %8s\n' "$kind" K bytes milliseconds ratio
+  for count in "$@"; do
+    "$kind" "$count" >"$folder/text"
+    took=$(measure "$folder/text")
+    awk -v count="$count" -v bytes="$(wc -c <"$folder/text")" -v took="$took" -v previous="$previous" 'BEGIN {
+      printf "%6s %6d %8d %14d", "", count, bytes, took
+      if (previous > 0) printf " %8.2f", took / previous
+      printf "\n"
+    }'
+    previous=$took
+  done
+}
+
+table items 1250 2500 5000 10000
+table rules 512 1024 2048 4096

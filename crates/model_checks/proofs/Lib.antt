@@ -1,0 +1,4 @@
+pub mod FirstOf
+pub mod Soundness
+pub mod SoundParts
+pub mod SoundWhole

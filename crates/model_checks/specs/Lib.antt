@@ -1,0 +1,12 @@
+pub mod Failures
+pub mod Sorts
+pub mod Forms
+pub mod Labels
+pub mod Types
+pub mod Rules
+pub mod Expressions
+pub mod Programs
+pub mod Refused
+pub mod Vectors
+pub mod Judged
+pub mod Sound

@@ -1,0 +1,97 @@
+-- The parts of a chain, one after another.
+use Rattle.std.proofs.Common.{◌≡◌, Bool, true, false, ◌||◌, List, [], ◌∷◌, ◌++◌, Option, Some, None, refl, sym, ap, ap₂, ◌∙◌, append_assoc, append-nil}
+use Rattle.fast_fault.specs.declared.place.Pos.{Pos}
+use Rattle.fast_fault.specs.declared.refusal.Refusal.{Refusal}
+use Rattle.model_tree.specs.Signature.{Sort, wholes}
+use Rattle.model_form.specs.Form.{Form}
+use Rattle.model_form.specs.Sums.{Part}
+use Rattle.model_grammar.specs.Syntax.{Expr, Parts, no_parts, part}
+use Rattle.model_checks.specs.Failures.{first_among}
+use Rattle.model_checks.specs.Sorts.{Scope, needs_sort}
+use Rattle.model_checks.specs.Forms.{has_field, have_field, form_of, added, with_part, form_behind, product_of, kept, remainder_of, divisor_of}
+use Rattle.model_checks.specs.Labels.{label_failures, sorted_failures, operands_failures, steps_failures, multiplied, divided}
+use Rattle.program_check.specs.Known.{joined, step_failures, step_form}
+use Rattle.program_check.specs.Notes.{Notes}
+use Rattle.program_check.proofs.Noting.{more, done}
+
+pub or_false : (a : Bool) → (a || false) ≡ a
+or_false true = refl
+or_false false = refl
+
+or_assoc : (a b c : Bool) → ((a || b) || c) ≡ (a || (b || c))
+or_assoc true b c = refl
+or_assoc false b c = refl
+
+-- ---- failing conditions
+
+pub sorted_more : (s : Scope) (sort : Sort) (e : Expr) (m : Bool) (all rest : Parts) (a b whole : Option Refusal) → all ≡ part m e rest → Notes a b (sorted_failures s sort e)
+    → first_among a (operands_failures s sort all) ≡ whole → first_among b (operands_failures s sort rest) ≡ whole
+sorted_more s sort e m all rest a b whole split noted left =
+    more (operands_failures s sort all) (operands_failures s sort rest) whole noted (ap (operands_failures s sort) split ∙ sym (append_assoc (label_failures s e) (needs_sort s sort e) (operands_failures s sort rest))) left
+
+pub sorted_done : (s : Scope) (sort : Sort) (all none : Parts) (a b : Option Refusal) → none ≡ no_parts → first_among b (operands_failures s sort none) ≡ first_among a (operands_failures s sort all) → Notes a b (operands_failures s sort all)
+sorted_done s sort all none a b empty left = done a b (operands_failures s sort all) (operands_failures s sort none) (ap (operands_failures s sort) empty) left
+
+steps_split : (s : Scope) (place : Pos) (has : Bool) (before : Option Form) (m : Bool) (e : Expr) (rest : Parts)
+    → steps_failures s place has before (part m e rest) ≡ step_failures s place has before m e ++ steps_failures s place (has || has_field s e) (step_form s has before m e) rest
+steps_split s place has before true e rest =
+    let last = steps_failures s place (has || has_field s e) (remainder_of before (divisor_of e)) rest in
+    ap (λ l. label_failures s e ++ l) (sym (append_assoc (needs_sort s wholes e) (divided e) last)) ∙ sym (append_assoc (label_failures s e) (needs_sort s wholes e ++ divided e) last)
+steps_split s place has before false e rest =
+    let last = steps_failures s place (has || has_field s e) (kept (product_of has before (has_field s e) (form_of s e))) rest in
+    let step = multiplied place has before (has_field s e) (form_of s e) in
+    ap (λ l. label_failures s e ++ l) (sym (append_assoc (needs_sort s wholes e) step last)) ∙ sym (append_assoc (label_failures s e) (needs_sort s wholes e ++ step) last)
+
+pub steps_more : (s : Scope) (place : Pos) (e : Expr) (m : Bool) (all rest : Parts) (has has2 : Bool) (form form2 : Option Form) (a b whole : Option Refusal) → all ≡ part m e rest → has2 ≡ (has || has_field s e) → form2 ≡ step_form s has form m e
+    → Notes a b (step_failures s place has form m e) → first_among a (steps_failures s place has form all) ≡ whole → first_among b (steps_failures s place has2 form2 rest) ≡ whole
+steps_more s place e m all rest has has2 form form2 a b whole split has_is form_is noted left =
+    more (steps_failures s place has form all) (steps_failures s place has2 form2 rest) whole noted
+    (ap (steps_failures s place has form) split ∙ steps_split s place has form m e rest ∙ ap₂ (λ h f. step_failures s place has form m e ++ steps_failures s place h f rest) (sym has_is) (sym form_is)) left
+
+pub steps_done : (s : Scope) (place : Pos) (all none : Parts) (has has2 : Bool) (form form2 : Option Form) (a b : Option Refusal) → none ≡ no_parts → first_among b (steps_failures s place has2 form2 none) ≡ first_among a (steps_failures s place has form all) → Notes a b (steps_failures s place has form all)
+steps_done s place all none has has2 form form2 a b empty left = done a b (steps_failures s place has form all) (steps_failures s place has2 form2 none) (ap (steps_failures s place has2 form2) empty) left
+
+-- ---- fields
+
+pub has_more : (s : Scope) (e : Expr) (m : Bool) (all rest : Parts) (h k h2 whole : Bool) → all ≡ part m e rest → k ≡ has_field s e → h2 ≡ (h || k) → (h || have_field s all) ≡ whole → (h2 || have_field s rest) ≡ whole
+has_more s e m all rest h k h2 whole split k_is h2_is left =
+    ap (λ x. x || have_field s rest) h2_is ∙ or_assoc h k (have_field s rest) ∙ ap (λ x. h || (x || have_field s rest)) k_is ∙ ap (λ ps. h || have_field s ps) (sym split) ∙ left
+
+pub has_done : (s : Scope) (none : Parts) (h whole : Bool) → none ≡ no_parts → (h || have_field s none) ≡ whole → h ≡ whole
+has_done s none h whole empty left = sym (or_false h) ∙ ap (λ ps. h || have_field s ps) (sym empty) ∙ left
+
+-- ---- sums
+
+joined_one : (acc : Option (List Part)) (m : Bool) (f : Option Form) (rest : Option (List Part)) → joined (joined acc (with_part m f (Some []))) rest ≡ joined acc (with_part m f rest)
+joined_one None m f rest = refl
+joined_one (Some ps) m None rest = refl
+joined_one (Some ps) m (Some f) None = refl
+joined_one (Some ps) m (Some f) (Some later) = ap Some (append_assoc ps (record { minus = m; added = f } ∷ []) later)
+
+pub joined_start : (o : Option (List Part)) → joined (Some []) o ≡ o
+joined_start None = refl
+joined_start (Some ps) = refl
+
+joined_end : (acc : Option (List Part)) → joined acc (Some []) ≡ acc
+joined_end None = refl
+joined_end (Some ps) = ap Some (append-nil ps)
+
+pub added_more : (s : Scope) (e : Expr) (m : Bool) (all rest : Parts) (form : Option Form) (acc acc2 whole : Option (List Part)) → all ≡ part m e rest → form ≡ form_of s e → acc2 ≡ joined acc (with_part m form (Some [])) → joined acc (added s all) ≡ whole → joined acc2 (added s rest) ≡ whole
+added_more s e m all rest form acc acc2 whole split form_is acc_is left =
+    ap (λ x. joined x (added s rest)) acc_is ∙ joined_one acc m form (added s rest) ∙ ap (λ f. joined acc (with_part m f (added s rest))) form_is ∙ ap (λ ps. joined acc (added s ps)) (sym split) ∙ left
+
+pub added_done : (s : Scope) (none : Parts) (acc whole : Option (List Part)) → none ≡ no_parts → joined acc (added s none) ≡ whole → acc ≡ whole
+added_done s none acc whole empty left = sym (joined_end acc) ∙ ap (λ ps. joined acc (added s ps)) (sym empty) ∙ left
+
+-- ---- products
+
+form_split : (s : Scope) (has : Bool) (before : Option Form) (m : Bool) (e : Expr) (rest : Parts) → form_behind s has before (part m e rest) ≡ form_behind s (has || has_field s e) (step_form s has before m e) rest
+form_split s has before true e rest = refl
+form_split s has before false e rest = refl
+
+pub form_more : (s : Scope) (e : Expr) (m : Bool) (all rest : Parts) (has has2 : Bool) (form form2 whole : Option Form) → all ≡ part m e rest → has2 ≡ (has || has_field s e) → form2 ≡ step_form s has form m e → form_behind s has form all ≡ whole → form_behind s has2 form2 rest ≡ whole
+form_more s e m all rest has has2 form form2 whole split has_is form_is left =
+    ap₂ (λ h f. form_behind s h f rest) has_is form_is ∙ sym (form_split s has form m e rest) ∙ ap (form_behind s has form) (sym split) ∙ left
+
+pub form_done : (s : Scope) (none : Parts) (has : Bool) (form whole : Option Form) → none ≡ no_parts → form_behind s has form none ≡ whole → form ≡ whole
+form_done s none has form whole empty left = ap (form_behind s has form) (sym empty) ∙ left

@@ -1,0 +1,15 @@
+use Rattle.std.proofs.Common.{◌+◌, map, drop}
+use Rattle.std.specs.List.{flat_map}
+use Rattle.fast_syntax.specs.View.{plain_name}
+use Rattle.fast_syntax.specs.Plain.{plain_rule}
+use Rattle.model_checks.specs.Rules.{rule_failures}
+use Rattle.program_check.specs.Contexts.{items_of}
+use Rattle.program_check.proofs.Noting.{more, one_of}
+use Rattle.program_check.proofs.items.check_rules.Goals as goal
+
+pub rules-preserved : goal.rules-preserved
+rules-preserved c =
+    let xs = c.args.rules.now in
+    let i = c.rules.rule-index in
+    let each = rule_failures (items_of c.args.context.now) (plain_name c.args.of.now) in
+    more (flat_map each (map plain_rule (drop i xs))) (flat_map each (map plain_rule (drop (i + 1) xs))) _ c.in_ok-check_rule.ensures.noted (one_of each plain_rule xs i c.rule-item.result c.rules-test.true c.rule-item.is) c.rules.invariant

@@ -1,0 +1,16 @@
+use Rattle.std.proofs.Common.{ap, ap₂, ◌∙◌}
+use Rattle.model_names.specs.Kinds.{language, transformation, a_tree}
+use Rattle.fast_fault.specs.declared.code.Code.TheVariants.{WrongKind}
+use Rattle.fast_syntax.specs.Plain.{plain_x}
+use Rattle.model_checks.specs.Failures.{fails_if}
+use Rattle.model_checks.specs.Expressions.{whole_failures}
+use Rattle.model_checks.specs.Programs.{is_tree}
+use Rattle.program_check.specs.Contexts.{items_of, before_of}
+use Rattle.program_check.proofs.Noting.{then, same}
+use Rattle.program_check.proofs.items.check_type_check.Goals as goal
+
+pub returns : goal.returns
+returns c =
+    let items = items_of c.args.context.now in
+    let before = before_of c.args.context.now in
+    then c.in_ok-language.ensures.noted (then (same (ap (λ n. whole_failures items before n transformation (plain_x c.args.y.now)) c.input_as-input.ensures.name) c.in_ok-standing.ensures.noted) (same (ap (λ n. whole_failures items before n language (plain_x c.args.z.now)) c.output_as-output.ensures.name) c.in_ok-check_whole.ensures.noted))

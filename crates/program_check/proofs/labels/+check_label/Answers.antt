@@ -1,0 +1,151 @@
+use Rattle.std.proofs.Common.{◌≡◌, ◌∷◌, rules, ◌+◌, false, drop, refl, sym, ap, ◌∙◌, subst}
+use Rattle.std.specs.Prelude.{OnOk, IfOk}
+use Rattle.std.proofs.lemmas.List.{drop_all}
+use Rattle.model_tree.specs.Signature.{wholes, truths}
+use Rattle.model_grammar.specs.declared.Chain.TheVariants.{Disjunction, Conjunction, Sum, Product}
+use Rattle.model_grammar.specs.Syntax as plain
+use Rattle.fast_syntax.specs.Plain.{plain_node, plain_expr}
+use Rattle.fast_syntax.specs.Slices.{plain_operands, plain_sum_parts, plain_prod_parts}
+use Rattle.fast_syntax.proofs.Appending.{drop_at}
+use Rattle.fast_syntax.proofs.Rows.{plain_or, plain_and, plain_sum_of, plain_product_of}
+use Rattle.model_checks.specs.Forms.{has_field}
+use Rattle.model_checks.specs.Labels.{label_failures, operands_failures}
+use Rattle.program_check.specs.Known.{plain_scope, plain_added, IsKnown}
+use Rattle.program_check.specs.Notes.{Notes}
+use Rattle.program_check.proofs.Noting.{then, same}
+use Rattle.program_check.proofs.Chains.{sorted_more, sorted_done, has_more, added_more, added_done, steps_more, steps_done, form_more}
+use Rattle.program_check.proofs.Labelled.{minus_noted, sum_noted, product_noted, compare_noted, step_divided, step_multiplied, or_known, and_known, known_as}
+use Rattle.program_check.proofs.labels.+check_label.Goals as goal
+
+pub check_sorted-returns-clause-noted : goal.check_sorted-returns-clause-noted
+check_sorted-returns-clause-noted t c = then c.in_ok-known.ensures.noted c.check_sort.ensures
+
+pub check_minus-returns-clause-noted : goal.check_minus-returns-clause-noted
+check_minus-returns-clause-noted t c =
+    minus_noted (plain_scope c.args.scope.now) (plain_expr c.args.inside.now) c.args.place c.in_ok-known.known.form _ _ _ c.in_ok-known.ensures.known.form c.in_ok-known.ensures.noted c.in_ok-form.ensures.noted
+
+pub check_truths-parts-preserved : goal.check_truths-parts-preserved
+check_truths-parts-preserved t c =
+    let s = plain_scope c.args.scope.now in
+    let items = c.args.parts.now in
+    let i = c.parts.part-index in
+    let x = c.part-item.result in
+    let split = ap plain_operands (drop_at items i x c.parts-test.true c.part-item.is) in
+    record {
+      noted = sorted_more s truths (plain_expr x) false (plain_operands (drop i items)) (plain_operands (drop (i + 1) items)) _ _ _ split c.in_ok-known.ensures.noted c.parts.invariant.noted;
+      has = has_more s (plain_expr x) false (plain_operands (drop i items)) (plain_operands (drop (i + 1) items)) _ _ _ _ split c.in_ok-known.ensures.known.has c.either-has_field.ensures c.parts.invariant.has;
+    }
+
+pub check_sum-parts-preserved : goal.check_sum-parts-preserved
+check_sum-parts-preserved t c =
+    let s = plain_scope c.args.scope.now in
+    let items = c.args.parts.now in
+    let i = c.parts.part-index in
+    let x = c.part-item.result in
+    let split = ap plain_sum_parts (drop_at items i x c.parts-test.true c.part-item.is) in
+    record {
+      noted = sorted_more s wholes (plain_expr x.part) x.minus (plain_sum_parts (drop i items)) (plain_sum_parts (drop (i + 1) items)) _ _ _ split c.in_ok-known.ensures.noted c.parts.invariant.noted;
+      has = has_more s (plain_expr x.part) x.minus (plain_sum_parts (drop i items)) (plain_sum_parts (drop (i + 1) items)) _ _ _ _ split c.in_ok-known.ensures.known.has c.either-has_field.ensures c.parts.invariant.has;
+      added = added_more s (plain_expr x.part) x.minus (plain_sum_parts (drop i items)) (plain_sum_parts (drop (i + 1) items)) _ _ _ _ split c.in_ok-known.ensures.known.form c.in_ok-added.ensures c.parts.invariant.added;
+    }
+
+pub check_sum-returns-clause-noted : goal.check_sum-returns-clause-noted
+check_sum-returns-clause-noted t c =
+    let s = plain_scope c.args.scope.now in
+    let items = c.args.parts.now in
+    let none = ap plain_sum_parts (drop_all c.parts.part-index items c.parts-test.false) in
+    sum_noted s (plain_sum_parts items) c.args.place (plain_added c.parts.added) _ _ _
+    (added_done s (plain_sum_parts (drop c.parts.part-index items)) (plain_added c.parts.added) _ none c.parts.invariant.added)
+    (sorted_done s wholes (plain_sum_parts items) (plain_sum_parts (drop c.parts.part-index items)) _ _ none c.parts.invariant.noted)
+    c.in_ok-form.ensures.noted
+
+pub check_product-later-preserved : goal.check_product-later-preserved
+check_product-later-preserved t c =
+    let s = plain_scope c.args.scope.now in
+    let items = c.in-Some.later.now in
+    let i = c.later.part-index in
+    let x = c.part-item.result in
+    let split = ap plain_prod_parts (drop_at items i x c.later-test.true c.part-item.is) in
+    record {
+      noted = steps_more s c.args.place (plain_expr x.part) x.remainder (plain_prod_parts (drop i items)) (plain_prod_parts (drop (i + 1) items)) _ _ _ _ _ _ _ split c.in_ok-before.ensures.has c.in_ok-before.ensures.form c.in_ok-before.ensures.noted c.later.invariant.noted;
+      has = has_more s (plain_expr x.part) x.remainder (plain_prod_parts (drop i items)) (plain_prod_parts (drop (i + 1) items)) _ (has_field s (plain_expr x.part)) _ _ split refl c.in_ok-before.ensures.has c.later.invariant.has;
+      form = form_more s (plain_expr x.part) x.remainder (plain_prod_parts (drop i items)) (plain_prod_parts (drop (i + 1) items)) _ _ _ _ _ split c.in_ok-before.ensures.has c.in_ok-before.ensures.form c.later.invariant.form;
+    }
+
+pub check_step-returns-then-part-clause-noted : goal.check_step-returns-then-part-clause-noted
+check_step-returns-then-part-clause-noted t c =
+    step_divided (plain_scope c.args.scope.now) c.args.place c.args.before.has_field c.args.before.form c.args.part.now.remainder (plain_expr c.args.part.now.part) _ _ _ c.if-part.true c.in_ok-known.ensures.noted c.in_ok-form.ensures.noted
+
+pub check_step-returns-clause-noted : goal.check_step-returns-clause-noted
+check_step-returns-clause-noted t c =
+    step_multiplied (plain_scope c.args.scope.now) c.args.place c.args.before.has_field c.in_ok-known.known.has_field c.args.before.form c.in_ok-known.known.form c.args.part.now.remainder (plain_expr c.args.part.now.part) _ _ _
+    c.if-part.false c.in_ok-known.ensures.known.has c.in_ok-known.ensures.known.form c.in_ok-known.ensures.noted c.in_ok-form-2.ensures.noted
+
+pub check_label-returns-in_ok-of_right-in-Compare-clause-noted : goal.check_label-returns-in_ok-of_right-in-Compare-clause-noted
+check_label-returns-in_ok-of_right-in-Compare-clause-noted t c =
+    let s = plain_scope c.args.scope.now in
+    let place = c.args.e.now.place in
+    same (ap (λ n. label_failures s (plain_node n place)) (sym c.in-Compare.is))
+    (compare_noted s c.in-Compare.rel place (plain_expr c.in-Compare.left.value) _ _ (plain_expr c.in-Compare.right.value) _ _ _ _ _ _
+    (ap plain_expr c.deref-in-Compare.ensures) (ap plain_expr c.deref-in-Compare-2.ensures) (ap plain_expr c.deref-in-Compare-3.ensures) (ap plain_expr c.deref-in-Compare-4.ensures)
+    c.in_ok-of_left-in-Compare.ensures.noted c.in_ok-of_right-in-Compare.ensures.noted c.check_sides.ensures)
+
+pub check_label-returns-in_ok-has_field-in-Or-clause-noted : goal.check_label-returns-in_ok-has_field-in-Or-clause-noted
+check_label-returns-in_ok-has_field-in-Or-clause-noted t c =
+    let s = plain_scope c.args.scope.now in
+    let place = c.args.e.now.place in
+    let is = ap (λ n. plain_node n place) c.in-Or.is ∙ plain_or place c.in-Or.parts in
+    same (ap (λ xs. operands_failures s truths (plain_operands xs)) c.deref-in-Or.ensures.value ∙ sym (ap (label_failures s) is)) c.in_ok-has_field-in-Or.ensures.noted
+
+pub check_label-returns-in_ok-has_field-in-Or-clause-known : goal.check_label-returns-in_ok-has_field-in-Or-clause-known
+check_label-returns-in_ok-has_field-in-Or-clause-known t c =
+    let place = c.args.e.now.place in
+    let is = ap (λ n. plain_node n place) c.in-Or.is ∙ plain_or place c.in-Or.parts ∙ ap (λ xs. plain.chain Disjunction place (plain_operands xs)) (sym c.deref-in-Or.ensures.value) in
+    known_as c.args.scope.now (plain_expr c.args.e.now) _ c.of_truth-in-Or.result is (or_known c.args.scope.now place (plain_operands c.deref-in-Or.result.now) c.of_truth-in-Or.result c.in_ok-has_field-in-Or.has_field c.of_truth-in-Or.ensures c.in_ok-has_field-in-Or.ensures.has)
+
+pub check_label-returns-in_ok-has_field-in-And-clause-noted : goal.check_label-returns-in_ok-has_field-in-And-clause-noted
+check_label-returns-in_ok-has_field-in-And-clause-noted t c =
+    let s = plain_scope c.args.scope.now in
+    let place = c.args.e.now.place in
+    let is = ap (λ n. plain_node n place) c.in-And.is ∙ plain_and place c.in-And.parts in
+    same (ap (λ xs. operands_failures s truths (plain_operands xs)) c.deref-in-And.ensures.value ∙ sym (ap (label_failures s) is)) c.in_ok-has_field-in-And.ensures.noted
+
+pub check_label-returns-in_ok-has_field-in-And-clause-known : goal.check_label-returns-in_ok-has_field-in-And-clause-known
+check_label-returns-in_ok-has_field-in-And-clause-known t c =
+    let place = c.args.e.now.place in
+    let is = ap (λ n. plain_node n place) c.in-And.is ∙ plain_and place c.in-And.parts ∙ ap (λ xs. plain.chain Conjunction place (plain_operands xs)) (sym c.deref-in-And.ensures.value) in
+    known_as c.args.scope.now (plain_expr c.args.e.now) _ c.of_truth-in-And.result is (and_known c.args.scope.now place (plain_operands c.deref-in-And.result.now) c.of_truth-in-And.result c.in_ok-has_field-in-And.has_field c.of_truth-in-And.ensures c.in_ok-has_field-in-And.ensures.has)
+
+pub check_label-returns-in-Sum-clause-noted : goal.check_label-returns-in-Sum-clause-noted
+check_label-returns-in-Sum-clause-noted t c =
+    let place = c.args.e.now.place in
+    let is = ap (λ xs. plain.chain Sum place (plain_sum_parts xs)) c.deref-in-Sum.ensures.value ∙ sym (ap (λ n. plain_node n place) c.in-Sum.is ∙ plain_sum_of place c.in-Sum.parts) in
+    subst (λ (e : plain.Expr). OnOk c.check_sum.result (Notes c.args.least.now.known c.check_sum.new.least.known (label_failures (plain_scope c.args.scope.now) e))) is c.check_sum.ensures.noted
+
+pub check_label-returns-in-Sum-clause-known : goal.check_label-returns-in-Sum-clause-known
+check_label-returns-in-Sum-clause-known t c =
+    let place = c.args.e.now.place in
+    let is = ap (λ xs. plain.chain Sum place (plain_sum_parts xs)) c.deref-in-Sum.ensures.value ∙ sym (ap (λ n. plain_node n place) c.in-Sum.is ∙ plain_sum_of place c.in-Sum.parts) in
+    subst (λ (e : plain.Expr). IfOk c.check_sum.result (IsKnown c.args.scope.now e)) is c.check_sum.ensures.known
+
+pub check_label-returns-in-Prod-clause-noted : goal.check_label-returns-in-Prod-clause-noted
+check_label-returns-in-Prod-clause-noted t c =
+    let place = c.args.e.now.place in
+    let is = ap (λ xs. plain.chain Product place (plain_prod_parts xs)) c.deref-in-Prod.ensures.value ∙ sym (ap (λ n. plain_node n place) c.in-Prod.is ∙ plain_product_of place c.in-Prod.parts) in
+    subst (λ (e : plain.Expr). OnOk c.check_product.result (Notes c.args.least.now.known c.check_product.new.least.known (label_failures (plain_scope c.args.scope.now) e))) is c.check_product.ensures.noted
+
+pub check_label-returns-in-Prod-clause-known : goal.check_label-returns-in-Prod-clause-known
+check_label-returns-in-Prod-clause-known t c =
+    let place = c.args.e.now.place in
+    let is = ap (λ xs. plain.chain Product place (plain_prod_parts xs)) c.deref-in-Prod.ensures.value ∙ sym (ap (λ n. plain_node n place) c.in-Prod.is ∙ plain_product_of place c.in-Prod.parts) in
+    subst (λ (e : plain.Expr). IfOk c.check_product.result (IsKnown c.args.scope.now e)) is c.check_product.ensures.known
+
+pub check_product-returns-clause-noted : goal.check_product-returns-clause-noted
+check_product-returns-clause-noted t c =
+    let s = plain_scope c.args.scope.now in
+    let first = c.in-Some.first.now in
+    let later = c.in-Some.later.now in
+    let all : c.args.parts.now ≡ first ∷ later = search rules in
+    product_noted s c.args.place first.remainder (plain_expr first.part) (plain_prod_parts later) (plain_prod_parts c.args.parts.now) c.in_ok-known.known.has_field c.in_ok-known.known.form _ _ _
+    (ap plain_prod_parts all) c.in_ok-known.ensures.known.has c.in_ok-known.ensures.known.form c.in_ok-known.ensures.noted
+    (steps_done s c.args.place (plain_prod_parts later) (plain_prod_parts (drop c.later.part-index later)) c.in_ok-known.known.has_field c.later.before.has_field c.in_ok-known.known.form c.later.before.form _ _ (ap plain_prod_parts (drop_all c.later.part-index later c.later-test.false)) c.later.invariant.noted)

@@ -1,0 +1,34 @@
+use Rattle.std.proofs.Common.{◌≡◌, ◌||◌, drop}
+use Rattle.model_tree.specs.Signature.{wholes, truths}
+use Rattle.model_checks.specs.Failures.{first_among}
+use Rattle.model_checks.specs.Forms.{have_field, added, form_behind}
+use Rattle.model_checks.specs.Labels.{operands_failures, steps_failures}
+use Rattle.fast_syntax.specs.Slices.{plain_operands, plain_sum_parts, plain_prod_parts}
+use Rattle.program_check.specs.Known.{plain_scope, plain_added, joined}
+use Rattle.program_check.proofs.labels.+check_label.Given as goal
+
+abbrev pub invariant-check_truths-parts : goal.invariant-check_truths-parts
+invariant-check_truths-parts l =
+    let s = plain_scope l.scope in
+    record {
+      noted : first_among l.least.known (operands_failures s truths (plain_operands (drop l.part-index l.parts))) ≡ first_among l.initial.least.known (operands_failures s truths (plain_operands l.parts));
+      has : (l.has_field || have_field s (plain_operands (drop l.part-index l.parts))) ≡ have_field s (plain_operands l.parts);
+    }
+
+abbrev pub invariant-check_sum-parts : goal.invariant-check_sum-parts
+invariant-check_sum-parts l =
+    let s = plain_scope l.scope in
+    record {
+      noted : first_among l.least.known (operands_failures s wholes (plain_sum_parts (drop l.part-index l.parts))) ≡ first_among l.initial.least.known (operands_failures s wholes (plain_sum_parts l.parts));
+      has : (l.has_field || have_field s (plain_sum_parts (drop l.part-index l.parts))) ≡ have_field s (plain_sum_parts l.parts);
+      added : joined (plain_added l.added) (added s (plain_sum_parts (drop l.part-index l.parts))) ≡ added s (plain_sum_parts l.parts);
+    }
+
+abbrev pub invariant-check_product-later : goal.invariant-check_product-later
+invariant-check_product-later l =
+    let s = plain_scope l.scope in
+    record {
+      noted : first_among l.least.known (steps_failures s l.place l.before.has_field l.before.form (plain_prod_parts (drop l.part-index l.later))) ≡ first_among l.initial.least.known (steps_failures s l.place l.initial.before.has_field l.initial.before.form (plain_prod_parts l.later));
+      has : (l.before.has_field || have_field s (plain_prod_parts (drop l.part-index l.later))) ≡ (l.initial.before.has_field || have_field s (plain_prod_parts l.later));
+      form : form_behind s l.before.has_field l.before.form (plain_prod_parts (drop l.part-index l.later)) ≡ form_behind s l.initial.before.has_field l.initial.before.form (plain_prod_parts l.later);
+    }

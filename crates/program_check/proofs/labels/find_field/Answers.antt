@@ -1,0 +1,9 @@
+use Rattle.std.proofs.Common.{sym, ◌∙◌}
+use Rattle.program_check.proofs.FieldLookup.{at_start, is_found}
+use Rattle.program_check.proofs.labels.find_field.Goals as goal
+
+pub fields-init : goal.fields-init
+fields-init c = at_start c.args.fields.now c.args.name.now
+
+pub returns-then-eq-clause-found : goal.returns-then-eq-clause-found
+returns-then-eq-clause-found c = is_found c.args.fields.now c.args.name.now c.fields.number c.index-fields-number.result c.fields-test.true c.index-fields-number.is (sym c.eq.ensures ∙ c.if-eq.true) c.fields.invariant

@@ -1,0 +1,20 @@
+use Rattle.std.proofs.Common.{ap, ◌∙◌, sym, Some}
+use Rattle.std.specs.Prelude.{negsuc}
+use Rattle.std.specs.Option.{option_map}
+use Rattle.fast_fault.specs.declared.code.Code.TheVariants.{NumberRange}
+use Rattle.model_form.specs.Sums.{product_form}
+use Rattle.model_checks.specs.Failures.{fails_if}
+use Rattle.model_checks.specs.Forms.{is_out_of_range, kept}
+use Rattle.program_check.proofs.Noting.{same}
+use Rattle.program_check.proofs.FormsMade.{makes, range_is, form_is, on_ok, if_ok}
+use Rattle.program_check.proofs.labels.negated.Goals as goal
+
+pub returns-in-Some-clause-noted : goal.returns-in-Some-clause-noted
+returns-in-Some-clause-noted c =
+    let made = makes (product_form (negsuc 0) c.in-Some.form) c.scaled.result c.scaled.ensures.form c.scaled.ensures.in_range in
+    on_ok c.kept.result (λ noted m. same (ap (λ b. fails_if b NumberRange c.args.place) (range_is _ c.scaled.result made m ∙ ap (λ o. is_out_of_range (option_map (product_form (negsuc 0)) o)) (sym c.in-Some.is))) noted) c.kept.ensures.noted c.kept.ensures.range
+
+pub returns-in-Some-clause-form : goal.returns-in-Some-clause-form
+returns-in-Some-clause-form c =
+    let made = makes (product_form (negsuc 0) c.in-Some.form) c.scaled.result c.scaled.ensures.form c.scaled.ensures.in_range in
+    if_ok c.kept.result (λ x is m. is ∙ form_is _ c.scaled.result made m ∙ ap (λ o. kept (option_map (product_form (negsuc 0)) o)) (sym c.in-Some.is)) c.kept.ensures.form c.kept.ensures.range

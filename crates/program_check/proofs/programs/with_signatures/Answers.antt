@@ -1,0 +1,11 @@
+use Rattle.std.proofs.Common.{map, ap, ◌∙◌}
+use Rattle.fast_syntax.specs.Plain.{plain_item}
+use Rattle.program_check.specs.Signed.{own_signature}
+use Rattle.program_check.proofs.programs.with_signatures.Goals as goal
+
+pub returns-clause-checked : goal.returns-clause-checked
+returns-clause-checked c = record {
+  well_formed = c.requires.well_formed;
+  numbered = c.requires.numbered;
+  signed = c.in_ok-signatures.ensures ∙ ap (λ xs. map own_signature (map plain_item xs)) c.deref.ensures.value;
+}

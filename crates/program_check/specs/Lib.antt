@@ -1,0 +1,10 @@
+pub mod Notes
+pub mod Naming
+pub mod Known
+pub mod Contexts
+pub mod Variables
+pub mod Nodes
+pub mod Standings
+pub mod Stops
+pub mod Tells
+pub mod Signed

@@ -1,0 +1,24 @@
+-- Parts of what fails at a node.
+use Rattle.std.specs.Prelude.{ℕ, List, [], ◌++◌, Option, Some, None, length, slice_get}
+use Rattle.fast_fault.specs.declared.refusal.Refusal.{Refusal}
+use Rattle.model_program.specs.Syntax.{Name, FieldItem}
+use Rattle.model_grammar.specs.Syntax.{Expr, Item}
+use Rattle.model_checks.specs.Sorts.{Scope}
+use Rattle.model_checks.specs.Labels.{label_failures, needs_sort_of, labels_failures}
+use Rattle.model_checks.specs.Rules.{type_at, constructor_failures, label_count_failures, scope_of, fields_of}
+
+-- the field of this number
+abbrev pub field_at : List FieldItem → ℕ → Option FieldItem
+field_at = slice_get
+
+-- a label, with its field where there is one
+abbrev pub label_at : Scope → Option FieldItem → Expr → List Refusal
+label_at scope None e = label_failures scope e
+label_at scope (Some f) e = label_failures scope e ++ needs_sort_of scope f e
+
+-- the constructor of a node, with its labels, in a rule between two types
+abbrev pub node_failures : List Item → Name → Name → Name → List Expr → ℕ → List Refusal
+node_failures items from into name labels count =
+    constructor_failures (type_at items into) name count
+    ++ (label_count_failures (type_at items into) name (length labels)
+    ++ labels_failures (scope_of (type_at items from)) (fields_of (type_at items into)) labels)

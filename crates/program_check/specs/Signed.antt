@@ -1,0 +1,22 @@
+-- The signatures of a program's types.
+use Rattle.std.specs.Prelude.{ℕ, List, Option, slice_get}
+use Rattle.std.specs.Option.{option_map, option_and_then}
+use Rattle.model_tree.specs.Signature.{PlainField, PlainConstructor, PlainSignature}
+use Rattle.model_program.specs.Syntax.{FieldItem, CtorItem}
+use Rattle.model_grammar.specs.Syntax.{Item}
+use Rattle.model_meaning.specs.Types.{sort_named, rank_of, signature_of}
+use Rattle.program_check.specs.Contexts.{own_type_item}
+
+abbrev pub field_of : FieldItem → PlainField
+field_of f = record { name = f.name.text; sort = sort_named f.sort }
+
+abbrev pub constructor_of : CtorItem → PlainConstructor
+constructor_of c = record { name = c.name.text; rank = rank_of c.rank }
+
+-- the signature of an item, where it is a type
+abbrev pub own_signature : Item → Option PlainSignature
+own_signature item = option_map signature_of (own_type_item item.body)
+
+-- the signature at a place
+abbrev pub signature_in : List (Option PlainSignature) → ℕ → Option PlainSignature
+signature_in signatures place = option_and_then (λ s. s) (slice_get signatures place)

@@ -1,0 +1,74 @@
+-- What an expression stands for, as the code keeps it.
+use Rattle.std.specs.Prelude.{◌≡◌, ℕ, ◌++◌, List, [], Option, Some, None, map, cond, length}
+use Rattle.std.specs.Option.{option_map, option_and_then}
+use Rattle.std.specs.Borrow.{Bor}
+use Rattle.fast_fault.specs.declared.refusal.Refusal.{Refusal}
+use Rattle.model_program.specs.Syntax.{Name}
+use Rattle.model_program.specs.Syntax as model
+use Rattle.model_grammar.specs.Syntax.{X, Item}
+use Rattle.model_grammar.specs.Syntax as plain
+use Rattle.model_grammar.specs.declared.Op2.{Op2}
+use Rattle.model_grammar.specs.declared.Op2.TheVariants.{Intersect, Union, Difference, PreImage, Compose, Restrict, RestrictOut, Apply}
+use Rattle.model_names.specs.Declared.{find_type}
+use Rattle.model_names.specs.Kinds.{language, transformation, a_tree, same_kind, kind_of, type_of, output_of}
+use Rattle.model_names.specs.Kinds as model_kinds
+use Rattle.fast_syntax.specs.declared.TypeItem.{TypeItem}
+use Rattle.fast_syntax.specs.View.{plain_type}
+use Rattle.model_checks.specs.Labels.{labels_failures}
+use Rattle.model_checks.specs.Rules.{constructor_failures, label_count_failures, fields_of}
+use Rattle.program_check.specs.declared.expressions.Kind.{Kind}
+use Rattle.program_check.specs.declared.expressions.Kind.TheVariants.{Language, Transformation, Tree}
+use Rattle.program_check.specs.declared.expressions.Standing.{Standing}
+use Rattle.program_check.specs.declared.context.Context.{Context}
+use Rattle.program_check.specs.Contexts.{items_of}
+
+abbrev pub plain_kind : Kind → model_kinds.Kind
+plain_kind Language = language
+plain_kind Transformation = transformation
+plain_kind Tree = a_tree
+
+-- the name of a type
+abbrev pub type_name : Option (Bor TypeItem) → Option (List ℕ)
+type_name = option_map (λ t. t.now.name.text)
+
+-- a type is the one that its name finds
+pub record IsDeclared (items : List Item) (t : Option (Bor TypeItem)) : Type 0 where
+  pub is : option_map (λ t. plain_type t.now) t ≡ option_and_then (find_type items) (type_name t)
+
+-- the kind and the types of an expression
+pub record IsStanding (items : List Item) (x : X) (s : Standing) : Type 0 where
+  pub kind : option_map plain_kind s.kind ≡ kind_of items x
+  pub input : type_name s.input ≡ type_of items x
+  pub output : type_name s.output ≡ output_of items x
+  pub declared_input : IsDeclared items s.input
+  pub declared_output : IsDeclared items s.output
+
+-- the type, where something is of this kind
+abbrev pub only_as : Kind → Option Kind → Option (Bor TypeItem) → Option (Bor TypeItem)
+only_as kind None t = None
+only_as kind (Some found) t = cond (same_kind (plain_kind found) (plain_kind kind)) t None
+
+-- the constructor of a literal of this type, with its labels
+abbrev pub literal_failures : Option model.TypeItem → Name → List plain.Expr → ℕ → List Refusal
+literal_failures t name labels count = constructor_failures t name count ++ (label_count_failures t name (length labels) ++ labels_failures (Some []) (fields_of t) labels)
+
+-- the types of what an operation on two operands gives
+abbrev pub input_of_two : Op2 → Standing → Option (Bor TypeItem)
+input_of_two Intersect s = only_as Language s.kind s.input
+input_of_two Union s = only_as Language s.kind s.input
+input_of_two Difference s = only_as Language s.kind s.input
+input_of_two PreImage s = only_as Transformation s.kind s.input
+input_of_two Compose s = only_as Transformation s.kind s.input
+input_of_two Restrict s = only_as Transformation s.kind s.input
+input_of_two RestrictOut s = only_as Transformation s.kind s.input
+input_of_two Apply s = only_as Transformation s.kind s.output
+
+abbrev pub output_of_two : Op2 → Standing → Standing → Option (Bor TypeItem)
+output_of_two Intersect s t = None
+output_of_two Union s t = None
+output_of_two Difference s t = None
+output_of_two PreImage s t = None
+output_of_two Compose s t = only_as Transformation t.kind t.output
+output_of_two Restrict s t = only_as Transformation s.kind s.output
+output_of_two RestrictOut s t = only_as Transformation s.kind s.output
+output_of_two Apply s t = None

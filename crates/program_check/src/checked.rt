@@ -1,0 +1,107 @@
+//! What a checked program tells of its names.
+
+ghost use Rattle.std.specs.Prelude.{◌≡◌, Some, None, map};
+ghost use Rattle.std.specs.Option.{option_map, option_and_then};
+ghost use Rattle.model_names.specs.Declared.{find_type, find_item};
+ghost use Rattle.fast_syntax.specs.Plain.{plain_item, plain_def, plain_program};
+ghost use Rattle.fast_tree.specs.Signatures.{plain_signature};
+ghost use Rattle.model_meaning.specs.Types.{signature_of};
+ghost use Rattle.program_check.specs.Signed.{signature_in};
+ghost use Rattle.program_check.specs.Tells.{kind_view, defined_as, stands_for, IsChecked};
+
+use crate::context::item_at;
+use crate::programs::Checked;
+use fast_fault::Text;
+use fast_syntax::items::{Body, DefItem, Item, Program};
+use fast_tree::Signature;
+
+/// What a name stands for, with the names of its types: of the trees of a language, of the inputs and the outputs of a
+/// transformation, or of a tree.
+#[derive(Drop)]
+pub enum Kind3<'c> {
+    Language(&'c Text),
+    Transformation(&'c Text, &'c Text),
+    Tree(&'c Text),
+}
+
+impl Checked {
+    /// The program, as it was handed in.
+    pub fn program(&self) -> &Program
+        ensures { result.now ≡ self.now.program }
+    {
+        &self.program
+    }
+
+    /// What this name of a language, transformation, definition or tree stands for.
+    pub fn kind<'c>(&'c self, name: &Text) -> Option<Kind3<'c>>
+        requires { IsChecked self.now }
+        ensures { option_map kind_view result ≡ option_and_then (λ item. stands_for item.body) (find_item (plain_program self.now.program) name.now) }
+    {
+        match self.item(name) {
+            Some(item) => own_kind(item),
+            None => None,
+        }
+    }
+
+    /// The signature of the type of this name.
+    pub fn signature(&self, name: &Text) -> Option<&Signature>
+        requires { IsChecked self.now }
+        ensures { option_map (λ s. plain_signature s.now) result ≡ option_map signature_of (find_type (plain_program self.now.program) name.now) }
+    {
+        match self.types.place(name) {
+            Some(place) => signature_at(&self.signatures, place),
+            None => None,
+        }
+    }
+
+    /// The item that declares this name.
+    fn item(&self, name: &Text) -> Option<&Item>
+        requires { IsChecked self.now }
+        ensures { option_map (λ item. plain_item item.now) result ≡ find_item (plain_program self.now.program) name.now }
+    {
+        match self.names.place(name) {
+            Some(place) => item_at(&self.program.items, place),
+            None => None,
+        }
+    }
+}
+
+fn own_kind(item: &Item) -> Option<Kind3<'_>>
+    ensures { option_map kind_view result ≡ stands_for (plain_item item.now).body }
+{
+    match &item.body {
+        Body::Sorts(_) | Body::Assert(_) => None,
+        Body::Tree(own) => Some(Kind3::Tree(&own.of.text)),
+        Body::Lang(own) => Some(Kind3::Language(&own.of.text)),
+        Body::Trans(own) => Some(Kind3::Transformation(&own.from.text, &own.into.text)),
+        Body::Def(own) => Some(defined(own)),
+    }
+}
+
+fn defined(own: &DefItem) -> Kind3<'_>
+    ensures { kind_view result ≡ defined_as (plain_def own.now) }
+{
+    match &own.into {
+        Some(into) => Kind3::Transformation(&own.from.text, &into.text),
+        None => Kind3::Language(&own.from.text),
+    }
+}
+
+fn signature_at(signatures: &[Option<Signature>], place: usize) -> Option<&Signature>
+    ensures { option_map (λ s. plain_signature s.now) result ≡ signature_in (map (option_map plain_signature) signatures.now) place }
+{
+    if place < signatures.len() {
+        as_lent(&signatures[place])
+    } else {
+        None
+    }
+}
+
+fn as_lent(signature: &Option<Signature>) -> Option<&Signature>
+    ensures { option_map (λ s. plain_signature s.now) result ≡ option_map plain_signature signature.now }
+{
+    match signature {
+        Some(signature) => Some(signature),
+        None => None,
+    }
+}

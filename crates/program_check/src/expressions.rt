@@ -1,0 +1,499 @@
+//! Expressions of languages, transformations and trees.
+
+ghost use Rattle.std.specs.Prelude.{◌≡◌, ◌<◌, ◌≤◌, ◌+◌, ◌++◌, ◌&&◌, not, List, [], OnOk, IfOk, Some, None, map, length, is_some};
+ghost use Rattle.std.specs.Option.{option_map, option_and_then, option_map_or};
+ghost use Rattle.fast_fault.specs.declared.code.Code.TheVariants as code;
+ghost use Rattle.model_grammar.specs.Syntax as plain;
+ghost use Rattle.model_names.specs.Declared.{find_item};
+ghost use Rattle.model_checks.specs.Failures.{failure, fails_if};
+ghost use Rattle.model_names.specs.Kinds.{taken_by_one, given_by_one, taken_first, taken_second, given_by_two, kind_of, type_of, output_of, declared_type, own_kind, own_type, own_output, defined_kind};
+ghost use Rattle.fast_syntax.specs.View.{plain_name, plain_field, plain_type};
+ghost use Rattle.fast_syntax.specs.Plain.{plain_expr, plain_x, plain_item, plain_into};
+ghost use Rattle.fast_syntax.specs.Slices.{plain_children};
+ghost use Rattle.model_checks.specs.Expressions.{place_of_x, is_other_kind, is_known_later, expected_as, nested, name_failures, needs_kind, needs_type, needs_be, wanted_second, x_failures, xs_failures, whole_failures};
+ghost use Rattle.program_check.specs.Notes.{Notes};
+ghost use Rattle.program_check.specs.Contexts.{items_of, before_of, IsContext};
+ghost use Rattle.program_check.specs.Standings.{plain_kind, type_name, IsDeclared, IsStanding, only_as, input_of_two, output_of_two, literal_failures};
+
+use crate::context::Context;
+use crate::labels::{Scope, both};
+use crate::least::Least;
+use crate::outputs::{check_labels, fields_of};
+use crate::rules::{check_constructor, check_label_count, differ};
+use fast_fault::{Code, Memory, Pos};
+use fast_syntax::expressions::Expr;
+use fast_syntax::items::{Body, Item, X};
+use fast_syntax::{Name, TypeItem};
+use model_grammar::{Op1, Op2};
+use std::alloc::Global;
+
+/// What an expression stands for.
+#[derive(Clone, Copy, PartialEq, Eq)]
+pub(crate) enum Kind {
+    Language,
+    Transformation,
+    Tree,
+}
+
+/// What an expression stands for, and of which types it is.
+#[derive(Drop)]
+pub(crate) struct Standing<'p> {
+    pub(crate) kind: Option<Kind>,
+    pub(crate) input: Option<&'p TypeItem>,
+    pub(crate) output: Option<&'p TypeItem>,
+}
+
+fn taken_by_one(op: Op1) -> Kind
+    ensures { plain_kind result ≡ taken_by_one op }
+{
+    match op {
+        Op1::Complement | Op1::Minimize | Op1::GetWitness => Kind::Language,
+        Op1::Domain => Kind::Transformation,
+    }
+}
+
+fn given_by_one(op: Op1) -> Kind
+    ensures { plain_kind result ≡ given_by_one op }
+{
+    match op {
+        Op1::Complement | Op1::Minimize | Op1::Domain => Kind::Language,
+        Op1::GetWitness => Kind::Tree,
+    }
+}
+
+fn taken_first(op: Op2) -> Kind
+    ensures { plain_kind result ≡ taken_first op }
+{
+    match op {
+        Op2::Intersect | Op2::Union | Op2::Difference => Kind::Language,
+        Op2::PreImage | Op2::Compose | Op2::Restrict | Op2::RestrictOut | Op2::Apply => {
+            Kind::Transformation
+        }
+    }
+}
+
+fn taken_second(op: Op2) -> Kind
+    ensures { plain_kind result ≡ taken_second op }
+{
+    match op {
+        Op2::Intersect
+        | Op2::Union
+        | Op2::Difference
+        | Op2::PreImage
+        | Op2::Restrict
+        | Op2::RestrictOut => Kind::Language,
+        Op2::Compose => Kind::Transformation,
+        Op2::Apply => Kind::Tree,
+    }
+}
+
+fn given_by_two(op: Op2) -> Kind
+    ensures { plain_kind result ≡ given_by_two op }
+{
+    match op {
+        Op2::Intersect | Op2::Union | Op2::Difference | Op2::PreImage => Kind::Language,
+        Op2::Compose | Op2::Restrict | Op2::RestrictOut => Kind::Transformation,
+        Op2::Apply => Kind::Tree,
+    }
+}
+
+pub(crate) fn place_of(x: &X) -> Pos
+    ensures { result ≡ place_of_x (plain_x x.now) }
+{
+    match x {
+        X::Named(name) => name.place,
+        X::One(_, place, _) => *place,
+        X::Two(_, place, _, _) => *place,
+        X::Literal(name, _, _) => name.place,
+    }
+}
+
+/// Whether it is known to be of another kind.
+fn is_other_kind(kind: Kind, known: &Option<Kind>) -> bool
+    ensures { result ≡ is_other_kind (plain_kind kind) (option_map plain_kind known.now) }
+{
+    match known {
+        Some(found) => *found != kind,
+        None => false,
+    }
+}
+
+/// The type, where something is of this kind.
+pub(crate) fn only_as<'p>(
+    kind: Kind,
+    known: &Option<Kind>,
+    item: &Option<&'p TypeItem>,
+) -> Option<&'p TypeItem>
+    ensures { result ≡ only_as kind known.now item.now }
+{
+    match known {
+        Some(found) if *found == kind => *item,
+        _ => None,
+    }
+}
+
+/// A type is expected of a tree alone.
+fn expected_as<'p>(kind: Kind, item: &Option<&'p TypeItem>) -> Option<&'p TypeItem>
+    ensures name { type_name result ≡ expected_as (plain_kind kind) (type_name item.now) }
+    ensures declared { (items : _) → IsDeclared items item.now → IsDeclared items result }
+{
+    match kind {
+        Kind::Language | Kind::Transformation => None,
+        Kind::Tree => *item,
+    }
+}
+
+/// The expression is of this kind and this type.
+pub(crate) fn check_be(
+    context: &Context,
+    least: &mut Least,
+    item: &Option<&TypeItem>,
+    kind: Kind,
+    x: &X,
+    standing: &Standing,
+)
+    requires { IsStanding (items_of context.now) (plain_x x.now) standing.now }
+    ensures { Notes least.old.known least.new.known (needs_be (items_of context.now) (before_of context.now) (type_name item.now) (plain_kind kind) (plain_x x.now)) }
+{
+    let place = place_of(x);
+    let other = is_other_kind(kind, &standing.kind);
+    least.note_if(other, Code::WrongKind, place);
+    let found = only_as(kind, &standing.kind, &standing.input);
+    least.note_if(differ(item, &found), Code::WrongType, place);
+}
+
+/// The type that the second operand is to have.
+fn wanted_second<'p>(
+    context: &Context,
+    op: Op2,
+    x: &X,
+    standing: &Standing<'p>,
+) -> Option<&'p TypeItem>
+    requires { IsStanding (items_of context.now) (plain_x x.now) standing.now }
+    ensures name { type_name result ≡ wanted_second (items_of context.now) (before_of context.now) op (plain_x x.now) }
+    ensures declared { IsDeclared (items_of context.now) result }
+{
+    let kind = taken_first(op);
+    match op {
+        Op2::Intersect | Op2::Union | Op2::Difference | Op2::Restrict | Op2::Apply => {
+            only_as(kind, &standing.kind, &standing.input)
+        }
+        Op2::PreImage | Op2::Compose | Op2::RestrictOut => {
+            only_as(kind, &standing.kind, &standing.output)
+        }
+    }
+}
+
+/// A 65th operation, inside so many others.
+fn check_nested(least: &mut Least, around: usize, place: Pos)
+    ensures { Notes least.old.known least.new.known (nested around place) }
+{
+    least.note_if(around >= 64, Code::TooMany, place);
+}
+
+/// One operation more around; where there are 64 already, it doesn't matter how many.
+fn deeper(around: usize) -> usize
+    ensures few { around < 64 → result ≡ around + 1 }
+    ensures many { 64 ≤ around → result ≡ around }
+{
+    if around < 64 { around + 1 } else { around }
+}
+
+fn of_one<'p>(context: &Context, op: Op1, place: Pos, x: &X, operand: Standing<'p>) -> Standing<'p>
+    requires { IsStanding (items_of context.now) (plain_x x.now) operand }
+    ensures { IsStanding (items_of context.now) (plain.one op place (plain_x x.now)) result }
+{
+    let taken = taken_by_one(op);
+    Standing {
+        kind: Some(given_by_one(op)),
+        input: only_as(taken, &operand.kind, &operand.input),
+        output: None,
+    }
+}
+
+fn of_two<'p>(
+    context: &Context,
+    op: Op2,
+    place: Pos,
+    x: &X,
+    y: &X,
+    first: Standing<'p>,
+    second: Standing<'p>,
+) -> Standing<'p>
+    requires first { IsStanding (items_of context.now) (plain_x x.now) first }
+    requires second { IsStanding (items_of context.now) (plain_x y.now) second }
+    ensures { IsStanding (items_of context.now) (plain.two op place (plain_x x.now) (plain_x y.now)) result }
+{
+    Standing {
+        kind: Some(given_by_two(op)),
+        input: input_of_two(op, &first),
+        output: output_of_two(op, &first, &second),
+    }
+}
+
+/// The type of what an operation gives.
+fn input_of_two<'p>(op: Op2, first: &Standing<'p>) -> Option<&'p TypeItem>
+    ensures { result ≡ input_of_two op first.now }
+{
+    let taken = taken_first(op);
+    match op {
+        Op2::Apply => only_as(taken, &first.kind, &first.output),
+        Op2::Intersect
+        | Op2::Union
+        | Op2::Difference
+        | Op2::PreImage
+        | Op2::Compose
+        | Op2::Restrict
+        | Op2::RestrictOut => only_as(taken, &first.kind, &first.input),
+    }
+}
+
+/// The type of the outputs of what an operation gives.
+fn output_of_two<'p>(op: Op2, first: &Standing<'p>, second: &Standing<'p>) -> Option<&'p TypeItem>
+    ensures { result ≡ output_of_two op first.now second.now }
+{
+    match op {
+        Op2::Compose => only_as(Kind::Transformation, &second.kind, &second.output),
+        Op2::Restrict | Op2::RestrictOut => {
+            only_as(Kind::Transformation, &first.kind, &first.output)
+        }
+        Op2::Intersect | Op2::Union | Op2::Difference | Op2::PreImage | Op2::Apply => None,
+    }
+}
+
+/// The type of this name.
+pub(crate) fn declared<'p>(context: &Context<'p>, name: &Option<&Name>) -> Option<&'p TypeItem>
+    requires { IsContext context.now }
+    ensures name { type_name result ≡ option_and_then (declared_type (items_of context.now)) (option_map (λ n. plain_name n.now) name.now) }
+    ensures declared { IsDeclared (items_of context.now) result }
+{
+    match name {
+        Some(name) => context.find_type(&name.text),
+        None => None,
+    }
+}
+
+fn own_kind(item: &Item) -> Option<Kind>
+    ensures { option_map plain_kind result ≡ own_kind (plain_item item.now).body }
+{
+    match &item.body {
+        Body::Sorts(_) | Body::Assert(_) => None,
+        Body::Tree(_) => Some(Kind::Tree),
+        Body::Lang(_) => Some(Kind::Language),
+        Body::Trans(_) => Some(Kind::Transformation),
+        Body::Def(own) => Some(defined_kind(&own.into)),
+    }
+}
+
+pub(crate) fn defined_kind(into: &Option<Name>) -> Kind
+    ensures { plain_kind result ≡ defined_kind (plain_into into.now) }
+{
+    match into {
+        Some(_) => Kind::Transformation,
+        None => Kind::Language,
+    }
+}
+
+fn own_type(item: &Item) -> Option<&Name>
+    ensures { option_map (λ n. plain_name n.now) result ≡ own_type (plain_item item.now).body }
+{
+    match &item.body {
+        Body::Sorts(_) | Body::Assert(_) => None,
+        Body::Tree(own) => Some(&own.of),
+        Body::Lang(own) => Some(&own.of),
+        Body::Trans(own) => Some(&own.from),
+        Body::Def(own) => Some(&own.from),
+    }
+}
+
+fn own_output(item: &Item) -> Option<&Name>
+    ensures { option_map (λ n. plain_name n.now) result ≡ own_output (plain_item item.now).body }
+{
+    match &item.body {
+        Body::Sorts(_) | Body::Assert(_) | Body::Tree(_) | Body::Lang(_) => None,
+        Body::Trans(own) => Some(&own.into),
+        Body::Def(own) => match &own.into {
+            Some(into) => Some(into),
+            None => None,
+        },
+    }
+}
+
+/// Whether the name of an item is known from the next item on.
+fn is_known_later(item: &Item) -> bool
+    ensures { result ≡ is_known_later (plain_item item.now).body }
+{
+    match &item.body {
+        Body::Tree(_) | Body::Def(_) => true,
+        Body::Sorts(_) | Body::Lang(_) | Body::Trans(_) | Body::Assert(_) => false,
+    }
+}
+
+/// What a name stands for that an item declares.
+fn standing_of<'p>(context: &Context<'p>, name: &Name, item: &Item) -> Standing<'p>
+    requires context { IsContext context.now }
+    requires found { find_item (items_of context.now) name.now.text ≡ Some (plain_item item.now) }
+    ensures { IsStanding (items_of context.now) (plain.named (plain_name name.now)) result }
+{
+    let input = own_type(item);
+    let output = own_output(item);
+    Standing {
+        kind: own_kind(item),
+        input: declared(context, &input),
+        output: declared(context, &output),
+    }
+}
+
+/// What a name stands for that no item declares.
+fn standing_of_nothing<'p>(context: &Context<'p>, name: &Name) -> Standing<'p>
+    requires { find_item (items_of context.now) name.now.text ≡ None }
+    ensures { IsStanding (items_of context.now) (plain.named (plain_name name.now)) result }
+{
+    Standing {
+        kind: None,
+        input: None,
+        output: None,
+    }
+}
+
+/// A name of a definition or a tree is known from the next item on.
+fn check_known(context: &Context, least: &mut Least, name: &Name, item: &Item)
+    requires { IsContext context.now }
+    ensures { Notes least.old.known least.new.known (fails_if (is_known_later (plain_item item.now).body && not (is_some (find_item (before_of context.now) name.now.text))) code.UsedTooEarly name.now.place) }
+{
+    let known = context.has_item_before(&name.text);
+    least.note_if(
+        both(is_known_later(item), !known),
+        Code::UsedTooEarly,
+        name.place,
+    );
+}
+
+fn check_word<'p>(context: &Context<'p>, least: &mut Least, name: &Name) -> Standing<'p>
+    requires { IsContext context.now }
+    ensures noted { Notes least.old.known least.new.known (name_failures (items_of context.now) (before_of context.now) (plain_name name.now)) }
+    ensures standing { IsStanding (items_of context.now) (plain.named (plain_name name.now)) result }
+{
+    match context.find_item(&name.text) {
+        Some(item) => {
+            check_known(context, least, name, item);
+            standing_of(context, name, item)
+        }
+        None => {
+            least.note(Code::UnknownName, name.place);
+            standing_of_nothing(context, name)
+        }
+    }
+}
+
+/// The constructor of a literal of this type, and its labels, which have no names of fields.
+fn check_literal(
+    alloc: Global,
+    least: &mut Least,
+    item: &Option<&TypeItem>,
+    name: &Name,
+    labels: &[Expr],
+    count: usize,
+) -> Result<(), Memory>
+    ensures { OnOk result (Notes least.old.known least.new.known (literal_failures (option_map (λ t. plain_type t.now) item.now) (plain_name name.now) (map plain_expr labels.now) count)) }
+{
+    check_constructor(least, item, name, count);
+    check_label_count(least, item, name, labels.len());
+    let scope = Scope { fields: Some(&[]) };
+    check_labels(alloc, least, &scope, fields_of(item), labels)
+}
+
+/// Notes what fails in an expression inside so many operations, and tells what it stands for. A literal has the type that
+/// is expected of it.
+#[cycle(check_x)]
+pub(crate) fn check_x<'p>(
+    alloc: Global,
+    context: &Context<'p>,
+    least: &mut Least,
+    around: usize,
+    expected: &Option<&'p TypeItem>,
+    x: &X,
+) -> Result<Standing<'p>, Memory>
+    requires context { IsContext context.now }
+    requires expected { IsDeclared (items_of context.now) expected.now }
+    ensures noted { OnOk result (Notes least.old.known least.new.known (x_failures (items_of context.now) (before_of context.now) around (type_name expected.now) (plain_x x.now))) }
+    ensures standing { IfOk result (IsStanding (items_of context.now) (plain_x x.now)) }
+{
+    let nothing: Option<&'p TypeItem> = None;
+    match x {
+        X::Named(name) => Ok(check_word(context, least, name)),
+        X::One(op, place, inside) => {
+            check_nested(least, around, *place);
+            let operand = check_x(alloc, context, least, deeper(around), &nothing, inside)?;
+            check_be(
+                context,
+                least,
+                &nothing,
+                taken_by_one(*op),
+                inside,
+                &operand,
+            );
+            Ok(of_one(context, *op, *place, inside, operand))
+        }
+        X::Two(op, place, first, second) => {
+            check_nested(least, around, *place);
+            let left = check_x(alloc, context, least, deeper(around), &nothing, first)?;
+            check_be(context, least, &nothing, taken_first(*op), first, &left);
+            let wanted = wanted_second(context, *op, first, &left);
+            let expected = expected_as(taken_second(*op), &wanted);
+            let right = check_x(alloc, context, least, deeper(around), &expected, second)?;
+            check_be(context, least, &wanted, taken_second(*op), second, &right);
+            Ok(of_two(context, *op, *place, first, second, left, right))
+        }
+        X::Literal(name, labels, children) => {
+            check_literal(alloc, least, expected, name, labels, children.len())?;
+            check_children(alloc, context, least, around, expected, children)?;
+            Ok(Standing {
+                kind: Some(Kind::Tree),
+                input: None,
+                output: None,
+            })
+        }
+    }
+}
+
+/// The children of a literal of this type.
+#[cycle(check_x)]
+fn check_children<'p>(
+    alloc: Global,
+    context: &Context<'p>,
+    least: &mut Least,
+    around: usize,
+    expected: &Option<&'p TypeItem>,
+    children: &[X],
+) -> Result<(), Memory>
+    requires context { IsContext context.now }
+    requires expected { IsDeclared (items_of context.now) expected.now }
+    ensures { OnOk result (Notes least.old.known least.new.known (xs_failures (items_of context.now) (before_of context.now) around (type_name expected.now) (plain_children children.now))) }
+{
+    'children: for child in children {
+        let standing = check_x(alloc, context, least, around, expected, child)?;
+        check_be(context, least, expected, Kind::Tree, child, &standing);
+    }
+    Ok(())
+}
+
+/// A whole expression of this type and this kind.
+pub(crate) fn check_whole<'p>(
+    alloc: Global,
+    context: &Context<'p>,
+    least: &mut Least,
+    item: &Option<&'p TypeItem>,
+    kind: Kind,
+    x: &X,
+) -> Result<Standing<'p>, Memory>
+    requires context { IsContext context.now }
+    requires item { IsDeclared (items_of context.now) item.now }
+    ensures noted { OnOk result (Notes least.old.known least.new.known (whole_failures (items_of context.now) (before_of context.now) (type_name item.now) (plain_kind kind) (plain_x x.now))) }
+    ensures standing { IfOk result (IsStanding (items_of context.now) (plain_x x.now)) }
+{
+    let expected = expected_as(kind, item);
+    let standing = check_x(alloc, context, least, 0, &expected, x)?;
+    check_be(context, least, item, kind, x, &standing);
+    Ok(standing)
+}

@@ -1,0 +1,86 @@
+//! What has a name, and names that stand twice.
+
+ghost use Rattle.std.specs.Prelude.{◌≡◌, ℕ, List, map, IfOk, OnOk, is_some};
+ghost use Rattle.fast_syntax.specs.View.{plain_name};
+ghost use Rattle.model_program.specs.Syntax as plain;
+ghost use Rattle.model_checks.specs.Failures.{fails_if};
+ghost use Rattle.model_checks.specs.Types.{is_among, repeated};
+ghost use Rattle.program_check.specs.Notes.{Notes};
+ghost use Rattle.program_check.specs.Naming.{place_in, Adds};
+
+use crate::least::Least;
+use crate::names::Names;
+use fast_fault::{Code, Memory};
+use fast_syntax::{CtorItem, FieldItem, Name};
+use std::alloc::Global;
+
+/// What has a name.
+pub(crate) trait Named {
+    ghost name_of: { Self → plain.Name };
+
+    fn name(&self) -> &Name
+        ensures { plain_name result.now ≡ name_of self.now };
+}
+
+impl Named for Name {
+    ghost use Rattle.fast_syntax.specs.View.{plain_name};
+
+    ghost name_of = { plain_name };
+
+    fn name(&self) -> &Name {
+        self
+    }
+}
+
+impl Named for FieldItem {
+    ghost use Rattle.fast_syntax.specs.View.{plain_name};
+
+    ghost name_of = { λ f. plain_name f.name };
+
+    fn name(&self) -> &Name {
+        &self.name
+    }
+}
+
+impl Named for CtorItem {
+    ghost use Rattle.fast_syntax.specs.View.{plain_name};
+
+    ghost name_of = { λ c. plain_name c.name };
+
+    fn name(&self) -> &Name {
+        &self.name
+    }
+}
+
+/// Notes a name that is there already, and adds it otherwise.
+fn check_name(
+    alloc: Global,
+    least: &mut Least,
+    code: Code,
+    names: &mut Names,
+    name: &Name,
+    place: usize,
+) -> Result<(), Memory>
+    ensures noted { OnOk result (Notes least.old.known least.new.known (fails_if (is_some (place_in names.old name.now.text)) code name.now.place)) }
+    ensures names { OnOk result (Adds names.old names.new name.now.text place) }
+{
+    least.note_if(names.place(&name.text).is_some(), code, name.place);
+    names.add(alloc, &name.text, place)
+}
+
+/// Notes each name that stood before. The names come back for look-ups.
+pub(crate) fn check_repeated<N: Named>(
+    alloc: Global,
+    least: &mut Least,
+    code: Code,
+    all: &[N],
+) -> Result<Names, Memory>
+    ensures noted { OnOk result (Notes least.old.known least.new.known (repeated code (map N.name_of all.now))) }
+    ensures names { IfOk result (λ names. (text : List ℕ) → is_some (place_in names text) ≡ is_among (map N.name_of all.now) text) }
+{
+    let mut names = Names::new(alloc);
+    'all: for (place, one) in all.iter().enumerate() {
+        check_name(alloc, least, code, &mut names, one.name(), place)?;
+    }
+    Ok(names)
+}

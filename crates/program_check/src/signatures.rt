@@ -1,0 +1,112 @@
+//! The signatures of the types of a program.
+
+ghost use Rattle.std.specs.Prelude.{◌≡◌, IfOk, map, cond};
+ghost use Rattle.std.specs.Option.{option_map};
+ghost use Rattle.fast_tree.specs.Signatures.{plain_sort, plain_field, plain_constructor, plain_signature};
+ghost use Rattle.fast_syntax.specs.View as syntax;
+ghost use Rattle.fast_syntax.specs.View.{plain_name, plain_type};
+ghost use Rattle.fast_syntax.specs.Plain.{plain_item};
+ghost use Rattle.model_meaning.specs.Types.{sort_named, rank_of, signature_of};
+ghost use Rattle.program_check.specs.Contexts.{own_type_item};
+ghost use Rattle.program_check.specs.Signed.{field_of, constructor_of, own_signature};
+
+use crate::context::own_type;
+use fast_fault::Memory;
+use fast_syntax::items::Item;
+use fast_syntax::{CtorItem, FieldItem, Name, TypeItem};
+use fast_tree::{CtorOf, FieldOf, Signature, Sort};
+use std::alloc::Global;
+
+/// The sort of this name, in a type whose sorts are known.
+fn sort_of(name: &Name) -> Sort
+    ensures { plain_sort result ≡ sort_named (plain_name name.now) }
+{
+    if name.text.is("Int") {
+        return Sort::Int;
+    }
+    if name.text.is("Bool") {
+        return Sort::Bool;
+    }
+    Sort::Text
+}
+
+fn field_of(alloc: Global, field: &FieldItem) -> Result<FieldOf, Memory>
+    ensures { IfOk result (λ made. plain_field made ≡ field_of (syntax.plain_field field.now)) }
+{
+    Ok(FieldOf {
+        name: field.name.text.copy(alloc)?,
+        sort: sort_of(&field.sort),
+    })
+}
+
+/// A rank as a number; of a well-formed program each is 8 at most.
+fn rank_of(rank: i128) -> Result<u32, Memory>
+    ensures { IfOk result (λ made. made ≡ rank_of rank) }
+{
+    if 0 <= rank && rank <= 8 {
+        Ok(rank as u32)
+    } else {
+        Err(Memory)
+    }
+}
+
+fn constructor_of(alloc: Global, ctor: &CtorItem) -> Result<CtorOf, Memory>
+    ensures { IfOk result (λ made. plain_constructor made ≡ constructor_of (syntax.plain_ctor ctor.now)) }
+{
+    Ok(CtorOf {
+        name: ctor.name.text.copy(alloc)?,
+        rank: rank_of(ctor.rank)?,
+    })
+}
+
+fn fields_of(alloc: Global, fields: &[FieldItem]) -> Result<Vec<FieldOf>, Memory>
+    ensures { IfOk result (λ made. map plain_field made.items ≡ map field_of (map syntax.plain_field fields.now)) }
+{
+    let mut made = Vec::new(alloc);
+    'fields: for field in fields {
+        made.push(field_of(alloc, field)?)?;
+    }
+    Ok(made)
+}
+
+fn constructors_of(alloc: Global, ctors: &[CtorItem]) -> Result<Vec<CtorOf>, Memory>
+    ensures { IfOk result (λ made. map plain_constructor made.items ≡ map constructor_of (map syntax.plain_ctor ctors.now)) }
+{
+    let mut made = Vec::new(alloc);
+    'ctors: for ctor in ctors {
+        made.push(constructor_of(alloc, ctor)?)?;
+    }
+    Ok(made)
+}
+
+/// The signature of a type.
+fn signature_of(alloc: Global, item: &TypeItem) -> Result<Signature, Memory>
+    ensures { IfOk result (λ made. plain_signature made ≡ signature_of (plain_type item.now)) }
+{
+    Ok(Signature {
+        name: item.name.text.copy(alloc)?,
+        fields: fields_of(alloc, &item.fields)?,
+        constructors: constructors_of(alloc, &item.ctors)?,
+    })
+}
+
+/// The signature of an item, where it is a type.
+fn own_signature(alloc: Global, item: &Item) -> Result<Option<Signature>, Memory>
+    ensures { IfOk result (λ made. option_map plain_signature made ≡ option_map signature_of (own_type_item (plain_item item.now).body)) }
+{
+    match own_type(item) {
+        Some(own) => Ok(Some(signature_of(alloc, own)?)),
+        None => Ok(None),
+    }
+}
+
+/// The signature of each item that is a type, at the item's place.
+pub(crate) fn signatures_of(alloc: Global, items: &[Item]) -> Result<Vec<Option<Signature>>, Memory>
+    ensures { IfOk result (λ made. map (option_map plain_signature) made.items ≡ map own_signature (map plain_item items.now)) }
+{
+    let mut made = Vec::new(alloc);
+    'items: for item in items {
+        made.push(own_signature(alloc, item)?)?;
+    }
+    Ok(made)
+}

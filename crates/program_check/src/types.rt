@@ -1,0 +1,128 @@
+//! Types.
+
+ghost use Rattle.std.specs.Prelude.{◌≡◌, OnOk, map, not, is_some};
+ghost use Rattle.std.specs.List.{list_any, flat_map};
+ghost use Rattle.std.specs.Option.{option_map};
+ghost use Rattle.fast_tree.specs.Signatures.{plain_sort};
+ghost use Rattle.fast_syntax.specs.View.{plain_name, plain_field, plain_ctor, plain_type};
+ghost use Rattle.model_checks.specs.Sorts.{sort_named};
+ghost use Rattle.model_checks.specs.Types.{is_rank, is_rank_in_range, repeated, field_failures, ctor_failures, field_limit, type_failures};
+ghost use Rattle.fast_fault.specs.declared.code.Code.TheVariants as code;
+ghost use Rattle.program_check.specs.Notes.{Notes};
+
+use crate::least::Least;
+use crate::named::check_repeated;
+use fast_fault::{Code, Memory, Text};
+use fast_syntax::{CtorItem, FieldItem, TypeItem};
+use fast_tree::Sort;
+use std::alloc::Global;
+
+/// The sort of this name.
+pub(crate) fn sort_named(name: &Text) -> Option<Sort>
+    ensures { option_map plain_sort result ≡ sort_named name.now }
+{
+    if name.is("Int") {
+        return Some(Sort::Int);
+    }
+    if name.is("Bool") {
+        return Some(Sort::Bool);
+    }
+    if name.is("String") {
+        return Some(Sort::Text);
+    }
+    None
+}
+
+/// Whether it is the rank of a constructor with so many children.
+pub(crate) fn is_rank(count: usize, rank: i128) -> bool
+    ensures { result ≡ is_rank count rank }
+{
+    rank == count as i128
+}
+
+fn is_leaf(ctor: &CtorItem) -> bool
+    ensures { result ≡ is_rank 0 ctor.now.rank }
+{
+    is_rank(0, ctor.rank)
+}
+
+/// There is a constructor without children.
+fn has_leaf(item: &TypeItem) -> bool
+    ensures { result ≡ list_any (λ c. is_rank 0 c.rank) item.now.ctors.items }
+{
+    item.ctors.iter().any(is_leaf)
+}
+
+fn is_rank_in_range(rank: i128) -> bool
+    ensures { result ≡ is_rank_in_range rank }
+{
+    0 <= rank && rank <= 8
+}
+
+/// No field stands twice.
+fn check_field_names(alloc: Global, least: &mut Least, item: &TypeItem) -> Result<(), Memory>
+    ensures { OnOk result (Notes least.old.known least.new.known (repeated code.DuplicateName (map (λ f. f.name) (plain_type item.now).fields))) }
+{
+    check_repeated(alloc, least, Code::DuplicateName, &item.fields)?;
+    Ok(())
+}
+
+/// No constructor stands twice.
+fn check_ctor_names(alloc: Global, least: &mut Least, item: &TypeItem) -> Result<(), Memory>
+    ensures { OnOk result (Notes least.old.known least.new.known (repeated code.DuplicateName (map (λ c. c.name) (plain_type item.now).ctors))) }
+{
+    check_repeated(alloc, least, Code::DuplicateName, &item.ctors)?;
+    Ok(())
+}
+
+fn check_sort(least: &mut Least, field: &FieldItem)
+    ensures { Notes least.old.known least.new.known (field_failures (plain_field field.now)) }
+{
+    let known = sort_named(&field.sort.text).is_some();
+    least.note_if(!known, Code::UnknownName, field.sort.place);
+}
+
+/// The sorts of the fields are known.
+fn check_sorts(least: &mut Least, item: &TypeItem)
+    ensures { Notes least.old.known least.new.known (flat_map field_failures (plain_type item.now).fields) }
+{
+    'fields: for field in &item.fields {
+        check_sort(least, field);
+    }
+}
+
+fn check_rank(least: &mut Least, ctor: &CtorItem)
+    ensures { Notes least.old.known least.new.known (ctor_failures (plain_ctor ctor.now)) }
+{
+    least.note_if(!is_rank_in_range(ctor.rank), Code::TooMany, ctor.name.place);
+}
+
+/// The ranks of the constructors are in range.
+fn check_ranks(least: &mut Least, item: &TypeItem)
+    ensures { Notes least.old.known least.new.known (flat_map ctor_failures (plain_type item.now).ctors) }
+{
+    'ctors: for ctor in &item.ctors {
+        check_rank(least, ctor);
+    }
+}
+
+/// There are eight fields at most.
+fn check_field_limit(least: &mut Least, item: &TypeItem)
+    ensures { Notes least.old.known least.new.known (field_limit (plain_type item.now).fields) }
+{
+    if let Some(ninth) = item.fields.get(8) {
+        least.note(Code::TooMany, ninth.name.place);
+    }
+}
+
+pub(crate) fn check_type(alloc: Global, least: &mut Least, item: &TypeItem) -> Result<(), Memory>
+    ensures { OnOk result (Notes least.old.known least.new.known (type_failures (plain_type item.now))) }
+{
+    least.note_if(!has_leaf(item), Code::NoLeaf, item.name.place);
+    check_field_names(alloc, least, item)?;
+    check_sorts(least, item);
+    check_field_limit(least, item);
+    check_ctor_names(alloc, least, item)?;
+    check_ranks(least, item);
+    Ok(())
+}
