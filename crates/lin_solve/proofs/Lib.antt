@@ -6,3 +6,4 @@ pub mod Tries
 pub mod Shows
 pub mod Decided
 pub mod Below
+pub mod Labels

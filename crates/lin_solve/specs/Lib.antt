@@ -1,3 +1,5 @@
 pub mod Plain
 pub mod Tried
 pub mod Shown
+pub mod Wholes
+pub mod Equal

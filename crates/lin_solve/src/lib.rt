@@ -7,6 +7,7 @@
 mod chain;
 mod compare;
 mod decision;
+mod ints;
 mod numbering;
 mod over;
 mod rows;
@@ -16,6 +17,7 @@ mod tried;
 pub use chain::{Chain, Choice};
 pub use compare::{Compare, Relation};
 pub use decision::decide;
+pub use ints::Ints;
 
 #[cfg(test)]
 mod tests;

@@ -248,11 +248,11 @@ fn decides_linear_literals(rt: HostRuntime) -> Result<(), Fail> {
             "values",
         ),
     ];
-    for (name, rows, want) in cases {
+    for (place, (_, rows, want)) in cases.iter().enumerate() {
         let Ok(found) = told_of(alloc, rows) else {
-            panic!(rt; "{name}: no form");
+            panic!(rt; "case {place}: no form");
         };
-        assert!(rt; found == *want, "{name}: {found}");
+        assert!(rt; found == *want, "case {place}");
     }
     Ok(())
 }
@@ -446,7 +446,8 @@ fn push_drawn(
 ) -> Result<(), FormStop> {
     let plain = linear(alloc, row[2], &[(row[3], 0), (row[4], 1), (row[5], 2)])?;
     let inner = linear(alloc, 0, &[(1, 0), (row[7], 1)])?;
-    let term = by_divisor(alloc, &inner, row[8] as u32)?.scaled(alloc, row[6] as i128)?;
+    let divisor = u32::try_from(row[8]).unwrap_or(1);
+    let term = by_divisor(alloc, &inner, divisor)?.scaled(alloc, row[6] as i128)?;
     let relation = match row[0] {
         0 => Relation::Less,
         1 => Relation::AtMost,

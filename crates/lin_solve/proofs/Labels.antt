@@ -1,0 +1,107 @@
+-- What a decision says of labels of whole numbers.
+use Rattle.std.proofs.Common.{◌≡◌, ◌≢◌, ◌↔◌, ℕ, ◌<◌, ◌≤◌, ◌+◌, ◌-◌, ◌&&◌, ◌||◌, ◌==◌, ◌⊎◌, inl, inr, List, [], ◌∷◌, ◌++◌, map, length, take, replicate, get_or, Bool, true, false, refl, ap, sym, ◌∙◌, subst, arith}
+use Rattle.std.proofs.Math.IntN.{ℤ, pos}
+use Rattle.std.specs.Prelude.{FitsSigned, IsTrue}
+use Rattle.std.specs.Int.{w64}
+use Rattle.std.specs.List.{All, list_any}
+use Rattle.std.specs.Cmp.{IsEquivalence}
+use Rattle.std.specs.Cmp.Lexicographic.{slice_cmp}
+use Rattle.std.specs.Ordering.{int_cmp, ordering_then, ordering_reverse}
+use Rattle.std.specs.declared.cmp.Ordering.{Ordering}
+use Rattle.std.specs.declared.cmp.Ordering.TheVariants as ordering
+use Rattle.std.proofs.lemmas.Cmp.{int_cmp_total}
+use Rattle.std.proofs.lemmas.Int.{fits_signed_from_abs}
+use Rattle.std.proofs.lemmas.List.{get_or_append_left, get_or-take, get_or-map, length-take-le, length-map, length-append, length-replicate}
+use Rattle.std.proofs.lemmas.List.Elements.{All-append, All-replicate, All-map, All-head, All-tail, Contains-get_or}
+use Rattle.std.proofs.lemmas.Map.Lookups.{exact_signed}
+use Rattle.std.proofs.lemmas.Map.Steps.{list_any_congr}
+use Rattle.std.proofs.lemmas.Map.Views.{list_any-from_Contains}
+use Rattle.std.proofs.lemmas.Bool.Decides.{nat_tests}
+use Rattle.model_tree.specs.Label.{Field, whole, Label, row}
+use Rattle.model_form.specs.Form.{Form, value}
+use Rattle.model_form.specs.Same.{same_form}
+use Rattle.model_form.specs.Over.{IsOver}
+use Rattle.model_form.proofs.Equals.{same_value}
+use Rattle.model_form.proofs.Over.{AgreeBelow, over_same, value_agree}
+use Rattle.model_chain.specs.Literals.{Literal, HoldsAll, AreLiteralsOver, compare_holds, related}
+use Rattle.model_chain.specs.Chains.{Passes, IsFar, IsOutside}
+use Rattle.model_chain.proofs.Meaning.{far_has_values}
+use Rattle.label_core.specs.Atoms.{has_equal, EachHasEqual}
+use Rattle.label_core.specs.Lit.{SatisfiesAll, LitsFit, atoms_of}
+use Rattle.label_core.specs.declared.theory.Lit.{Lit}
+use Rattle.lin_solve.specs.declared.compare.Compare.{Compare}
+use Rattle.lin_solve.specs.declared.compare.Relation.{Relation}
+use Rattle.lin_solve.specs.declared.compare.Relation.TheVariants.{Less, AtMost, Equal}
+use Rattle.lin_solve.specs.declared.chain.Chain.{Chain}
+use Rattle.label_core.specs.declared.theory.Verdict.TheVariants.{Wide}
+use Rattle.lin_solve.specs.Plain.{plain_compare, plain_relation, plain_literal, plain_literals}
+use Rattle.lin_solve.specs.Shown.{AllKept, plain_chain, Answers}
+use Rattle.lin_solve.specs.Wholes.{as_whole, wholes_label, wholes_of, IsWholes, KeepsWholes, compare_at, CompareFits}
+use Rattle.lin_solve.specs.Equal.{wholes_back, among_own, compare_laws}
+use Rattle.lin_solve.specs.contracts.compare.ComparePartialEq.TheImpl.{ghosts as compares}
+use Rattle.lin_solve.specs.contracts.compare.RelationPartialEq.TheImpl.{ghosts as relations}
+
+agree : (n : ℕ) (c : Compare) (us vs : List ℤ) → AgreeBelow n us vs → CompareFits n c → compare_holds (plain_compare c) us ≡ compare_holds (plain_compare c) vs
+agree n c us vs a fits =
+    λ i. related (plain_relation c.relation) (value_agree n c.left us vs a fits.0 i) (value_agree n c.right us vs a fits.1 i)
+
+module _ (n : ℕ) (few : n ≤ 8) (ls : List (Lit Compare)) (fit : LitsFit (CompareFits n) ls) where
+  satisfies : (us ns : List ℤ) → AgreeBelow n us ns → HoldsAll (plain_literals ls) us → SatisfiesAll compare_at ls (wholes_label ns)
+  satisfies us ns a h =
+      λ k d l. let x = get_or ls k d in
+      let at : compare_holds (plain_compare x.atom) us ≡ x.sign = subst (λ (y : Literal). compare_holds y.compare us ≡ y.positive) (get_or-map plain_literal ls k d (plain_literal d) l) (h k (plain_literal d) (omega (arith, length-map ls plain_literal, l))) in
+      ap (compare_holds (plain_compare x.atom)) (wholes_back ns) ∙ sym (agree n x.atom us ns a (fit k d l)) ∙ at
+
+  hold : (us ns : List ℤ) → AgreeBelow n ns us → SatisfiesAll compare_at ls (wholes_label ns) → HoldsAll (plain_literals ls) us
+  hold us ns a s =
+      All-map (λ (y : Literal). compare_holds y.compare us ≡ y.positive) plain_literal ls (λ k d l. let x = get_or ls k d in
+      sym (agree n x.atom ns us a (fit k d l)) ∙ sym (ap (compare_holds (plain_compare x.atom)) (wholes_back ns)) ∙ s k d l)
+
+  -- the values and zeros after them
+  abbrev padded : List ℤ → List ℤ
+  padded ns = ns ++ replicate (8 - n) (pos 0)
+
+  eight : (ns : List ℤ) → length ns ≡ n → length (padded ns) ≡ 8
+  eight ns many = length-append ns (replicate (8 - n) (pos 0)) ∙ omega (arith, many, few, length-replicate (8 - n) (pos 0))
+
+  agree_padded : (ns : List ℤ) → length ns ≡ n → AgreeBelow n ns (padded ns)
+  agree_padded ns many k l = sym (get_or_append_left ns (replicate (8 - n) (pos 0)) (pos 0) k (omega (arith, many, l)))
+
+  pub first_satisfies : (us vs : List ℤ) → length us ≡ 8 → HoldsAll (plain_literals ls) us → vs ≡ take n us → AllKept vs → KeepsWholes n (wholes_label vs) × SatisfiesAll compare_at ls (wholes_label vs)
+  first_satisfies us vs many h is kept =
+      ((vs, ap length is ∙ length-take-le n us (omega (arith, many, few)), kept, refl), satisfies us vs (λ k l. sym (get_or-take n us k (pos 0) l) ∙ ap (λ ws. get_or ws k (pos 0)) (sym is)) h)
+
+  pub none_satisfies : ((us : List ℤ) → length us ≡ 8 → HoldsAll (plain_literals ls) us → ⊥) → (l : Label) → IsWholes n l → ¬ (SatisfiesAll compare_at ls l)
+  none_satisfies none l (ns, many, is) s = none (padded ns) (eight ns many) (hold (padded ns) ns (agree_padded ns many) (subst (SatisfiesAll compare_at ls) is s))
+
+  kept_none : ((us : List ℤ) → length us ≡ 8 → AllKept us → HoldsAll (plain_literals ls) us → ⊥) → (l : Label) → KeepsWholes n l → ¬ (SatisfiesAll compare_at ls l)
+  kept_none none l (ns, many, kept, is) s =
+      none (padded ns) (eight ns many) (All-append (FitsSigned w64) ns (replicate (8 - n) (pos 0)) kept (All-replicate (FitsSigned w64) (8 - n) (pos 0) (fits_signed_from_abs w64 (pos 0) (omega arith)))) (hold (padded ns) ns (agree_padded ns many) (subst (SatisfiesAll compare_at ls) is s))
+
+  some_satisfies : (us : List ℤ) × (length us ≡ 8) × HoldsAll (plain_literals ls) us × IsOutside us → (l : Label) × IsWholes n l × SatisfiesAll compare_at ls l
+  some_satisfies (us, many, h, out) =
+      (wholes_label (take n us), (take n us, length-take-le n us (omega (arith, many, few)), refl), satisfies us (take n us) (λ k l. sym (get_or-take n us k (pos 0) l)) h)
+
+  pub wide_shown : (E : Compare → Compare → Bool) → IsEquivalence E → (c : Chain) → AreLiteralsOver 8 (plain_literals ls) → Answers {V = List ℤ} (λ us. us) ls (Wide c)
+      → ((EachHasEqual E (atoms_of c.literals.items) (atoms_of ls) × Passes c.bits (plain_chain c)) × (IsFar (plain_chain c) → ((l : Label) × IsWholes n l × SatisfiesAll compare_at ls l) × ((l : Label) → KeepsWholes n l → ¬ (SatisfiesAll compare_at ls l))))
+  wide_shown E laws c over (is, passes, none) = (
+    (subst (λ ms. EachHasEqual E (atoms_of ms) (atoms_of ls)) (sym is) (among_own E laws (atoms_of ls)), passes),
+    λ far.
+        (some_satisfies (subst (λ ms. (us : List ℤ) × (length us ≡ 8) × HoldsAll (plain_literals ms) us × IsOutside us) is (far_has_values (plain_chain c) (subst (λ ms. AreLiteralsOver 8 (plain_literals ms)) (sym is) over) far)), kept_none (none far)),
+  )
+
+other_width : {n : ℕ} → true ≡ (n == 64) → n ≡ 128 → ⊥
+other_width e bits = cc
+
+-- a chain that passes its width is far exactly where that is 64
+pub far_by_bits : (c : Chain) (b : Bool) → b ≡ (c.bits == 64) → Passes c.bits (plain_chain c) → IsTrue b ↔ IsFar (plain_chain c)
+far_by_bits c b is (inl (bits, wide, other)) = (λ t. absurd (other_width (sym (sym is ∙ t)) bits), λ far. absurd (far.1 wide))
+far_by_bits c b is (inr (bits, far)) = (λ t. far, λ f. is ∙ ap (λ n. n == 64) bits)
+
+-- ---- the equality of comparisons
+
+pub laws_of_equality : IsEquivalence compares.eq
+laws_of_equality = compare_laws relations.eq (record { less = refl; at_most = refl; equal = refl; less_at_most = refl; less_equal = refl; at_most_less = refl; at_most_equal = refl; equal_less = refl; equal_at_most = refl }) compares.eq (record { parts = λ _ _. refl })
+
+pub copy_equal : (a b : Compare) → a ≡ b → compares.eq a b ≡ true
+copy_equal a b e = subst (λ c. compares.eq c b ≡ true) (sym e) (laws_of_equality.refl b)
