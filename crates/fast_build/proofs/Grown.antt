@@ -3,15 +3,16 @@ use Rattle.std.proofs.Common.{◌≡◌, ℕ, zero, suc, ◌+◌, ◌<◌, true,
 use Rattle.std.specs.List.{list_any}
 use Rattle.std.proofs.lemmas.List.Elements.{All-nil, All-cons, All-append, Contains-append_left, Contains-append_right, Contains-get_or}
 use Rattle.std.proofs.Math.Seq.{take-suc}
-use Rattle.model_program.specs.Names.{same_text}
+use Rattle.model_names.specs.Declared.{same_text}
 use Rattle.fast_syntax.specs.declared.Demand as code
-use Rattle.fast_syntax.specs.declared.Rule as rule
-use Rattle.fast_syntax.specs.View.{plain_demand, plain_rule}
+use Rattle.fast_syntax.specs.declared.items.Rule as rule
+use Rattle.fast_syntax.specs.View.{plain_demand}
+use Rattle.fast_syntax.specs.Plain.{plain_rule}
 use Rattle.indexmap.proofs.CallerLemmas.{Contains-list_any}
 use Rattle.fast_build.specs.Reached.{demanded_by, demanded_in, IsGrown}
 use Rattle.std.proofs.lemmas.List.Folds.{list_any_at}
 use Rattle.sta_core.proofs.Meaning.{All_from_map}
-use Rattle.model_program.specs.Syntax.{Rule}
+use Rattle.model_grammar.specs.Syntax.{Rule}
 use Rattle.fast_build.proofs.Naming.{same_from_test, same_itself}
 use Rattle.fast_build.proofs.Elements.{all_left, all_right}
 

@@ -1,9 +1,9 @@
 pub mod Elements
 pub mod Naming
 pub mod Grown
-pub mod Declarations
+pub mod Standing
+pub mod Declaring
 pub mod Reaching
 pub mod Meaning
-pub mod Formulas
 pub mod Rounds
 pub mod Whole

@@ -6,15 +6,13 @@ use Rattle.std.proofs.lemmas.Slice.Eq.{bytes_eq-Decides}
 use Rattle.std.proofs.lemmas.Bool.Decides.{nat_tests}
 use Rattle.std.proofs.lemmas.List.{get_or-map, length-map}
 use Rattle.std.proofs.lemmas.Simd.{map-map}
-use Rattle.model_tree.specs.Signature.{names_of}
-use Rattle.model_program.specs.Syntax.{CtorItem, TypeItem}
-use Rattle.model_program.specs.Names.{same_text, find_ctor}
-use Rattle.model_program.specs.WellFormed.{are_distinct}
-use Rattle.model_report.specs.Meaning.{signature_of, rank_of}
-use Rattle.fast_syntax.specs.declared.CtorItem as code
-use Rattle.fast_syntax.specs.View.{plain_ctor}
+use Rattle.model_tree.specs.Signature.{PlainConstructor, PlainSignature, names_of}
+use Rattle.model_names.specs.Declared.{same_text}
+use Rattle.fast_tree.specs.declared.signature.CtorOf as code
+use Rattle.fast_tree.specs.Signatures.{plain_constructor}
 use Rattle.std.proofs.lemmas.List.Folds.{list_any_at}
-use Rattle.fast_build.specs.Numbers.{ctor_at, IsNumbered, number_in}
+use Rattle.fast_build.specs.Numbers.{find_constructor, ctor_at, IsNumbered, number_in}
+use Rattle.fast_build.specs.Stands.{are_apart}
 use Rattle.fast_build.proofs.Elements.{first_true, second_true}
 
 pub same_from_test : (x y : List ℕ) → same_text x y ≡ true → x ≡ y
@@ -85,17 +83,17 @@ mapped_place p f xs k e =
 pub mapped_nowhere : {A B : Type 0} (p : B → Bool) (f : A → B) (xs : List A) → position (λ x. p (f x)) xs ≡ None → position_or_len p (map f xs) < length (map f xs) → ⊥
 mapped_nowhere p f xs e low = nowhere (position_or_len (λ x. p (f x)) xs) (length xs) (nat_lt (position_or_len (λ x. p (f x)) xs) (length xs)) refl e (rw (← place_map p f xs, length-map) at low)
 
-pub ctor_numbered : (ctors : List code.CtorItem) (name : List ℕ) (k n : ℕ) → position (λ c. same_text c.name.text name) ctors ≡ Some k → n ≡ k → IsNumbered (map plain_ctor ctors) name n
+pub ctor_numbered : (ctors : List code.CtorOf) (name : List ℕ) (k n : ℕ) → position (λ c. same_text c.name name) ctors ≡ Some k → n ≡ k → IsNumbered (map plain_constructor ctors) name n
 ctor_numbered ctors name k n e f =
-    let found = mapped_place (λ c. same_text c.name.text name) plain_ctor ctors k e in
+    let found = mapped_place (λ c. same_text c.name name) plain_constructor ctors k e in
     record {
       below = rw (f, ← found.1) found.0;
-      found = rw (f, ← found.1) (find_at (λ c. same_text c.name.text name) (map plain_ctor ctors) _ found.0);
+      found = rw (f, ← found.1) (find_at (λ c. same_text c.name name) (map plain_constructor ctors) _ found.0);
     }
 
-pub ctor_unknown : (ctors : List code.CtorItem) (name : List ℕ) → position (λ c. same_text c.name.text name) ctors ≡ None → is_some (find_ctor (map plain_ctor ctors) name) ≡ true → ⊥
+pub ctor_unknown : (ctors : List code.CtorOf) (name : List ℕ) → position (λ c. same_text c.name name) ctors ≡ None → is_some (find_constructor (map plain_constructor ctors) name) ≡ true → ⊥
 ctor_unknown ctors name e there =
-    let no : false ≡ true = sym (ap is_some (find_nowhere (λ c. same_text c.name.text name) (map plain_ctor ctors) (mapped_nowhere (λ c. same_text c.name.text name) plain_ctor ctors e))) ∙ there in absurd (cc)
+    let no : false ≡ true = sym (ap is_some (find_nowhere (λ c. same_text c.name name) (map plain_constructor ctors) (mapped_nowhere (λ c. same_text c.name name) plain_constructor ctors e))) ∙ there in absurd (cc)
 
 -- names that are apart are told apart by their numbers
 none_passes : {A : Type 0} (p : A → Bool) (xs : List A) (i : ℕ) (d : A) → i < length xs → not (list_any p xs) ≡ true → p (get_or xs i d) ≡ false
@@ -105,11 +103,8 @@ none_passes p xs i d low none = by (p (get_or xs i d)) refl
     by true e = let no : false ≡ true = ap not (sym (list_any_at p xs i d low e)) ∙ none in absurd (cc)
     by false e = refl
 
-abbrev no_ctor : CtorItem
-no_ctor = ctor_at [] 0
-
-other_name : (x : CtorItem) (xs : List CtorItem) (i : ℕ) → i < length xs → not (list_any (λ m. same_text x.name.text m.text) (map (λ c. c.name) xs)) ≡ true → same_text x.name.text (get_or xs i no_ctor).name.text ≡ false
-other_name x xs i low none = ap (λ n. same_text x.name.text n.text) (sym (get_or-map (λ (c : CtorItem). c.name) xs i no_ctor no_ctor.name low)) ∙ none_passes (λ m. same_text x.name.text m.text) (map (λ c. c.name) xs) i no_ctor.name (rw length-map low) none
+other_name : (x : List ℕ) (xs : List (List ℕ)) (i : ℕ) → i < length xs → not (list_any (same_text x) xs) ≡ true → same_text x (get_or xs i []) ≡ false
+other_name x xs i low none = none_passes (same_text x) xs i [] low none
 
 symmetric : (x y : List ℕ) (b : Bool) → same_text x y ≡ b → same_text y x ≡ b
 symmetric x y true e = ap (λ z. same_text y z) (same_from_test x y e) ∙ same_itself y
@@ -132,17 +127,16 @@ both_more n c = by (n == c) refl
     by true e = let same : n ≡ c = grind (arith, nat_tests) in grind (arith, nat_tests)
     by false e = grind (arith, nat_tests)
 
-told_apart : (ctors : List CtorItem) (n c : ℕ) → n < length ctors → c < length ctors → are_distinct (map (λ c. c.name) ctors) ≡ true → same_text (get_or ctors c no_ctor).name.text (get_or ctors n no_ctor).name.text ≡ (n == c)
+told_apart : (names : List (List ℕ)) (n c : ℕ) → n < length names → c < length names → are_apart names ≡ true → same_text (get_or names c []) (get_or names n []) ≡ (n == c)
 told_apart [] n c low high apart = absurd (omega (arith, low))
-told_apart (x ∷ xs) zero zero low high apart = same_itself x.name.text
-told_apart (x ∷ xs) zero (suc c) low high apart =
-    symmetric x.name.text (get_or xs c no_ctor).name.text false (other_name x xs c (omega (arith, high)) (first_true (not (list_any (λ m. same_text x.name.text m.text) (map (λ c. c.name) xs))) (are_distinct (map (λ c. c.name) xs)) apart)) ∙ sym (zero_first c)
-told_apart (x ∷ xs) (suc n) zero low high apart = other_name x xs n (omega (arith, low)) (first_true (not (list_any (λ m. same_text x.name.text m.text) (map (λ c. c.name) xs))) (are_distinct (map (λ c. c.name) xs)) apart) ∙ sym (zero_second n)
-told_apart (x ∷ xs) (suc n) (suc c) low high apart = told_apart xs n c (omega (arith, low)) (omega (arith, high)) (second_true (not (list_any (λ m. same_text x.name.text m.text) (map (λ c. c.name) xs))) (are_distinct (map (λ c. c.name) xs)) apart) ∙ sym (both_more n c)
+told_apart (x ∷ xs) zero zero low high apart = same_itself x
+told_apart (x ∷ xs) zero (suc c) low high apart = symmetric x (get_or xs c []) false (other_name x xs c (omega (arith, high)) (first_true (not (list_any (same_text x) xs)) (are_apart xs) apart)) ∙ sym (zero_first c)
+told_apart (x ∷ xs) (suc n) zero low high apart = other_name x xs n (omega (arith, low)) (first_true (not (list_any (same_text x) xs)) (are_apart xs) apart) ∙ sym (zero_second n)
+told_apart (x ∷ xs) (suc n) (suc c) low high apart = told_apart xs n c (omega (arith, low)) (omega (arith, high)) (second_true (not (list_any (same_text x) xs)) (are_apart xs) apart) ∙ sym (both_more n c)
 
 -- the name of the constructor of a number
-pub ctor_name : (t : TypeItem) (c : ℕ) → c < length t.ctors → get_or (names_of (signature_of t)) c [] ≡ (ctor_at t.ctors c).name.text
-ctor_name t c low = ap (λ xs. get_or xs c []) (map-map (λ c. c.name) (λ (c : CtorItem). record { name = c.name.text; rank = rank_of c.rank }) t.ctors) ∙ get_or-map (λ (c : CtorItem). c.name.text) t.ctors c _ [] low
+pub ctor_name : (t : PlainSignature) (c : ℕ) → c < length t.constructors → get_or (names_of t) c [] ≡ (ctor_at t.constructors c).name
+ctor_name t c low = get_or-map (λ (x : PlainConstructor). x.name) t.constructors c _ [] low
 
 passes_by : {A : Type 0} (p : A → Bool) (y x : A) (later : Option A) (b : Bool) → p y ≡ b → (later ≡ Some x → p x ≡ true) → cond b (Some y) later ≡ Some x → p x ≡ true
 passes_by p y x later true t rest e = let same : y ≡ x = cc in ap p (sym same) ∙ t
@@ -154,7 +148,7 @@ find_passes p [] x e = absurd (cc)
 find_passes p (y ∷ ys) x e = passes_by p y x (find p ys) (p y) refl (find_passes p ys x) e
 
 -- a tree has the constructor of a name where it has that constructor's number
-pub number_named : (t : TypeItem) (name : List ℕ) (n c : ℕ) → are_distinct (map (λ c. c.name) t.ctors) ≡ true → IsNumbered t.ctors name n → c < length t.ctors → same_text (get_or (names_of (signature_of t)) c []) name ≡ (n == c)
+pub number_named : (t : PlainSignature) (name : List ℕ) (n c : ℕ) → are_apart (names_of t) ≡ true → IsNumbered t.constructors name n → c < length t.constructors → same_text (get_or (names_of t) c []) name ≡ (n == c)
 number_named t name n c apart at low =
-    ap₂ same_text (ctor_name t c low) (sym (same_from_test (ctor_at t.ctors n).name.text name (find_passes (λ c. same_text c.name.text name) t.ctors (ctor_at t.ctors n) at.found)))
-    ∙ told_apart t.ctors n c at.below low apart
+    let is : name ≡ get_or (names_of t) n [] = sym (same_from_test (ctor_at t.constructors n).name name (find_passes (λ x. same_text x.name name) t.constructors (ctor_at t.constructors n) at.found)) ∙ sym (ctor_name t n at.below) in
+    ap (same_text (get_or (names_of t) c [])) is ∙ told_apart (names_of t) n c (rw length-map at.below) (rw length-map low) apart

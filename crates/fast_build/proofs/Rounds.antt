@@ -7,11 +7,12 @@ use Rattle.std.proofs.lemmas.List.{length-append, length-map, map-append, take-a
 use Rattle.std.proofs.lemmas.List.Elements.{All-nil, All-cons, All-append, Contains-append_left, Contains-append_right, Contains-get_or}
 use Rattle.std.proofs.lemmas.Map.Made.{length-le_from_is_member}
 use Rattle.std.proofs.Math.Seq.{take-suc}
-use Rattle.model_program.specs.Syntax.{Demand, Rule, LangItem, Item}
-use Rattle.model_program.specs.Names.{same_text, langs_of, find_lang}
-use Rattle.model_program.specs.WellFormed.{is_well_formed}
-use Rattle.model_report.specs.Meaning.{rules_of}
-use Rattle.model_report.specs.Causes.{Reaches, itself, by_demand}
+use Rattle.model_program.specs.Syntax.{Demand}
+use Rattle.model_grammar.specs.Syntax.{Rule, LangItem, Item}
+use Rattle.model_names.specs.Declared.{same_text, rules_of}
+use Rattle.model_meaning.specs.Reached.{Reaches, itself, by_demand, by_lookahead, by_call, by_definition}
+use Rattle.fast_build.specs.Items.{find_lang}
+use Rattle.fast_build.specs.Stands.{AllStand}
 use Rattle.fast_build.specs.Reached.{demanded_by, demanded_in, IsGrown, AreReached, AreClosed}
 use Rattle.fast_build.proofs.Reaching.{reached_of}
 use Rattle.fast_build.proofs.Grown.{test_by_there, there_by_test}
@@ -84,18 +85,18 @@ module _ (items : List Item) (name : List ℕ) where
       (All-append (λ m. All (Contains new) (demanded_in (rules_of items m))) (take k old) (n ∷ []) (λ j d below. more_within old new (demanded_in (rules_of items n)) (demanded_in (rules_of items (get_or (take k old) j d))) g (closed j d below))
       (All-cons (λ m. All (Contains new) (demanded_in (rules_of items m))) n [] g.all (All-nil (λ m. All (Contains new) (demanded_in (rules_of items m))))))
 
-  pub more_langs : {X : Type 0} (f : X → LangItem) (old new more : List (List ℕ)) (langs after : List X) (n : List ℕ) (x : X) → length langs < length old → n ≡ get_or old (length langs) n → IsGrown old new more → after ≡ langs ++ x ∷ [] → find_lang (langs_of items) n ≡ Some (f x)
-      → map (find_lang (langs_of items)) (take (length langs) old) ≡ map (λ y. Some (f y)) langs → map (find_lang (langs_of items)) (take (length after) new) ≡ map (λ y. Some (f y)) after
+  pub more_langs : {X : Type 0} (f : X → LangItem) (old new more : List (List ℕ)) (langs after : List X) (n : List ℕ) (x : X) → length langs < length old → n ≡ get_or old (length langs) n → IsGrown old new more → after ≡ langs ++ x ∷ [] → find_lang items n ≡ Some (f x)
+      → map (find_lang items) (take (length langs) old) ≡ map (λ y. Some (f y)) langs → map (find_lang items) (take (length after) new) ≡ map (λ y. Some (f y)) after
   more_langs f old new more langs after n x low is g grown found so_far =
-      ap (λ j. map (find_lang (langs_of items)) (take j new)) (ap length grown ∙ length-append langs (x ∷ []))
-      ∙ ap (map (find_lang (langs_of items))) (first_of_more old new more (length langs) n low is g)
-      ∙ map-append (find_lang (langs_of items)) (take (length langs) old) (n ∷ [])
+      ap (λ j. map (find_lang items) (take j new)) (ap length grown ∙ length-append langs (x ∷ []))
+      ∙ ap (map (find_lang items)) (first_of_more old new more (length langs) n low is g)
+      ∙ map-append (find_lang items) (take (length langs) old) (n ∷ [])
       ∙ (λ i. so_far i ++ found i ∷ []) ∙ sym (ap (map (λ y. Some (f y))) grown ∙ map-append (λ y. Some (f y)) langs (x ∷ []))
 
   -- each language that is reached is declared, so they are not more than are declared
-  pub declared : (n : List ℕ) → is_well_formed items ≡ true → is_some (find_lang (langs_of items) name) ≡ true → Reaches items name n → (l : LangItem) × (find_lang (langs_of items) n ≡ Some l)
+  pub declared : (n : List ℕ) → AllStand items → is_some (find_lang items name) ≡ true → Reaches items name n → (l : LangItem) × (find_lang items n ≡ Some l)
   declared n ok at reached =
-      let own = by_some (find_lang (langs_of items) name) at in
+      let own = by_some (find_lang items name) at in
       let of_n = reached_of items own.0.of.text name n ok (record { lang = own.0; found = own.1; of_is = refl }) reached in
       (of_n.lang, of_n.found)
     where
@@ -103,16 +104,8 @@ module _ (items : List Item) (name : List ℕ) where
       by_some None at = absurd (cc)
       by_some (Some l) at = (l, refl)
 
-  found_among : (langs : List LangItem) (n : List ℕ) (l : LangItem) → find_lang langs n ≡ Some l → Contains (map (λ k. k.name.text) langs) n
-  found_among [] n l e = absurd (cc)
-  found_among (x ∷ xs) n l e = by (same_text x.name.text n) refl e (found_among xs n l)
-    where
-      by : (b : Bool) → same_text x.name.text n ≡ b → cond b (Some x) (find_lang xs n) ≡ Some l → (find_lang xs n ≡ Some l → Contains (map (λ k. k.name.text) xs) n) → Contains (map (λ k. k.name.text) (x ∷ xs)) n
-      by true t e later = subst (Contains (map (λ k. k.name.text) (x ∷ xs))) (same_from_test x.name.text n t) (Contains-get_or (map (λ k. k.name.text) (x ∷ xs)) 0 x.name.text (omega arith))
-      by false t e later = later_contained x.name.text n (map (λ k. k.name.text) xs) (later e)
-
-  pub not_more : (laws : IsEquivalence same_text) (names : List (List ℕ)) → is_well_formed items ≡ true → is_some (find_lang (langs_of items) name) ≡ true → AreReached items name names → IsDistinct same_text names → length names ≤ length (langs_of items)
-  not_more laws names ok at reached apart =
-      let within = length-le_from_is_member laws names (map (λ k. k.name.text) (langs_of items)) apart
-      (λ q h. let n = declared q ok at (all_of_contained (Reaches items name) names q reached.reached (there_by_test names q h)) in test_by_there (map (λ k. k.name.text) (langs_of items)) q (found_among (langs_of items) q n.0 n.1)) in
-      omega (arith, within, length-map (langs_of items) (λ k. k.name.text))
+  -- they are not more than the names that are declared
+  pub not_more : (laws : IsEquivalence same_text) (known names : List (List ℕ)) → AllStand items → is_some (find_lang items name) ≡ true → ((n : List ℕ) (l : LangItem) → find_lang items n ≡ Some l → Contains known n) → AreReached items name names → IsDistinct same_text names → length names ≤ length known
+  not_more laws known names stand at among reached apart =
+      length-le_from_is_member laws names known apart
+      (λ q h. let n = declared q stand at (all_of_contained (Reaches items name) names q reached.reached (there_by_test names q h)) in test_by_there known q (among q n.0 n.1))

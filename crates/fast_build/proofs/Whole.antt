@@ -1,38 +1,37 @@
 -- An automaton that is made of rules for the rules of all languages that are reached.
-use Rattle.std.proofs.Common.{◌≡◌, ℕ, zero, suc, ℤ, pos, negsuc, ◌<◌, Bool, true, false, List, [], ◌∷◌, Option, Some, None, Vec, map, filter, cond, length, get_or, All, Contains, refl, sym, ap, subst, ◌∙◌, arith}
+use Rattle.std.proofs.Common.{◌≡◌, ℕ, zero, suc, ◌<◌, ◌≤◌, ◌==◌, Bool, true, false, List, [], ◌∷◌, Option, Some, None, Vec, map, filter, cond, length, get_or, All, Contains, refl, sym, ap, subst, ◌∙◌, arith}
 use Rattle.std.specs.Prelude.{is_some}
 use Rattle.std.specs.List.{list_all}
 use Rattle.std.specs.Option.{option_map_or}
 use Rattle.std.proofs.lemmas.List.{length-map, get_or-map}
 use Rattle.std.proofs.lemmas.List.Elements.{All-nil, All-cons, All-tail}
 use Rattle.std.proofs.lemmas.Bool.{eqb-true}
-use Rattle.std.proofs.lemmas.Simd.{map-map}
 use Rattle.model_tree.specs.Label.{Label}
 use Rattle.model_tree.specs.Formula.{EveryAtom}
-use Rattle.model_tree.specs.Signature.{ranks_of, HasType}
-use Rattle.model_program.specs.Syntax.{Name, Demand, Rule, CtorItem, TypeItem, LangItem, Item}
-use Rattle.model_program.specs.Names.{same_text, types_of, langs_of, find_type, find_lang}
-use Rattle.model_program.specs.WellFormed.{is_rank, is_rule_well_formed, is_type_well_formed, is_well_formed}
-use Rattle.model_report.specs.Meaning.{rank_of, rules_of, type_of, signature_of, is_in}
-use Rattle.model_report.specs.Causes.{Reaches}
+use Rattle.model_tree.specs.Signature.{PlainConstructor, PlainSignature, ranks_of, names_of, HasType}
+use Rattle.model_program.specs.Syntax.{Name, Demand}
+use Rattle.model_grammar.specs.Syntax.{Rule, LangItem, Item}
+use Rattle.model_names.specs.Declared.{same_text, rules_of}
+use Rattle.model_meaning.specs.Types.{signature_at, input_of}
+use Rattle.model_meaning.specs.Languages.{is_in}
+use Rattle.model_meaning.specs.Reached.{Reaches}
 use Rattle.model_sta.specs.Automaton.{is_accepted}
 use Rattle.sta_core.specs.Sta.{rule_meaning}
 use Rattle.sta_core.specs.Machine.{PlainRule, plain_rule}
 use Rattle.sta_core.specs.Fits.{RuleFits, RulesFit}
 use Rattle.sta_core.specs.declared.StaRule.{StaRule}
 use Rattle.sta_core.proofs.Meaning.{All_from_map}
+use Rattle.fast_build.specs.Items.{find_lang}
 use Rattle.fast_build.specs.Numbers.{ctor_at, IsNumbered, number_in, numbers_for, numbers_for_each, has_ctor}
 use Rattle.fast_build.specs.Reached.{demanded_by, demanded_in, AreReached, AreClosed}
 use Rattle.fast_build.specs.Rules.{IsRuleFor, AreRulesFor, AreStatesFor}
+use Rattle.fast_build.specs.Stands.{are_apart, has_rank, is_guarded, rule_stands, LangStands, AllStand}
 use Rattle.fast_build.specs.Automaton.{IsAutomatonOf}
 use Rattle.fast_build.proofs.Naming.{numbered_below}
 use Rattle.fast_build.proofs.Elements.{first_true, second_true, all_left, all_right}
-use Rattle.fast_build.proofs.Declarations.{lang_ok, type_there, rules_ok, ctors_there, rank_ok, ctors_apart, type_ok}
-use Rattle.fast_build.proofs.Reaching.{IsOf, rules_are, type_is, reached_of, reached_type, there}
+use Rattle.fast_build.proofs.Standing.{rank_there, ctors_there, guards_there, rules_are, type_is, same_type}
+use Rattle.fast_build.proofs.Reaching.{IsOf, reached_of, reached_type}
 use Rattle.fast_build.proofs.Meaning.{means}
-
-abbrev ranks_in : TypeItem → List ℕ
-ranks_in t = map (λ c. rank_of c.rank) t.ctors
 
 -- the demands of a rule are of the states
 few_numbers : (names : List (List ℕ)) (given : List Demand) (var : List ℕ) → All (Contains names) (demanded_by given) → All (λ s. s < length names) (numbers_for names given var)
@@ -48,47 +47,43 @@ few_numbers_each names given [] all = All-nil (All (λ s. s < length names))
 few_numbers_each names given (v ∷ vars) all = All-cons (All (λ s. s < length names)) (numbers_for names given v.text) (numbers_for_each names given vars) (few_numbers names given v.text all) (few_numbers_each names given vars all)
 
 -- a rule has as many variables as its constructor has children
-rank_of_is : (r : ℤ) (k : ℕ) → is_rank r k ≡ true → k ≡ rank_of r
-rank_of_is (pos n) k e = sym (eqb-true n k e)
-rank_of_is (negsuc n) k e = absurd (cc)
+vars_many : (t : PlainSignature) (r : Rule) (n : ℕ) → has_rank t r ≡ true → IsNumbered t.constructors r.ctor.text n → length r.vars ≡ get_or (ranks_of t) n 0
+vars_many t r n ok at =
+    sym (eqb-true (ctor_at t.constructors n).rank (length r.vars) (sym (ap (λ found. option_map_or (λ c. c.rank == length r.vars) found false) at.found) ∙ ok))
+    ∙ sym (get_or-map (λ (c : PlainConstructor). c.rank) t.constructors n _ 0 at.below)
 
-vars_many : (langs : List LangItem) (t : TypeItem) (r : Rule) (n : ℕ) → is_rule_well_formed langs t r ≡ true → IsNumbered t.ctors r.ctor.text n → length r.vars ≡ get_or (ranks_in t) n 0
-vars_many langs t r n ok at =
-    rank_of_is (ctor_at t.ctors n).rank (length r.vars) (sym (ap (λ found. option_map_or (λ c. is_rank c.rank (length r.vars)) found false) at.found) ∙ rank_ok langs t r ok)
-    ∙ sym (get_or-map (λ (c : CtorItem). rank_of c.rank) t.ctors n _ 0 at.below)
-
-module _ {A : Type 0} (holds : A → Label → Bool) (fits : A → Type 0) (langs : List LangItem) (t : TypeItem) (names : List (List ℕ)) where
-  rule_fits : (r : Rule) (p : StaRule A) → is_rule_well_formed langs t r ≡ true → All (Contains names) (demanded_by r.given) → IsRuleFor holds fits t names (plain_rule p) r → RuleFits (ranks_in t) (length names) p
-  rule_fits r p ok named is = (
+module _ {A : Type 0} (holds : A → Label → Bool) (fits : A → Type 0) (t : PlainSignature) (names : List (List ℕ)) where
+  rule_fits : (items : List Item) (of : Name) (r : Rule) (p : StaRule A) → rule_stands items of t r ≡ true → All (Contains names) (demanded_by r.given) → IsRuleFor holds fits t names (plain_rule p) r → RuleFits (ranks_of t) (length names) p
+  rule_fits items of r p ok named is = (
     rw length-map is.numbered.below,
-    sym (length-map p.demands.items (λ d. d.items)) ∙ ap length is.demands ∙ length-map r.vars (λ v. numbers_for names r.given v.text) ∙ vars_many langs t r p.constructor ok is.numbered,
+    sym (length-map p.demands.items (λ d. d.items)) ∙ ap length is.demands ∙ length-map r.vars (λ v. numbers_for names r.given v.text) ∙ vars_many t r p.constructor (rank_there items of t r ok) is.numbered,
     All_from_map (All (λ s. s < length names)) (λ d. d.items) p.demands.items (subst (All (All (λ s. s < length names))) (sym is.demands) (few_numbers_each names r.given r.vars named)),
   )
 
-  rules_fit : (rs : List Rule) (ps : List (StaRule A)) → list_all (is_rule_well_formed langs t) rs ≡ true → All (Contains names) (demanded_in rs) → AreRulesFor holds fits t names (map plain_rule ps) rs → All (RuleFits (ranks_in t) (length names)) ps
-  rules_fit [] [] ok named are = All-nil (RuleFits (ranks_in t) (length names))
-  rules_fit [] (p ∷ ps) ok named are = absurd are
-  rules_fit (r ∷ rs) [] ok named are = absurd are
-  rules_fit (r ∷ rs) (p ∷ ps) ok named are =
-      All-cons (RuleFits (ranks_in t) (length names)) p ps
-      (rule_fits r p (first_true (is_rule_well_formed langs t r) (list_all (is_rule_well_formed langs t) rs) ok) (all_left (Contains names) (demanded_by r.given) (demanded_in rs) named) are.0)
-      (rules_fit rs ps (second_true (is_rule_well_formed langs t r) (list_all (is_rule_well_formed langs t) rs) ok) (all_right (Contains names) (demanded_by r.given) (demanded_in rs) named) are.1)
+  rules_fit : (items : List Item) (of : Name) (rs : List Rule) (ps : List (StaRule A)) → list_all (rule_stands items of t) rs ≡ true → All (Contains names) (demanded_in rs) → AreRulesFor holds fits t names (map plain_rule ps) rs → All (RuleFits (ranks_of t) (length names)) ps
+  rules_fit items of [] [] ok named are = All-nil (RuleFits (ranks_of t) (length names))
+  rules_fit items of [] (p ∷ ps) ok named are = absurd are
+  rules_fit items of (r ∷ rs) [] ok named are = absurd are
+  rules_fit items of (r ∷ rs) (p ∷ ps) ok named are =
+      All-cons (RuleFits (ranks_of t) (length names)) p ps
+      (rule_fits items of r p (first_true (rule_stands items of t r) (list_all (rule_stands items of t) rs) ok) (all_left (Contains names) (demanded_by r.given) (demanded_in rs) named) are.0)
+      (rules_fit items of rs ps (second_true (rule_stands items of t r) (list_all (rule_stands items of t) rs) ok) (all_right (Contains names) (demanded_by r.given) (demanded_in rs) named) are.1)
 
   rules_atoms : (rs : List Rule) (ps : List (PlainRule A)) → AreRulesFor holds fits t names ps rs → All (λ p. EveryAtom fits p.guard) ps
   rules_atoms [] [] are = All-nil (λ p. EveryAtom fits p.guard)
   rules_atoms [] (p ∷ ps) are = absurd are
   rules_atoms (r ∷ rs) [] are = absurd are
-  rules_atoms (r ∷ rs) (p ∷ ps) are = All-cons (λ q. EveryAtom fits q.guard) p ps are.0.fit (rules_atoms rs ps are.1)
+  rules_atoms (r ∷ rs) (p ∷ ps) are = All-cons (λ q. EveryAtom fits q.guard) p ps are.0.guard.fit (rules_atoms rs ps are.1)
 
   -- the same for all states
-  pub states_fit : {G : Type 0} (ls : List LangItem) (states : List (Vec (StaRule A) G)) → All (λ l. list_all (is_rule_well_formed langs t) l.rules ≡ true) ls → All (λ l. All (Contains names) (demanded_in l.rules)) ls
-      → AreStatesFor holds fits t names (map (λ those. map plain_rule those.items) states) (map (λ l. l.rules) ls) → All (λ those. All (RuleFits (ranks_in t) (length names)) those.items) states
-  states_fit [] [] ok named are = All-nil (λ those. All (RuleFits (ranks_in t) (length names)) those.items)
-  states_fit [] (s ∷ ss) ok named are = absurd are
-  states_fit (l ∷ ls) [] ok named are = absurd are
-  states_fit (l ∷ ls) (s ∷ ss) ok named are =
-      All-cons (λ those. All (RuleFits (ranks_in t) (length names)) those.items) s ss (rules_fit l.rules s.items (ok 0 l (omega arith)) (named 0 l (omega arith)) are.0)
-      (states_fit ls ss (All-tail (λ k. list_all (is_rule_well_formed langs t) k.rules ≡ true) l ls ok) (All-tail (λ k. All (Contains names) (demanded_in k.rules)) l ls named) are.1)
+  pub states_fit : {G : Type 0} (items : List Item) (ls : List LangItem) (states : List (Vec (StaRule A) G)) → All (λ l. list_all (rule_stands items l.of t) l.rules ≡ true) ls → All (λ l. All (Contains names) (demanded_in l.rules)) ls
+      → AreStatesFor holds fits t names (map (λ those. map plain_rule those.items) states) (map (λ l. l.rules) ls) → All (λ those. All (RuleFits (ranks_of t) (length names)) those.items) states
+  states_fit items [] [] ok named are = All-nil (λ those. All (RuleFits (ranks_of t) (length names)) those.items)
+  states_fit items [] (s ∷ ss) ok named are = absurd are
+  states_fit items (l ∷ ls) [] ok named are = absurd are
+  states_fit items (l ∷ ls) (s ∷ ss) ok named are =
+      All-cons (λ those. All (RuleFits (ranks_of t) (length names)) those.items) s ss (rules_fit items l.of l.rules s.items (ok 0 l (omega arith)) (named 0 l (omega arith)) are.0)
+      (states_fit items ls ss (All-tail (λ k. list_all (rule_stands items k.of t) k.rules ≡ true) l ls ok) (All-tail (λ k. All (Contains names) (demanded_in k.rules)) l ls named) are.1)
 
   states_atoms : (ls : List (List Rule)) (states : List (List (PlainRule A))) → AreStatesFor holds fits t names states ls → All (λ ps. All (λ p. EveryAtom fits p.guard) ps) states
   states_atoms [] [] are = All-nil (λ ps. All (λ p. EveryAtom fits p.guard) ps)
@@ -110,77 +105,83 @@ module _ {A : Type 0} (holds : A → Label → Bool) (fits : A → Type 0) (lang
   as_many (l ∷ ls) (s ∷ ss) are = ap suc (as_many ls ss are.1)
 
 -- the declarations of the languages that are reached
-module _ (items : List Item) (name : List ℕ) (names : List (List ℕ)) (ls : List LangItem) (ok : is_well_formed items ≡ true) (declared : is_some (find_lang (langs_of items) name) ≡ true)
-    (reached : AreReached items name names) (closed : AreClosed items names names) (found : map (find_lang (langs_of items)) names ≡ map (λ l. Some l) ls) where
+module _ (items : List Item) (name : List ℕ) (names : List (List ℕ)) (ls : List LangItem) (stand : AllStand items) (there : is_some (find_lang items name) ≡ true)
+    (reached : AreReached items name names) (closed : AreClosed items names names) (found : map (find_lang items) names ≡ map (λ l. Some l) ls) where
   some_lang : (o : Option LangItem) → is_some o ≡ true → (l : LangItem) × (o ≡ Some l)
   some_lang None at = absurd (cc)
   some_lang (Some l) at = (l, refl)
 
-  own : (l : LangItem) × (find_lang (langs_of items) name ≡ Some l)
-  own = some_lang (find_lang (langs_of items) name) declared
+  own : (l : LangItem) × (find_lang items name ≡ Some l)
+  own = some_lang (find_lang items name) there
 
   own_of : IsOf items own.0.of.text name
   own_of = record { lang = own.0; found = own.1; of_is = refl }
 
-  own_type : (t : TypeItem) × (find_type (types_of items) own.0.of.text ≡ Some t)
-  own_type = there (find_type (types_of items) own.0.of.text) (type_there items own.0 (lang_ok items name own.0 ok own.1))
+  own_stands : LangStands items own.0
+  own_stands = stand name own.0 own.1
 
   pub names_many : length names ≡ length ls
-  names_many = sym (length-map names (find_lang (langs_of items))) ∙ ap length found ∙ length-map ls (λ l. Some l)
+  names_many = sym (length-map names (find_lang items)) ∙ ap length found ∙ length-map ls (λ l. Some l)
 
-  lang_at : (k : ℕ) (d : LangItem) → k < length ls → find_lang (langs_of items) (get_or names k []) ≡ Some (get_or ls k d)
-  lang_at k d low = sym (get_or-map (find_lang (langs_of items)) names k [] None (omega (arith, low, names_many))) ∙ ap (λ os. get_or os k None) found ∙ get_or-map (λ l. Some l) ls k d None low
+  lang_at : (k : ℕ) (d : LangItem) → k < length ls → find_lang items (get_or names k []) ≡ Some (get_or ls k d)
+  lang_at k d low = sym (get_or-map (find_lang items) names k [] None (omega (arith, low, names_many))) ∙ ap (λ os. get_or os k None) found ∙ get_or-map (λ l. Some l) ls k d None low
 
   name_reached : (k : ℕ) → k < length names → Reaches items name (get_or names k [])
   name_reached k low = reached.reached k [] low
 
-  module _ (t : TypeItem) (typed : type_of items name ≡ t) where
-    type_found : find_type (types_of items) own.0.of.text ≡ Some t
-    type_found = own_type.1 ∙ ap (λ s. Some s) (sym (type_is items name own.0 own_type.0 own.1 own_type.1) ∙ typed)
+  module _ (t : PlainSignature) (typed : input_of items name ≡ t) where
+    own_signature : signature_at items own.0.of ≡ t
+    own_signature = sym (type_is items name own.0 own.1) ∙ typed
 
-    pub type_stands : is_type_well_formed t ≡ true
-    type_stands = type_ok items own.0.of.text t ok type_found
+    pub few_fields : length t.fields ≤ 8
+    few_fields = subst (λ (s : PlainSignature). length s.fields ≤ 8) own_signature own_stands.few
 
-    pub rules_stand : All (λ l. list_all (is_rule_well_formed (langs_of items) t) l.rules ≡ true) ls
+    pub ctors_apart : are_apart (names_of t) ≡ true
+    ctors_apart = subst (λ s. are_apart (names_of s) ≡ true) own_signature own_stands.apart
+
+    pub rules_stand : All (λ l. list_all (rule_stands items l.of t) l.rules ≡ true) ls
     rules_stand k d low =
-        let at = reached_of items own.0.of.text name (get_or names k []) ok own_of (name_reached k (omega (arith, low, names_many))) in
+        let at = reached_of items own.0.of.text name (get_or names k []) stand own_of (name_reached k (omega (arith, low, names_many))) in
         let same : get_or ls k d ≡ at.lang = some_same (sym (lang_at k d low) ∙ at.found) in
-        subst (λ (l : LangItem). list_all (is_rule_well_formed (langs_of items) t) l.rules ≡ true) (sym same)
-        (rules_ok items at.lang t (lang_ok items (get_or names k []) at.lang ok at.found) (ap (find_type (types_of items)) at.of_is ∙ type_found))
+        subst (λ (l : LangItem). list_all (rule_stands items l.of t) l.rules ≡ true) (sym same)
+        (subst (λ s. list_all (rule_stands items at.lang.of s) at.lang.rules ≡ true) (same_type items at.lang.of own.0.of at.of_is ∙ own_signature) (stand (get_or names k []) at.lang at.found).rules)
       where
         some_same : {x y : LangItem} → Some x ≡ Some y → x ≡ y
         some_same e = cc
 
     pub ctors_stand : All (λ l. list_all (has_ctor t) l.rules ≡ true) ls
-    ctors_stand k d low = ctors_there (langs_of items) t (get_or ls k d).rules (rules_stand k d low)
+    ctors_stand k d low = ctors_there items (get_or ls k d).of t (get_or ls k d).rules (rules_stand k d low)
+
+    pub guards_stand : All (λ l. list_all (is_guarded t.fields) l.rules ≡ true) ls
+    guards_stand k d low = guards_there items (get_or ls k d).of t (get_or ls k d).rules (rules_stand k d low)
 
     pub demands_stand : All (λ l. All (Contains names) (demanded_in l.rules)) ls
     demands_stand k d low = subst (λ rs. All (Contains names) (demanded_in rs)) (rules_are items (get_or names k []) (get_or ls k d) (lang_at k d low)) (closed k [] (omega (arith, low, names_many)))
 
     module _ {A G : Type 0} (holds : A → Label → Bool) (fits : A → Type 0) (states : List (Vec (StaRule A) G)) (are : AreStatesFor holds fits t names (map (λ those. map plain_rule those.items) states) (map (λ l. l.rules) ls)) where
       pub states_many : length states ≡ length names
-      states_many = sym (length-map states (λ those. map plain_rule those.items)) ∙ as_many holds fits (langs_of items) t names (map (λ l. l.rules) ls) (map (λ those. map plain_rule those.items) states) are ∙ length-map ls (λ l. l.rules) ∙ sym names_many
+      states_many = sym (length-map states (λ those. map plain_rule those.items)) ∙ as_many holds fits t names (map (λ l. l.rules) ls) (map (λ those. map plain_rule those.items) states) are ∙ length-map ls (λ l. l.rules) ∙ sym names_many
 
-      pub all_fit : RulesFit (ranks_in t) states
-      all_fit = subst (λ n. All (λ those. All (RuleFits (ranks_in t) n) those.items) states) (sym states_many) (states_fit holds fits (langs_of items) t names ls states rules_stand demands_stand are)
+      pub all_fit : RulesFit (ranks_of t) states
+      all_fit = subst (λ n. All (λ those. All (RuleFits (ranks_of t) n) those.items) states) (sym states_many) (states_fit holds fits t names items ls states rules_stand demands_stand are)
 
       rules_at : (k : ℕ) → k < length names → AreRulesFor holds fits t names (get_or (map (λ those. map plain_rule those.items) states) k []) (rules_of items (get_or names k []))
       rules_at k low =
           subst (AreRulesFor holds fits t names (get_or (map (λ those. map plain_rule those.items) states) k [])) (get_or-map (λ (l : LangItem). l.rules) ls k own.0 [] below ∙ sym (rules_are items (get_or names k []) (get_or ls k own.0) (lang_at k own.0 below)))
-          (state_at holds fits (langs_of items) t names (map (λ l. l.rules) ls) (map (λ those. map plain_rule those.items) states) k are)
+          (state_at holds fits t names (map (λ l. l.rules) ls) (map (λ those. map plain_rule those.items) states) k are)
         where
           below : k < length ls
           below = omega (arith, low, names_many)
 
       -- they are the automaton of the language
-      pub is_automaton : IsAutomatonOf holds fits items name (record { ranks = ranks_in t; rules = map (λ those. map plain_rule those.items) states })
+      pub is_automaton : IsAutomatonOf holds fits items name (record { ranks = ranks_of t; rules = map (λ those. map plain_rule those.items) states })
       is_automaton = record {
         others = reached.others;
         reached = subst (All (Reaches items name)) reached.first reached.reached;
-        ranks = sym (ap (λ s. ranks_of (signature_of s)) typed ∙ map-map (λ c. c.rank) (λ (c : CtorItem). record { name = c.name.text; rank = rank_of c.rank }) t.ctors);
+        ranks = sym (ap ranks_of typed);
         states = length-map states (λ those. map plain_rule those.items) ∙ states_many ∙ ap length reached.first;
-        fit = states_atoms holds fits (langs_of items) t names (map (λ l. l.rules) ls) (map (λ those. map plain_rule those.items) states) are;
+        fit = states_atoms holds fits t names (map (λ l. l.rules) ls) (map (λ those. map plain_rule those.items) states) are;
         means = λ u h. subst (λ (ns : List (List ℕ)). (k : ℕ) → k < length ns → is_in items u (get_or ns k []) ≡ is_accepted (map (map (rule_meaning holds)) (map (λ those. map plain_rule those.items) states)) u k) reached.first
-            (means holds fits items t names (map (λ those. map plain_rule those.items) states) (λ k low. reached_type items own.0.of.text name (get_or names k []) ok own_of (name_reached k low) ∙ typed) (λ k low. closed k [] low) rules_at (ctors_apart t type_stands) u
-            (subst (λ (s : TypeItem). HasType (signature_of s) u) typed h));
+            (means holds fits items t names (map (λ those. map plain_rule those.items) states) (λ k low. reached_type items own.0.of.text name (get_or names k []) stand own_of (name_reached k low) ∙ typed) (λ k low. closed k [] low) rules_at ctors_apart u
+            (subst (λ s. HasType s u) typed h));
       }

@@ -1,6 +1,6 @@
 pub mod Items
 pub mod Numbers
 pub mod Reached
-pub mod Guards
+pub mod Stands
 pub mod Rules
 pub mod Automaton

@@ -1,17 +1,22 @@
--- Numbers of names: of constructors in their type, of fields in their label, of languages among those that are reached.
-use Rattle.std.specs.Prelude.{◌≡◌, ℕ, pos, ◌<◌, List, [], map, filter, length, get_or, Some, Bool, is_some}
+-- Numbers of names: of constructors in their type, of languages among those that are reached.
+use Rattle.std.specs.Prelude.{◌≡◌, ℕ, ◌<◌, List, [], map, filter, find, length, get_or, Option, Some, Bool, is_some}
 use Rattle.std.specs.List.{position_or_len}
-use Rattle.model_program.specs.Syntax.{CtorItem, Demand, Name, TypeItem, Rule}
-use Rattle.model_program.specs.Names.{same_text, find_ctor}
+use Rattle.model_tree.specs.Signature.{PlainConstructor, PlainSignature}
+use Rattle.model_program.specs.Syntax.{Demand, Name}
+use Rattle.model_grammar.specs.Syntax.{Rule}
+use Rattle.model_names.specs.Declared.{same_text}
+
+abbrev pub find_constructor : List PlainConstructor → List ℕ → Option PlainConstructor
+find_constructor ctors name = find (λ c. same_text c.name name) ctors
 
 -- the constructor of this number
-abbrev pub ctor_at : List CtorItem → ℕ → CtorItem
-ctor_at ctors n = get_or ctors n (record { name = record { text = []; place = record { line = 1; column = 1 } }; rank = pos 0 })
+abbrev pub ctor_at : List PlainConstructor → ℕ → PlainConstructor
+ctor_at ctors n = get_or ctors n (record { name = []; rank = 0 })
 
 -- the constructor of this name is the one with this number
-pub record IsNumbered (ctors : List CtorItem) (name : List ℕ) (n : ℕ) : Type 0 where
+pub record IsNumbered (ctors : List PlainConstructor) (name : List ℕ) (n : ℕ) : Type 0 where
   pub below : n < length ctors
-  pub found : find_ctor ctors name ≡ Some (ctor_at ctors n)
+  pub found : find_constructor ctors name ≡ Some (ctor_at ctors n)
 
 -- the number of a language among the names
 abbrev pub number_in : List (List ℕ) → List ℕ → ℕ
@@ -26,5 +31,5 @@ abbrev pub numbers_for_each : List (List ℕ) → List Demand → List Name → 
 numbers_for_each names given vars = map (λ v. numbers_for names given v.text) vars
 
 -- the rule has a constructor of the type
-abbrev pub has_ctor : TypeItem → Rule → Bool
-has_ctor t r = is_some (find_ctor t.ctors r.ctor.text)
+abbrev pub has_ctor : PlainSignature → Rule → Bool
+has_ctor t r = is_some (find_constructor t.constructors r.ctor.text)

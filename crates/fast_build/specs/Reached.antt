@@ -1,12 +1,13 @@
 -- The languages that a language reaches.
 use Rattle.std.specs.Prelude.{◌≡◌, ℕ, List, ◌∷◌, ◌++◌, map, Contains, All, Some}
 use Rattle.std.specs.List.{flat_map}
-use Rattle.fast_syntax.specs.View.{plain_lang}
-use Rattle.model_program.specs.Syntax.{Demand, Rule, Item}
-use Rattle.model_program.specs.Names.{langs_of, find_lang}
-use Rattle.model_report.specs.Causes.{Reaches}
-use Rattle.model_report.specs.Meaning.{rules_of}
+use Rattle.fast_syntax.specs.Plain.{plain_lang}
+use Rattle.model_program.specs.Syntax.{Demand}
+use Rattle.model_grammar.specs.Syntax.{Rule, Item}
+use Rattle.model_names.specs.Declared.{rules_of}
+use Rattle.model_meaning.specs.Reached.{Reaches}
 use Rattle.fast_build.specs.declared.reached.Reached.{Reached}
+use Rattle.fast_build.specs.Items.{find_lang}
 
 -- the names of the languages that are demanded
 abbrev pub demanded_by : List Demand → List (List ℕ)
@@ -36,4 +37,4 @@ AreClosed items names these = All (λ n. All (Contains names) (demanded_in (rule
 pub record IsReached (items : List Item) (name : List ℕ) (r : Reached) : Type 0 where
   pub reached : AreReached items name r.names.keys
   pub closed : AreClosed items r.names.keys r.names.keys
-  pub langs : map (find_lang (langs_of items)) r.names.keys ≡ map (λ l. Some (plain_lang l.now)) r.langs.items
+  pub langs : map (find_lang items) r.names.keys ≡ map (λ l. Some (plain_lang l.now)) r.langs.items

@@ -1,36 +1,35 @@
 //! The automaton of a language.
 
-ghost use Rattle.std.specs.Prelude.{◌≡◌, ◌<◌, IfOk, map, length, true, is_some, All, Contains};
+ghost use Rattle.std.specs.Prelude.{◌≡◌, ◌≤◌, IfOk, map, length, true, is_some, All, Contains};
 ghost use Rattle.std.specs.List.{list_all};
-ghost use Rattle.flat_label.specs.Bools.{truth_at};
-ghost use Rattle.fast_syntax.specs.View.{plain_type, plain_lang};
-ghost use Rattle.model_program.specs.Names.{langs_of, find_lang};
-ghost use Rattle.model_report.specs.Meaning.{type_of, rank_of};
+ghost use Rattle.model_tree.specs.Signature.{sorts_of};
+ghost use Rattle.fast_tree.specs.Signatures.{plain_signature};
+ghost use Rattle.fast_syntax.specs.Plain.{plain_lang};
+ghost use Rattle.model_meaning.specs.Types.{input_of};
+ghost use Rattle.record_label.specs.Rows.{row_holds, RowFits};
 ghost use Rattle.sta_core.specs.Machine.{plain_rule as machine_rule};
-ghost use Rattle.fast_build.specs.Items.{items_of, IsDeclared};
-ghost use Rattle.model_program.specs.WellFormed.{is_rank_in_range, is_type_well_formed};
+ghost use Rattle.fast_build.specs.Items.{items_of, find_lang, IsDeclared};
+ghost use Rattle.fast_build.specs.Stands.{AllStand, is_guarded};
 ghost use Rattle.fast_build.specs.Numbers.{has_ctor};
 ghost use Rattle.fast_build.specs.Reached.{demanded_in};
 ghost use Rattle.fast_build.specs.Rules.{AreStatesFor};
 ghost use Rattle.fast_build.specs.Automaton.{IsAutomatonOf};
 
 use crate::declared::Declared;
-use crate::numbers::rank_of;
 use crate::reached::{Reached, reach};
 use crate::rules::rules_for;
 use fast_fault::{Memory, Text};
-use fast_syntax::{CtorItem, TypeItem};
-use flat_label::BoolAtom;
+use fast_tree::{CtorOf, Signature};
+use record_label::RowAtom;
 use sta_core::{Sta, StaRule};
 use std::alloc::Global;
 
-fn ranks_of(alloc: Global, ctors: &[CtorItem]) -> Result<Vec<u32>, Memory>
-    requires { list_all (λ c. is_rank_in_range c.rank) ctors.now ≡ true }
-    ensures { IfOk result (λ ranks. ranks.items ≡ map (λ c. rank_of c.rank) ctors.now) }
+fn ranks_of(alloc: Global, constructors: &[CtorOf]) -> Result<Vec<u32>, Memory>
+    ensures { IfOk result (λ ranks. ranks.items ≡ map (λ c. c.rank) constructors.now) }
 {
     let mut ranks = Vec::new(alloc);
-    'ctors: for ctor in ctors {
-        ranks.push(rank_of(ctor))?;
+    'ctors: for ctor in constructors {
+        ranks.push(ctor.rank)?;
     }
     Ok(ranks)
 }
@@ -38,17 +37,18 @@ fn ranks_of(alloc: Global, ctors: &[CtorItem]) -> Result<Vec<u32>, Memory>
 /// The rules of each state, for the languages that are reached.
 fn states_for(
     alloc: Global,
-    item: &TypeItem,
+    signature: &Signature,
     reached: &Reached,
-) -> Result<Vec<Vec<StaRule<BoolAtom>>>, Memory>
-    requires typed { is_type_well_formed (plain_type item.now) ≡ true }
-    requires ctors { All (λ l. list_all (has_ctor (plain_type item.now)) (plain_lang l.now).rules ≡ true) reached.now.langs.items }
+) -> Result<Vec<Vec<StaRule<RowAtom>>>, Memory>
+    requires few { length signature.now.fields.items ≤ 8 }
+    requires ctors { All (λ l. list_all (has_ctor (plain_signature signature.now)) (plain_lang l.now).rules ≡ true) reached.now.langs.items }
+    requires guarded { All (λ l. list_all (is_guarded (plain_signature signature.now).fields) (plain_lang l.now).rules ≡ true) reached.now.langs.items }
     requires named { All (λ l. All (Contains reached.now.names.keys) (demanded_in (plain_lang l.now).rules)) reached.now.langs.items }
-    ensures { IfOk result (λ states. AreStatesFor (λ a. truth_at a.field) (λ a. a.field < length item.now.fields.items) (plain_type item.now) reached.now.names.keys (map (λ those. map machine_rule those.items) states.items) (map (λ l. (plain_lang l.now).rules) reached.now.langs.items)) }
+    ensures { IfOk result (λ states. AreStatesFor row_holds (RowFits (sorts_of (plain_signature signature.now))) (plain_signature signature.now) reached.now.names.keys (map (λ those. map machine_rule those.items) states.items) (map (λ l. (plain_lang l.now).rules) reached.now.langs.items)) }
 {
     let mut states = Vec::new(alloc);
     'langs: for lang in &reached.langs {
-        states.push(rules_for(alloc, item, &reached.names, &lang.rules)?)?;
+        states.push(rules_for(alloc, signature, &reached.names, &lang.rules)?)?;
     }
     Ok(states)
 }
@@ -57,16 +57,17 @@ fn states_for(
 pub fn language(
     alloc: Global,
     declared: &Declared,
-    item: &TypeItem,
+    signature: &Signature,
     name: &Text,
-) -> Result<Sta<BoolAtom>, Memory>
-    requires stands { IsDeclared declared.now }
-    requires there { is_some (find_lang (langs_of (items_of declared.now)) name.now) ≡ true }
-    requires typed { type_of (items_of declared.now) name.now ≡ plain_type item.now }
-    ensures { IfOk result (IsAutomatonOf (λ a. truth_at a.field) (λ a. a.field < length item.now.fields.items) (items_of declared.now) name.now) }
+) -> Result<Sta<RowAtom>, Memory>
+    requires declared { IsDeclared declared.now }
+    requires stand { AllStand (items_of declared.now) }
+    requires there { is_some (find_lang (items_of declared.now) name.now) ≡ true }
+    requires typed { input_of (items_of declared.now) name.now ≡ plain_signature signature.now }
+    ensures { IfOk result (IsAutomatonOf row_holds (RowFits (sorts_of (plain_signature signature.now))) (items_of declared.now) name.now) }
 {
     let reached = reach(alloc, declared, name)?;
-    let ranks = ranks_of(alloc, &item.ctors)?;
-    let states = states_for(alloc, item, &reached)?;
+    let ranks = ranks_of(alloc, &signature.constructors)?;
+    let states = states_for(alloc, signature, &reached)?;
     Ok(Sta::new(ranks, states))
 }

@@ -5,11 +5,9 @@
 
 mod automaton;
 mod declared;
-mod guards;
 mod numbers;
 mod reached;
 mod rules;
 
 pub use automaton::language;
 pub use declared::Declared;
-pub use numbers::rank_of;

@@ -1,31 +1,31 @@
 //! The numbers of constructors and of demanded languages.
 
 ghost use Rattle.std.specs.Prelude.{◌≡◌, IfOk, map, is_some, true, All, Contains, position};
-ghost use Rattle.fast_syntax.specs.View.{plain_ctor, plain_demand, plain_name};
-ghost use Rattle.model_program.specs.Names.{find_ctor, same_text};
-ghost use Rattle.model_program.specs.WellFormed.{is_rank_in_range};
-ghost use Rattle.model_report.specs.Meaning.{rank_of};
-ghost use Rattle.fast_build.specs.Numbers.{IsNumbered, numbers_for, numbers_for_each};
+ghost use Rattle.fast_tree.specs.Signatures.{plain_constructor};
+ghost use Rattle.fast_syntax.specs.View.{plain_demand, plain_name};
+ghost use Rattle.model_names.specs.Declared.{same_text};
+ghost use Rattle.fast_build.specs.Numbers.{find_constructor, IsNumbered, numbers_for, numbers_for_each};
 ghost use Rattle.fast_build.specs.Reached.{demanded_by};
 
 use fast_fault::{Memory, Text};
-use fast_syntax::{CtorItem, Demand, Name};
+use fast_syntax::{Demand, Name};
+use fast_tree::CtorOf;
 use indexmap::IndexSet;
 use std::alloc::Global;
 
 /// The place of the constructor of this name.
-fn constructor_place(ctors: &[CtorItem], name: &Text) -> Option<usize>
-    ensures { result ≡ position (λ c. same_text c.name.text name.now) ctors.now }
+fn constructor_place(constructors: &[CtorOf], name: &Text) -> Option<usize>
+    ensures { result ≡ position (λ c. same_text c.name name.now) constructors.now }
 {
-    ctors.iter().position(|ctor| ctor.name.text == *name)
+    constructors.iter().position(|ctor| ctor.name == *name)
 }
 
 /// The number of the constructor of this name: its place in the type.
-pub fn constructor_number(ctors: &[CtorItem], name: &Text) -> Result<u32, Memory>
-    requires { is_some (find_ctor (map plain_ctor ctors.now) name.now) ≡ true }
-    ensures { IfOk result (λ n. IsNumbered (map plain_ctor ctors.now) name.now n) }
+pub fn constructor_number(constructors: &[CtorOf], name: &Text) -> Result<u32, Memory>
+    requires { is_some (find_constructor (map plain_constructor constructors.now) name.now) ≡ true }
+    ensures { IfOk result (λ n. IsNumbered (map plain_constructor constructors.now) name.now n) }
 {
-    let Some(place) = constructor_place(ctors, name) else {
+    let Some(place) = constructor_place(constructors, name) else {
         unreachable!()
     };
     // a type of so many constructors is out of reach of any memory
@@ -33,14 +33,6 @@ pub fn constructor_number(ctors: &[CtorItem], name: &Text) -> Result<u32, Memory
         Ok(number) => Ok(number),
         Err(_wide) => Err(Memory),
     }
-}
-
-/// The rank of a constructor.
-pub fn rank_of(ctor: &CtorItem) -> u32
-    requires { is_rank_in_range ctor.now.rank ≡ true }
-    ensures { result ≡ rank_of ctor.now.rank }
-{
-    ctor.rank as u32
 }
 
 /// The numbers of the languages that are demanded of the variable.

@@ -1,14 +1,16 @@
 //! The languages that a language reaches.
 
 ghost use Rattle.std.specs.Prelude.{◌≡◌, [], ◌∷◌, IfOk, OnOk, map, true, is_some};
-ghost use Rattle.fast_syntax.specs.View.{plain_demand, plain_rule, plain_lang};
-ghost use Rattle.model_program.specs.Names.{langs_of, find_lang};
-ghost use Rattle.fast_build.specs.Items.{items_of, IsDeclared};
+ghost use Rattle.fast_syntax.specs.View.{plain_demand};
+ghost use Rattle.fast_syntax.specs.Plain.{plain_rule};
+ghost use Rattle.fast_build.specs.Items.{items_of, find_lang, IsDeclared};
+ghost use Rattle.fast_build.specs.Stands.{AllStand};
 ghost use Rattle.fast_build.specs.Reached.{demanded_by, demanded_in, IsGrown, IsReached};
 
 use crate::declared::Declared;
 use fast_fault::{Memory, Text};
-use fast_syntax::{Demand, LangItem, Rule};
+use fast_syntax::Demand;
+use fast_syntax::items::{LangItem, Rule};
 use indexmap::IndexSet;
 use std::alloc::Global;
 
@@ -52,8 +54,9 @@ fn add_languages(alloc: Global, rules: &[Rule], names: &mut IndexSet<Text>) -> R
 
 /// The languages that the language of this name reaches.
 pub fn reach<'p>(alloc: Global, declared: &Declared<'p>, name: &Text) -> Result<Reached<'p>, Memory>
-    requires stands { IsDeclared declared.now }
-    requires there { is_some (find_lang (langs_of (items_of declared.now)) name.now) ≡ true }
+    requires declared { IsDeclared declared.now }
+    requires stand { AllStand (items_of declared.now) }
+    requires there { is_some (find_lang (items_of declared.now) name.now) ≡ true }
     ensures { IfOk result (λ reached. IsReached (items_of declared.now) name.now reached) }
 {
     let mut names = IndexSet::new(alloc);

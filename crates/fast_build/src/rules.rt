@@ -1,39 +1,57 @@
 //! The rules of an automaton for the rules of a program.
 
-ghost use Rattle.std.specs.Prelude.{◌≡◌, ◌<◌, IfOk, map, length, true, All, Contains};
+ghost use Rattle.std.specs.Prelude.{◌≡◌, ◌≤◌, IfOk, map, length, true, All, Contains};
 ghost use Rattle.std.specs.List.{list_all};
-ghost use Rattle.flat_label.specs.Bools.{truth_at};
-ghost use Rattle.fast_syntax.specs.View.{plain_type, plain_rule, plain_lang, plain_demand};
-ghost use Rattle.model_program.specs.WellFormed.{is_type_well_formed};
+ghost use Rattle.model_tree.specs.Signature.{sorts_of};
+ghost use Rattle.fast_tree.specs.Signatures.{plain_signature};
+ghost use Rattle.fast_syntax.specs.View.{plain_demand};
+ghost use Rattle.fast_syntax.specs.Plain.{plain_rule};
+ghost use Rattle.label_core.specs.Formula.{plain_formula};
+ghost use Rattle.record_label.specs.Rows.{row_holds, RowFits};
 ghost use Rattle.sta_core.specs.Machine.{plain_rule as machine_rule};
 ghost use Rattle.fast_build.specs.Reached.{demanded_by, demanded_in};
-ghost use Rattle.fast_build.specs.Rules.{IsRuleFor, AreRulesFor};
+ghost use Rattle.fast_build.specs.Rules.{IsGuardFor, IsRuleFor, AreRulesFor};
 ghost use Rattle.fast_build.specs.Numbers.{has_ctor};
+ghost use Rattle.fast_build.specs.Stands.{is_guarded};
 
-use crate::guards::guard_of;
 use crate::numbers::{constructor_number, demands_on_each};
 use fast_fault::{Memory, Text};
-use fast_syntax::{Rule, TypeItem};
-use flat_label::BoolAtom;
+use fast_syntax::items::Rule;
+use fast_tree::Signature;
 use indexmap::IndexSet;
+use label_core::Formula;
+use record_label::{RowAtom, guard_of};
 use sta_core::StaRule;
 use std::alloc::Global;
+
+/// The formula that holds where the rule's guard does.
+fn guard_for(alloc: Global, signature: &Signature, rule: &Rule) -> Result<Formula<RowAtom>, Memory>
+    requires few { length signature.now.fields.items ≤ 8 }
+    requires guarded { is_guarded (plain_signature signature.now).fields (plain_rule rule.now) ≡ true }
+    ensures { IfOk result (λ f. IsGuardFor row_holds (RowFits (sorts_of (plain_signature signature.now))) (plain_signature signature.now) (plain_rule rule.now) (plain_formula f)) }
+{
+    match &rule.guard {
+        Some(guard) => guard_of(alloc, guard, signature),
+        None => Ok(Formula::Yes),
+    }
+}
 
 /// The rule of the automaton for a rule.
 fn rule_for(
     alloc: Global,
-    item: &TypeItem,
+    signature: &Signature,
     names: &IndexSet<Text>,
     rule: &Rule,
-) -> Result<StaRule<BoolAtom>, Memory>
-    requires typed { is_type_well_formed (plain_type item.now) ≡ true }
-    requires ctor { has_ctor (plain_type item.now) (plain_rule rule.now) ≡ true }
+) -> Result<StaRule<RowAtom>, Memory>
+    requires few { length signature.now.fields.items ≤ 8 }
+    requires ctor { has_ctor (plain_signature signature.now) (plain_rule rule.now) ≡ true }
+    requires guarded { is_guarded (plain_signature signature.now).fields (plain_rule rule.now) ≡ true }
     requires named { All (Contains names.now.keys) (demanded_by (map plain_demand rule.now.given.items)) }
-    ensures { IfOk result (λ r. IsRuleFor (λ a. truth_at a.field) (λ a. a.field < length item.now.fields.items) (plain_type item.now) names.now.keys (machine_rule r) (plain_rule rule.now)) }
+    ensures { IfOk result (λ r. IsRuleFor row_holds (RowFits (sorts_of (plain_signature signature.now))) (plain_signature signature.now) names.now.keys (machine_rule r) (plain_rule rule.now)) }
 {
     Ok(StaRule {
-        constructor: constructor_number(&item.ctors, &rule.ctor.text)?,
-        guard: guard_of(alloc, &item.fields, rule)?,
+        constructor: constructor_number(&signature.constructors, &rule.ctor.text)?,
+        guard: guard_for(alloc, signature, rule)?,
         demands: demands_on_each(alloc, names, &rule.given, &rule.vars)?,
     })
 }
@@ -41,18 +59,19 @@ fn rule_for(
 /// The rules of a state for the rules of a language.
 pub fn rules_for(
     alloc: Global,
-    item: &TypeItem,
+    signature: &Signature,
     names: &IndexSet<Text>,
     rules: &[Rule],
-) -> Result<Vec<StaRule<BoolAtom>>, Memory>
-    requires typed { is_type_well_formed (plain_type item.now) ≡ true }
-    requires ctors { list_all (has_ctor (plain_type item.now)) (map plain_rule rules.now) ≡ true }
+) -> Result<Vec<StaRule<RowAtom>>, Memory>
+    requires few { length signature.now.fields.items ≤ 8 }
+    requires ctors { list_all (has_ctor (plain_signature signature.now)) (map plain_rule rules.now) ≡ true }
+    requires guarded { list_all (is_guarded (plain_signature signature.now).fields) (map plain_rule rules.now) ≡ true }
     requires named { All (Contains names.now.keys) (demanded_in (map plain_rule rules.now)) }
-    ensures { IfOk result (λ made. AreRulesFor (λ a. truth_at a.field) (λ a. a.field < length item.now.fields.items) (plain_type item.now) names.now.keys (map machine_rule made.items) (map plain_rule rules.now)) }
+    ensures { IfOk result (λ made. AreRulesFor row_holds (RowFits (sorts_of (plain_signature signature.now))) (plain_signature signature.now) names.now.keys (map machine_rule made.items) (map plain_rule rules.now)) }
 {
     let mut made = Vec::new(alloc);
     'rules: for rule in rules {
-        made.push(rule_for(alloc, item, names, rule)?)?;
+        made.push(rule_for(alloc, signature, names, rule)?)?;
     }
     Ok(made)
 }

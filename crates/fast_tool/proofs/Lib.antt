@@ -1,7 +1,7 @@
-pub mod Relabelled
 pub mod Typed
 pub mod Tables
-pub mod Items
+pub mod AllBuilt
+pub mod Judging
+pub mod WellFormed
 pub mod Runs
-pub mod Reading
-pub mod Complete
+pub mod Texts

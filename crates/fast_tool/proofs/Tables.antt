@@ -1,14 +1,28 @@
--- What an automaton's trees and sets of states say of the language that it is of.
-use Rattle.std.proofs.Common.{◌≡◌, ℕ, suc, ◌<◌, ◌≤◌, Bool, true, false, List, [], ◌∷◌, map, length, get_or, All, refl, sym, ap, subst, ◌∙◌, arith}
+-- What the automaton of a language tells of the language.
+use Rattle.std.proofs.Common.{◌≡◌, ℕ, suc, ◌<◌, ◌≤◌, inl, inr, Bool, true, false, List, [], ◌∷◌, Option, Some, None, map, length, get_or, All, refl, sym, ap, subst, ◌∙◌, arith}
+use Rattle.std.specs.Prelude.{is_some}
+use Rattle.std.specs.Option.{option_map}
 use Rattle.std.proofs.lemmas.List.{length-map, get_or-map}
 use Rattle.std.proofs.lemmas.List.Elements.{All-nil, All-cons, All-tail}
 use Rattle.model_tree.specs.Label.{Label}
-use Rattle.model_tree.specs.Tree.{node, LabelTree}
-use Rattle.model_tree.specs.Signature.{ranks_of, HasType}
-use Rattle.model_program.specs.Syntax.{Name, TypeItem, Item, empty, named}
-use Rattle.model_report.specs.Meaning.{signature_of, type_of, is_in, IsTreeOf, IsTrue as IsTrueClaim, IsShownBy}
-use Rattle.model_report.specs.Report.{has_truths}
-use Rattle.model_report.specs.Causes.{AreApart, EachTwo, HasMoreTrees, HasLargeTreesAlone}
+use Rattle.model_tree.specs.Tree.{node, LabelTree, node_count}
+use Rattle.model_tree.specs.Signature.{PlainSignature, ranks_of, sorts_of, HasSorts, HasType}
+use Rattle.model_program.specs.Syntax.{Name, TypeItem}
+use Rattle.model_grammar.specs.Syntax.{X, empty, named, LangItem, lang, assertion, Item}
+use Rattle.model_names.specs.Declared.{find_type, find_item}
+use Rattle.model_names.specs.Kinds.{language, kind_of, type_of}
+use Rattle.model_meaning.specs.Types.{signature_at, input_of}
+use Rattle.model_meaning.specs.Languages.{is_in}
+use Rattle.model_meaning.specs.Closed.{closed}
+use Rattle.model_meaning.specs.Meaning.{input_type, signature_named}
+use Rattle.model_meaning.specs.Values.{Printed}
+use Rattle.model_meaning.specs.Truth.{IsTrue, Shows, IsAmong}
+use Rattle.model_meaning.specs.Reached.{Reaches}
+use Rattle.model_meaning.proofs.Named.{input_type_of_name, lang_closed, lang_inside, inside_lang}
+use Rattle.model_run.specs.Outcomes.{IsPrintable}
+use Rattle.model_run.specs.Parts.{AreApart, EachTwo, HasMoreTrees}
+use Rattle.model_run.specs.Causes.{AreAllLarge, judged, judged_empty, HasCause, more_classes, too_large}
+use Rattle.model_run.proofs.Apart.{name_of, apart_by_reached}
 use Rattle.model_sta.specs.Automaton.{Rule, is_accepted}
 use Rattle.model_sta.specs.Sets.{Row, has, set_of, Fits}
 use Rattle.model_sta.specs.Reached.{IsReached, Apart, HasMoreSets}
@@ -17,10 +31,13 @@ use Rattle.sta_core.specs.Machine.{Machine}
 use Rattle.sta_core.specs.Sta.{automaton_of}
 use Rattle.sta_ops.specs.Empty.{IsLeastOf, HasBigAlone}
 use Rattle.sta_ops.specs.Empty as ops
-use Rattle.flat_label.specs.Bools.{IsBools, truth_at}
-use Rattle.flat_label.specs.declared.BoolAtom.{BoolAtom}
+use Rattle.record_label.specs.Rows.{RowAtom, row_holds, RowFits, KeepsSorts}
+use Rattle.fast_build.specs.Items.{find_lang}
+use Rattle.fast_build.specs.Stands.{LangStands, AllStand}
 use Rattle.fast_build.specs.Automaton.{IsAutomatonOf}
-use Rattle.fast_tool.proofs.Typed.{fits_from_type, type_from_fits, kept_if_fits}
+use Rattle.fast_build.proofs.Standing.{kind_is, type_named, type_is, item_there}
+use Rattle.fast_build.proofs.Reaching.{IsOf, reached_of}
+use Rattle.fast_tool.proofs.Typed.{fits_from_type, type_from_fits, fits_if_kept, kept_if_fits}
 
 -- where two sets differ, a state is in one of them alone
 differing : (p q : Row) → length p ≡ length q → ¬ (p ≡ q) → (k : ℕ) × (k < length p) × ¬ (has p k ≡ has q k)
@@ -37,80 +54,118 @@ differing (a ∷ p) (b ∷ q) many apart =
     by true false later = (0, omega arith, λ e. let no : true ≡ false = e in absurd (cc))
     by false true later = (0, omega arith, λ e. let no : false ≡ true = e in absurd (cc))
 
-module _ (items : List Item) (name : List ℕ) (t : TypeItem) (typed : type_of items name ≡ t) (all : has_truths t ≡ true) (m : Machine BoolAtom)
-    (is : IsAutomatonOf (λ a. truth_at a.field) (λ a. a.field < length t.fields) items name m) where
+module _ (items : List Item) (n : Name) (l : LangItem) (stand : AllStand items) (found : find_lang items n.text ≡ Some l) (t : PlainSignature) (typed : input_of items n.text ≡ t) (m : Machine RowAtom)
+    (is : IsAutomatonOf row_holds (RowFits (sorts_of t)) items n.text m) where
   abbrev D : Label → Type 0
-  D = IsBools (length t.fields)
+  D = HasSorts (sorts_of t)
+
+  abbrev K : Label → Type 0
+  K = KeepsSorts (sorts_of t)
 
   abbrev rules : List (List (Rule Label))
-  rules = automaton_of (λ (a : BoolAtom). truth_at a.field) m
+  rules = automaton_of row_holds m
 
-  ranks_are : m.ranks ≡ ranks_of (signature_of t)
-  ranks_are = is.ranks ∙ ap (λ s. ranks_of (signature_of s)) typed
+  ranks_are : m.ranks ≡ ranks_of t
+  ranks_are = is.ranks ∙ ap ranks_of typed
 
-  fits : (u : LabelTree) → HasType (signature_of (type_of items name)) u → Fits m.ranks D u
-  fits u h = subst (λ ks. Fits ks D u) (sym ranks_are) (fits_from_type t all u (subst (λ (s : TypeItem). HasType (signature_of s) u) typed h))
+  fits : (u : LabelTree) → HasType (input_of items n.text) u → Fits m.ranks D u
+  fits u h = subst (λ ks. Fits ks D u) (sym ranks_are) (fits_from_type t u (subst (λ s. HasType s u) typed h))
 
-  types : (u : LabelTree) → Fits m.ranks D u → HasType (signature_of (type_of items name)) u
-  types u h = subst (λ (s : TypeItem). HasType (signature_of s) u) (sym typed) (type_from_fits t all u (subst (λ ks. Fits ks D u) ranks_are h))
+  types : (u : LabelTree) → Fits m.ranks D u → HasType (input_of items n.text) u
+  types u h = subst (λ s. HasType s u) (sym typed) (type_from_fits t u (subst (λ ks. Fits ks D u) ranks_are h))
 
-  -- the set of a tree tells in which of the languages it is
-  told : (u : LabelTree) → Fits m.ranks D u → (k : ℕ) → k < length (name ∷ is.others) → has (set_of rules u) k ≡ is_in items u (get_or (name ∷ is.others) k [])
-  told u h k low = set_is_accepted rules u k ∙ sym (is.means u (types u h) k low)
+  -- the type of the name as an expression
+  claim_type_is : input_type items (named n) ≡ input_of items n.text
+  claim_type_is = input_type_of_name items n
 
-  tree_in : (u : LabelTree) → IsTreeOf items name u → ops.IsTreeOf m.ranks D D rules 0 u
-  tree_in u right = record { fits = fits u right.typed; accepted = sym (is.means u right.typed 0 (omega arith)) ∙ right.inside }
+  own_item : (item : Item) × (find_item items n.text ≡ Some item) × (item.body ≡ lang l)
+  own_item = item_there items n.text l found
 
-  in_tree : (u : LabelTree) → Fits m.ranks D u → is_accepted rules u 0 ≡ true → IsTreeOf items name u
-  in_tree u h accepted = record { typed = types u h; inside = is.means u (types u h) 0 (omega arith) ∙ accepted }
+  inside : (u : LabelTree) → IsAmong items (kind_of items (named n)) (named n) u → is_in items u n.text ≡ true
+  inside u among = lang_inside items n own_item.0 l own_item.1 own_item.2 u (subst (λ k. IsAmong items k (named n) u) (kind_is items n l found) among)
+
+  among : (u : LabelTree) → is_in items u n.text ≡ true → IsAmong items (kind_of items (named n)) (named n) u
+  among u e = subst (λ k. IsAmong items k (named n) u) (sym (kind_is items n l found)) (inside_lang items n own_item.0 l own_item.1 own_item.2 u e)
+
+  tree_in : (u : LabelTree) → Shows items (empty (named n)) u → ops.IsTreeOf m.ranks D K rules 0 u
+  tree_in u shows =
+      let h = subst (λ s. HasType s u) claim_type_is shows.0 in
+      record { fits = fits u h; accepted = sym (is.means u h 0 (omega arith)) ∙ inside u shows.1 }
+
+  in_tree : (u : LabelTree) → Fits m.ranks D u → is_accepted rules u 0 ≡ true → Shows items (empty (named n)) u
+  in_tree u h accepted = (subst (λ s. HasType s u) (sym claim_type_is) (types u h), among u (is.means u (types u h) 0 (omega arith) ∙ accepted))
 
   -- no tree is in the language
-  pub none_in : (claim : Name) → claim.text ≡ name → ((u : LabelTree) → ¬ (ops.IsTreeOf m.ranks D D rules 0 u)) → IsTrueClaim items (empty (named claim))
-  none_in claim same none u right = none u (tree_in u (subst (λ n. IsTreeOf items n u) same right))
+  pub none_in : ((u : LabelTree) → ¬ (ops.IsTreeOf m.ranks D K rules 0 u)) → IsTrue items (empty (named n))
+  none_in none u h right = none u (tree_in u (h, right))
 
   -- the trees of the language are all too large
-  pub large_in : HasBigAlone m.ranks D D rules 0 → HasLargeTreesAlone items name
+  pub large_in : HasBigAlone m.ranks D K rules 0 → AreAllLarge (Shows items (empty (named n)))
   large_in big = record { tree = big.tree; right = in_tree big.tree big.right.fits big.right.accepted; large = λ u right. big.big u (tree_in u right) }
 
   -- a least tree of the language shows that it isn't empty
-  pub shown_in : (claim : Name) → claim.text ≡ name → (most : ℕ) → most ≤ 2000 → (u : LabelTree) → IsLeastOf m.ranks D D rules 0 most u → IsShownBy items (empty (named claim)) u
-  shown_in claim same most low u least = record {
-    tree_of = subst (λ n. IsTreeOf items n u) (sym same) (in_tree u least.fits least.accepted);
-    kept = kept_if_fits m.ranks (length t.fields) u least.fits;
-    small = least.small;
-    shallow = omega (arith, least.shallow, low);
-  }
+  pub shown_in : (most : ℕ) → most ≤ 2000 → (u : LabelTree) → IsLeastOf m.ranks D K rules 0 most u → Shows items (empty (named n)) u × IsPrintable u
+  shown_in most low u least = (
+    in_tree u (fits_if_kept m.ranks (sorts_of t) u least.fits) least.accepted,
+    record { kept = kept_if_fits m.ranks (sorts_of t) u least.fits; small = least.small; shallow = omega (arith, least.shallow, low) },
+  )
 
-  -- trees with different sets are told apart
-  many_rules : length rules ≡ length (name ∷ is.others)
+  -- the name of the type
+  abbrev own : LangStands items l
+  own = stand n.text l found
+
+  abbrev type : List ℕ
+  type = own.type.name.text
+
+  type_of_name : (other : Name) (k : LangItem) → find_lang items other.text ≡ Some k → k.of.text ≡ l.of.text → type_of items (named other) ≡ Some type
+  type_of_name other k there same = type_named items other k there ∙ ap (λ text. option_map (λ (s : TypeItem). s.name.text) (find_type items text)) same ∙ ap (option_map (λ (s : TypeItem). s.name.text)) own.found
+
+  signature_is : signature_named items (Some type) ≡ input_of items n.text
+  signature_is = ap (signature_named items) (sym (type_of_name n l found refl)) ∙ claim_type_is
+
+  -- the set of a tree tells in which of the languages it is
+  told : (u : LabelTree) → Fits m.ranks D u → (k : ℕ) → k < length (n.text ∷ is.others) → has (set_of rules u) k ≡ is_in items u (get_or (n.text ∷ is.others) k [])
+  told u h k low = set_is_accepted rules u k ∙ sym (is.means u (types u h) k low)
+
+  many_rules : length rules ≡ length (n.text ∷ is.others)
   many_rules = length-map _ _ ∙ is.states
 
   set_long : (u : LabelTree) → length (set_of rules u) ≡ length rules
   set_long (node c l us) = length-map _ _
 
-  told_apart : (u v : LabelTree) → Fits m.ranks D u → Fits m.ranks D v → ¬ (set_of rules u ≡ set_of rules v) → AreApart items name u v
+  -- trees with different sets are told apart
+  told_apart : (u v : LabelTree) → Fits m.ranks D u → Fits m.ranks D v → ¬ (set_of rules u ≡ set_of rules v) → AreApart items (named n ∷ []) type u v
   told_apart u v h g apart =
       let at = differing (set_of rules u) (set_of rules v) (set_long u ∙ sym (set_long v)) apart in
-      let low : at.0 < length (name ∷ is.others) = subst (λ (n : ℕ). at.0 < n) (set_long u ∙ many_rules) at.1 in
-      (get_or (name ∷ is.others) at.0 [], is.reached at.0 [] low, λ e. at.2 (told u h at.0 low ∙ e ∙ sym (told v g at.0 low)))
+      let low : at.0 < length (n.text ∷ is.others) = subst (λ (k : ℕ). at.0 < k) (set_long u ∙ many_rules) at.1 in
+      let other = get_or (n.text ∷ is.others) at.0 [] in
+      let there = reached_of items l.of.text n.text other stand (record { lang = l; found = found; of_is = refl }) (is.reached at.0 [] low) in
+      apart_by_reached items n type u v (record {
+        other = other;
+        reached = is.reached at.0 [] low;
+        kind = kind_is items (name_of other) there.lang there.found;
+        on = type_of_name (name_of other) there.lang there.found there.of_is;
+        apart = λ e. at.2 (told u h at.0 low ∙ e ∙ sym (told v g at.0 low));
+      })
 
   -- a tree for each of different sets
   record AreTreesOf (qs : List Row) : Type 0 where
     trees : List LabelTree
     fit : All (Fits m.ranks D) trees
     sets : map (set_of rules) trees ≡ qs
-    apart : EachTwo (AreApart items name) trees
+    apart : EachTwo (AreApart items (named n ∷ []) type) trees
 
-  trees_of : (qs : List Row) → All (IsReached m.ranks D rules) qs → Apart qs → AreTreesOf qs
+  trees_of : (qs : List Row) → All (IsReached m.ranks K rules) qs → Apart qs → AreTreesOf qs
   trees_of [] reached apart = record { trees = []; fit = All-nil (Fits m.ranks D); sets = refl; apart = tt }
   trees_of (q ∷ qs) reached apart =
       let one = reached 0 q (omega arith) in
-      let rest = trees_of qs (All-tail (IsReached m.ranks D rules) q qs reached) (λ i j less low. apart (suc i) (suc j) (omega (arith, less)) (omega (arith, low))) in
+      let one_fits = fits_if_kept m.ranks (sorts_of t) one.0 one.1 in
+      let rest = trees_of qs (All-tail (IsReached m.ranks K rules) q qs reached) (λ i j less low. apart (suc i) (suc j) (omega (arith, less)) (omega (arith, low))) in
       record {
         trees = one.0 ∷ rest.trees;
-        fit = All-cons (Fits m.ranks D) one.0 rest.trees one.1 rest.fit;
+        fit = All-cons (Fits m.ranks D) one.0 rest.trees one_fits rest.fit;
         sets = λ i. one.2 i ∷ rest.sets i;
-        apart = (λ k d low. told_apart one.0 (get_or rest.trees k d) one.1 (rest.fit k d low) (λ same. differs q qs apart rest.trees rest.sets k d low (sym one.2 ∙ same)), rest.apart);
+        apart = (λ k d low. told_apart one.0 (get_or rest.trees k d) one_fits (rest.fit k d low) (λ same. differs q qs apart rest.trees rest.sets k d low (sym one.2 ∙ same)), rest.apart);
       }
     where
       differs : (q : Row) (qs : List Row) → Apart (q ∷ qs) → (us : List LabelTree) → map (set_of rules) us ≡ qs → (k : ℕ) (d : LabelTree) → k < length us → ¬ (q ≡ set_of rules (get_or us k d))
@@ -119,13 +174,24 @@ module _ (items : List Item) (name : List ℕ) (t : TypeItem) (typed : type_of i
           apart 0 (suc k) (omega arith) (omega (arith, low, many)) (same ∙ sym (get_or-map (set_of rules) us k d [] low) ∙ ap (λ rs. get_or rs k []) sets)
 
   -- more sets of trees than the limit show that the languages tell more trees apart
-  pub more_trees : (most : ℕ) → HasMoreSets m.ranks D rules most → HasMoreTrees items name most
+  more_trees : (most : ℕ) → HasMoreSets m.ranks K rules most → HasMoreTrees items (named n ∷ []) most
   more_trees most (qs, sets, more) =
       let us = trees_of qs sets.reached sets.apart in
       let many : length us.trees ≡ length qs = sym (length-map us.trees (set_of rules)) ∙ ap length us.sets in
       record {
+        type = type;
         trees = us.trees;
-        typed = λ k d low. types (get_or us.trees k d) (us.fit k d low);
+        typed = λ k d low. subst (λ s. HasType s (get_or us.trees k d)) (sym signature_is) (types (get_or us.trees k d) (us.fit k d low));
         apart = us.apart;
         more = omega (arith, more, many);
       }
+
+  -- the expressions by which an assertion of it is judged
+  judged_is : judged_empty (kind_of items (named n)) (closed items (named n)) ≡ named n
+  judged_is = ap (λ k. judged_empty k (closed items (named n))) (kind_is items n l found) ∙ lang_closed items n own_item.0 l own_item.1 own_item.2
+
+  pub many_cause : (wanted : Bool) (most : ℕ) (trees : List Printed) → HasMoreSets m.ranks K rules most → HasCause items most trees (assertion (record { wanted = wanted; claim = empty (named n) })) (more_classes most)
+  many_cause wanted most trees sets = (refl, refl, subst (λ x. HasMoreTrees items (x ∷ []) most) (sym judged_is) (more_trees most sets))
+
+  pub large_cause : (wanted : Bool) (most : ℕ) (trees : List Printed) → HasBigAlone m.ranks D K rules 0 → HasCause items most trees (assertion (record { wanted = wanted; claim = empty (named n) })) too_large
+  large_cause wanted most trees big = inr (inl (large_in big))

@@ -1,16 +1,31 @@
 -- The declarations of a program that may run.
-use Rattle.std.specs.Prelude.{◌≡◌, Bool, true, List}
-use Rattle.model_program.specs.Syntax.{Item, LangItem, sorts, lang, assertion}
-use Rattle.model_program.specs.WellFormed.{is_claim_well_formed}
-use Rattle.model_report.specs.Report.{is_built}
+use Rattle.std.specs.Prelude.{◌≡◌, true, List, Some}
+use Rattle.std.specs.List.{list_all}
+use Rattle.model_program.specs.Syntax.{TypeItem}
+use Rattle.model_grammar.specs.Syntax.{LangItem, Body, sorts, tree, lang, trans, def, assertion, Item}
+use Rattle.model_names.specs.Declared.{find_type}
+use Rattle.model_run.specs.Built.{is_built}
 use Rattle.fast_build.specs.Items.{items_of, IsDeclared}
+use Rattle.fast_build.specs.Stands.{AllStand}
 use Rattle.fast_build.specs.declared.declared.Declared.{Declared}
 
--- the program is built
+-- its languages stand, and each item is built
 pub record MayRun (d : Declared) : Type 0 where
   pub declared : IsDeclared d
-  pub built : is_built (items_of d) ≡ true
+  pub stand : AllStand (items_of d)
+  pub built : list_all (is_built (items_of d)) (items_of d) ≡ true
 
--- an assertion speaks of a language that is declared
-abbrev pub may_judge : List LangItem → Item → Bool
-may_judge langs item = elim item.body [ sorts t ↦ true | lang l ↦ true | assertion a ↦ is_claim_well_formed langs a.claim ]
+-- the type of the language is declared
+abbrev pub HasItsType : List Item → LangItem → Type 0
+HasItsType items l = (t : TypeItem) × (find_type items l.of.text ≡ Some t)
+
+abbrev pub HasTypeIfLangBody : List Item → Body → Type 0
+HasTypeIfLangBody items (sorts t) = Unit {0}
+HasTypeIfLangBody items (tree t) = Unit {0}
+HasTypeIfLangBody items (lang l) = HasItsType items l
+HasTypeIfLangBody items (trans t) = Unit {0}
+HasTypeIfLangBody items (def d) = Unit {0}
+HasTypeIfLangBody items (assertion a) = Unit {0}
+
+abbrev pub HasTypeIfLang : List Item → Item → Type 0
+HasTypeIfLang items item = HasTypeIfLangBody items item.body

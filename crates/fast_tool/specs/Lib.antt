@@ -1,5 +1,5 @@
-pub mod Signatures
+pub mod Commands
 pub mod Declarations
 pub mod Decided
 pub mod Runs
-pub mod Commands
+pub mod Taken

@@ -4,9 +4,10 @@
 #![tactic(auto)]
 
 mod built;
-mod labels;
+mod items;
 mod lines;
-mod signatures;
+mod reading;
+mod refusals;
 mod top;
 mod verdicts;
 mod words;

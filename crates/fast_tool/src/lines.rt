@@ -5,7 +5,7 @@ ghost use Rattle.model_tree.specs.Tree.{relabel};
 ghost use Rattle.model_tree.specs.Signature.{HasType};
 ghost use Rattle.fast_tree.specs.Entries.{label_meaning};
 ghost use Rattle.fast_tree.specs.Signatures.{plain_signature};
-ghost use Rattle.model_report.specs.Outcomes.{verdict, true_verdict, false_verdict, line_of};
+ghost use Rattle.model_run.specs.Outcomes.{verdict, true_verdict, tree_verdict, line_of};
 
 use fast_fault::Memory;
 use fast_tree::{Label, Signature, Tree, print_tree};
@@ -22,8 +22,8 @@ fn head(alloc: Global, line: u32, passes: bool) -> Result<String, Memory>
     }
 }
 
-/// The line of the verdict on a true statement.
-pub fn true_line(alloc: Global, line: u32, passes: bool) -> Result<Vec<u8>, Memory>
+/// The line of a verdict without a tree.
+pub fn plain_line(alloc: Global, line: u32, passes: bool) -> Result<Vec<u8>, Memory>
     ensures { IfOk result (λ text. text.items ≡ line_of (true_verdict line passes)) }
 {
     let mut text = head(alloc, line, passes)?.into_bytes();
@@ -31,8 +31,8 @@ pub fn true_line(alloc: Global, line: u32, passes: bool) -> Result<Vec<u8>, Memo
     Ok(text)
 }
 
-/// The line of the verdict on a false statement, with the tree that shows it.
-pub fn false_line(
+/// The line of a verdict with a tree.
+pub fn tree_line(
     alloc: Global,
     line: u32,
     passes: bool,
@@ -40,7 +40,7 @@ pub fn false_line(
     tree: &Tree<Label>,
 ) -> Result<Vec<u8>, Memory>
     requires { HasType (plain_signature signature.now) (relabel label_meaning tree.now) }
-    ensures { IfOk result (λ text. text.items ≡ line_of (false_verdict line passes (plain_signature signature.now) (relabel label_meaning tree.now))) }
+    ensures { IfOk result (λ text. text.items ≡ line_of (tree_verdict line passes (plain_signature signature.now) (relabel label_meaning tree.now))) }
 {
     let mut text = head(alloc, line, passes)?.into_bytes();
     text.push(b' ')?;

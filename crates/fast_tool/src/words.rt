@@ -1,22 +1,27 @@
 //! The words of a command line.
 
 ghost use Rattle.std.specs.Prelude.{◌≡◌, [], ◌∷◌, map, string_bytes, IfSome, IfNone};
-ghost use Rattle.model_report.specs.Words.{Form, IsForm};
+ghost use Rattle.model_run.specs.Words.{Form};
+ghost use Rattle.model_run.specs.Report.{IsWords};
 ghost use Rattle.fast_tool.specs.Commands.{form_of};
 
 /// What the words ask for.
 pub enum Command<'w> {
+    /// Read and check the file.
+    Check { file: &'w str },
     /// Do each item of the file in order.
     Run { file: &'w str },
 }
 
 /// The command of two words.
 fn of_two<'w>(verb: &str, file: &'w str) -> Option<Command<'w>>
-    ensures some { IfSome result (λ c. IsForm (verb.now ∷ file.now ∷ []) (form_of c)) }
-    ensures none { IfNone result ((form : Form) → ¬ (IsForm (verb.now ∷ file.now ∷ []) form)) }
+    ensures some { IfSome result (λ c. IsWords (verb.now ∷ file.now ∷ []) (form_of c)) }
+    ensures none { IfNone result ((form : Form) → ¬ (IsWords (verb.now ∷ file.now ∷ []) form)) }
 {
     if file.is_empty() {
         None
+    } else if verb == "check" {
+        Some(Command::Check { file })
     } else if verb == "run" {
         Some(Command::Run { file })
     } else {
@@ -26,8 +31,8 @@ fn of_two<'w>(verb: &str, file: &'w str) -> Option<Command<'w>>
 
 /// The command that the words are, if they are one.
 pub fn read_words<'w>(words: &'w [String]) -> Option<Command<'w>>
-    ensures some { IfSome result (λ c. IsForm (map string_bytes words.now) (form_of c)) }
-    ensures none { IfNone result ((form : Form) → ¬ (IsForm (map string_bytes words.now) form)) }
+    ensures some { IfSome result (λ c. IsWords (map string_bytes words.now) (form_of c)) }
+    ensures none { IfNone result ((form : Form) → ¬ (IsWords (map string_bytes words.now) form)) }
 {
     match words {
         [verb, file] => of_two(verb.as_str(), file.as_str()),

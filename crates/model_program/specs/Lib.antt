@@ -5,8 +5,6 @@ pub mod Pieces
 pub mod Quotes
 pub mod Spellings
 pub mod Syntax
-pub mod Names
-pub mod WellFormed
 pub mod Reads
 pub mod Grammar
 pub mod Texts

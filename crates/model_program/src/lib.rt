@@ -1,7 +1,7 @@
-//! Texts, tokens and programs as plain data, and the grammar that relates them, for contracts.
+//! Texts and tokens as plain data, and the forms that join tokens, for contracts.
 //!
-//! What a reader of the product must believe about its syntax stands here: which characters make a token, which tokens
-//! spell which program, and which programs are well-formed. Nothing here knows how a text is read.
+//! What a reader of the product must believe about its tokens stands here: which characters make a token, and which
+//! tokens spell names, numbers, lists and types. Nothing here knows how a text is read.
 #![tactic(auto)]
 
 /// What a token is: which keyword or sign, or a name, a number or a quoted text.

@@ -1,7 +1,6 @@
-//! What programs are printed as: tables of program trees and their texts, which no clause lists.
+//! What programs are printed as: a table of texts and of the canonical texts of the programs that they are, which no
+//! clause lists.
 #![tactic(auto)]
 
 #[cfg(test)]
-mod expressions;
-#[cfg(test)]
-mod items;
+mod tests;

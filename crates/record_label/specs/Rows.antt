@@ -30,6 +30,10 @@ abbrev pub parts_of : Label → Label
 parts_of (row fields) = pair (bools_label (truths_in fields)) (texts_label (texts_in fields))
 parts_of (pair l m) = pair (bools_label []) (texts_label [])
 
+-- a field that is true, or two texts that are one
+abbrev pub RowAtom : Type 0
+RowAtom = PairAtom BoolAtom TextAtom
+
 -- whether an atom holds of a label of several fields: it depends on the label alone
 abbrev pub row_holds : PairAtom BoolAtom TextAtom → Label → Bool
 row_holds a l = pair_holds (λ (b : BoolAtom). truth_at b.field) are_one_text a (parts_of l)

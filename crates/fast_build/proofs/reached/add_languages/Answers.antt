@@ -1,5 +1,6 @@
 use Rattle.std.proofs.Common.{map, subst}
-use Rattle.fast_syntax.specs.View.{plain_demand, plain_rule}
+use Rattle.fast_syntax.specs.View.{plain_demand}
+use Rattle.fast_syntax.specs.Plain.{plain_rule}
 use Rattle.fast_build.specs.Reached.{demanded_by, demanded_in, IsGrown}
 use Rattle.fast_build.proofs.Grown.{grown_step, demanded_rules_more}
 use Rattle.fast_build.proofs.reached.add_languages.Goals as goal

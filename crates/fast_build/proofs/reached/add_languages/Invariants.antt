@@ -1,5 +1,5 @@
 use Rattle.std.proofs.Common.{map, take}
-use Rattle.fast_syntax.specs.View.{plain_rule}
+use Rattle.fast_syntax.specs.Plain.{plain_rule}
 use Rattle.fast_build.specs.Reached.{demanded_in, IsGrown}
 use Rattle.fast_build.proofs.reached.add_languages.Given as goal
 

@@ -1,7 +1,6 @@
 use Rattle.std.proofs.Common.{◌≡◌, ◌≤◌, ◌-◌, map, take, length, Some}
-use Rattle.fast_syntax.specs.View.{plain_lang}
-use Rattle.model_program.specs.Names.{langs_of, find_lang}
-use Rattle.fast_build.specs.Items.{items_of}
+use Rattle.fast_syntax.specs.Plain.{plain_lang}
+use Rattle.fast_build.specs.Items.{items_of, find_lang}
 use Rattle.fast_build.specs.Reached.{AreReached, AreClosed}
 use Rattle.fast_build.proofs.reached.reach.Given as goal
 
@@ -9,9 +8,9 @@ abbrev pub invariant-reach : goal.invariant-reach
 invariant-reach l = record {
   reached : AreReached (items_of l.declared) l.name l.names.keys;
   closed : AreClosed (items_of l.declared) l.names.keys (take (length l.langs.items) l.names.keys);
-  langs : map (find_lang (langs_of (items_of l.declared))) (take (length l.langs.items) l.names.keys) ≡ map (λ x. Some (plain_lang x.now)) l.langs.items;
+  langs : map (find_lang (items_of l.declared)) (take (length l.langs.items) l.names.keys) ≡ map (λ x. Some (plain_lang x.now)) l.langs.items;
   count : length l.langs.items ≤ length l.names.keys;
 }
 
 abbrev pub decreases-reach : goal.decreases-reach
-decreases-reach l = length (langs_of (items_of l.declared)) - length l.langs.items
+decreases-reach l = length l.declared.names.keys - length l.langs.items

@@ -1,5 +1,5 @@
-use Rattle.fast_tool.proofs.Complete.{completes}
+use Rattle.model_run.proofs.Complete.{completes}
 use Rattle.fast_tool.proofs.top.run.Goals as goal
 
 pub returns-clause-complete : goal.returns-clause-complete
-returns-clause-complete g c = completes _ _ _ _ _ c.obey.ensures.report
+returns-clause-complete g c = λ form doable. completes _ _ _ c.obey.ensures.report.0 form c.obey.ensures.report.1 doable

@@ -1,5 +1,0 @@
-use Rattle.model_program.proofs.Words.{word_refused}
-use Rattle.fast_reader.proofs.words.read_word.Goals as goal
-
-pub returns-in-None : goal.returns-in-None
-returns-in-None c = record { why = word_refused _ _ c.in-None.ensures }

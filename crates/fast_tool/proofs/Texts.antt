@@ -1,0 +1,141 @@
+-- What was read and taken, and what that makes of the report.
+use Rattle.std.proofs.Common.{ℕ, ◌≡◌, ◌<◌, List, [], ◌++◌, Option, Some, None, IfSome, length, ap, sym, subst, inl, inr, refl, true}
+use Rattle.fast_fault.specs.Taken.{IsGiven}
+use Rattle.fast_fault.specs.Written.{Appends, AppendsPrefix}
+use Rattle.fast_fault.specs.declared.place.Pos.{Pos}
+use Rattle.fast_fault.specs.declared.code.Code.{Code}
+use Rattle.fast_fault.specs.declared.code.Code.TheVariants.{TooLong, NotUtf8, Token, Nested, Syntax, NotYet}
+use Rattle.fast_fault.specs.declared.refusal.Refusal.{Refusal}
+use Rattle.fast_fault.specs.declared.status.Status.{Status}
+use Rattle.fast_fault.specs.declared.status.Status.TheVariants.{Hold, Fails, Words, TextRefused, RunRefused, TextFault, SinkFault, Memory}
+use Rattle.model_grammar.specs.Syntax.{Item}
+use Rattle.model_grammar.specs.Grammar.{IsProgram}
+use Rattle.model_grammar.specs.Texts.{IsText}
+use Rattle.model_checks.specs.Programs.{is_well_formed, refusal_of}
+use Rattle.model_run.specs.Words.{Form, usage_line}
+use Rattle.model_run.specs.Lines.{refusal_line, checked_line}
+use Rattle.model_run.specs.Built.{unbuilt_at}
+use Rattle.model_run.specs.Scripts.{Ending, whole, unfinished, Writes}
+use Rattle.model_run.specs.Texts.{start, IsUnread, IsTheText, IsChecked, IsRefused}
+use Rattle.model_run.specs.Report.{IsTextRefused, BuiltReport, ProgramReport, CheckReport, RunReport, FormReport, StatusReport, UsageReport, IsWords, IsReport, Reports, items_script}
+use Rattle.text_reader.specs.Refusals.{IsRefusal}
+use Rattle.fast_tool.specs.Taken.{IsProgramOf, HeldReport, TextAnswer}
+use Rattle.fast_tool.specs.Runs.{IsFault, EndsWith, ItemsReport}
+use Rattle.fast_tool.proofs.Runs.{appends_none}
+
+-- ---- reading and checking
+
+pub unread : (bytes : List ℕ) (code : Code) (place : Pos) → IsRefusal IsProgram bytes code place → IsRefused bytes code place
+unread bytes TooLong place r = inl r
+unread bytes NotUtf8 place r = inl r
+unread bytes Token place r = inl r
+unread bytes Nested place (tokens, of, nested) = inl (tokens, (of.short, of.encoded, of.are), nested)
+unread bytes Syntax place (tokens, shallow, wrong) = inl (tokens, (shallow.tokens_of.short, shallow.tokens_of.encoded, shallow.tokens_of.are), shallow.shallow, wrong)
+unread bytes code place r = absurd r
+
+pub is_checked : (bytes : List ℕ) (items own : List Item) → IsText IsProgram bytes items → ((other : List Item) → IsText IsProgram bytes other → other ≡ items) → own ≡ items → is_well_formed items ≡ true → IsChecked bytes own
+is_checked bytes items own is only same ok = subst (IsChecked bytes) (sym same) (record { text = record { is = is; only = only }; well_formed = ok })
+
+pub unchecked : (bytes : List ℕ) (items : List Item) (refusal : Refusal) → IsText IsProgram bytes items → ((other : List Item) → IsText IsProgram bytes other → other ≡ items) → refusal_of items ≡ Some refusal → IsRefused bytes refusal.code refusal.place
+unchecked bytes items refusal is only refused = inr (items, record { is = is; only = only }, refused)
+
+-- ---- what is said of the bytes is said of what is held, where that is told
+
+pub given_program : (held : Option (List ℕ)) (bytes : List ℕ) (items : List Item) → IsGiven held bytes → IsChecked bytes items → IsProgramOf held items
+given_program None bytes items given program = tt
+given_program (Some text) bytes items given program = subst (λ b. IsChecked b items) given program
+
+pub given_refused : (held : Option (List ℕ)) (bytes : List ℕ) (code : Code) (place : Pos) → IsGiven held bytes → IsRefused bytes code place → IfSome held (λ text. IsRefused text code place)
+given_refused None bytes code place given refused = tt
+given_refused (Some text) bytes code place given refused = subst (λ b. IsRefused b code place) given refused
+
+pub longer_refused : (held : Option (List ℕ)) → IfSome held (λ text. 1048576 < length text) → IfSome held (λ text. IsRefused text TooLong start)
+longer_refused None longer = tt
+longer_refused (Some text) longer = inl (longer, refl)
+
+-- ---- reports by their status
+
+-- what is reported with each ending is reported with each status
+status_map : (R S : Ending → List ℕ → Type 0) → ((ending : Ending) (report : List ℕ) → R ending report → S ending report) → (status : Status) (report : List ℕ) → StatusReport R status report → StatusReport S status report
+status_map R S f Words report r = r
+status_map R S f TextFault report r = r
+status_map R S f SinkFault report (inl none) = inl none
+status_map R S f SinkFault report (inr r) = inr (f unfinished report r)
+status_map R S f Memory report (inl none) = inl none
+status_map R S f Memory report (inr r) = inr (f unfinished report r)
+status_map R S f Hold report r = f (whole Hold) report r
+status_map R S f Fails report r = f (whole Fails) report r
+status_map R S f TextRefused report r = f (whole TextRefused) report r
+status_map R S f RunRefused report r = f (whole RunRefused) report r
+
+reports_map : (R S : Ending → List ℕ → Type 0) → ((ending : Ending) (report : List ℕ) → R ending report → S ending report) → (status : Status) (before after : Option (List ℕ)) → Reports (StatusReport R) status before after → Reports (StatusReport S) status before after
+reports_map R S f status before after (report, r, a) = (report, status_map R S f status report r, a)
+
+pub fault_of : (R : Ending → List ℕ → Type 0) (status : Status) (report : List ℕ) → IsFault status → R unfinished report → StatusReport R status report
+fault_of R status report (inl e) r = rw e (inr r)
+fault_of R status report (inr e) r = rw e (inr r)
+
+-- want of memory before anything was written, and a text that couldn't be taken
+pub no_memory_yet : (R : Ending → List ℕ → Type 0) (before : Option (List ℕ)) → Reports (StatusReport R) Memory before before
+no_memory_yet R before = ([], inl refl, appends_none before)
+
+pub no_text : (R : Ending → List ℕ → Type 0) (before : Option (List ℕ)) → Reports (StatusReport R) TextFault before before
+no_text R before = ([], refl, appends_none before)
+
+-- ---- refusals of a text
+
+refused_held : (file : List ℕ) (held : Option (List ℕ)) (code : Code) (place : Pos) → IfSome held (λ bytes. IsRefused bytes code place) → (ending : Ending) (report : List ℕ)
+    → ((Refused : Code → Pos → Type 0) → Refused code place → IsTextRefused Refused file ending report) → IfSome held (λ bytes. IsTextRefused (IsRefused bytes) file ending report)
+refused_held file None code place refused ending report f = tt
+refused_held file (Some bytes) code place refused ending report f = f (IsRefused bytes) refused
+
+pub refused_text : (file : List ℕ) (held : Option (List ℕ)) (code : Code) (place : Pos) (status : Status) (before after : Option (List ℕ)) → IfSome held (λ bytes. IsRefused bytes code place) → EndsWith before after (refusal_line code file place) TextRefused status → TextAnswer file held before after status
+refused_text file held code place status before after refused (inl (e, a)) =
+    rw e (refusal_line code file place, refused_held file held code place refused (whole TextRefused) (refusal_line code file place) (λ R r. record { code = code; place = place; refused = r; is = (refl, refl) }), a)
+refused_text file held code place status before after refused (inr (fault, (front, back, joined, a))) =
+    (front, fault_of (λ ending report. IfSome held (λ bytes. IsTextRefused (IsRefused bytes) file ending report)) status front fault (refused_held file held code place refused unfinished front (λ R r. record { code = code; place = place; refused = r; is = (back, joined) })), a)
+
+held_text : (file : List ℕ) (held : Option (List ℕ)) (Reported : List Item → Ending → List ℕ → Type 0) (ending : Ending) (report : List ℕ) → IfSome held (λ bytes. IsTextRefused (IsRefused bytes) file ending report) → HeldReport file held Reported ending report
+held_text file None Reported ending report r = tt
+held_text file (Some bytes) Reported ending report r = inl r
+
+-- a command that ends at its text
+pub text_form : (file : List ℕ) (held : Option (List ℕ)) (Reported : List Item → Ending → List ℕ → Type 0) (status : Status) (before after : Option (List ℕ)) → TextAnswer file held before after status → Reports (StatusReport (HeldReport file held Reported)) status before after
+text_form file held Reported status before after r =
+    reports_map (λ ending report. IfSome held (λ bytes. IsTextRefused (IsRefused bytes) file ending report)) (HeldReport file held Reported) (held_text file held Reported) status before after r
+
+held_program : (file : List ℕ) (held : Option (List ℕ)) (items : List Item) (Reported : List Item → Ending → List ℕ → Type 0) → IsProgramOf held items → (ending : Ending) (report : List ℕ) → Reported items ending report → HeldReport file held Reported ending report
+held_program file None items Reported program ending report r = tt
+held_program file (Some bytes) items Reported program ending report r = inr (items, program, r)
+
+-- a command that has its program
+pub program_form : (file : List ℕ) (held : Option (List ℕ)) (items : List Item) (Reported : List Item → Ending → List ℕ → Type 0) (status : Status) (before after : Option (List ℕ)) → IsProgramOf held items → Reports (StatusReport (Reported items)) status before after → Reports (StatusReport (HeldReport file held Reported)) status before after
+program_form file held items Reported status before after program r = reports_map (Reported items) (HeldReport file held Reported) (held_program file held items Reported program) status before after r
+
+-- ---- one line
+
+pub checked_report : (items : List Item) (status : Status) (before after : Option (List ℕ)) → EndsWith before after (checked_line items) Hold status → Reports (StatusReport (CheckReport items)) status before after
+checked_report items status before after (inl (e, a)) = rw e (checked_line items, (refl, refl), a)
+checked_report items status before after (inr (fault, (front, back, joined, a))) = (front, fault_of (CheckReport items) status front fault (back, joined), a)
+
+pub unbuilt_report : (file : List ℕ) (limit : ℕ) (items : List Item) (place : Pos) (status : Status) (before after : Option (List ℕ)) → unbuilt_at items ≡ Some place → EndsWith before after (refusal_line NotYet file place) TextRefused status → Reports (StatusReport (RunReport file limit items)) status before after
+unbuilt_report file limit items place status before after at (inl (e, a)) = rw e (refusal_line NotYet file place, inl (place, at, (refl, refl)), a)
+unbuilt_report file limit items place status before after at (inr (fault, (front, back, joined, a))) = (front, fault_of (RunReport file limit items) status front fault (inl (place, at, (back, joined))), a)
+
+pub built_report : (file : List ℕ) (limit : ℕ) (items : List Item) (status : Status) (before after : Option (List ℕ)) → unbuilt_at items ≡ None → Reports (ItemsReport file items limit) status before after → Reports (StatusReport (RunReport file limit items)) status before after
+built_report file limit items status before after built r = reports_map (Writes (items_script items limit file)) (RunReport file limit items) (λ ending report w. inr (built, w)) status before after r
+
+-- ---- the words
+
+pub with_form : (words : List (List ℕ)) (held : List ℕ → Option (List ℕ)) (form : Form) (status : Status) (before after : Option (List ℕ)) → IsWords words form → Reports (StatusReport (FormReport form held)) status before after → Reports (IsReport words held) status before after
+with_form words held form status before after i (report, r, a) = (report, inl (form, i, r), a)
+
+fault_usage : (report back : List ℕ) (status : Status) → IsFault status → report ++ back ≡ usage_line → UsageReport status report
+fault_usage report back status (inl f) e = rw f (back, e)
+fault_usage report back status (inr f) e = rw f (back, e)
+
+pub without_form : (words : List (List ℕ)) (held : List ℕ → Option (List ℕ)) (status : Status) (before after : Option (List ℕ)) → ((form : Form) → ¬ (IsWords words form)) → EndsWith before after usage_line Words status → Reports (IsReport words held) status before after
+without_form words held status before after none (inl (e, b)) = rw e (usage_line, inr (none, refl), b)
+without_form words held status before after none (inr (f, (front, back, e, b))) = (front, inr (none, fault_usage front back status f e), b)
+
+pub ruleset on_words = (with_form, without_form)

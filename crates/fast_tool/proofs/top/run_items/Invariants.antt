@@ -1,7 +1,0 @@
-use Rattle.std.proofs.Common.{◌≤◌}
-use Rattle.fast_build.specs.Items.{items_of}
-use Rattle.fast_tool.specs.Runs.{Past}
-use Rattle.fast_tool.proofs.top.run_items.Given as goal
-
-abbrev pub invariant-items : goal.invariant-items
-invariant-items g l = Past (items_of l.declared) l.item-index l.failed (g.K.Sink.written l.initial.sink) (g.K.Sink.written l.sink) × (g.K.Sink.faults l.initial.sink ≤ g.K.Sink.faults l.sink)

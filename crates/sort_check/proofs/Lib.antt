@@ -1,4 +1,0 @@
-pub mod Distinct
-pub mod Conditions
-pub mod Views
-pub mod Finds

@@ -1,8 +1,0 @@
-use Rattle.std.proofs.Common.{sym, ◌∙◌, ap}
-use Rattle.std.proofs.lemmas.Simd.{map-map}
-use Rattle.fast_syntax.specs.View.{plain_type}
-use Rattle.model_program.specs.WellFormed.{are_distinct}
-use Rattle.sort_check.proofs.programs.have_distinct_types.Goals as goal
-
-pub returns : goal.returns
-returns c = c.are_distinct.ensures ∙ ap are_distinct (sym (map-map (λ x. x.name) (λ x. plain_type x.now) c.args.types.now))
