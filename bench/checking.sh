@@ -1,7 +1,7 @@
 #!/usr/bin/env bash
 # Measures `fast check`: programs of K items, each a language, definition or assertion that names earlier and later ones,
-# and programs of one language with K rules. Prints milliseconds of a processor, the best of three, with the ratio for
-# each doubling of K.
+# programs of one language with K rules, and both at once. Prints milliseconds of a processor, the best of three, with
+# the ratio for each doubling of K.
 set -u
 here=$(cd "$(dirname "${BASH_SOURCE[0]}")/.." && pwd)
 folder=$(mktemp -d)
@@ -18,6 +18,17 @@ items() {
       printf "def d%d : L := (union p%d (complement p1))\n", own, own
       printf "assert-true d%d == p%d\n", own, own
     }
+  }'
+}
+
+# One block of rules, as many as two fifths of the items, and languages that each name the one before.
+mixed() {
+  awk -v count="$1" 'BEGIN {
+    print "type L[i : Int, s : String]{nil(0), cons(1)}"
+    printf "lang p0 : L { nil()"
+    for (own = 1; own < int(count * 0.4096); own++) printf "\n| cons(y) where i %% 97 = %d and s != \"%d\" given (p0 y)", own % 97, own
+    print " }"
+    for (own = 1; own < count - 1; own++) printf "lang p%d : L { nil() where i = %d | cons(y) given (p%d y) }\n", own, own, own - 1
   }'
 }
 
@@ -59,3 +70,4 @@ table() {
 
 table items 1250 2500 5000 10000
 table rules 512 1024 2048 4096
+table mixed 2500 5000 10000
