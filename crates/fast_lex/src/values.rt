@@ -43,13 +43,13 @@ pub fn quoted_value(alloc: Global, text: &str) -> Result<Text, Memory>
     requires { IsQuotedText (chars text.now) }
     ensures { IfOk result (λ value. value ≡ quoted_value (chars text.now)) }
 {
-    let mut value = String::new(alloc);
+    let mut value = String::with_capacity(alloc, text.len())?;
     let mut rest = inside(text);
     while let Some((c, after)) = unit(rest) {
         value.push(c)?;
         rest = after;
     }
-    Text::of(alloc, value.as_str())
+    Ok(Text::from(value))
 }
 
 // What follows the first quote.
