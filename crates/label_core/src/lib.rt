@@ -5,9 +5,11 @@
 #![tactic(auto)]
 
 mod formula;
+mod labels;
 mod pair;
 mod theory;
 
 pub use formula::Formula;
+pub use labels::{Applied, Labels, Put, PutMap};
 pub use pair::{Pair, PairAtom, PairChain, PairValue};
 pub use theory::{Lit, Theory, Verdict};

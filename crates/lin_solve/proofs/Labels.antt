@@ -1,47 +1,31 @@
 -- What a decision says of labels of whole numbers.
-use Rattle.std.proofs.Common.{◌≡◌, ◌≢◌, ◌↔◌, ℕ, ◌<◌, ◌≤◌, ◌+◌, ◌-◌, ◌&&◌, ◌||◌, ◌==◌, ◌⊎◌, inl, inr, List, [], ◌∷◌, ◌++◌, map, length, take, replicate, get_or, Bool, true, false, refl, ap, sym, ◌∙◌, subst, arith}
+use Rattle.std.proofs.Common.{◌≡◌, ◌↔◌, ℕ, ◌≤◌, ◌-◌, ◌==◌, inl, inr, List, ◌++◌, length, take, replicate, get_or, Bool, true, refl, ap, sym, ◌∙◌, subst, arith}
 use Rattle.std.proofs.Math.IntN.{ℤ, pos}
 use Rattle.std.specs.Prelude.{FitsSigned, IsTrue}
 use Rattle.std.specs.Int.{w64}
-use Rattle.std.specs.List.{All, list_any}
 use Rattle.std.specs.Cmp.{IsEquivalence}
-use Rattle.std.specs.Cmp.Lexicographic.{slice_cmp}
-use Rattle.std.specs.Ordering.{int_cmp, ordering_then, ordering_reverse}
-use Rattle.std.specs.declared.cmp.Ordering.{Ordering}
-use Rattle.std.specs.declared.cmp.Ordering.TheVariants as ordering
-use Rattle.std.proofs.lemmas.Cmp.{int_cmp_total}
 use Rattle.std.proofs.lemmas.Int.{fits_signed_from_abs}
 use Rattle.std.proofs.lemmas.List.{get_or_append_left, get_or-take, get_or-map, length-take-le, length-map, length-append, length-replicate}
-use Rattle.std.proofs.lemmas.List.Elements.{All-append, All-replicate, All-map, All-head, All-tail, Contains-get_or}
-use Rattle.std.proofs.lemmas.Map.Lookups.{exact_signed}
-use Rattle.std.proofs.lemmas.Map.Steps.{list_any_congr}
-use Rattle.std.proofs.lemmas.Map.Views.{list_any-from_Contains}
-use Rattle.std.proofs.lemmas.Bool.Decides.{nat_tests}
-use Rattle.model_tree.specs.Label.{Field, whole, Label, row}
-use Rattle.model_form.specs.Form.{Form, value}
-use Rattle.model_form.specs.Same.{same_form}
-use Rattle.model_form.specs.Over.{IsOver}
-use Rattle.model_form.proofs.Equals.{same_value}
-use Rattle.model_form.proofs.Over.{AgreeBelow, over_same, value_agree}
+use Rattle.std.proofs.lemmas.List.Elements.{All-append, All-replicate, All-map}
+use Rattle.model_tree.specs.Label.{Label}
+use Rattle.model_form.proofs.Over.{AgreeBelow, value_agree}
 use Rattle.model_chain.specs.Literals.{Literal, HoldsAll, AreLiteralsOver, compare_holds, related}
 use Rattle.model_chain.specs.Chains.{Passes, IsFar, IsOutside}
 use Rattle.model_chain.proofs.Meaning.{far_has_values}
-use Rattle.label_core.specs.Atoms.{has_equal, EachHasEqual}
+use Rattle.label_core.specs.Atoms.{EachHasEqual}
 use Rattle.label_core.specs.Lit.{SatisfiesAll, LitsFit, atoms_of}
 use Rattle.label_core.specs.declared.theory.Lit.{Lit}
 use Rattle.lin_solve.specs.declared.compare.Compare.{Compare}
-use Rattle.lin_solve.specs.declared.compare.Relation.{Relation}
-use Rattle.lin_solve.specs.declared.compare.Relation.TheVariants.{Less, AtMost, Equal}
 use Rattle.lin_solve.specs.declared.chain.Chain.{Chain}
 use Rattle.label_core.specs.declared.theory.Verdict.TheVariants.{Wide}
 use Rattle.lin_solve.specs.Plain.{plain_compare, plain_relation, plain_literal, plain_literals}
 use Rattle.lin_solve.specs.Shown.{AllKept, plain_chain, Answers}
-use Rattle.lin_solve.specs.Wholes.{as_whole, wholes_label, wholes_of, IsWholes, KeepsWholes, compare_at, CompareFits}
+use Rattle.lin_solve.specs.Wholes.{wholes_label, IsWholes, KeepsWholes, compare_at, CompareFits}
 use Rattle.lin_solve.specs.Equal.{wholes_back, among_own, compare_laws}
 use Rattle.lin_solve.specs.contracts.compare.ComparePartialEq.TheImpl.{ghosts as compares}
 use Rattle.lin_solve.specs.contracts.compare.RelationPartialEq.TheImpl.{ghosts as relations}
 
-agree : (n : ℕ) (c : Compare) (us vs : List ℤ) → AgreeBelow n us vs → CompareFits n c → compare_holds (plain_compare c) us ≡ compare_holds (plain_compare c) vs
+pub agree : (n : ℕ) (c : Compare) (us vs : List ℤ) → AgreeBelow n us vs → CompareFits n c → compare_holds (plain_compare c) us ≡ compare_holds (plain_compare c) vs
 agree n c us vs a fits =
     λ i. related (plain_relation c.relation) (value_agree n c.left us vs a fits.0 i) (value_agree n c.right us vs a fits.1 i)
 

@@ -1,2 +1,3 @@
 pub mod Over
 pub mod Values
+pub mod Constants

@@ -132,6 +132,23 @@ module _ (fields : List PlainField) where
     are_factors before no_parts = true
     are_factors before (part divides e parts) = cond divides (is_divisor e) (is_whole e && (is_constant before || is_constant (form_of e))) && are_factors (step before divides e (form_of e)) parts
 
+module _ (fields : List PlainField) where
+  abbrev mutual
+    -- whether an expression has a field in it that is a whole number
+    pub has_whole : Expr → Bool
+    has_whole (field place name) = has_field fields wholes name
+    has_whole (number place n) = false
+    has_whole (text place t) = false
+    has_whole (truth place b) = false
+    has_whole (negation place e) = has_whole e
+    has_whole (compare place rel a b) = has_whole a || has_whole b
+    has_whole (minus place e) = has_whole e
+    has_whole (chain kind place parts) = have_whole parts
+
+    pub have_whole : Parts → Bool
+    have_whole no_parts = false
+    have_whole (part marked e parts) = has_whole e || have_whole parts
+
 -- one of the forms has the number, and outside its range
 abbrev pub HasOutside : List Form → ℤ → Type 0
 HasOutside forms n = (f : Form) × Contains forms f × IsOutside f n
