@@ -1,10 +1,10 @@
 -- The first of failing conditions is one of them, and no other goes before it.
-use Rattle.std.proofs.Common.{◌≡◌, ℕ, zero, suc, ◌≤◌, ◌<◌, ◌⊎◌, inl, inr, Bool, true, false, cond, List, [], ◌∷◌, length, Option, Some, None, Contains, refl, sym, ap, ◌∙◌, arith}
+use Rattle.std.proofs.Common.{◌≡◌, ℕ, zero, suc, ◌≤◌, ◌<◌, ◌⊎◌, inl, inr, Bool, true, false, cond, List, [], ◌∷◌, Option, Some, None, Contains, refl, sym, ap, ◌∙◌, arith}
 use Rattle.std.specs.Prelude.{nat_lt}
 use Rattle.std.proofs.lemmas.Bool.Decides.{nat_tests}
 use Rattle.fast_fault.specs.declared.refusal.Refusal.{Refusal}
 use Rattle.fast_fault.specs.Codes.{number_of}
-use Rattle.model_checks.specs.Failures.{is_less_or_then, goes_before, first_of, first_among, is_empty}
+use Rattle.model_checks.specs.Failures.{is_less_or_then, goes_before, first_among, is_empty}
 
 not_less_out : (m n : ℕ) (b : Bool) → is_less_or_then m n b ≡ false → (n ≤ m) × (m ≡ n → b ≡ false)
 not_less_out m n true e = (grind (arith, nat_tests), λ same. grind (arith, nat_tests))

@@ -1,28 +1,27 @@
 -- What is so of the types, rules, languages and transformations of a well-formed program.
-use Rattle.std.proofs.Common.{◌≡◌, ℕ, ◌≤◌, ◌<◌, Bool, true, false, ◌&&◌, ◌||◌, cond, List, [], ◌∷◌, ◌++◌, length, map, Option, Some, None, Contains, refl, sym, ap, ◌∙◌, subst, arith}
+use Rattle.std.proofs.Common.{◌≡◌, ℕ, ◌≤◌, Bool, true, false, ◌&&◌, cond, List, [], ◌∷◌, ◌++◌, length, map, Option, Some, None, Contains, refl, sym, ap, ◌∙◌, subst}
 use Rattle.std.proofs.lemmas.List.{length-map}
-use Rattle.std.specs.Prelude.{not, is_some, find, slice_get}
+use Rattle.std.specs.Prelude.{not, is_some, find}
 use Rattle.std.specs.List.{list_any, list_all, flat_map}
 use Rattle.std.specs.Option.{option_map, option_map_or, option_and_then}
 use Rattle.fast_fault.specs.declared.code.Code.{Code}
 use Rattle.fast_fault.specs.declared.place.Pos.{Pos}
-use Rattle.fast_fault.specs.declared.code.Code.TheVariants.{DuplicateType, DuplicateName, UnknownName, WrongKind, WrongType, WrongRank, DuplicateVariable, NoLeaf, TooMany}
-use Rattle.fast_fault.specs.declared.refusal.Refusal.{Refusal}
+use Rattle.fast_fault.specs.declared.code.Code.TheVariants.{DuplicateName, UnknownName, WrongKind, WrongType, WrongRank, DuplicateVariable, NoLeaf, TooMany}
 use Rattle.model_tree.specs.Signature.{Sort, truths}
 use Rattle.model_label.specs.Fields.{same_sort}
 use Rattle.model_label.proofs.Sorted.{one_sort}
 use Rattle.model_program.specs.Syntax.{Name, FieldItem, CtorItem, TypeItem, Demand}
 use Rattle.model_grammar.specs.declared.Chain.TheVariants.{Disjunction, Conjunction, Sum, Product}
 use Rattle.model_grammar.specs.Syntax.{Expr, field, number, text, truth, negation, compare, minus, chain, Rule, OutRule, LangItem, TransItem, Body, sorts, tree, lang, trans, def, assertion, Item}
-use Rattle.model_names.specs.Declared.{same_text, types_of, find_type, own_name, find_item, declares}
+use Rattle.model_names.specs.Declared.{same_text, types_of, find_type, find_item}
 use Rattle.model_names.specs.Kinds.{declared_type}
 use Rattle.model_checks.specs.Failures.{failure, fails_if, is_empty}
-use Rattle.model_checks.specs.Sorts.{Scope, sort_named, find_field, field_sort, sort_of, place_of, is_other_sort, needs_sort}
+use Rattle.model_checks.specs.Sorts.{sort_named, find_field, field_sort, sort_of, place_of, is_other_sort, needs_sort}
 use Rattle.model_checks.specs.Labels.{label_failures, sorted_failures}
 use Rattle.model_checks.specs.Types.{is_among, is_rank, is_rank_in_range, repeated, field_failures, ctor_failures, field_limit, type_failures}
-use Rattle.model_checks.specs.Rules.{differ, find_ctor, constructor_failures, variable_failures, guard_failures, scope_of, own_lang, own_trans, rule_limit, type_at, type_name_failures, language_failures, demand_failures, rule_failures, out_failures, out_rule_failures}
-use Rattle.model_checks.specs.Programs.{type_again, name_again, body_failures}
-use Rattle.model_checks.specs.Sound.{are_distinct, names_of_fields, names_of_ctors, IsSoundType, IsSoundLabel, IsSoundDemand, IsSoundRule, IsSoundLang, IsSoundTrans}
+use Rattle.model_checks.specs.Rules.{differ, find_ctor, constructor_failures, variable_failures, guard_failures, scope_of, own_lang, rule_limit, type_at, type_name_failures, language_failures, demand_failures, rule_failures, out_failures, out_rule_failures}
+use Rattle.model_checks.specs.Programs.{name_again, body_failures}
+use Rattle.model_checks.specs.Sound.{names_of_fields, names_of_ctors, IsSoundType, IsSoundLabel, IsSoundDemand, IsSoundRule, IsSoundLang, IsSoundTrans}
 use Rattle.model_checks.proofs.Soundness.{empty_first, empty_second, passed, not_false, needed, of_each, all_by, at_most, same_from_test, distinct, found_passes, is_there}
 
 pub some_fails : (code : Code) (place : Pos) → is_empty (failure code place) ≡ true → ⊥

@@ -1,17 +1,16 @@
 -- A well-formed program is sound.
-use Rattle.std.proofs.Common.{◌≡◌, ℕ, Bool, true, false, List, [], ◌∷◌, ◌++◌, length, Option, Some, None, refl, sym, ap, ◌∙◌, subst, ◌≤◌}
-use Rattle.std.specs.Prelude.{is_some, find, not}
+use Rattle.std.proofs.Common.{◌≡◌, Bool, true, false, List, [], ◌∷◌, ◌++◌, Some, sym, ap, ◌∙◌, subst}
+use Rattle.std.specs.Prelude.{is_some, find}
 use Rattle.std.specs.Option.{option_map_or}
 use Rattle.fast_fault.specs.declared.code.Code.TheVariants.{DuplicateType, DuplicateName, TooMany}
-use Rattle.fast_fault.specs.declared.refusal.Refusal.{Refusal}
 use Rattle.model_program.specs.Syntax.{Name, TypeItem}
-use Rattle.model_grammar.specs.Syntax.{LangItem, TransItem, Body, sorts, tree, lang, trans, def, assertion, Item}
+use Rattle.model_grammar.specs.Syntax.{Body, sorts, tree, lang, trans, def, assertion, Item}
 use Rattle.model_names.specs.Declared.{same_text, types_of, own_types, find_type, own_name, find_item, declares}
-use Rattle.model_checks.specs.Failures.{failure, fails_if, is_empty}
+use Rattle.model_checks.specs.Failures.{failure, is_empty}
 use Rattle.model_checks.specs.Types.{type_failures}
-use Rattle.model_checks.specs.Programs.{type_again, name_again, body_failures, item_limit, failures_behind, failures, is_well_formed}
+use Rattle.model_checks.specs.Programs.{type_again, name_again, body_failures, item_limit, failures_behind, is_well_formed}
 use Rattle.model_checks.specs.Sound.{IsSoundType, StandsIn, IsSound, FindsWhatStands}
-use Rattle.model_checks.proofs.Soundness.{empty_first, empty_second, passed, at_most, same_itself, found_passes, Splits, found_splits, skip_found, finds_first, type_item, types_behind, item_passes, same_from_test}
+use Rattle.model_checks.proofs.Soundness.{empty_first, empty_second, passed, at_most, same_itself, found_passes, Splits, found_splits, finds_first, type_item, types_behind, item_passes, same_from_test}
 use Rattle.model_checks.proofs.SoundParts.{some_fails, HaveTypes, AreSoundTypes, type_of_lang, sound_type, sound_lang, sound_trans}
 
 pub stands_of : {items : List Item} {item : Item} → Splits items item → StandsIn items item

@@ -1,19 +1,19 @@
 -- What is so of a well-formed program, from its having no failing condition.
-use Rattle.std.proofs.Common.{◌≡◌, ℕ, zero, suc, ◌≤◌, ◌<◌, Bool, true, false, ◌&&◌, ◌||◌, cond, List, [], ◌∷◌, ◌++◌, length, map, Option, Some, None, Contains, refl, sym, ap, ◌∙◌, subst, arith, append_assoc, append-nil}
+use Rattle.std.proofs.Common.{◌≡◌, ℕ, zero, suc, ◌≤◌, Bool, true, false, ◌&&◌, ◌||◌, cond, List, [], ◌∷◌, ◌++◌, length, Option, Some, None, Contains, refl, sym, ap, ◌∙◌, subst, arith, append_assoc, append-nil}
 use Rattle.std.proofs.lemmas.Slice.Eq.{bytes_eq-Decides}
 use Rattle.std.proofs.lemmas.List.Folds.{list_any_at}
 use Rattle.std.proofs.lemmas.List.Concat.{flat_map-append}
 use Rattle.std.proofs.lemmas.List.Elements.{Contains-append_left, Contains-push}
 use Rattle.std.specs.Prelude.{not, is_some, find, slice_get}
 use Rattle.std.specs.List.{list_any, list_all, flat_map}
-use Rattle.std.specs.Option.{option_map, option_map_or, option_and_then}
+use Rattle.std.specs.Option.{option_map_or}
 use Rattle.fast_fault.specs.declared.code.Code.{Code}
 use Rattle.fast_fault.specs.declared.place.Pos.{Pos}
 use Rattle.fast_fault.specs.declared.refusal.Refusal.{Refusal}
-use Rattle.model_program.specs.Syntax.{Name, FieldItem, CtorItem, TypeItem, Demand}
-use Rattle.model_grammar.specs.Syntax.{Expr, Rule, OutRule, LangItem, TransItem, Body, sorts, tree, lang, trans, def, assertion, Item}
-use Rattle.model_names.specs.Declared.{same_text, types_of, find_type, own_types, own_name, find_item}
-use Rattle.model_checks.specs.Failures.{failure, fails_if, is_empty}
+use Rattle.model_program.specs.Syntax.{Name, TypeItem}
+use Rattle.model_grammar.specs.Syntax.{Body, sorts, tree, lang, trans, def, assertion, Item}
+use Rattle.model_names.specs.Declared.{same_text, types_of, own_types}
+use Rattle.model_checks.specs.Failures.{fails_if, is_empty}
 use Rattle.model_checks.specs.Types.{is_among, repeated_behind, repeated}
 use Rattle.model_checks.specs.Programs.{body_failures, failures_behind}
 use Rattle.model_checks.specs.Sound.{are_distinct}

@@ -1,5 +1,5 @@
 -- What may fail in an expression of a language, a transformation or a tree.
-use Rattle.std.specs.Prelude.{ℕ, suc, Bool, true, false, ◌&&◌, ◌||◌, List, [], ◌∷◌, ◌++◌, Option, Some, None, is_some, nat_le, length, not}
+use Rattle.std.specs.Prelude.{ℕ, suc, Bool, true, false, ◌&&◌, List, [], ◌++◌, Option, Some, None, is_some, nat_le, length, not}
 use Rattle.std.specs.Option.{option_map_or, option_and_then}
 use Rattle.fast_fault.specs.declared.code.Code.TheVariants.{UnknownName, WrongKind, WrongType, UsedTooEarly, TooMany}
 use Rattle.fast_fault.specs.declared.place.Pos.{Pos}

@@ -1,16 +1,14 @@
 -- The forms of label expressions, where they are defined: of whole numbers, with each product by a side without fields
 -- and each remainder by a number from 1 to 4096, and with every number in its range.
-use Rattle.std.specs.Prelude.{ℕ, suc, ℤ, pos, negsuc, ◌^◌, Bool, true, false, ◌&&◌, ◌||◌, List, [], ◌∷◌, Option, Some, None, cond, is_some, nat_lt, nat_le, unsigned_abs, not}
+use Rattle.std.specs.Prelude.{ℕ, ℤ, pos, negsuc, ◌^◌, Bool, true, false, ◌&&◌, ◌||◌, List, [], ◌∷◌, Option, Some, None, cond, is_some, nat_lt, nat_le, unsigned_abs, not}
 use Rattle.std.specs.Option.{option_and_then, option_map}
-use Rattle.model_tree.specs.Signature.{Sort, wholes}
-use Rattle.model_program.specs.Syntax.{FieldItem}
+use Rattle.model_tree.specs.Signature.{wholes}
 use Rattle.model_grammar.specs.declared.Chain.TheVariants.{Disjunction, Conjunction, Sum, Product}
 use Rattle.model_grammar.specs.Syntax.{Expr, field, number, text, truth, negation, compare, minus, chain, Parts, no_parts, part}
-use Rattle.model_label.specs.Fields.{same_sort}
-use Rattle.model_names.specs.Declared.{same_text}
+use Rattle.model_label.specs.Fields.{same_sort, number_at}
 use Rattle.model_form.specs.Form.{Form, form, Term, Remainders, no_remainders, remainder, constant_of}
 use Rattle.model_form.specs.Sums.{Part, number_form, field_form, sum_form, product_form, remainder_form}
-use Rattle.model_checks.specs.Sorts.{Scope, find_field, field_sort, is_other_sort}
+use Rattle.model_checks.specs.Sorts.{Scope, find_field, field_sort, plain_fields}
 
 -- ---- ranges
 
@@ -64,19 +62,14 @@ divisor_of (chain kind place parts) = None
 
 -- ---- fields
 
--- how many fields stand before the first one of this name
-abbrev pub number_before : List FieldItem → List ℕ → ℕ
-number_before [] name = 0
-number_before (f ∷ fs) name = cond (same_text f.name.text name) 0 (suc (number_before fs name))
-
--- the form of one of the first eight fields
+-- the form of one of the first eight whole numbers
 abbrev pub form_numbered : ℕ → Option Form
 form_numbered n = cond (nat_lt n 8) (Some (field_form n)) None
 
--- the form of a field that is a whole number
+-- the form of a field that is a whole number, by its number among these
 abbrev pub form_of_field : Scope → List ℕ → Option Form
 form_of_field None name = None
-form_of_field (Some fields) name = option_and_then (λ sort. cond (same_sort sort wholes) (form_numbered (number_before fields name)) None) (field_sort (Some fields) name)
+form_of_field (Some fields) name = option_and_then (λ sort. cond (same_sort sort wholes) (form_numbered (number_at (plain_fields fields) wholes name)) None) (field_sort (Some fields) name)
 
 -- whether it is the name of a field
 abbrev pub is_field : Scope → List ℕ → Bool
@@ -124,7 +117,7 @@ with_part subtracted (Some f) None = None
 with_part subtracted (Some f) (Some parts) = Some (record { minus = subtracted; added = f } ∷ parts)
 
 module _ (scope : Scope) where
-  -- Each form is made of forms that are in range. A product is taken from the left.
+  -- Each form is made of forms that are in range. A product is taken from the left, from 1 on.
   abbrev mutual
     pub form_of : Expr → Option Form
     form_of (field place name) = form_of_field scope name
@@ -137,17 +130,12 @@ module _ (scope : Scope) where
     form_of (chain Disjunction place parts) = None
     form_of (chain Conjunction place parts) = None
     form_of (chain Sum place parts) = kept (option_map sum_form (added parts))
-    form_of (chain Product place parts) = form_from parts
+    form_of (chain Product place parts) = form_behind false (Some (number_form (pos 1))) parts
 
     -- the parts of a sum
     pub added : Parts → Option (List Part)
     added no_parts = Some []
     added (part subtracted e parts) = with_part subtracted (form_of e) (added parts)
-
-    -- a product, from its first part on
-    pub form_from : Parts → Option Form
-    form_from no_parts = None
-    form_from (part marked e parts) = form_behind (has_field scope e) (form_of e) parts
 
     -- a product, behind what stands before these parts
     pub form_behind : Bool → Option Form → Parts → Option Form

@@ -1,6 +1,5 @@
 -- A program that is well-formed, and programs in which several conditions fail.
-use Rattle.std.specs.Prelude.{◌≡◌, ℕ, pos, true, false, List, [], ◌∷◌, ◌++◌, Option, Some, None, codes}
-use Rattle.fast_fault.specs.declared.code.Code.{Code}
+use Rattle.std.specs.Prelude.{◌≡◌, ℕ, pos, true, false, List, [], ◌∷◌, Option, Some, None, codes}
 use Rattle.fast_fault.specs.declared.code.Code.TheVariants.{UnknownName, WrongKind, WrongSort, NotLinear, NumberRange}
 use Rattle.fast_fault.specs.declared.place.Pos.{Pos}
 use Rattle.model_program.specs.Syntax.{Name, Demand}
@@ -8,7 +7,7 @@ use Rattle.model_grammar.specs.declared.Chain.TheVariants.{Conjunction, Sum, Pro
 use Rattle.model_grammar.specs.declared.Op1.TheVariants.{GetWitness}
 use Rattle.model_grammar.specs.declared.Op2.TheVariants.{Intersect, Compose, Apply, PreImage}
 use Rattle.model_grammar.specs.declared.Rel.TheVariants.{Equal, Less}
-use Rattle.model_grammar.specs.Syntax.{Expr, field, number, text, truth, compare, chain, no_parts, part, X, named, one, two, literal, no_x, and_x, Rule, OutRule, Out, child, call, node, no_out, and_out, Claim, equal, member, empty, type_check, Body, Item, sorts, tree, lang, trans, def, assertion}
+use Rattle.model_grammar.specs.Syntax.{Expr, field, number, text, truth, compare, chain, no_parts, part, X, named, one, two, literal, no_x, and_x, Rule, child, call, node, no_out, and_out, Claim, equal, member, empty, type_check, Body, Item, sorts, tree, lang, trans, def, assertion}
 use Rattle.model_checks.specs.Programs.{is_well_formed}
 use Rattle.model_checks.specs.Vectors.{Refused}
 

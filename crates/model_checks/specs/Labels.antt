@@ -1,6 +1,5 @@
 -- What may fail in a label expression.
-use Rattle.std.specs.Prelude.{ℕ, ℤ, pos, negsuc, ◌&&◌, ◌||◌, Bool, true, false, List, [], ◌∷◌, ◌++◌, Option, Some, None, is_some, nat_le, length, not, encode_utf8_all}
-use Rattle.std.specs.List.{flat_map}
+use Rattle.std.specs.Prelude.{ℕ, pos, negsuc, ◌&&◌, ◌||◌, Bool, true, false, List, [], ◌∷◌, ◌++◌, Option, Some, None, is_some, nat_le, length, not, encode_utf8_all}
 use Rattle.std.specs.Option.{option_map}
 use Rattle.fast_fault.specs.declared.code.Code.TheVariants.{UnknownField, WrongSort, NotLinear, BadModulus, NumberRange, TooMany}
 use Rattle.fast_fault.specs.declared.place.Pos.{Pos}
@@ -12,9 +11,9 @@ use Rattle.model_grammar.specs.declared.Rel.{Rel}
 use Rattle.model_grammar.specs.declared.Rel.TheVariants.{Equal, NotEqual, Less, AtMost, Greater, AtLeast}
 use Rattle.model_grammar.specs.Syntax.{Expr, field, number, text, truth, negation, compare, minus, chain, Parts, no_parts, part}
 use Rattle.model_form.specs.Form.{Form}
-use Rattle.model_form.specs.Sums.{sum_form, product_form}
+use Rattle.model_form.specs.Sums.{number_form, sum_form, product_form}
 use Rattle.model_checks.specs.Failures.{fails_if}
-use Rattle.model_checks.specs.Sorts.{Scope, sort_named, find_field, sort_of, place_of, is_other_sort, differ_in_sort, needs_sort}
+use Rattle.model_checks.specs.Sorts.{Scope, sort_named, find_field, sort_of, place_of, differ_in_sort, needs_sort}
 use Rattle.model_checks.specs.Forms.{is_constant, kept, is_out_of_range, divisor_of, has_field, form_of, added, product_of, remainder_of}
 
 -- a name that is no field
@@ -52,17 +51,12 @@ module _ (scope : Scope) where
     label_failures (chain Disjunction place parts) = operands_failures truths parts
     label_failures (chain Conjunction place parts) = operands_failures truths parts
     label_failures (chain Sum place parts) = operands_failures wholes parts ++ fails_if (is_out_of_range (option_map sum_form (added scope parts))) NumberRange place
-    label_failures (chain Product place parts) = product_failures place parts
+    label_failures (chain Product place parts) = steps_failures place false (Some (number_form (pos 1))) parts
 
     -- operands that are to be of this sort
     pub operands_failures : Sort → Parts → List Refusal
     operands_failures sort no_parts = []
     operands_failures sort (part marked e parts) = label_failures e ++ (needs_sort scope sort e ++ operands_failures sort parts)
-
-    -- a product, from its first part on
-    pub product_failures : Pos → Parts → List Refusal
-    product_failures place no_parts = []
-    product_failures place (part marked e parts) = label_failures e ++ (needs_sort scope wholes e ++ steps_failures place (has_field scope e) (form_of scope e) parts)
 
     -- the steps of a product, behind what stands before these parts
     pub steps_failures : Pos → Bool → Option Form → Parts → List Refusal

@@ -1,18 +1,18 @@
 -- The conditions on a program, each with its code and its place. A program is well-formed where none fails, and its
 -- refusal is the first that does, whatever the order in which they are looked at.
-use Rattle.std.specs.Prelude.{ℕ, Bool, true, false, ◌&&◌, ◌||◌, List, [], ◌∷◌, ◌++◌, Option, Some, None, map, is_some, slice_get, not}
+use Rattle.std.specs.Prelude.{Bool, true, false, List, [], ◌∷◌, ◌++◌, Option, Some, None, map, is_some, slice_get}
 use Rattle.std.specs.List.{flat_map}
 use Rattle.std.specs.Option.{option_map_or, option_and_then}
 use Rattle.fast_fault.specs.declared.code.Code.TheVariants.{DuplicateType, DuplicateName, WrongKind, WrongType, TooMany}
 use Rattle.fast_fault.specs.declared.refusal.Refusal.{Refusal}
-use Rattle.model_program.specs.Syntax.{Name, TypeItem}
+use Rattle.model_program.specs.Syntax.{Name}
 use Rattle.model_grammar.specs.Syntax.{X, TreeItem, LangItem, TransItem, DefItem, Claim, equal, member, empty, type_check, Body, sorts, tree, lang, trans, def, assertion, Item}
 use Rattle.model_names.specs.Declared.{find_type, find_item}
 use Rattle.model_names.specs.Kinds.{Kind, language, transformation, a_tree, defined_kind, declared_type, kind_of}
 use Rattle.model_checks.specs.Failures.{failure, fails_if, first_among, is_empty}
 use Rattle.model_checks.specs.Types.{type_failures}
 use Rattle.model_checks.specs.Rules.{differ, type_name_failures, rule_failures, out_rule_failures, rule_limit}
-use Rattle.model_checks.specs.Expressions.{place_of_x, is_other_kind, x_failures, whole_failures, type_as, output_as}
+use Rattle.model_checks.specs.Expressions.{place_of_x, x_failures, whole_failures, type_as, output_as}
 
 -- whether it is known to be a tree
 abbrev pub is_tree : Option Kind → Bool

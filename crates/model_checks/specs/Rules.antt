@@ -1,9 +1,8 @@
 -- What may fail in the rules of languages and transformations.
-use Rattle.std.specs.Prelude.{ℕ, suc, ◌==◌, ◌||◌, Bool, true, false, List, [], ◌∷◌, ◌++◌, Option, Some, None, find, is_some, slice_get, length, map, not}
+use Rattle.std.specs.Prelude.{ℕ, suc, ◌==◌, ◌||◌, Bool, false, List, [], ◌++◌, Option, Some, None, find, is_some, slice_get, length, not}
 use Rattle.std.specs.List.{flat_map}
-use Rattle.std.specs.Option.{option_map, option_map_or, option_and_then}
+use Rattle.std.specs.Option.{option_map, option_map_or}
 use Rattle.fast_fault.specs.declared.code.Code.TheVariants.{UnknownName, WrongKind, WrongType, WrongRank, DuplicateVariable, TooMany}
-use Rattle.fast_fault.specs.declared.place.Pos.{Pos}
 use Rattle.fast_fault.specs.declared.refusal.Refusal.{Refusal}
 use Rattle.model_tree.specs.Signature.{truths}
 use Rattle.model_program.specs.Syntax.{Name, FieldItem, CtorItem, TypeItem, Demand}

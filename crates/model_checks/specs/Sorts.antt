@@ -1,11 +1,11 @@
 -- The sorts of label expressions.
-use Rattle.std.specs.Prelude.{ℕ, Bool, true, false, List, [], ◌∷◌, Option, Some, None, find, cond, codes, not}
+use Rattle.std.specs.Prelude.{ℕ, Bool, false, List, Option, Some, None, find, map, cond, codes, not}
 use Rattle.std.specs.Option.{option_and_then, option_map_or}
 use Rattle.fast_fault.specs.declared.code.Code.TheVariants.{WrongSort}
 use Rattle.fast_fault.specs.declared.place.Pos.{Pos}
 use Rattle.fast_fault.specs.declared.refusal.Refusal.{Refusal}
-use Rattle.model_tree.specs.Signature.{Sort, wholes, truths, texts}
-use Rattle.model_program.specs.Syntax.{Name, FieldItem}
+use Rattle.model_tree.specs.Signature.{Sort, wholes, truths, texts, PlainField}
+use Rattle.model_program.specs.Syntax.{FieldItem}
 use Rattle.model_grammar.specs.declared.Chain.TheVariants.{Disjunction, Conjunction, Sum, Product}
 use Rattle.model_grammar.specs.Syntax.{Expr, field, number, text, truth, negation, compare, minus, chain}
 use Rattle.model_label.specs.Fields.{same_sort}
@@ -29,6 +29,13 @@ find_field fields name = find (λ f. same_text f.name.text name) fields
 -- the sort of the field of this name
 abbrev pub field_sort : Scope → List ℕ → Option Sort
 field_sort scope name = option_and_then (λ f. sort_named f.sort.text) (option_and_then (λ fields. find_field fields name) scope)
+
+-- the sort of a field; one of an unknown sort counts as a text
+abbrev pub own_sort : FieldItem → Sort
+own_sort f = option_map_or (λ sort. sort) (sort_named f.sort.text) texts
+
+abbrev pub plain_fields : List FieldItem → List PlainField
+plain_fields fields = map (λ f. record { name = f.name.text; sort = own_sort f }) fields
 
 -- What an operator makes has its sort whatever the operands are.
 abbrev pub sort_of : Scope → Expr → Option Sort

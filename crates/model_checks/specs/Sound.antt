@@ -1,14 +1,13 @@
 -- What is so of each well-formed program.
 use Rattle.std.specs.Prelude.{◌≡◌, ℕ, ◌≤◌, ◌&&◌, Bool, true, List, [], ◌∷◌, ◌++◌, Option, Some, Contains, length, map, is_some, not}
 use Rattle.std.specs.List.{list_any, list_all}
-use Rattle.std.specs.Option.{option_map_or}
 use Rattle.model_tree.specs.Signature.{Sort, truths}
 use Rattle.model_program.specs.Syntax.{Name, FieldItem, CtorItem, TypeItem, Demand}
-use Rattle.model_grammar.specs.Syntax.{Expr, Rule, OutRule, LangItem, TransItem, Body, sorts, lang, trans, Item}
+use Rattle.model_grammar.specs.Syntax.{Expr, Rule, OutRule, LangItem, TransItem, sorts, lang, trans, Item}
 use Rattle.model_names.specs.Declared.{same_text, find_type, own_name, find_item}
 use Rattle.model_checks.specs.Failures.{is_empty}
-use Rattle.model_checks.specs.Sorts.{Scope, sort_named, sort_of}
-use Rattle.model_checks.specs.Labels.{label_failures, labels_failures}
+use Rattle.model_checks.specs.Sorts.{sort_named, sort_of}
+use Rattle.model_checks.specs.Labels.{label_failures}
 use Rattle.model_checks.specs.Types.{is_among, is_rank, is_rank_in_range}
 use Rattle.model_checks.specs.Rules.{find_ctor, out_failures}
 use Rattle.model_checks.specs.Programs.{body_failures, is_well_formed}

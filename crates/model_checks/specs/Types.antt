@@ -1,5 +1,5 @@
 -- What may fail in a type.
-use Rattle.std.specs.Prelude.{ℕ, ℤ, pos, negsuc, Bool, true, false, ◌==◌, List, [], ◌∷◌, ◌++◌, Option, map, is_some, nat_le, slice_get, not}
+use Rattle.std.specs.Prelude.{ℕ, ℤ, pos, negsuc, Bool, false, ◌==◌, List, [], ◌∷◌, ◌++◌, map, is_some, nat_le, slice_get, not}
 use Rattle.std.specs.List.{list_any, flat_map}
 use Rattle.std.specs.Option.{option_map_or}
 use Rattle.fast_fault.specs.declared.code.Code.{Code}

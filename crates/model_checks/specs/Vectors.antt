@@ -1,14 +1,13 @@
 -- A program for each condition, and its refusal. Each program stands in one line.
-use Rattle.std.specs.Prelude.{◌≡◌, ℕ, ◌+◌, ℤ, pos, true, false, List, [], ◌∷◌, ◌++◌, Option, Some, None, codes}
+use Rattle.std.specs.Prelude.{◌≡◌, ℕ, ◌+◌, pos, true, false, List, [], ◌∷◌, Option, Some, None, codes}
 use Rattle.fast_fault.specs.declared.code.Code.{Code}
 use Rattle.fast_fault.specs.declared.code.Code.TheVariants.{DuplicateType, NoLeaf, DuplicateName, UnknownName, WrongKind, WrongType, WrongRank, DuplicateVariable, UnknownField, WrongSort, NotLinear, BadModulus, NumberRange, UsedTooEarly, TooMany}
 use Rattle.fast_fault.specs.declared.place.Pos.{Pos}
-use Rattle.fast_fault.specs.declared.refusal.Refusal.{Refusal}
 use Rattle.model_program.specs.Syntax.{Name, FieldItem, CtorItem}
 use Rattle.model_grammar.specs.declared.Chain.TheVariants.{Product}
 use Rattle.model_grammar.specs.declared.Op1.TheVariants.{Domain}
 use Rattle.model_grammar.specs.declared.Rel.TheVariants.{Equal}
-use Rattle.model_grammar.specs.Syntax.{Expr, field, number, compare, chain, no_parts, part, X, named, one, Rule, empty, Item, sorts, lang, def, assertion}
+use Rattle.model_grammar.specs.Syntax.{Expr, field, number, compare, chain, no_parts, part, named, one, Rule, empty, Item, sorts, lang, def, assertion}
 use Rattle.model_checks.specs.Programs.{refusal_of}
 
 abbrev column : ℕ → Pos

@@ -32,7 +32,7 @@ remainder_constant (form c (t ∷ ts) rs) k h = cc
 times_constant : (f g : Form) → is_constant f ≡ true → is_constant g ≡ true → is_constant (times f g) ≡ true
 times_constant f g h k = ap (λ b. is_constant (cond b (product_form (constant_of g) f) (product_form (constant_of f) g))) k ∙ product_constant (constant_of g) f h
 
-step_constant : (before : Form) (divides : Bool) (e : Expr) (f : Form) → is_constant before ≡ true → is_constant f ≡ true → is_constant (step before divides e f) ≡ true
+pub step_constant : (before : Form) (divides : Bool) (e : Expr) (f : Form) → is_constant before ≡ true → is_constant f ≡ true → is_constant (step before divides e f) ≡ true
 step_constant before true e f h k = remainder_constant before (divisor_of e) h
 step_constant before false e f h k = times_constant before f h k
 

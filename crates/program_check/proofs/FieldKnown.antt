@@ -1,12 +1,12 @@
 -- What is known of the name of a field.
-use Rattle.std.proofs.Common.{◌≡◌, ℕ, zero, suc, ◌<◌, true, cond, List, [], ◌∷◌, map, length, get_or, Option, Some, None, Bor, refl, sym, ap, ap₂, ◌∙◌, arith, not}
+use Rattle.std.proofs.Common.{◌≡◌, ℕ, zero, suc, ◌<◌, true, cond, List, [], ◌∷◌, map, length, get_or, Option, Some, None, Bor, refl, sym, ap, ◌∙◌, arith, not}
 use Rattle.std.specs.Prelude.{is_some}
 use Rattle.std.specs.Option.{option_map, option_and_then}
 use Rattle.fast_fault.specs.declared.code.Code.TheVariants.{UnknownField}
 use Rattle.fast_fault.specs.declared.place.Pos.{Pos}
 use Rattle.fast_fault.specs.declared.refusal.Refusal.{Refusal}
 use Rattle.model_tree.specs.Signature.{wholes}
-use Rattle.model_label.specs.Fields.{same_sort}
+use Rattle.model_label.specs.Fields.{same_sort, number_at}
 use Rattle.model_form.specs.Form.{Form}
 use Rattle.model_grammar.specs.Syntax.{field}
 use Rattle.fast_tree.specs.declared.signature.Sort.{Sort}
@@ -14,12 +14,10 @@ use Rattle.fast_tree.specs.Signatures.{plain_sort}
 use Rattle.fast_syntax.specs.declared.FieldItem.{FieldItem}
 use Rattle.fast_syntax.specs.View.{plain_field}
 use Rattle.model_checks.specs.Failures.{fails_if, first_among}
-use Rattle.model_checks.specs.Sorts as model
-use Rattle.model_checks.specs.Sorts.{sort_named, find_field, field_sort}
-use Rattle.model_checks.specs.Forms.{number_before, form_numbered, form_of_field, is_field}
+use Rattle.model_checks.specs.Sorts.{sort_named, find_field, field_sort, plain_fields}
+use Rattle.model_checks.specs.Forms.{form_numbered, form_of_field, is_field}
 use Rattle.model_checks.specs.Labels.{unknown_field}
 use Rattle.program_check.specs.declared.labels.Scope.{Scope}
-use Rattle.program_check.specs.declared.labels.Known.{Known}
 use Rattle.program_check.specs.Known.{plain_scope, IsKnown}
 use Rattle.program_check.specs.Notes.{Notes}
 
@@ -32,11 +30,11 @@ scope_is : (scope : Scope) (fields : Bor (List FieldItem)) → scope.fields ≡ 
 scope_is scope fields e = ap (option_map (λ (fs : Bor (List FieldItem)). map plain_field fs.now)) e
 
 pub known_field : (scope : Scope) (fields : Bor (List FieldItem)) (name : List ℕ) (place : Pos) (i : ℕ) (sort : Option Sort) (form : Option Form)
-    → scope.fields ≡ Some fields → i < length fields.now → ((x : FieldItem) → x ≡ get_or fields.now i x → find_field (map plain_field fields.now) name ≡ Some (plain_field x)) → number_before (map plain_field fields.now) name ≡ i
+    → scope.fields ≡ Some fields → i < length fields.now → ((x : FieldItem) → x ≡ get_or fields.now i x → find_field (map plain_field fields.now) name ≡ Some (plain_field x))
     → ((x : FieldItem) → x ≡ get_or fields.now i x → option_map plain_sort sort ≡ sort_named x.sort.text)
-    → form ≡ option_and_then (λ s. cond (same_sort s wholes) (form_numbered i) None) (option_map plain_sort sort)
+    → form ≡ option_and_then (λ s. cond (same_sort s wholes) (form_numbered (number_at (plain_fields (map plain_field fields.now)) wholes name)) None) (option_map plain_sort sort)
     → IsKnown scope (field place name) (record { sort = sort; has_field = true; form = form })
-known_field scope fields name place i sort form scope_some low found number sorted form_of =
+known_field scope fields name place i sort form scope_some low found sorted form_of =
     let at = element_at fields.now i low in
     let fs = map plain_field fields.now in
     let here : find_field fs name ≡ Some (plain_field at.0) = found at.0 at.1 in
@@ -45,7 +43,7 @@ known_field scope fields name place i sort form scope_some low found number sort
     record {
       sort = sort_is ∙ ap (λ s. field_sort s name) (sym known);
       has = sym (ap (λ s. is_field s name) known ∙ ap is_some here);
-      form = form_of ∙ ap₂ (λ n o. option_and_then (λ s. cond (same_sort s wholes) (form_numbered n) None) o) (sym number) sort_is ∙ ap (λ s. form_of_field s name) (sym known);
+      form = form_of ∙ ap (option_and_then (λ s. cond (same_sort s wholes) (form_numbered (number_at (plain_fields fs) wholes name)) None)) sort_is ∙ ap (λ s. form_of_field s name) (sym known);
     }
 
 -- nothing fails at the name of a field

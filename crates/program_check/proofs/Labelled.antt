@@ -1,23 +1,23 @@
 -- What is noted and known of a label expression, from what is so of its parts.
-use Rattle.std.proofs.Common.{◌≡◌, Bool, true, false, ◌||◌, List, ◌++◌, Option, Some, None, refl, sym, ap, ap₂, ◌∙◌, subst, append_assoc}
+use Rattle.std.proofs.Common.{◌≡◌, Bool, true, false, List, Option, Some, None, sym, ap, ap₂, ◌∙◌, subst, append_assoc}
 use Rattle.std.specs.Prelude.{negsuc}
 use Rattle.std.specs.Option.{option_map}
 use Rattle.fast_fault.specs.declared.code.Code.TheVariants.{NumberRange}
 use Rattle.fast_fault.specs.declared.place.Pos.{Pos}
 use Rattle.fast_fault.specs.declared.refusal.Refusal.{Refusal}
-use Rattle.model_tree.specs.Signature.{wholes, truths}
+use Rattle.model_tree.specs.Signature.{wholes}
 use Rattle.model_form.specs.Form.{Form}
 use Rattle.model_form.specs.Sums.{Part, sum_form, product_form}
-use Rattle.model_grammar.specs.declared.Chain.TheVariants.{Disjunction, Conjunction, Sum, Product}
+use Rattle.model_grammar.specs.declared.Chain.TheVariants.{Disjunction, Conjunction, Sum}
 use Rattle.model_grammar.specs.declared.Rel.{Rel}
-use Rattle.model_grammar.specs.Syntax.{Expr, compare, minus, chain, Parts, part}
+use Rattle.model_grammar.specs.Syntax.{Expr, compare, minus, chain, Parts}
 use Rattle.fast_tree.specs.declared.signature.Sort.TheVariants as code
 use Rattle.fast_tree.specs.Signatures.{plain_sort}
 use Rattle.model_checks.specs.Failures.{fails_if}
 use Rattle.model_checks.specs.Sorts as model
 use Rattle.model_checks.specs.Sorts.{needs_sort}
 use Rattle.model_checks.specs.Forms.{is_out_of_range, has_field, have_field, form_of, added}
-use Rattle.model_checks.specs.Labels.{label_failures, sorted_failures, operands_failures, product_failures, steps_failures, compared, multiplied, divided}
+use Rattle.model_checks.specs.Labels.{label_failures, sorted_failures, operands_failures, compared, multiplied, divided}
 use Rattle.program_check.specs.declared.labels.Scope.{Scope}
 use Rattle.program_check.specs.declared.labels.Known.{Known}
 use Rattle.program_check.specs.Known.{plain_scope, IsKnown, step_failures}
@@ -33,12 +33,6 @@ minus_noted s e place form a b c is one two =
 pub sum_noted : (s : model.Scope) (parts : Parts) (place : Pos) (acc : Option (List Part)) (a b c : Option Refusal) → acc ≡ added s parts → Notes a b (operands_failures s wholes parts)
     → Notes b c (fails_if (is_out_of_range (option_map sum_form acc)) NumberRange place) → Notes a c (label_failures s (chain Sum place parts))
 sum_noted s parts place acc a b c is one two = then one (same (ap (λ x. fails_if (is_out_of_range (option_map sum_form x)) NumberRange place) is) two)
-
-pub product_noted : (s : model.Scope) (place : Pos) (m : Bool) (e : Expr) (rest parts : Parts) (has : Bool) (form : Option Form) (a b c : Option Refusal) → parts ≡ part m e rest → has ≡ has_field s e → form ≡ form_of s e
-    → Notes a b (sorted_failures s wholes e) → Notes b c (steps_failures s place has form rest) → Notes a c (label_failures s (chain Product place parts))
-product_noted s place m e rest parts has form a b c split has_is form_is one two =
-    same (append_assoc (label_failures s e) (needs_sort s wholes e) (steps_failures s place (has_field s e) (form_of s e) rest) ∙ ap (product_failures s place) (sym split))
-    (then one (same (ap₂ (λ h f. steps_failures s place h f rest) has_is form_is) two))
 
 pub compare_noted : (s : model.Scope) (rel : Rel) (place : Pos) (x x1 x3 y y2 y4 : Expr) (a b c d : Option Refusal) → x1 ≡ x → y2 ≡ y → x3 ≡ x → y4 ≡ y
     → Notes a b (label_failures s x1) → Notes b c (label_failures s y2) → Notes c d (compared s rel x3 y4) → Notes a d (label_failures s (compare place rel x y))

@@ -2,6 +2,7 @@ pub mod Noting
 pub mod Repeating
 pub mod Mapped
 pub mod FieldLookup
+pub mod FieldNumber
 pub mod Places
 pub mod FormsMade
 pub mod Products

@@ -1,13 +1,13 @@
 -- What fails at a node, from what fails in its parts.
-use Rattle.std.proofs.Common.{◌≡◌, ℕ, suc, List, [], ◌∷◌, ◌++◌, Option, map, length, refl, sym, ap, ap₂, ◌∙◌, append_assoc}
+use Rattle.std.proofs.Common.{◌≡◌, ℕ, suc, List, [], ◌∷◌, ◌++◌, Option, length, refl, ap, ap₂, ◌∙◌, append_assoc}
 use Rattle.fast_fault.specs.declared.refusal.Refusal.{Refusal}
 use Rattle.model_program.specs.Syntax.{Name, TypeItem, FieldItem}
-use Rattle.model_grammar.specs.Syntax.{Expr, Item, Out, node, Outs, OutRule}
+use Rattle.model_grammar.specs.Syntax.{Expr, Item, node, Outs}
 use Rattle.fast_syntax.specs.declared.items.Out as code
 use Rattle.fast_syntax.specs.Slices.{plain_outputs}
 use Rattle.model_checks.specs.Sorts.{Scope}
 use Rattle.model_checks.specs.Labels.{labels_failures}
-use Rattle.model_checks.specs.Rules.{type_at, scope_of, fields_of, constructor_failures, label_count_failures, count_outs, rule_failures, out_failures, outs_failures, out_rule_failures}
+use Rattle.model_checks.specs.Rules.{type_at, scope_of, fields_of, constructor_failures, label_count_failures, count_outs, out_failures, outs_failures}
 use Rattle.program_check.specs.Nodes.{node_failures}
 use Rattle.program_check.specs.Notes.{Notes}
 use Rattle.program_check.proofs.Noting.{then, same}

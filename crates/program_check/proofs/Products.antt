@@ -1,5 +1,5 @@
 -- The form of a product, as the code makes it.
-use Rattle.std.proofs.Common.{◌≡◌, Bool, true, false, Option, Some, None, sym, ap, ◌∙◌}
+use Rattle.std.proofs.Common.{◌≡◌, Bool, true, false, Option, Some, sym, ap, ◌∙◌}
 use Rattle.std.proofs.Math.IntN.{ℤ}
 use Rattle.model_form.specs.Form.{Form, constant_of}
 use Rattle.model_form.specs.Sums.{product_form}

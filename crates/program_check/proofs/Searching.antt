@@ -1,5 +1,5 @@
 -- What a search from the front finds, and what a rule is made of.
-use Rattle.std.proofs.Common.{◌≡◌, ℕ, ◌<◌, Bool, true, cond, List, ◌∷◌, ◌++◌, Option, Some, None, map, drop, length, get_or, sym, ap, ap₂, ◌∙◌, suc, find}
+use Rattle.std.proofs.Common.{◌≡◌, ℕ, ◌<◌, Bool, true, cond, List, ◌∷◌, Option, Some, map, drop, length, get_or, sym, ap, ◌∙◌, suc, find}
 use Rattle.std.proofs.Math.Seq.{drop-cons}
 use Rattle.std.specs.Prelude.{Result, Ok, Err, OnOk}
 use Rattle.std.specs.List.{flat_map}

@@ -1,10 +1,9 @@
 -- What is found by a name is a declared type; operations around others.
-use Rattle.std.proofs.Common.{◌≡◌, ℕ, suc, ◌+◌, ◌<◌, ◌≤◌, Bool, true, false, List, [], ◌∷◌, ◌++◌, Option, Some, None, Bor, length, map, refl, sym, ap, ap₂, ◌∙◌, arith, add-one}
+use Rattle.std.proofs.Common.{◌≡◌, ℕ, suc, ◌+◌, ◌<◌, ◌≤◌, Bool, true, false, List, [], ◌++◌, Option, Some, None, Bor, length, refl, sym, ap, ap₂, ◌∙◌, arith, add-one}
 use Rattle.std.specs.Prelude.{nat_le, nat_lt}
 use Rattle.std.specs.Option.{option_map}
 use Rattle.std.proofs.lemmas.Bool.Decides.{nat_tests}
 use Rattle.fast_fault.specs.declared.place.Pos.{Pos}
-use Rattle.fast_fault.specs.declared.refusal.Refusal.{Refusal}
 use Rattle.fast_fault.specs.declared.code.Code.TheVariants.{TooMany}
 use Rattle.model_grammar.specs.Syntax.{X, named, one, two, literal, Xs, no_x, and_x, Item}
 use Rattle.model_names.specs.Declared.{find_type}
@@ -16,7 +15,7 @@ use Rattle.model_checks.specs.Labels.{labels_failures}
 use Rattle.model_checks.specs.Rules.{constructor_failures, label_count_failures, fields_of}
 use Rattle.model_checks.specs.Expressions.{nested, x_failures, xs_failures, needs_be, wanted_second, expected_as, type_called, count_xs}
 use Rattle.model_checks.proofs.SoundParts.{found_named}
-use Rattle.program_check.specs.Standings.{type_name, IsDeclared}
+use Rattle.program_check.specs.Standings.{IsDeclared}
 
 pub found_is : (items : List Item) (name : List ℕ) (t : Option (Bor TypeItem)) → option_map (λ t. plain_type t.now) t ≡ find_type items name → IsDeclared items t
 found_is items name None e = record { is = refl }

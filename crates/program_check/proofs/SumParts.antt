@@ -1,9 +1,7 @@
 -- The parts of a sum, as the code gathers them.
-use Rattle.std.proofs.Common.{◌≡◌, Bool, List, [], ◌∷◌, ◌++◌, Option, Some, None, refl, sym, ap, ◌∙◌, append_assoc}
-use Rattle.std.specs.Option.{option_map}
+use Rattle.std.proofs.Common.{◌≡◌, List, [], ◌∷◌, ◌++◌, Option, Some, refl, sym, ap, ◌∙◌}
 use Rattle.std.specs.Global.{Vec}
 use Rattle.model_form.specs.Form.{Form}
-use Rattle.model_form.specs.Sums.{Part}
 use Rattle.lin_form.specs.declared.sum.Signed.{Signed}
 use Rattle.lin_form.specs.Gathered.{plain_parts}
 use Rattle.model_checks.specs.Forms.{with_part}

@@ -1,11 +1,11 @@
 -- What fails in an expression, from what fails in its parts.
-use Rattle.std.proofs.Common.{◌≡◌, ℕ, suc, List, [], ◌∷◌, ◌++◌, Option, Some, None, map, length, refl, sym, ap, ap₂, ◌∙◌, append_assoc}
+use Rattle.std.proofs.Common.{◌≡◌, ℕ, suc, List, [], ◌∷◌, ◌++◌, Option, Some, None, length, refl, sym, ap, ap₂, ◌∙◌, append_assoc}
 use Rattle.fast_fault.specs.declared.place.Pos.{Pos}
 use Rattle.fast_fault.specs.declared.refusal.Refusal.{Refusal}
 use Rattle.model_program.specs.Syntax.{Name, TypeItem}
 use Rattle.model_grammar.specs.declared.Op1.{Op1}
 use Rattle.model_grammar.specs.declared.Op2.{Op2}
-use Rattle.model_grammar.specs.Syntax.{Expr, X, one, two, literal, Xs, no_x, and_x, Item}
+use Rattle.model_grammar.specs.Syntax.{Expr, X, one, two, literal, Xs, and_x, Item}
 use Rattle.model_names.specs.Kinds.{Kind, a_tree, taken_by_one, taken_first, taken_second}
 use Rattle.fast_syntax.specs.declared.items.X as code
 use Rattle.fast_syntax.specs.Slices.{plain_children}

@@ -1,5 +1,5 @@
 -- What a program declares, as the code finds it.
-use Rattle.std.specs.Prelude.{◌≡◌, ℕ, suc, Bool, true, false, List, [], ◌∷◌, Option, Some, None, map, take, nat_lt, cond}
+use Rattle.std.specs.Prelude.{◌≡◌, ℕ, suc, Bool, false, List, [], ◌∷◌, Option, Some, None, map, take, nat_lt, cond}
 use Rattle.std.specs.Option.{option_map, option_map_or}
 use Rattle.model_program.specs.Syntax.{TypeItem}
 use Rattle.model_grammar.specs.Syntax.{Body, sorts, tree, lang, trans, def, assertion, Item}

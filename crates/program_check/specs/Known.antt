@@ -1,5 +1,5 @@
 -- What is known of a label expression once it is checked.
-use Rattle.std.specs.Prelude.{◌≡◌, ℕ, ◌<◌, ◌||◌, Bool, true, false, List, [], ◌++◌, Option, Some, None, Result, Ok, Err, length, map, get_or}
+use Rattle.std.specs.Prelude.{◌≡◌, Bool, true, false, List, ◌++◌, Option, Some, None, Result, Ok, Err, map}
 use Rattle.std.specs.Option.{option_map}
 use Rattle.fast_fault.specs.declared.place.Pos.{Pos}
 use Rattle.fast_fault.specs.declared.refusal.Refusal.{Refusal}
@@ -13,7 +13,6 @@ use Rattle.lin_form.specs.declared.sum.Signed.{Signed}
 use Rattle.lin_form.specs.Gathered.{plain_parts}
 use Rattle.fast_tree.specs.Signatures.{plain_sort}
 use Rattle.fast_syntax.specs.View.{plain_field}
-use Rattle.fast_syntax.specs.declared.FieldItem.{FieldItem}
 use Rattle.std.specs.Global.{Vec}
 use Rattle.model_checks.specs.Sorts as model
 use Rattle.model_checks.specs.Sorts.{sort_of, needs_sort}

@@ -1,5 +1,5 @@
 -- Parts of what fails at a node.
-use Rattle.std.specs.Prelude.{ℕ, List, [], ◌++◌, Option, Some, None, length, slice_get}
+use Rattle.std.specs.Prelude.{ℕ, List, ◌++◌, Option, Some, None, length, slice_get}
 use Rattle.fast_fault.specs.declared.refusal.Refusal.{Refusal}
 use Rattle.model_program.specs.Syntax.{Name, FieldItem}
 use Rattle.model_grammar.specs.Syntax.{Expr, Item}

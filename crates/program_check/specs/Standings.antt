@@ -1,5 +1,5 @@
 -- What an expression stands for, as the code keeps it.
-use Rattle.std.specs.Prelude.{◌≡◌, ℕ, ◌++◌, List, [], Option, Some, None, map, cond, length}
+use Rattle.std.specs.Prelude.{◌≡◌, ℕ, ◌++◌, List, [], Option, Some, None, cond, length}
 use Rattle.std.specs.Option.{option_map, option_and_then}
 use Rattle.std.specs.Borrow.{Bor}
 use Rattle.fast_fault.specs.declared.refusal.Refusal.{Refusal}
@@ -19,8 +19,6 @@ use Rattle.model_checks.specs.Rules.{constructor_failures, label_count_failures,
 use Rattle.program_check.specs.declared.expressions.Kind.{Kind}
 use Rattle.program_check.specs.declared.expressions.Kind.TheVariants.{Language, Transformation, Tree}
 use Rattle.program_check.specs.declared.expressions.Standing.{Standing}
-use Rattle.program_check.specs.declared.context.Context.{Context}
-use Rattle.program_check.specs.Contexts.{items_of}
 
 abbrev pub plain_kind : Kind → model_kinds.Kind
 plain_kind Language = language

@@ -1,7 +1,6 @@
 -- What a checked program tells of its names.
 use Rattle.std.specs.Prelude.{◌≡◌, ℕ, true, List, Option, Some, None, map}
 use Rattle.std.specs.Option.{option_map}
-use Rattle.model_program.specs.Syntax.{Name}
 use Rattle.model_grammar.specs.Syntax.{DefItem, Body, sorts, tree, lang, trans, def, assertion}
 use Rattle.model_names.specs.Kinds.{Kind, language, transformation, a_tree, defined_kind}
 use Rattle.fast_syntax.specs.Plain.{plain_program}

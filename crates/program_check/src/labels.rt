@@ -9,13 +9,13 @@ ghost use Rattle.fast_syntax.specs.Plain.{plain_expr};
 ghost use Rattle.fast_syntax.specs.Slices.{plain_operands, plain_sum_parts, plain_prod_parts};
 ghost use Rattle.model_tree.specs.Signature.{wholes, truths};
 ghost use Rattle.model_form.specs.Sums.{sum_form, product_form};
-ghost use Rattle.model_label.specs.Fields.{same_sort};
+ghost use Rattle.model_label.specs.Fields.{same_sort, number_at};
 ghost use Rattle.fast_tree.specs.declared.signature.Sort.TheVariants as Sort;
 ghost use Rattle.model_grammar.specs.Syntax as plain;
 ghost use Rattle.model_grammar.specs.declared.Chain.TheVariants as kind;
 ghost use Rattle.model_checks.specs.Failures.{failure, fails_if};
-ghost use Rattle.model_checks.specs.Sorts.{sort_named, find_field, sort_of, place_of, is_other_sort, differ_in_sort, needs_sort};
-ghost use Rattle.model_checks.specs.Forms.{is_constant, is_out_of_range, kept, has_field, have_field, form_of, form_numbered, number_before, product_of, remainder_of, divisor_in, divisor_of, with_part};
+ghost use Rattle.model_checks.specs.Sorts.{sort_named, find_field, own_sort, plain_fields, sort_of, place_of, is_other_sort, differ_in_sort, needs_sort};
+ghost use Rattle.model_checks.specs.Forms.{is_constant, is_out_of_range, kept, has_field, have_field, form_of, form_numbered, product_of, remainder_of, divisor_in, divisor_of, with_part};
 ghost use Rattle.model_checks.specs.Labels.{unknown_field, compared, label_failures, operands_failures, sorted_failures, multiplied, divided};
 ghost use Rattle.program_check.specs.Notes.{Notes};
 ghost use Rattle.program_check.specs.Known.{plain_scope, IsKnown, form_made, is_range, IsMade, plain_added, joined, step_failures, step_form};
@@ -63,10 +63,10 @@ pub(crate) fn both(a: bool, b: bool) -> bool
     a && b
 }
 
-/// The place of the field of this name.
+/// Where the field of this name stands.
 fn find_field(fields: &[FieldItem], name: &Text) -> Option<usize>
     ensures found { MatchOption result (find_field (map plain_field fields.now) name.now ≡ None) (λ i. (x : _) → x ≡ get_or fields.now i x → find_field (map plain_field fields.now) name.now ≡ Some (plain_field x)) }
-    ensures number { MatchOption result (Unit {0}) (λ i. (i < length fields.now) × (number_before (map plain_field fields.now) name.now ≡ i)) }
+    ensures within { MatchOption result (Unit {0}) (λ i. i < length fields.now) }
 {
     'fields: for (number, field) in fields.iter().enumerate() {
         if field.name.text == *name {
@@ -76,12 +76,50 @@ fn find_field(fields: &[FieldItem], name: &Text) -> Option<usize>
     None
 }
 
-/// The form of the field of this number, where it is a whole number and has a form.
-fn form_of_field(alloc: Global, sort: &Option<Sort>, number: usize) -> Result<Option<Form>, Memory>
-    ensures { IfOk result (λ form. form ≡ option_and_then (λ s. cond (same_sort s wholes) (form_numbered number) None) (option_map plain_sort sort.now)) }
+fn is_whole(field: &FieldItem) -> bool
+    ensures { result ≡ same_sort (own_sort (plain_field field.now)) wholes }
+{
+    field.sort.text.is("Int")
+}
+
+/// The number of the field of this name among the whole numbers.
+fn number_at(fields: &[FieldItem], name: &Text) -> usize
+    ensures { result ≡ number_at (plain_fields (map plain_field fields.now)) wholes name.now }
+{
+    let mut number = 0;
+    'fields: for field in fields {
+        if field.name.text == *name {
+            return number;
+        }
+        if is_whole(field) {
+            number += 1;
+        }
+    }
+    number
+}
+
+/// The form of the whole number of this number, where it is one of the first eight.
+fn form_numbered(alloc: Global, number: usize) -> Result<Option<Form>, Memory>
+    ensures { IfOk result (λ form. form ≡ form_numbered number) }
+{
+    if number < 8 {
+        Ok(Some(Form::field(alloc, number as u32)?))
+    } else {
+        Ok(None)
+    }
+}
+
+/// The form of the field of this name, where it is a whole number and has a form.
+fn form_of_field(
+    alloc: Global,
+    fields: &[FieldItem],
+    name: &Text,
+    sort: &Option<Sort>,
+) -> Result<Option<Form>, Memory>
+    ensures { IfOk result (λ form. form ≡ option_and_then (λ s. cond (same_sort s wholes) (form_numbered (number_at (plain_fields (map plain_field fields.now)) wholes name.now)) None) (option_map plain_sort sort.now)) }
 {
     match sort {
-        Some(Sort::Int) if number < 8 => Ok(Some(Form::field(alloc, number as u32)?)),
+        Some(Sort::Int) => form_numbered(alloc, number_at(fields, name)),
         _ => Ok(None),
     }
 }
@@ -124,12 +162,12 @@ fn check_field(
     let Some(fields) = scope.fields else {
         return Ok(Known::of_nothing(None));
     };
-    let Some(number) = find_field(fields, name) else {
+    let Some(place_of_field) = find_field(fields, name) else {
         least.note(Code::UnknownField, place);
         return Ok(Known::of_nothing(None));
     };
-    let sort = sort_at(fields, number);
-    let form = form_of_field(alloc, &sort, number)?;
+    let sort = sort_at(fields, place_of_field);
+    let form = form_of_field(alloc, fields, name, &sort)?;
     Ok(Known {
         sort,
         has_field: true,
@@ -560,15 +598,11 @@ fn check_product(
     ensures noted { OnOk result (Notes least.old.known least.new.known (label_failures (plain_scope scope.now) (plain.chain kind.Product place (plain_prod_parts parts.now)))) }
     ensures known { IfOk result (IsKnown scope.now (plain.chain kind.Product place (plain_prod_parts parts.now))) }
 {
-    let Some((first, later)) = parts.split_first() else {
-        return Ok(Known::of_nothing(Some(Sort::Int)));
-    };
-    let known = check_sorted(alloc, least, scope, Sort::Int, &first.part)?;
     let mut before = Factor {
-        has_field: known.has_field,
-        form: known.form,
+        has_field: false,
+        form: Some(Form::number(alloc, 1)?),
     };
-    'later: for part in later {
+    'parts: for part in parts {
         before = check_step(alloc, least, scope, before, part, place)?;
     }
     Ok(Known {

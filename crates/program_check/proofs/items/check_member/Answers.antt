@@ -1,10 +1,7 @@
-use Rattle.std.proofs.Common.{ap, ap₂, ◌∙◌}
-use Rattle.model_names.specs.Kinds.{language, transformation, a_tree}
-use Rattle.fast_fault.specs.declared.code.Code.TheVariants.{WrongKind}
+use Rattle.std.proofs.Common.{ap}
+use Rattle.model_names.specs.Kinds.{a_tree}
 use Rattle.fast_syntax.specs.Plain.{plain_x}
-use Rattle.model_checks.specs.Failures.{fails_if}
 use Rattle.model_checks.specs.Expressions.{whole_failures}
-use Rattle.model_checks.specs.Programs.{is_tree}
 use Rattle.program_check.specs.Contexts.{items_of, before_of}
 use Rattle.program_check.proofs.Noting.{then, same}
 use Rattle.program_check.proofs.items.check_member.Goals as goal

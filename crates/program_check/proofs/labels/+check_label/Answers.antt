@@ -1,7 +1,9 @@
-use Rattle.std.proofs.Common.{◌≡◌, ◌∷◌, rules, ◌+◌, false, drop, refl, sym, ap, ◌∙◌, subst}
+use Rattle.std.proofs.Common.{◌+◌, false, Some, drop, refl, sym, ap, ◌∙◌, subst}
 use Rattle.std.specs.Prelude.{OnOk, IfOk}
 use Rattle.std.proofs.lemmas.List.{drop_all}
+use Rattle.std.proofs.Math.IntN.{pos}
 use Rattle.model_tree.specs.Signature.{wholes, truths}
+use Rattle.model_form.specs.Sums.{number_form}
 use Rattle.model_grammar.specs.declared.Chain.TheVariants.{Disjunction, Conjunction, Sum, Product}
 use Rattle.model_grammar.specs.Syntax as plain
 use Rattle.fast_syntax.specs.Plain.{plain_node, plain_expr}
@@ -14,7 +16,7 @@ use Rattle.program_check.specs.Known.{plain_scope, plain_added, IsKnown}
 use Rattle.program_check.specs.Notes.{Notes}
 use Rattle.program_check.proofs.Noting.{then, same}
 use Rattle.program_check.proofs.Chains.{sorted_more, sorted_done, has_more, added_more, added_done, steps_more, steps_done, form_more}
-use Rattle.program_check.proofs.Labelled.{minus_noted, sum_noted, product_noted, compare_noted, step_divided, step_multiplied, or_known, and_known, known_as}
+use Rattle.program_check.proofs.Labelled.{minus_noted, sum_noted, compare_noted, step_divided, step_multiplied, or_known, and_known, known_as}
 use Rattle.program_check.proofs.labels.+check_label.Goals as goal
 
 pub check_sorted-returns-clause-noted : goal.check_sorted-returns-clause-noted
@@ -59,17 +61,17 @@ check_sum-returns-clause-noted t c =
     (sorted_done s wholes (plain_sum_parts items) (plain_sum_parts (drop c.parts.part-index items)) _ _ none c.parts.invariant.noted)
     c.in_ok-form.ensures.noted
 
-pub check_product-later-preserved : goal.check_product-later-preserved
-check_product-later-preserved t c =
+pub check_product-parts-preserved : goal.check_product-parts-preserved
+check_product-parts-preserved t c =
     let s = plain_scope c.args.scope.now in
-    let items = c.in-Some.later.now in
-    let i = c.later.part-index in
+    let items = c.args.parts.now in
+    let i = c.parts.part-index in
     let x = c.part-item.result in
-    let split = ap plain_prod_parts (drop_at items i x c.later-test.true c.part-item.is) in
+    let split = ap plain_prod_parts (drop_at items i x c.parts-test.true c.part-item.is) in
     record {
-      noted = steps_more s c.args.place (plain_expr x.part) x.remainder (plain_prod_parts (drop i items)) (plain_prod_parts (drop (i + 1) items)) _ _ _ _ _ _ _ split c.in_ok-before.ensures.has c.in_ok-before.ensures.form c.in_ok-before.ensures.noted c.later.invariant.noted;
-      has = has_more s (plain_expr x.part) x.remainder (plain_prod_parts (drop i items)) (plain_prod_parts (drop (i + 1) items)) _ (has_field s (plain_expr x.part)) _ _ split refl c.in_ok-before.ensures.has c.later.invariant.has;
-      form = form_more s (plain_expr x.part) x.remainder (plain_prod_parts (drop i items)) (plain_prod_parts (drop (i + 1) items)) _ _ _ _ _ split c.in_ok-before.ensures.has c.in_ok-before.ensures.form c.later.invariant.form;
+      noted = steps_more s c.args.place (plain_expr x.part) x.remainder (plain_prod_parts (drop i items)) (plain_prod_parts (drop (i + 1) items)) _ _ _ _ _ _ _ split c.in_ok-before.ensures.has c.in_ok-before.ensures.form c.in_ok-before.ensures.noted c.parts.invariant.noted;
+      has = has_more s (plain_expr x.part) x.remainder (plain_prod_parts (drop i items)) (plain_prod_parts (drop (i + 1) items)) _ (has_field s (plain_expr x.part)) _ _ split refl c.in_ok-before.ensures.has c.parts.invariant.has;
+      form = form_more s (plain_expr x.part) x.remainder (plain_prod_parts (drop i items)) (plain_prod_parts (drop (i + 1) items)) _ _ _ _ _ split c.in_ok-before.ensures.has c.in_ok-before.ensures.form c.parts.invariant.form;
     }
 
 pub check_step-returns-then-part-clause-noted : goal.check_step-returns-then-part-clause-noted
@@ -142,10 +144,6 @@ check_label-returns-in-Prod-clause-known t c =
 
 pub check_product-returns-clause-noted : goal.check_product-returns-clause-noted
 check_product-returns-clause-noted t c =
-    let s = plain_scope c.args.scope.now in
-    let first = c.in-Some.first.now in
-    let later = c.in-Some.later.now in
-    let all : c.args.parts.now ≡ first ∷ later = search rules in
-    product_noted s c.args.place first.remainder (plain_expr first.part) (plain_prod_parts later) (plain_prod_parts c.args.parts.now) c.in_ok-known.known.has_field c.in_ok-known.known.form _ _ _
-    (ap plain_prod_parts all) c.in_ok-known.ensures.known.has c.in_ok-known.ensures.known.form c.in_ok-known.ensures.noted
-    (steps_done s c.args.place (plain_prod_parts later) (plain_prod_parts (drop c.later.part-index later)) c.in_ok-known.known.has_field c.later.before.has_field c.in_ok-known.known.form c.later.before.form _ _ (ap plain_prod_parts (drop_all c.later.part-index later c.later-test.false)) c.later.invariant.noted)
+    let items = c.args.parts.now in
+    steps_done (plain_scope c.args.scope.now) c.args.place (plain_prod_parts items) (plain_prod_parts (drop c.parts.part-index items)) false c.parts.before.has_field (Some (number_form (pos 1))) c.parts.before.form _ _
+    (ap plain_prod_parts (drop_all c.parts.part-index items c.parts-test.false)) c.parts.invariant.noted

@@ -1,5 +1,7 @@
-use Rattle.std.proofs.Common.{◌≡◌, ◌||◌, drop}
+use Rattle.std.proofs.Common.{◌≡◌, ◌||◌, false, Some, drop}
+use Rattle.std.proofs.Math.IntN.{pos}
 use Rattle.model_tree.specs.Signature.{wholes, truths}
+use Rattle.model_form.specs.Sums.{number_form}
 use Rattle.model_checks.specs.Failures.{first_among}
 use Rattle.model_checks.specs.Forms.{have_field, added, form_behind}
 use Rattle.model_checks.specs.Labels.{operands_failures, steps_failures}
@@ -24,11 +26,12 @@ invariant-check_sum-parts l =
       added : joined (plain_added l.added) (added s (plain_sum_parts (drop l.part-index l.parts))) ≡ added s (plain_sum_parts l.parts);
     }
 
-abbrev pub invariant-check_product-later : goal.invariant-check_product-later
-invariant-check_product-later l =
+abbrev pub invariant-check_product-parts : goal.invariant-check_product-parts
+invariant-check_product-parts l =
     let s = plain_scope l.scope in
+    let one = Some (number_form (pos 1)) in
     record {
-      noted : first_among l.least.known (steps_failures s l.place l.before.has_field l.before.form (plain_prod_parts (drop l.part-index l.later))) ≡ first_among l.initial.least.known (steps_failures s l.place l.initial.before.has_field l.initial.before.form (plain_prod_parts l.later));
-      has : (l.before.has_field || have_field s (plain_prod_parts (drop l.part-index l.later))) ≡ (l.initial.before.has_field || have_field s (plain_prod_parts l.later));
-      form : form_behind s l.before.has_field l.before.form (plain_prod_parts (drop l.part-index l.later)) ≡ form_behind s l.initial.before.has_field l.initial.before.form (plain_prod_parts l.later);
+      noted : first_among l.least.known (steps_failures s l.place l.before.has_field l.before.form (plain_prod_parts (drop l.part-index l.parts))) ≡ first_among l.initial.least.known (steps_failures s l.place false one (plain_prod_parts l.parts));
+      has : (l.before.has_field || have_field s (plain_prod_parts (drop l.part-index l.parts))) ≡ have_field s (plain_prod_parts l.parts);
+      form : form_behind s l.before.has_field l.before.form (plain_prod_parts (drop l.part-index l.parts)) ≡ form_behind s false one (plain_prod_parts l.parts);
     }

@@ -1,4 +1,4 @@
-use Rattle.std.proofs.Common.{ap, ap₂, ◌∙◌, sym}
+use Rattle.std.proofs.Common.{ap₂, ◌∙◌, sym}
 use Rattle.fast_fault.specs.declared.code.Code.TheVariants.{WrongSort}
 use Rattle.model_checks.specs.Failures.{fails_if}
 use Rattle.model_checks.specs.Sorts.{differ_in_sort}

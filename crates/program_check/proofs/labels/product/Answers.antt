@@ -1,4 +1,4 @@
-use Rattle.std.proofs.Common.{ap, ◌∙◌, sym, Some, to_z, of_z}
+use Rattle.std.proofs.Common.{ap, ◌∙◌, to_z, of_z}
 use Rattle.std.specs.Int.{w128}
 use Rattle.fast_fault.specs.declared.code.Code.TheVariants.{NumberRange}
 use Rattle.model_form.specs.Sums.{product_form}

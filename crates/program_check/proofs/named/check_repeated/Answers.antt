@@ -1,6 +1,5 @@
-use Rattle.std.proofs.Common.{arith}
 use Rattle.fast_syntax.specs.View.{plain_name}
-use Rattle.program_check.proofs.Repeating.{at_first, one_more, all_noted, all_there}
+use Rattle.program_check.proofs.Repeating.{at_first, one_more}
 use Rattle.program_check.proofs.named.check_repeated.Goals as goal
 
 pub all-init : goal.all-init

@@ -1,5 +1,4 @@
 use Rattle.std.proofs.Common.{◌+◌, map, drop, sym, ap, ◌∙◌}
-use Rattle.model_grammar.specs.Syntax as plain
 use Rattle.fast_syntax.specs.View.{plain_name}
 use Rattle.fast_syntax.specs.Plain.{plain_expr, plain_out}
 use Rattle.fast_syntax.specs.Slices.{plain_outputs}

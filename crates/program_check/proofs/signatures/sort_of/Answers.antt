@@ -1,6 +1,6 @@
 use Rattle.std.proofs.Common.{◌≡◌, Bool, true, false, cond, sym, ap, ◌∙◌}
 use Rattle.std.specs.Str.{chars}
-use Rattle.model_tree.specs.Signature.{Sort, wholes, truths, texts}
+use Rattle.model_tree.specs.Signature.{wholes, truths, texts}
 use Rattle.program_check.proofs.signatures.sort_of.Goals as goal
 
 first_name : (a b : Bool) → a ≡ true → wholes ≡ cond a wholes (cond b truths texts)

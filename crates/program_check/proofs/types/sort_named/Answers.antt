@@ -1,8 +1,6 @@
-use Rattle.std.proofs.Common.{◌≡◌, ℕ, List, Bool, true, false, cond, Option, Some, None, sym, ap, ◌∙◌, refl}
-use Rattle.std.specs.Prelude.{codes}
+use Rattle.std.proofs.Common.{◌≡◌, Bool, true, false, cond, Some, None, sym, ap, ◌∙◌}
 use Rattle.std.specs.Str.{chars}
-use Rattle.model_tree.specs.Signature.{Sort, wholes, truths, texts}
-use Rattle.model_names.specs.Declared.{same_text}
+use Rattle.model_tree.specs.Signature.{wholes, truths, texts}
 use Rattle.program_check.proofs.types.sort_named.Goals as goal
 
 first_name : (a b d : Bool) → a ≡ true → Some wholes ≡ cond a (Some wholes) (cond b (Some truths) (cond d (Some texts) None))

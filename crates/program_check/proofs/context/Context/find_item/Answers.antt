@@ -1,4 +1,4 @@
-use Rattle.std.proofs.Common.{sym, ap, ◌∙◌}
+use Rattle.std.proofs.Common.{◌∙◌}
 use Rattle.program_check.specs.Contexts.{items_of}
 use Rattle.program_check.proofs.Found.{item_found, item_missing}
 use Rattle.program_check.proofs.context.Context.find_item.Goals as goal
