@@ -1,7 +1,7 @@
 -- Forms are over the eight fields.
-use Rattle.std.proofs.Common.{◌≡◌, ℕ, suc, ◌+◌, ◌<◌, ◌≤◌, List, [], ◌∷◌, length, drop, get_or, refl, sym, ap, ◌∙◌, subst, arith}
+use Rattle.std.proofs.Common.{◌≡◌, ℕ, suc, ◌+◌, ◌<◌, ◌≤◌, List, [], ◌∷◌, length, drop, get_or, sym, subst}
 use Rattle.std.proofs.lemmas.List.{at_drop_more, at_drop_all}
-use Rattle.model_form.specs.Form.{Form, form, Term, fields_of, remainders_of}
+use Rattle.model_form.specs.Form.{Form, form, Term, remainders_of}
 use Rattle.model_form.specs.Over.{IsOver, AreBelow, AreOver}
 use Rattle.model_form.specs.Ranges.{AreFields, IsForm}
 use Rattle.model_chain.specs.Literals.{AreLiteralsOver}

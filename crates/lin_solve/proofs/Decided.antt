@@ -1,5 +1,5 @@
 -- What the search over sides decides.
-use Rattle.std.proofs.Common.{◌≡◌, ℕ, ◌<◌, ◌⊎◌, inl, inr, List, [], ◌∷◌, ◌++◌, map, length, take, get_or, Bool, true, false, refl, ap, sym, ◌∙◌, subst}
+use Rattle.std.proofs.Common.{◌≡◌, ℕ, ◌<◌, inl, inr, List, [], ◌++◌, map, length, take, get_or, Bool, true, false, ap, sym, ◌∙◌, subst}
 use Rattle.std.proofs.Math.IntN.{ℤ, pos}
 use Rattle.std.specs.Prelude.{FitsSigned}
 use Rattle.std.specs.Int.{w64}
@@ -12,7 +12,7 @@ use Rattle.model_chain.specs.Sides.{HoldWith}
 use Rattle.model_chain.specs.Laws.{AreDivisorsPositive}
 use Rattle.model_chain.proofs.Exact.{first_solvable}
 use Rattle.model_chain.proofs.Sided.{hold_out, hold_in}
-use Rattle.model_chain.proofs.Meaning.{solution_holds}
+use Rattle.model_chain.proofs.Meaning.{solution_holds, bounded_inside}
 use Rattle.model_chain.proofs.Made.{made, wide_chain, far_chain}
 use Rattle.cooper_solve.specs.Told.{IsSolved, IsFarOff, puts_of}
 use Rattle.label_core.specs.declared.theory.Lit.{Lit}
@@ -20,7 +20,7 @@ use Rattle.lin_solve.specs.declared.compare.Compare.{Compare}
 use Rattle.lin_solve.specs.declared.chain.Chain.{Chain}
 use Rattle.lin_solve.specs.Tried.{TellsSides}
 use Rattle.lin_solve.specs.declared.tried.Stuck.{Stuck}
-use Rattle.lin_solve.specs.declared.tried.Tried.TheVariants.{Wide, Unsat}
+use Rattle.lin_solve.specs.declared.tried.Tried.TheVariants.{Far, Wide, Unsat}
 use Rattle.lin_solve.specs.Plain.{plain_literals}
 use Rattle.lin_solve.specs.Shown.{plain_choice, plain_chain, choices_of, AllKept}
 
@@ -79,3 +79,6 @@ wide_told ls b ss n s e l (more, k, d, p) =
 
 pub unsat_told : (ls : List Literal) (b : Bool) (ss : List Bool) (n : ℕ) → ss ≡ [] → n ≡ count_sides ls → TellsSides ls b ss n Unsat → (sides : List Bool) → length sides ≡ count_sides ls → IsSolvable (count_variables ls) (first_system ls b sides) → ⊥
 unsat_told ls b ss n e l h sides k s = h sides (k ∙ sym l) (subst (λ x. IsSolvable (count_variables ls) (first_system ls b (x ++ sides))) (sym e) s)
+
+pub far_told : (ls : List Literal) (ss : List Bool) (n : ℕ) (s : Stuck) → AreLiteralsOver 8 ls → ¬ (TellsSides ls true ss n (Far s))
+far_told ls ss n s over (more, k, d, far) = bounded_inside ls (ss ++ more) (puts_of s.puts.items) far.values over far.is far.outside

@@ -1,18 +1,15 @@
 -- Rows while they are filled.
-use Rattle.std.proofs.Common.{◌≡◌, ℕ, zero, suc, ◌+◌, ◌*◌, ◌^◌, ◌<◌, ◌≤◌, List, [], ◌∷◌, length, drop, get_or, replicate, to_z, of_z, Bool, true, false, cond, refl, ap, sym, ◌∙◌, subst, arith}
-use Rattle.std.proofs.Math.IntN.{ℤ, pos, negsuc, ◌+ℤ◌, ◌-ℤ◌, ◌*ℤ◌}
+use Rattle.std.proofs.Common.{◌≡◌, ℕ, suc, ◌+◌, ◌*◌, ◌^◌, ◌<◌, ◌≤◌, List, [], ◌∷◌, length, drop, get_or, replicate, to_z, of_z, Bool, true, false, cond, ap, sym, ◌∙◌, subst, arith}
+use Rattle.std.proofs.Math.IntN.{ℤ, pos, ◌+ℤ◌, ◌-ℤ◌, ◌*ℤ◌}
 use Rattle.std.specs.Prelude.{unsigned_abs, FitsSigned}
 use Rattle.std.specs.Int.{w64, w128}
-use Rattle.std.specs.List.{All}
-use Rattle.std.proofs.Math.ListN.{set}
 use Rattle.std.proofs.lemmas.Int.{ints, fits_signed_from_abs, to_z-of_z}
-use Rattle.std.proofs.lemmas.List.{at_drop_more, at_drop_all, set_past, get_or_default}
-use Rattle.std.proofs.lemmas.List.Elements.{All-set, All-weaker, All-replicate}
-use Rattle.math_cooper.specs.System.{Condition}
+use Rattle.std.proofs.lemmas.List.{at_drop_more, at_drop_all, set_past}
+use Rattle.std.proofs.lemmas.List.Elements.{All-set, All-replicate}
 use Rattle.math_cooper.specs.Line.{AtLeastZero}
 use Rattle.model_form.specs.Form.{Form, form, constant_of, fields_of, remainders_of, Term, Remainders}
 use Rattle.model_form.specs.Sums.{add_fields, sign}
-use Rattle.model_form.specs.Ranges.{AreFields, AreRemainders, IsForm, IsCoefficient, IsConstant}
+use Rattle.model_form.specs.Ranges.{AreFields, AreRemainders, IsForm, IsCoefficient}
 use Rattle.model_chain.specs.Literals as plain
 use Rattle.model_chain.specs.Literals.{add_at, add_places, add_terms, place, over, zeros}
 use Rattle.lin_form.specs.declared.form.FieldTerm.{FieldTerm}

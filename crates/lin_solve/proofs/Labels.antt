@@ -3,13 +3,13 @@ use Rattle.std.proofs.Common.{◌≡◌, ◌↔◌, ℕ, ◌≤◌, ◌-◌, ◌
 use Rattle.std.proofs.Math.IntN.{ℤ, pos}
 use Rattle.std.specs.Prelude.{FitsSigned, IsTrue}
 use Rattle.std.specs.Int.{w64}
-use Rattle.std.specs.Cmp.{IsEquivalence}
 use Rattle.std.proofs.lemmas.Int.{fits_signed_from_abs}
 use Rattle.std.proofs.lemmas.List.{get_or_append_left, get_or-take, get_or-map, length-take-le, length-map, length-append, length-replicate}
 use Rattle.std.proofs.lemmas.List.Elements.{All-append, All-replicate, All-map}
 use Rattle.model_tree.specs.Label.{Label}
 use Rattle.model_form.proofs.Over.{AgreeBelow, value_agree}
 use Rattle.model_chain.specs.Literals.{Literal, HoldsAll, AreLiteralsOver, compare_holds, related}
+use Rattle.model_chain.specs.Each.{EachTwo}
 use Rattle.model_chain.specs.Chains.{Passes, IsFar, IsOutside}
 use Rattle.model_chain.proofs.Meaning.{far_has_values}
 use Rattle.label_core.specs.Atoms.{EachHasEqual}
@@ -21,9 +21,11 @@ use Rattle.label_core.specs.declared.theory.Verdict.TheVariants.{Wide}
 use Rattle.lin_solve.specs.Plain.{plain_compare, plain_relation, plain_literal, plain_literals}
 use Rattle.lin_solve.specs.Shown.{AllKept, plain_chain, Answers}
 use Rattle.lin_solve.specs.Wholes.{wholes_label, IsWholes, KeepsWholes, compare_at, CompareFits}
-use Rattle.lin_solve.specs.Equal.{wholes_back, among_own, compare_laws}
+use Rattle.lin_solve.specs.Equal.{wholes_back}
+use Rattle.lin_solve.specs.Kept.{AreKept}
 use Rattle.lin_solve.specs.contracts.compare.ComparePartialEq.TheImpl.{ghosts as compares}
-use Rattle.lin_solve.specs.contracts.compare.RelationPartialEq.TheImpl.{ghosts as relations}
+use Rattle.lin_solve.proofs.Alike.{laws_of_equality, alike}
+use Rattle.lin_solve.proofs.Once.{atoms_among, plain_different, kept_hold}
 
 pub agree : (n : ℕ) (c : Compare) (us vs : List ℤ) → AgreeBelow n us vs → CompareFits n c → compare_holds (plain_compare c) us ≡ compare_holds (plain_compare c) vs
 agree n c us vs a fits =
@@ -66,13 +68,15 @@ module _ (n : ℕ) (few : n ≤ 8) (ls : List (Lit Compare)) (fit : LitsFit (Com
   some_satisfies (us, many, h, out) =
       (wholes_label (take n us), (take n us, length-take-le n us (omega (arith, many, few)), refl), satisfies us (take n us) (λ k l. sym (get_or-take n us k (pos 0) l)) h)
 
-  pub wide_shown : (E : Compare → Compare → Bool) → IsEquivalence E → (c : Chain) → AreLiteralsOver 8 (plain_literals ls) → Answers {V = List ℤ} (λ us. us) ls (Wide c)
-      → ((EachHasEqual E (atoms_of c.literals.items) (atoms_of ls) × Passes c.bits (plain_chain c)) × (IsFar (plain_chain c) → ((l : Label) × IsWholes n l × SatisfiesAll compare_at ls l) × ((l : Label) → KeepsWholes n l → ¬ (SatisfiesAll compare_at ls l))))
-  wide_shown E laws c over (is, passes, none) = (
-    (subst (λ ms. EachHasEqual E (atoms_of ms) (atoms_of ls)) (sym is) (among_own E laws (atoms_of ls)), passes),
-    λ far.
-        (some_satisfies (subst (λ ms. (us : List ℤ) × (length us ≡ 8) × HoldsAll (plain_literals ms) us × IsOutside us) is (far_has_values (plain_chain c) (subst (λ ms. AreLiteralsOver 8 (plain_literals ms)) (sym is) over) far)), kept_none (none far)),
+  pub wide_shown : (c : Chain) → AreLiteralsOver 8 (plain_literals c.literals.items) → Answers {V = List ℤ} (AreKept compares.eq ls) (λ us. us) ls (Wide c)
+      → (((EachHasEqual compares.eq (atoms_of c.literals.items) (atoms_of ls) × EachTwo (λ l m. ¬ (l ≡ m)) (plain_literals c.literals.items)) × Passes c.bits (plain_chain c)) × (IsFar (plain_chain c) → ((l : Label) × IsWholes n l × SatisfiesAll compare_at ls l) × ((l : Label) → KeepsWholes n l → ¬ (SatisfiesAll compare_at ls l))))
+  wide_shown c over (kept, passes, none) = (
+    ((atoms_among compares.eq laws_of_equality c.literals.items ls kept.among, plain_different compares.eq laws_of_equality c.literals.items kept.once), passes),
+    λ far. (some_satisfies (for_all (far_has_values (plain_chain c) over far)), kept_none (none far)),
   )
+    where
+      for_all : (us : List ℤ) × (length us ≡ 8) × HoldsAll (plain_literals c.literals.items) us × IsOutside us → (us : List ℤ) × (length us ≡ 8) × HoldsAll (plain_literals ls) us × IsOutside us
+      for_all (us, many, h, out) = (us, many, (kept_hold compares.eq laws_of_equality alike ls c.literals.items kept us).0 h, out)
 
 other_width : {n : ℕ} → true ≡ (n == 64) → n ≡ 128 → ⊥
 other_width e bits = cc
@@ -81,11 +85,3 @@ other_width e bits = cc
 pub far_by_bits : (c : Chain) (b : Bool) → b ≡ (c.bits == 64) → Passes c.bits (plain_chain c) → IsTrue b ↔ IsFar (plain_chain c)
 far_by_bits c b is (inl (bits, wide, other)) = (λ t. absurd (other_width (sym (sym is ∙ t)) bits), λ far. absurd (far.1 wide))
 far_by_bits c b is (inr (bits, far)) = (λ t. far, λ f. is ∙ ap (λ n. n == 64) bits)
-
--- ---- the equality of comparisons
-
-pub laws_of_equality : IsEquivalence compares.eq
-laws_of_equality = compare_laws relations.eq (record { less = refl; at_most = refl; equal = refl; less_at_most = refl; less_equal = refl; at_most_less = refl; at_most_equal = refl; equal_less = refl; equal_at_most = refl }) compares.eq (record { parts = λ _ _. refl })
-
-pub copy_equal : (a b : Compare) → a ≡ b → compares.eq a b ≡ true
-copy_equal a b e = subst (λ c. compares.eq c b ≡ true) (sym e) (laws_of_equality.refl b)

@@ -2,8 +2,11 @@ pub mod Numbered
 pub mod Filled
 pub mod Pushed
 pub mod Ready
+pub mod Fronts
 pub mod Tries
 pub mod Shows
 pub mod Decided
 pub mod Below
+pub mod Alike
+pub mod Once
 pub mod Labels

@@ -1,9 +1,8 @@
 -- The steps of numbering.
-use Rattle.std.proofs.Common.{◌≡◌, ℕ, zero, suc, ◌+◌, ◌<◌, ◌≤◌, List, [], ◌∷◌, ◌++◌, map, length, drop, get_or, max, Bool, true, false, cond, ◌||◌, refl, ap, sym, ◌∙◌, subst, arith}
-use Rattle.std.specs.List.{All}
+use Rattle.std.proofs.Common.{◌≡◌, ℕ, zero, suc, ◌+◌, ◌<◌, ◌≤◌, List, [], ◌∷◌, ◌++◌, length, drop, get_or, Bool, true, false, cond, ◌||◌, refl, ap, sym, ◌∙◌, subst, arith}
 use Rattle.std.proofs.lemmas.List.{at_drop_more, at_drop_all, map-append, length-map}
 use Rattle.std.proofs.lemmas.List.Elements.{All-push}
-use Rattle.model_form.specs.Form.{Form, form, remainders_of, heights, height, Remainders, no_remainders, remainder}
+use Rattle.model_form.specs.Form.{Form, form, remainders_of, heights, height}
 use Rattle.model_form.specs.Ranges.{AreRemainders, IsForm}
 use Rattle.model_chain.specs.Literals as plain
 use Rattle.model_chain.specs.Literals.{is_same, is_in, place, with_one, seen, seen_all, seen_in}
@@ -14,7 +13,7 @@ use Rattle.lin_form.specs.Terms.{plain_remainders}
 use Rattle.lin_form.proofs.Evaluating.{remainder_at}
 use Rattle.lin_solve.specs.declared.compare.Compare.{Compare}
 use Rattle.lin_solve.specs.declared.numbering.Remainder.{Remainder}
-use Rattle.lin_solve.specs.Plain.{plain_literals, plain_literal, plain_remainder, plain_known, plain_term, ArePositive}
+use Rattle.lin_solve.specs.Plain.{plain_literals, plain_remainder, plain_known, plain_term, ArePositive}
 
 -- ---- one remainder
 

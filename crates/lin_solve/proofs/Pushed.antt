@@ -1,15 +1,15 @@
 -- The steps by which the first system is built.
-use Rattle.std.proofs.Common.{◌≡◌, ℕ, zero, suc, ◌+◌, ◌-◌, ◌^◌, ◌<◌, ◌≤◌, to_z, ◌||◌, ◌==◌, List, [], ◌∷◌, ◌++◌, map, length, drop, get_or, Bool, true, false, cond, refl, ap, sym, ◌∙◌, subst, arith, append_assoc, append-nil, add-one}
+use Rattle.std.proofs.Common.{◌≡◌, ℕ, suc, ◌+◌, ◌-◌, ◌^◌, ◌<◌, ◌≤◌, to_z, ◌||◌, ◌==◌, List, [], ◌∷◌, ◌++◌, length, drop, get_or, Bool, true, false, cond, refl, ap, sym, ◌∙◌, subst, arith, append_assoc, add-one}
 use Rattle.std.proofs.Math.IntN.{ℤ, pos, negsuc, ◌-ℤ◌}
 use Rattle.std.specs.Int.{w128}
 use Rattle.std.proofs.lemmas.Int.{ints}
 use Rattle.std.specs.List.{All}
-use Rattle.std.proofs.lemmas.Bool.{or_left, or_right, eq-eqb}
-use Rattle.std.proofs.lemmas.List.{at_drop_more, at_drop_all, drop-drop, get_or-drop, drop-map}
+use Rattle.std.proofs.lemmas.Bool.{or_right, eq-eqb}
+use Rattle.std.proofs.lemmas.List.{at_drop_more, at_drop_all, drop-drop}
 use Rattle.std.proofs.lemmas.List.Elements.{All-map}
 use Rattle.math_cooper.specs.Line.{AtLeastZero, DividedBy}
 use Rattle.math_cooper.specs.System.{Condition}
-use Rattle.model_form.specs.Form.{Form, form, constant_of, fields_of, remainders_of, heights, height}
+use Rattle.model_form.specs.Form.{Form, form, constant_of, fields_of, remainders_of}
 use Rattle.model_chain.specs.Literals as plain
 use Rattle.model_chain.specs.Literals.{over, conditions_of, literal_conditions, literals_conditions, needs_side, own_side, later_sides, remainder_conditions, remainders_conditions, bound_conditions, bounds_conditions, has_field, has_term, has_inner, field_in}
 use Rattle.model_chain.specs.Chains.{first_system, least, greatest}

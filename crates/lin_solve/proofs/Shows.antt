@@ -1,10 +1,8 @@
 -- The steps of showing a chain.
-use Rattle.std.proofs.Common.{◌≡◌, ℕ, zero, suc, ◌+◌, ◌-◌, ◌<◌, ◌≤◌, List, [], ◌∷◌, ◌++◌, map, length, drop, get_or, reverse, Bool, true, false, cond, refl, ap, sym, ◌∙◌, subst, arith, append_assoc, append-nil}
-use Rattle.std.proofs.Math.IntN.{ℤ, pos}
+use Rattle.std.proofs.Common.{◌≡◌, ℕ, suc, ◌+◌, ◌-◌, ◌<◌, ◌≤◌, List, [], ◌∷◌, ◌++◌, map, length, drop, get_or, Bool, true, cond, ap, sym, ◌∙◌, arith, append_assoc}
 use Rattle.std.proofs.lemmas.List.{at_drop_more, at_drop_all, get_or-reverse, get_or-map, length-reverse, length-map}
 use Rattle.cooper_solve.specs.Told.{put_of, puts_of}
 use Rattle.cooper_solve.specs.declared.found.Put.{Put}
-use Rattle.model_chain.specs.Literals as chain
 use Rattle.model_chain.specs.Literals.{needs_side, own_side, later_sides}
 use Rattle.model_chain.specs.Chains.{Choice, side, take_put, side_choices}
 use Rattle.label_core.specs.declared.theory.Lit.{Lit}

@@ -1,8 +1,7 @@
 -- The steps of the search over sides.
-use Rattle.std.proofs.Common.{◌≡◌, ℕ, zero, suc, ◌+◌, ◌-◌, List, [], ◌∷◌, ◌++◌, length, Bool, true, false, refl, ap, sym, ◌∙◌, subst, arith, append_assoc, append-nil}
-use Rattle.std.proofs.Math.IntN.{ℤ}
+use Rattle.std.proofs.Common.{◌≡◌, ℕ, suc, List, [], ◌∷◌, ◌++◌, length, Bool, true, false, refl, ap, sym, ◌∙◌, subst, arith, append_assoc, append-nil}
 use Rattle.math_cooper.specs.System.{Condition, IsSolvable}
-use Rattle.math_cooper.specs.Puts.{Put, Passes128}
+use Rattle.math_cooper.specs.Puts.{Passes128}
 use Rattle.model_chain.specs.Literals.{Literal}
 use Rattle.model_chain.specs.Chains.{first_system, count_variables}
 use Rattle.model_chain.specs.Laws.{AreDivisorsPositive}

@@ -1,41 +1,28 @@
 -- Labels of whole numbers that compare equal, and comparisons that do.
-use Rattle.std.proofs.Common.{◌≡◌, ◌≢◌, ◌↔◌, ℕ, ◌<◌, ◌≤◌, ◌+◌, ◌-◌, ◌&&◌, ◌||◌, ◌==◌, ◌⊎◌, inl, inr, List, [], ◌∷◌, ◌++◌, map, length, take, replicate, get_or, Bool, true, false, refl, ap, sym, ◌∙◌, subst, arith}
-use Rattle.std.proofs.Math.IntN.{ℤ, pos}
-use Rattle.std.specs.Prelude.{FitsSigned, IsTrue}
-use Rattle.std.specs.Int.{w64}
-use Rattle.std.specs.List.{All, list_any}
+use Rattle.std.proofs.Common.{◌≡◌, ◌↔◌, ℕ, ◌&&◌, ◌||◌, List, [], ◌∷◌, map, get_or, Bool, true, false, refl, ap, sym, ◌∙◌, subst}
+use Rattle.std.proofs.Math.IntN.{ℤ}
+use Rattle.std.specs.Prelude.{IsTrue}
+use Rattle.std.specs.List.{list_any}
 use Rattle.std.specs.Cmp.{IsEquivalence}
 use Rattle.std.specs.Cmp.Lexicographic.{slice_cmp}
 use Rattle.std.specs.Ordering.{int_cmp, ordering_then, ordering_reverse}
 use Rattle.std.specs.declared.cmp.Ordering.{Ordering}
 use Rattle.std.specs.declared.cmp.Ordering.TheVariants as ordering
 use Rattle.std.proofs.lemmas.Cmp.{int_cmp_total}
-use Rattle.std.proofs.lemmas.Int.{fits_signed_from_abs}
-use Rattle.std.proofs.lemmas.List.{get_or_append_left, get_or-take, get_or-map, length-take-le, length-map, length-append, length-replicate}
-use Rattle.std.proofs.lemmas.List.Elements.{All-append, All-replicate, All-map, All-head, All-tail, Contains-get_or}
+use Rattle.std.proofs.lemmas.List.Elements.{All-head, All-tail, Contains-get_or}
 use Rattle.std.proofs.lemmas.Map.Lookups.{exact_signed}
 use Rattle.std.proofs.lemmas.Map.Steps.{list_any_congr}
 use Rattle.std.proofs.lemmas.Map.Views.{list_any-from_Contains}
-use Rattle.std.proofs.lemmas.Bool.Decides.{nat_tests}
-use Rattle.model_tree.specs.Label.{Field, whole, Label, row}
-use Rattle.model_form.specs.Form.{Form, value}
+use Rattle.model_tree.specs.Label.{whole, Label}
 use Rattle.model_form.specs.Same.{same_form}
-use Rattle.model_form.specs.Over.{IsOver}
 use Rattle.model_form.proofs.Equals.{same_value, same_laws}
-use Rattle.model_form.proofs.Over.{AgreeBelow, over_same, value_agree}
-use Rattle.model_chain.specs.Literals.{Literal, HoldsAll, AreLiteralsOver, compare_holds, related}
-use Rattle.model_chain.specs.Chains.{Passes, IsFar, IsOutside}
-use Rattle.model_chain.proofs.Meaning.{far_has_values}
+use Rattle.model_form.proofs.Over.{over_same}
+use Rattle.model_chain.specs.Literals.{related}
 use Rattle.label_core.specs.Atoms.{has_equal, EachHasEqual}
-use Rattle.label_core.specs.Lit.{SatisfiesAll, LitsFit, atoms_of}
-use Rattle.label_core.specs.declared.theory.Lit.{Lit}
 use Rattle.lin_solve.specs.declared.compare.Compare.{Compare}
 use Rattle.lin_solve.specs.declared.compare.Relation.{Relation}
 use Rattle.lin_solve.specs.declared.compare.Relation.TheVariants.{Less, AtMost, Equal}
-use Rattle.lin_solve.specs.declared.chain.Chain.{Chain}
-use Rattle.label_core.specs.declared.theory.Verdict.TheVariants.{Wide}
-use Rattle.lin_solve.specs.Plain.{plain_compare, plain_relation, plain_literal, plain_literals}
-use Rattle.lin_solve.specs.Shown.{AllKept, plain_chain, Answers}
+use Rattle.lin_solve.specs.Plain.{plain_relation}
 use Rattle.lin_solve.specs.Wholes.{as_whole, wholes_label, wholes_of, IsWholes, KeepsWholes, compare_at, CompareFits}
 
 -- ---- labels
@@ -133,24 +120,24 @@ relation_laws R is = record { refl = itself_related; symm = either; congr = λ x
     either Equal Equal = refl
 
 module _ (R : Relation → Relation → Bool) (apart : IsRelationEq R) (E : Compare → Compare → Bool) (is : IsCompareEq R E) where
-  three : (a b : Compare) → E a b ≡ true → (same_form a.left b.left ≡ true) × (a.relation ≡ b.relation) × (same_form a.right b.right ≡ true)
-  three a b e =
+  pub equal_parts : (a b : Compare) → E a b ≡ true → (same_form a.left b.left ≡ true) × (a.relation ≡ b.relation) × (same_form a.right b.right ≡ true)
+  equal_parts a b e =
       let outer = both_true (same_form a.left b.left) (R a.relation b.relation && same_form a.right b.right) (sym (is.parts a b) ∙ e) in
       let inner = both_true (R a.relation b.relation) (same_form a.right b.right) outer.1 in
       (outer.0, one_relation R apart a.relation b.relation inner.0, inner.1)
 
   pub equal_hold : (a b : Compare) (l : Label) → E a b ≡ true → compare_at a l ≡ compare_at b l
   equal_hold a b l e =
-      let p = three a b e in λ i. related (plain_relation (p.1 i)) (same_value a.left b.left (wholes_of l) p.0 i) (same_value a.right b.right (wholes_of l) p.2 i)
+      let p = equal_parts a b e in λ i. related (plain_relation (p.1 i)) (same_value a.left b.left (wholes_of l) p.0 i) (same_value a.right b.right (wholes_of l) p.2 i)
 
   pub equal_fit : (n : ℕ) (a b : Compare) → E a b ≡ true → CompareFits n a → CompareFits n b
-  equal_fit n a b e fits = let p = three a b e in (over_same n a.left b.left p.0 fits.0, over_same n a.right b.right p.2 fits.1)
+  equal_fit n a b e fits = let p = equal_parts a b e in (over_same n a.left b.left p.0 fits.0, over_same n a.right b.right p.2 fits.1)
 
   pub compare_laws : IsEquivalence E
   compare_laws = record {
     refl = λ a. is.parts a a ∙ (λ i. same_laws.refl a.left i && ((relation_laws R apart).refl a.relation i && same_laws.refl a.right i));
     symm = λ a b. is.parts a b ∙ (λ i. same_laws.symm a.left b.left i && ((relation_laws R apart).symm a.relation b.relation i && same_laws.symm a.right b.right i)) ∙ sym (is.parts b a);
-    congr = λ a b c e. let p = three a b e in is.parts a c ∙ (λ i. same_laws.congr a.left b.left c.left p.0 i && ((relation_laws R apart).congr a.relation b.relation c.relation (ap (λ r. R r b.relation) p.1 ∙ (relation_laws R apart).refl b.relation) i && same_laws.congr a.right b.right c.right p.2 i)) ∙ sym (is.parts b c);
+    congr = λ a b c e. let p = equal_parts a b e in is.parts a c ∙ (λ i. same_laws.congr a.left b.left c.left p.0 i && ((relation_laws R apart).congr a.relation b.relation c.relation (ap (λ r. R r b.relation) p.1 ∙ (relation_laws R apart).refl b.relation) i && same_laws.congr a.right b.right c.right p.2 i)) ∙ sym (is.parts b c);
   }
 
 module _ {A : Type 0} (E : A → A → Bool) (laws : IsEquivalence E) where

@@ -3,3 +3,4 @@ pub mod Tried
 pub mod Shown
 pub mod Wholes
 pub mod Equal
+pub mod Kept

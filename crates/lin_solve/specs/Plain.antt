@@ -1,9 +1,8 @@
 -- Comparisons, literals and remainders as plain data.
-use Rattle.std.specs.Prelude.{ℕ, ℤ, ◌<◌, ◌≤◌, List, [], ◌∷◌, map, unsigned_abs, Bool}
+use Rattle.std.specs.Prelude.{◌≡◌, ℕ, ℤ, ◌<◌, ◌≤◌, List, map, unsigned_abs, Bool}
 use Rattle.std.specs.List.{All}
 use Rattle.math_cooper.specs.Line.{AtLeastZero}
 use Rattle.math_cooper.specs.System.{Condition}
-use Rattle.model_form.specs.Form.{Form}
 use Rattle.model_form.specs.Sums.{sign}
 use Rattle.model_chain.specs.Literals as plain
 use Rattle.label_core.specs.declared.theory.Lit.{Lit}
@@ -38,6 +37,10 @@ plain_term t = record { inner = t.inner; divisor = t.divisor }
 
 abbrev pub ArePositive : List Remainder → Type 0
 ArePositive rs = All (λ r. 0 < r.divisor) rs
+
+-- they are the remainders of the literals
+abbrev pub AreTheirs : List (Lit Compare) → List Remainder → Type 0
+AreTheirs ls known = (plain_known known ≡ plain.remainders_in (plain_literals ls)) × ArePositive known
 
 -- each number is at most so great
 abbrev pub Within : ℕ → List ℤ → Type 0

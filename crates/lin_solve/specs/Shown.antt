@@ -1,5 +1,5 @@
 -- Chains as plain data, and what an answer says.
-use Rattle.std.specs.Prelude.{ℕ, ℤ, ◌≡◌, Bool, List, ◌++◌, map, length, FitsSigned}
+use Rattle.std.specs.Prelude.{ℤ, ◌≡◌, Bool, List, ◌++◌, map, length, FitsSigned}
 use Rattle.std.specs.Int.{w64}
 use Rattle.std.specs.List.{All}
 use Rattle.math_cooper.specs.Puts as plain
@@ -30,9 +30,9 @@ choices_of ls sides ps = side_choices 0 ls sides ++ map chains.take_put ps
 abbrev pub AllKept : List ℤ → Type 0
 AllKept us = All (FitsSigned w64) us
 
--- values of the eight fields at which the literals hold, that there are none, or a chain of the literals that passes
--- its width; where it is far, no values of 64 bits satisfy the literals
-abbrev pub Answers : {V : Type 0} → (V → List ℤ) → List (Lit Compare) → Verdict V Chain → Type 0
-Answers values_of ls (Sat v) = (length (values_of v) ≡ 8) × HoldsAll (plain_literals ls) (values_of v)
-Answers values_of ls Unsat = (us : List ℤ) → length us ≡ 8 → HoldsAll (plain_literals ls) us → ⊥
-Answers values_of ls (Wide c) = (c.literals.items ≡ ls) × Passes c.bits (plain_chain c) × (IsFar (plain_chain c) → (us : List ℤ) → length us ≡ 8 → AllKept us → HoldsAll (plain_literals ls) us → ⊥)
+-- values of the eight fields at which the literals hold, that there are none, or a chain that passes its width, of such
+-- literals; where it is far, no values of 64 bits satisfy the literals
+abbrev pub Answers : {V : Type 0} → (List (Lit Compare) → Type 0) → (V → List ℤ) → List (Lit Compare) → Verdict V Chain → Type 0
+Answers Are values_of ls (Sat v) = (length (values_of v) ≡ 8) × HoldsAll (plain_literals ls) (values_of v)
+Answers Are values_of ls Unsat = (us : List ℤ) → length us ≡ 8 → HoldsAll (plain_literals ls) us → ⊥
+Answers Are values_of ls (Wide c) = Are c.literals.items × Passes c.bits (plain_chain c) × (IsFar (plain_chain c) → (us : List ℤ) → length us ≡ 8 → AllKept us → HoldsAll (plain_literals ls) us → ⊥)

@@ -7,6 +7,7 @@ ghost use Rattle.lin_solve.specs.Plain.{plain_literals};
 ghost use Rattle.lin_solve.specs.Shown.{plain_choice, choices_of};
 
 use crate::compare::Compare;
+use crate::repeats::copy_literal;
 use crate::system::{needs_side, side_at, step_on};
 use crate::tried::Stuck;
 use cooper_solve::Put;
@@ -36,10 +37,7 @@ fn copy_literals(alloc: Global, literals: &[Lit<Compare>]) -> Result<Vec<Lit<Com
 {
     let mut out = Vec::new(alloc);
     for literal in literals {
-        out.push(Lit {
-            atom: literal.atom.copy(alloc)?,
-            sign: literal.sign,
-        })?;
+        out.push(copy_literal(alloc, literal)?)?;
     }
     Ok(out)
 }

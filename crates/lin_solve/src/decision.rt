@@ -4,12 +4,15 @@ ghost use Rattle.std.specs.Prelude.{◌≡◌, ◌<◌, ◌^◌, ◌++◌, [], I
 ghost use Rattle.model_chain.specs.Literals.{AreLiteralsOver, count_sides};
 ghost use Rattle.model_chain.specs.Chains.{first_system, count_variables};
 ghost use Rattle.cooper_solve.specs.Told.{IsFarOff, puts_of};
-ghost use Rattle.lin_solve.specs.Plain.{plain_literals};
+ghost use Rattle.lin_solve.specs.Plain.{plain_literals, AreTheirs};
 ghost use Rattle.lin_solve.specs.Shown.{Answers};
+ghost use Rattle.lin_solve.specs.Kept.{AreKept};
 
 use crate::chain::{Chain, chain_of};
 use crate::compare::Compare;
+use crate::numbering::{Remainder, remainders_of};
 use crate::over::are_over;
+use crate::repeats::{are_different, once, sided_stand_last};
 use crate::system::{needs_side, step_on};
 use crate::tried::{Stuck, Tried, try_sides};
 use fast_fault::Memory;
@@ -31,36 +34,51 @@ fn count_needed(literals: &[Lit<Compare>]) -> usize
 fn decide_bounded(
     alloc: Global,
     literals: &[Lit<Compare>],
+    known: &[Remainder],
     count: usize,
     far: &Stuck,
 ) -> Result<Verdict<Vec<i64>, Chain>, Memory>
+    requires known { AreTheirs literals.now known.now }
     requires over { AreLiteralsOver 8 (plain_literals literals.now) }
     requires count { count ≡ count_sides (plain_literals literals.now) }
     requires sides { length far.now.sides.items ≡ count }
     requires far { IsFarOff (count_variables (plain_literals literals.now)) (first_system (plain_literals literals.now) false far.now.sides.items) (puts_of far.now.puts.items) }
-    ensures { IfOk result (Answers vec_items literals.now) }
+    ensures { IfOk result (Answers (λ ls. ls ≡ literals.now) vec_items literals.now) }
 {
     let none = Vec::new(alloc);
-    match try_sides(alloc, literals, true, &none, count)? {
+    match try_sides(alloc, literals, known, true, &none, count)? {
         Tried::Solved(values) => Ok(Verdict::Sat(values)),
         Tried::Wide(wide) => Ok(Verdict::Wide(chain_of(alloc, literals, true, 128, &wide)?)),
         Tried::Unsat => Ok(Verdict::Wide(chain_of(alloc, literals, false, 64, far)?)),
-        // A bounded system has no such solution, which isn't proved.
-        Tried::Far(_far) => Err(Memory),
+        // A bounded system has no such solution.
+        Tried::Far(_far) => unreachable!(),
     }
 }
 
-/// Decides whether the literals hold at some values of the eight fields.
-pub fn decide(alloc: Global, literals: &[Lit<Compare>]) -> Result<Verdict<Vec<i64>, Chain>, Memory>
-    ensures { IfOk result (Answers vec_items literals.now) }
+// Decides them all, in the order in which they are given.
+fn decide_all(alloc: Global, literals: &[Lit<Compare>]) -> Result<Verdict<Vec<i64>, Chain>, Memory>
+    ensures { IfOk result (Answers (λ ls. ls ≡ literals.now) vec_items literals.now) }
 {
     are_over(literals);
+    let known = remainders_of(alloc, literals)?;
     let count = count_needed(literals);
     let none = Vec::new(alloc);
-    match try_sides(alloc, literals, false, &none, count)? {
+    match try_sides(alloc, literals, &known, false, &none, count)? {
         Tried::Solved(values) => Ok(Verdict::Sat(values)),
         Tried::Wide(wide) => Ok(Verdict::Wide(chain_of(alloc, literals, false, 128, &wide)?)),
         Tried::Unsat => Ok(Verdict::Unsat),
-        Tried::Far(far) => decide_bounded(alloc, literals, count, &far),
+        Tried::Far(far) => decide_bounded(alloc, literals, &known, count, &far),
     }
+}
+
+/// Decides whether the literals hold at some values of the eight fields. Its chain has each of them once, negated
+/// equalities last: so sides are tried where all else is known.
+pub fn decide(alloc: Global, literals: &[Lit<Compare>]) -> Result<Verdict<Vec<i64>, Chain>, Memory>
+    ensures { IfOk result (Answers (AreKept ⟦<Compare as PartialEq>⟧.eq literals.now) vec_items literals.now) }
+{
+    if are_different(literals) && sided_stand_last(literals) {
+        return decide_all(alloc, literals);
+    }
+    let kept = once(alloc, literals)?;
+    decide_all(alloc, &kept)
 }

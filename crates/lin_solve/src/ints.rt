@@ -49,9 +49,11 @@ impl Theory for Ints {
     type Chain = Chain;
 
     ghost use Rattle.std.specs.Prelude.{◌≡◌, refl};
+    ghost use Rattle.model_chain.specs.Each.{EachTwo};
     ghost use Rattle.model_chain.specs.Chains.{Passes, IsFar};
     ghost use Rattle.label_core.specs.Atoms.{EachHasEqual};
     ghost use Rattle.label_core.specs.Lit.{atoms_of};
+    ghost use Rattle.lin_solve.specs.Plain.{plain_literals};
     ghost use Rattle.lin_solve.specs.Shown.{plain_chain};
     ghost use Rattle.lin_solve.specs.Wholes.{wholes_label, compare_at, IsWholes, KeepsWholes, CompareFits};
     ghost use Rattle.lin_solve.specs.Equal.{equal_hold, equal_fit, equal_wholes, kept_wholes, among_grows, compare_laws};
@@ -66,7 +68,7 @@ impl Theory for Ints {
 
     ghost keeps_label = { λ t. KeepsWholes t.fields };
 
-    ghost chain_over = { λ t atoms c. EachHasEqual ⟦<Compare as PartialEq>⟧.eq (atoms_of c.literals.items) atoms };
+    ghost chain_over = { λ t atoms c. EachHasEqual ⟦<Compare as PartialEq>⟧.eq (atoms_of c.literals.items) atoms × EachTwo (λ l m. ¬ (l ≡ m)) (plain_literals c.literals.items) };
 
     ghost chain_passes = { λ t c. Passes c.bits (plain_chain c) };
 
@@ -80,7 +82,7 @@ impl Theory for Ints {
 
     ghost keeps_labels = { λ t. kept_wholes t.fields };
 
-    ghost chain_grows = { λ t atoms more c. among_grows ⟦<Compare as PartialEq>⟧.eq (compare_laws ⟦<Relation as PartialEq>⟧.eq (record { less = refl; at_most = refl; equal = refl; less_at_most = refl; less_equal = refl; at_most_less = refl; at_most_equal = refl; equal_less = refl; equal_at_most = refl }) ⟦<Compare as PartialEq>⟧.eq (record { parts = λ _ _. refl })) (atoms_of c.literals.items) atoms more };
+    ghost chain_grows = { λ t atoms more c each over. (among_grows ⟦<Compare as PartialEq>⟧.eq (compare_laws ⟦<Relation as PartialEq>⟧.eq (record { less = refl; at_most = refl; equal = refl; less_at_most = refl; less_equal = refl; at_most_less = refl; at_most_equal = refl; equal_less = refl; equal_at_most = refl }) ⟦<Compare as PartialEq>⟧.eq (record { parts = λ _ _. refl })) (atoms_of c.literals.items) atoms more each over.0, over.1) };
 
     fn holds(&self, atom: &Compare, value: &Vec<i64>) -> bool {
         atom.holds(value)
@@ -95,7 +97,7 @@ impl Theory for Ints {
             Verdict::Sat(values) => Ok(Verdict::Sat(first(alloc, &values, self.fields)?)),
             Verdict::Unsat => Ok(Verdict::Unsat),
             Verdict::Wide(chain) => {
-                are_over(literals);
+                are_over(&chain.literals);
                 Ok(Verdict::Wide(chain))
             }
         }

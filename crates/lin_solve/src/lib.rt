@@ -1,7 +1,7 @@
 //! Conjunctions of comparisons of forms, decided by Cooper's method.
 //!
 //! Its promise: `decide` gives values that satisfy the literals, or says that no whole numbers do, or shows a chain of
-//! the literals that passes its width.
+//! the literals, each of them once, that passes its width.
 #![tactic(auto)]
 
 mod chain;
@@ -10,6 +10,7 @@ mod decision;
 mod ints;
 mod numbering;
 mod over;
+mod repeats;
 mod rows;
 mod system;
 mod tried;

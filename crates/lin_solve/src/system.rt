@@ -4,11 +4,10 @@ ghost use Rattle.std.specs.Prelude.{◌≡◌, ◌+◌, ◌-◌, ◌^◌, ◌<�
 ghost use Rattle.model_form.specs.Form.{height};
 ghost use Rattle.model_chain.specs.Literals.{over, needs_side as needs, conditions_of, literals_conditions, remainder_conditions, remainders_conditions, bound_conditions, bounds_conditions, has_field as field_in_form, field_in, width, zeros, add_at as with_at, remainders_in};
 ghost use Rattle.model_chain.specs.Chains.{first_system as first, count_variables, least, greatest};
-ghost use Rattle.lin_solve.specs.Plain.{plain_known, plain_remainder, plain_literal, plain_literals, ArePositive, single};
-ghost use Rattle.model_chain.specs.Laws.{AreDivisorsPositive};
+ghost use Rattle.lin_solve.specs.Plain.{plain_known, plain_remainder, plain_literal, plain_literals, ArePositive, AreTheirs, single};
 
 use crate::compare::{Compare, Relation};
-use crate::numbering::{Remainder, remainders_of};
+use crate::numbering::Remainder;
 use crate::rows::{add_at, add_form, empty_row, over as row_over};
 use cooper_solve::{Constraint, Relation as Kind};
 use fast_fault::Memory;
@@ -261,20 +260,21 @@ pub(crate) struct System {
     pub(crate) count: usize,
 }
 
-/// The system that the literals with these sides begin with, bounded or not.
+/// The system that the literals, which have these remainders, with these sides begin with, bounded or not.
 pub(crate) fn first_system(
     alloc: Global,
     literals: &[Lit<Compare>],
+    known: &[Remainder],
     bounded: bool,
     sides: &[bool],
 ) -> Result<System, Memory>
-    ensures { IfOk result (λ s. (s.conditions.items ≡ first (plain_literals literals.now) bounded sides.now) × (s.count ≡ count_variables (plain_literals literals.now)) × AreDivisorsPositive (plain_literals literals.now)) }
+    requires { AreTheirs literals.now known.now }
+    ensures { IfOk result (λ s. (s.conditions.items ≡ first (plain_literals literals.now) bounded sides.now) × (s.count ≡ count_variables (plain_literals literals.now))) }
 {
-    let known = remainders_of(alloc, literals)?;
     let mut out = Vec::new(alloc);
-    push_literals(alloc, &known, literals, sides, &mut out)?;
-    push_remainders(alloc, &known, &mut out)?;
-    push_bounds(alloc, &known, literals, bounded, &mut out)?;
+    push_literals(alloc, known, literals, sides, &mut out)?;
+    push_remainders(alloc, known, &mut out)?;
+    push_bounds(alloc, known, literals, bounded, &mut out)?;
     let count = 8 + known.len();
     Ok(System {
         conditions: out,

@@ -79,8 +79,8 @@ fn told(alloc: Global, literals: &[Lit<Compare>]) -> Result<&'static str, Memory
         }
         Verdict::Unsat => Ok("none"),
         Verdict::Wide(chain) => {
-            if chain.literals.len() != literals.len() {
-                return Ok("a chain of other literals");
+            if chain.literals.len() < literals.len() {
+                return Ok("a chain of fewer literals");
             }
             if chain.bits == 64 {
                 Ok("far")
@@ -138,6 +138,11 @@ fn decides_linear_literals(rt: HostRuntime) -> Result<(), Fail> {
     let y: &[(i64, u32)] = &[(1, 1)];
     let cases: &[(&str, &[Row<'_>], &str)] = &[
         ("x > 2^63 - 1", &[pair(MOST, &[], Less, 0, x)], "far"),
+        (
+            "x > 2^63 - 1, twice",
+            &[pair(MOST, &[], Less, 0, x), pair(MOST, &[], Less, 0, x)],
+            "a chain of fewer literals",
+        ),
         (
             "2x = 2y + 1",
             &[pair(0, &[(2, 0)], Equal, 1, &[(2, 1)])],

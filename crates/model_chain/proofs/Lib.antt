@@ -5,4 +5,6 @@ pub mod Exact
 pub mod Sided
 pub mod Made
 pub mod Widths
+pub mod Nought
+pub mod Missing
 pub mod Meaning

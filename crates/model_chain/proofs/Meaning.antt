@@ -1,5 +1,5 @@
 -- What chains say of values.
-use Rattle.std.proofs.Common.{◌≡◌, List, ◌++◌, length, map, take, Bool, true, false, arith, sym, subst}
+use Rattle.std.proofs.Common.{◌≡◌, ◌⊎◌, inl, inr, List, ◌++◌, length, map, take, Bool, true, false, arith, refl, sym, subst}
 use Rattle.std.proofs.Math.IntN.{ℤ, pos}
 use Rattle.std.specs.Prelude.{◌↔◌, FitsSigned}
 use Rattle.std.specs.Int.{w64}
@@ -9,13 +9,17 @@ use Rattle.math_cooper.specs.Puts.{Put, IsSolution}
 use Rattle.math_cooper.proofs.Steps.{solution_solves}
 use Rattle.model_form.specs.Form.{value, modulo}
 use Rattle.model_form.proofs.Over.{AgreeBelow}
-use Rattle.model_chain.specs.Literals.{Literal, AreLiteralsOver, HoldsAll, remainders_in, count_sides}
+use Rattle.model_chain.specs.Literals.{Literal, AreLiteralsOver, HoldsAll, remainders_in, count_sides, field_in}
 use Rattle.model_chain.specs.Chains.{Chain, first_system, count_variables, sides_in, puts_in, IsFar, IsOutside}
 use Rattle.model_chain.specs.Sides.{HoldWith}
 use Rattle.model_chain.specs.Laws.{AreDivisorsPositive}
 use Rattle.model_chain.proofs.Exact.{first_out, first_in, hold_agree, OccurringFit}
 use Rattle.model_chain.proofs.Sided.{hold_out, hold_in}
 use Rattle.model_chain.proofs.Widths.{first_wide}
+use Rattle.model_chain.proofs.Nought.{nought}
+use Rattle.model_chain.proofs.Missing.{first_missing}
+use Rattle.std.proofs.lemmas.Bool.{cases_Bool}
+use Rattle.std.proofs.lemmas.Int.{fits_signed_from_abs}
 
 agree_front : (us rest : List ℤ) → length us ≡ 8 → AgreeBelow 8 (us ++ rest) us
 agree_front us rest e k l = get_or_append_left us rest (pos 0) k (omega arith)
@@ -48,3 +52,13 @@ pub far_has_values : (C : Chain) → AreLiteralsOver 8 C.literals → IsFar C �
 far_has_values C over (b, n, c, (vs, s, out)) =
     let h = solution_holds C.literals false (sides_in C.choices) (puts_in C.choices) vs over s in
     (take 8 vs, h.0, hold_out C.literals (sides_in C.choices) (take 8 vs) h.1, outside_take vs out)
+
+-- a bounded system has no solution outside the label range
+pub bounded_inside : (ls : List Literal) (sides : List Bool) (ps : List Put) (vs : List ℤ) → AreLiteralsOver 8 ls → IsSolution (count_variables ls) (first_system ls true sides) ps vs → ¬ (IsOutside vs)
+bounded_inside ls sides ps vs over s (k, l, out) = by (cases_Bool (field_in k ls))
+  where
+    by : (field_in k ls ≡ true) ⊎ (field_in k ls ≡ false) → ⊥
+    by (inl is) = out ((solution_holds ls true sides ps vs over s).2 refl k l is)
+    by (inr is) =
+        let e = nought (count_variables ls) (first_system ls true sides) ps vs k (omega arith) (first_wide ls true sides) (first_missing k l ls true sides is) s in
+        out (subst (FitsSigned w64) (sym e) (fits_signed_from_abs w64 (pos 0) (omega arith)))

@@ -1,3 +1,4 @@
+pub mod Each
 pub mod Literals
 pub mod Chains
 pub mod Sides

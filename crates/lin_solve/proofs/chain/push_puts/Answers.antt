@@ -1,4 +1,4 @@
-use Rattle.std.proofs.Common.{◌≡◌, ℕ, ◌+◌, ◌-◌, get_or, ◌++◌, ◌∷◌, [], map, drop, length, ap, sym, ◌∙◌, arith, refl}
+use Rattle.std.proofs.Common.{◌+◌, ◌-◌, get_or, ◌++◌, ◌∷◌, [], map, drop, length, ap, sym, ◌∙◌}
 use Rattle.std.proofs.lemmas.List.{map-append}
 use Rattle.model_chain.specs.Chains.{take_put}
 use Rattle.cooper_solve.specs.Told.{put_of, puts_of}

@@ -1,55 +1,15 @@
-use Rattle.std.proofs.Common.{◌≡◌, ℕ, ◌<◌, [], List, Bool, true, false, length, refl, ap, sym, ◌∙◌, subst, arith}
-use Rattle.std.proofs.Math.IntN.{ℤ, pos}
-use Rattle.math_cooper.specs.Puts.{Passes128}
-use Rattle.model_chain.specs.Literals.{count_sides}
-use Rattle.model_chain.specs.Chains.{first_system, count_variables}
-use Rattle.model_chain.proofs.Made.{made}
-use Rattle.cooper_solve.specs.Told.{puts_of}
-use Rattle.lin_solve.specs.Plain.{plain_literals}
-use Rattle.lin_solve.specs.Tried.{TellsSides}
-use Rattle.lin_solve.proofs.Decided.{sat_told, wide_told, unsat_told, unsat_for, kept_at, wide_for, far_for, far_of}
+use Rattle.std.proofs.Common.{rules, refl}
+use Rattle.std.specs.Prelude.{vec_items}
+use Rattle.lin_solve.specs.contracts.compare.ComparePartialEq.TheImpl.{ghosts as compares}
+use Rattle.lin_solve.proofs.Alike.{laws_of_equality, alike}
+use Rattle.lin_solve.proofs.Once.{kept_all, answers_kept}
 use Rattle.lin_solve.proofs.decision.decide.Goals as goal
 
-pub returns-in-Solved : goal.returns-in-Solved
-returns-in-Solved c =
-    let ls = plain_literals c.args.literals.now in
-    let h = c.in_ok-values.ensures {u = tt} in
-    let ss = c.deref.result.now in
-    let e = c.deref.ensures.value ∙ c.new-none.ensures.items in
-    let t = subst (TellsSides ls false ss c.count_needed-count.result) c.in-Solved.is h.0 in
-    sat_told ls false ss c.count_needed-count.result c.in-Solved.values.items e c.are_over.ensures t
+pub returns-then-sided_stand_last : goal.returns-then-sided_stand_last
+returns-then-sided_stand_last c =
+    let ls = c.args.literals.now in
+    answers_kept compares.eq laws_of_equality alike ls ls (kept_all compares.eq laws_of_equality ls (c.if-are_different.ensures.0 refl)) vec_items ls refl c.decide_all.result c.decide_all.ensures
 
-pub returns-in-Wide : goal.returns-in-Wide
-returns-in-Wide c =
-    let ls = plain_literals c.args.literals.now in
-    let h = c.in_ok-values.ensures {u = tt} in
-    let ss = c.deref.result.now in
-    let e = c.deref.ensures.value ∙ c.new-none.ensures.items in
-    let t = subst (TellsSides ls false ss c.count_needed-count.result) c.in-Wide.is h.0 in
-    let w = wide_told ls false ss c.count_needed-count.result c.in-Wide.wide e c.count_needed-count.ensures t in
-    let m = c.in_ok-chain_of-in-Wide.ensures {u = tt} in
-    wide_for c.args.literals.now c.in_ok-chain_of-in-Wide.field-0 false c.in-Wide.wide.sides.items (puts_of c.in-Wide.wide.puts.items) m.0 m.1 m.2 m.3 w.0 w.1 (λ f. absurd (no_false f))
-  where
-    no_false : false ≡ true → ⊥
-    no_false f = subst (λ (b : Bool). is_false b) f tt
-      where
-        is_false : Bool → Type 0
-        is_false true = ⊥
-        is_false false = Unit {0}
-
-pub returns-in-Unsat : goal.returns-in-Unsat
-returns-in-Unsat c =
-    let ls = plain_literals c.args.literals.now in
-    let h = c.in_ok-values.ensures {u = tt} in
-    let ss = c.deref.result.now in
-    let e = c.deref.ensures.value ∙ c.new-none.ensures.items in
-    let t = subst (TellsSides ls false ss c.count_needed-count.result) c.in-Unsat.is h.0 in
-    let none = unsat_told ls false ss c.count_needed-count.result e c.count_needed-count.ensures t in
-    λ us l holds. unsat_for ls false us c.are_over.ensures h.1 none l (λ f. absurd (no_false f)) holds
-  where
-    no_false : false ≡ true → ⊥
-    no_false f = subst (λ (b : Bool). is_false b) f tt
-      where
-        is_false : Bool → Type 0
-        is_false true = ⊥
-        is_false false = Unit {0}
+pub returns : goal.returns
+returns c =
+    answers_kept compares.eq laws_of_equality alike c.args.literals.now c.in_ok-kept.kept.items c.in_ok-kept.ensures vec_items _ (search rules) c.decide_all-2.result c.decide_all-2.ensures

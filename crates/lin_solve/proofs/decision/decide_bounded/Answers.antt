@@ -1,13 +1,11 @@
-use Rattle.std.proofs.Common.{◌≡◌, ℕ, ◌<◌, [], List, Bool, true, false, length, refl, ap, sym, ◌∙◌, subst, arith}
-use Rattle.std.proofs.Math.IntN.{ℤ, pos}
-use Rattle.math_cooper.specs.Puts.{Passes128}
-use Rattle.model_chain.specs.Literals.{count_sides}
-use Rattle.model_chain.specs.Chains.{first_system, count_variables}
+use Rattle.std.proofs.Common.{true, false, refl, ◌∙◌, subst}
 use Rattle.model_chain.proofs.Made.{made}
 use Rattle.cooper_solve.specs.Told.{puts_of}
+use Rattle.model_chain.specs.Literals.{remainders_in}
 use Rattle.lin_solve.specs.Plain.{plain_literals}
+use Rattle.lin_solve.proofs.Pushed.{positives}
 use Rattle.lin_solve.specs.Tried.{TellsSides}
-use Rattle.lin_solve.proofs.Decided.{sat_told, wide_told, unsat_told, unsat_for, kept_at, wide_for, far_for, far_of}
+use Rattle.lin_solve.proofs.Decided.{sat_told, wide_told, unsat_told, unsat_for, kept_at, wide_for, far_for, far_of, far_told}
 use Rattle.lin_solve.proofs.decision.decide_bounded.Goals as goal
 
 pub returns-in-Solved : goal.returns-in-Solved
@@ -16,7 +14,7 @@ returns-in-Solved c =
     let h = c.in_ok-values.ensures {u = tt} in
     let ss = c.deref.result.now in
     let e = c.deref.ensures.value ∙ c.new-none.ensures.items in
-    let t = subst (TellsSides ls true ss c.args.count) c.in-Solved.is h.0 in
+    let t = subst (TellsSides ls true ss c.args.count) c.in-Solved.is h in
     sat_told ls true ss c.args.count c.in-Solved.values.items e c.requires.over t
 
 pub returns-in-Wide : goal.returns-in-Wide
@@ -25,7 +23,7 @@ returns-in-Wide c =
     let h = c.in_ok-values.ensures {u = tt} in
     let ss = c.deref.result.now in
     let e = c.deref.ensures.value ∙ c.new-none.ensures.items in
-    let t = subst (TellsSides ls true ss c.args.count) c.in-Wide.is h.0 in
+    let t = subst (TellsSides ls true ss c.args.count) c.in-Wide.is h in
     let w = wide_told ls true ss c.args.count c.in-Wide.wide e c.requires.count t in
     let m = c.in_ok-chain_of-in-Wide.ensures {u = tt} in
     let far = c.args.far.now in
@@ -39,9 +37,15 @@ returns-in-Unsat c =
     let h = c.in_ok-values.ensures {u = tt} in
     let ss = c.deref.result.now in
     let e = c.deref.ensures.value ∙ c.new-none.ensures.items in
-    let t = subst (TellsSides ls true ss c.args.count) c.in-Unsat.is h.0 in
+    let t = subst (TellsSides ls true ss c.args.count) c.in-Unsat.is h in
     let none = unsat_told ls true ss c.args.count e c.requires.count t in
     let m = c.in_ok-chain_of-in-Unsat.ensures {u = tt} in
     let far = c.args.far.now in
     far_for c.args.literals.now c.in_ok-chain_of-in-Unsat.field-0 far.sides.items (puts_of far.puts.items) m.0 m.1 m.2 m.3 (c.requires.sides ∙ c.requires.count) c.requires.far
-    (λ us l kept holds. unsat_for ls true us c.requires.over h.1 none l (λ f. kept_at us l kept) holds)
+    (λ us l kept holds. unsat_for ls true us c.requires.over (positives c.args.known.now (remainders_in ls) c.requires.known.0 c.requires.known.1) none l (λ f. kept_at us l kept) holds)
+
+pub unreachable-requires : goal.unreachable-requires
+unreachable-requires c =
+    let ls = plain_literals c.args.literals.now in
+    let h = c.in_ok-values.ensures {u = tt} in
+    far_told ls c.deref.result.now c.args.count c.in-Far._far c.requires.over (subst (TellsSides ls true c.deref.result.now c.args.count) c.in-Far.is h)

@@ -1,8 +1,7 @@
-use Rattle.std.proofs.Common.{◌≡◌, length, drop, ◌+◌, ap, sym, subst, ◌∙◌, arith, refl}
-use Rattle.model_form.specs.Form.{height}
-use Rattle.model_chain.specs.Literals.{seen, seen_all, with_one}
+use Rattle.std.proofs.Common.{drop, ◌+◌, ap, sym, ◌∙◌, arith}
+use Rattle.model_chain.specs.Literals.{seen_all, with_one}
 use Rattle.lin_form.specs.Terms.{plain_remainders}
-use Rattle.lin_solve.specs.Plain.{plain_known, plain_term, ArePositive}
+use Rattle.lin_solve.specs.Plain.{plain_known, plain_term}
 use Rattle.lin_solve.proofs.Numbered.{item_lower, item_positive, seen_start, seen_step, seen_end}
 use Rattle.lin_solve.proofs.numbering.+add_form.Goals as goal
 

@@ -1,7 +1,7 @@
-use Rattle.std.proofs.Common.{◌≡◌, length, ◌++◌, ◌∷◌, [], ap, sym, subst, ◌∙◌, arith, refl}
-use Rattle.model_chain.specs.Literals.{place, with_one}
+use Rattle.std.proofs.Common.{◌≡◌, ◌++◌, ◌∷◌, [], ap, ◌∙◌, arith}
+use Rattle.model_chain.specs.Literals.{place}
 use Rattle.lin_solve.specs.declared.numbering.Remainder.{Remainder}
-use Rattle.lin_solve.specs.Plain.{plain_known, plain_term, plain_remainder, ArePositive}
+use Rattle.lin_solve.specs.Plain.{plain_known, plain_term, plain_remainder}
 use Rattle.lin_solve.proofs.Numbered.{with_known, with_new, known_push, positive_push, known_length}
 use Rattle.lin_solve.proofs.numbering.add_one.Goals as goal
 

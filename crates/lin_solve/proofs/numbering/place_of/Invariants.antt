@@ -1,4 +1,4 @@
-use Rattle.std.proofs.Common.{◌≡◌, ◌+◌, length, drop}
+use Rattle.std.proofs.Common.{◌≡◌, ◌+◌, drop}
 use Rattle.model_chain.specs.Literals.{place}
 use Rattle.lin_solve.specs.Plain.{plain_term, plain_known}
 use Rattle.lin_solve.proofs.numbering.place_of.Given as goal

@@ -1,5 +1,4 @@
-use Rattle.std.proofs.Common.{◌≡◌, length, drop, ◌+◌, ap, sym, subst, ◌∙◌, arith, refl, []}
-use Rattle.std.proofs.lemmas.List.Elements.{All-nil}
+use Rattle.std.proofs.Common.{drop, ◌+◌, ap, sym, subst, ◌∙◌, arith}
 use Rattle.model_chain.specs.Literals.{seen, seen_in}
 use Rattle.lin_solve.specs.Plain.{plain_known, plain_literals, ArePositive}
 use Rattle.lin_solve.proofs.Numbered.{literals_step, literals_end}

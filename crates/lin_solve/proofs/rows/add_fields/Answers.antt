@@ -1,18 +1,13 @@
-use Rattle.std.proofs.Common.{◌≡◌, ℕ, ◌+◌, ◌*◌, ◌^◌, ◌<◌, ◌≤◌, length, get_or, drop, true, false, ap, sym, subst, ◌∙◌, arith, refl, rules, to_z, of_z}
-use Rattle.std.proofs.Math.IntN.{ℤ, pos, ◌+ℤ◌, ◌-ℤ◌, ◌*ℤ◌}
-use Rattle.std.specs.Prelude.{unsigned_abs, FitsSigned}
-use Rattle.std.specs.Int.{w64, w128}
-use Rattle.std.proofs.lemmas.Int.{to_z-of_z, ints}
+use Rattle.std.proofs.Common.{◌≡◌, ◌+◌, ◌*◌, ◌^◌, length, get_or, drop, ap, sym, subst, ◌∙◌, arith, rules, to_z, of_z}
+use Rattle.std.proofs.Math.IntN.{pos, ◌*ℤ◌}
+use Rattle.std.specs.Prelude.{FitsSigned}
+use Rattle.std.specs.Int.{w128}
 use Rattle.std.proofs.lemmas.List.{get_or_default}
-use Rattle.model_form.specs.Form.{constant_of, fields_of, remainders_of}
 use Rattle.model_form.specs.Sums.{sign, add_fields}
-use Rattle.model_form.specs.Ranges.{AreFields, AreRemainders, IsCoefficient}
-use Rattle.model_chain.specs.Literals.{add_at, add_places, add_terms, place, zeros}
 use Rattle.lin_form.specs.declared.form.FieldTerm.{FieldTerm}
-use Rattle.lin_form.specs.Terms.{plain_fields, plain_remainders}
-use Rattle.lin_solve.specs.Plain.{Within, plain_known, plain_term}
-use Rattle.lin_solve.proofs.Numbered.{known_length}
-use Rattle.lin_solve.proofs.Filled.{at_past, within_more, within_at, sum_fits, fields_step, fields_end, places_step, places_end, field_coefficient, place_coefficient, within_step, within_start, within_up, few_fields, sound_places, terms_of, constant_small, within_zeros, over_is, place_le, coefficient_back, signed_back, one_row, grown, few_terms}
+use Rattle.lin_form.specs.Terms.{plain_fields}
+use Rattle.lin_solve.specs.Plain.{Within}
+use Rattle.lin_solve.proofs.Filled.{fields_step, field_coefficient, within_up, coefficient_back, signed_back, one_row, grown, few_terms}
 use Rattle.lin_solve.proofs.rows.add_fields.Goals as goal
 
 pub signed-requires : goal.signed-requires

@@ -1,5 +1,4 @@
-use Rattle.std.proofs.Common.{◌≡◌, ◌<◌, arith}
-use Rattle.model_form.specs.Form.{height}
+use Rattle.std.proofs.Common.{arith}
 use Rattle.lin_solve.proofs.Numbered.{item_lower}
 use Rattle.lin_solve.proofs.system.+has_field.Goals as goal
 

@@ -1,4 +1,4 @@
-use Rattle.std.proofs.Common.{◌≡◌, ◌+◌, ◌-◌, ◌<◌, ◌++◌, [], cond, ap, sym, ◌∙◌, arith}
+use Rattle.std.proofs.Common.{◌+◌, ◌-◌, ◌++◌, [], cond, ap, sym, ◌∙◌, arith}
 use Rattle.model_chain.specs.Literals.{field_in, bound_conditions, bounds_conditions}
 use Rattle.model_chain.specs.Chains.{least, greatest}
 use Rattle.lin_solve.specs.Plain.{plain_known, plain_literals}

@@ -1,12 +1,10 @@
-use Rattle.std.proofs.Common.{◌≡◌, ℕ, ◌+◌, ◌*◌, ◌^◌, ◌<◌, ◌≤◌, ◌++◌, ◌∷◌, [], List, length, true, false, ap, sym, subst, ◌∙◌, arith, refl, rules, to_z, of_z}
-use Rattle.std.proofs.Math.IntN.{ℤ, pos, negsuc, ◌+ℤ◌, ◌-ℤ◌, ◌*ℤ◌}
+use Rattle.std.proofs.Common.{◌≡◌, ◌+◌, ◌^◌, ◌<◌, ap, ◌∙◌, arith, rules, to_z}
+use Rattle.std.proofs.Math.IntN.{pos, negsuc, ◌-ℤ◌}
 use Rattle.std.specs.Prelude.{unsigned_abs, FitsSigned}
-use Rattle.std.specs.Int.{w64, w128}
+use Rattle.std.specs.Int.{w128}
 use Rattle.std.proofs.lemmas.Int.{to_z-of_z, ints, fits_signed_from_abs}
-use Rattle.model_form.specs.Form.{constant_of}
-use Rattle.model_form.specs.Sums.{sign}
-use Rattle.model_chain.specs.Literals.{add_at, add_terms, zeros, remainder_conditions}
-use Rattle.lin_solve.specs.Plain.{Within, plain_known, plain_remainder, single}
+use Rattle.model_chain.specs.Literals.{add_at, add_terms}
+use Rattle.lin_solve.specs.Plain.{plain_known, plain_remainder}
 use Rattle.lin_solve.proofs.Filled.{within_up}
 use Rattle.lin_solve.proofs.Pushed.{three_pushed, divided_is, least_is, to_z-small}
 use Rattle.lin_solve.proofs.system.push_remainder.Goals as goal

@@ -1,10 +1,12 @@
-use Rattle.std.proofs.Common.{◌≡◌, ◌-◌, arith, subst, ◌∙◌, ap}
+use Rattle.std.proofs.Common.{◌-◌, arith, subst, ◌∙◌}
 use Rattle.std.proofs.lemmas.Result.{IfOk-weaker}
-use Rattle.model_chain.specs.Laws.{AreDivisorsPositive}
 use Rattle.lin_solve.specs.Plain.{plain_literals}
 use Rattle.lin_solve.specs.Tried.{TellsSides}
 use Rattle.lin_solve.proofs.Tries.{second}
 use Rattle.lin_solve.proofs.tried.+try_sides.Goals as goal
+
+pub returns-then-not-branch : goal.returns-then-not-branch
+returns-then-not-branch t c = λ more k. (c.in_ok-may_hold.ensures {u = tt}) c.if-not-branch.true c.args.bounded more
 
 pub returns : goal.returns
 returns t c =
@@ -14,6 +16,6 @@ returns t c =
     let n = c.args.left in
     let some = c.if-left-eq0.false in
     let h = c.in_ok-values.ensures {u = tt} in
-    let none = subst (TellsSides ls b c.deref.result.now (n - 1)) c.in-Unsat.is h.0 in
-    IfOk-weaker c.try_sides-2.result (λ f. TellsSides ls b c.deref-2.result.now (n - 1) f × AreDivisorsPositive ls) (λ f. TellsSides ls b ss n f × AreDivisorsPositive ls)
-    (λ f k. (second ls b ss c.deref.result.now c.deref-2.result.now (n - 1) n (c.deref.ensures.value ∙ c.in_ok-one.ensures {u = tt}) (c.deref-2.ensures.value ∙ c.in_ok-other.ensures {u = tt}) (omega arith) none f k.0, k.1)) c.try_sides-2.ensures
+    let none = subst (TellsSides ls b c.deref.result.now (n - 1)) c.in-Unsat.is h in
+    IfOk-weaker c.try_sides-2.result (TellsSides ls b c.deref-2.result.now (n - 1)) (TellsSides ls b ss n)
+    (λ f k. second ls b ss c.deref.result.now c.deref-2.result.now (n - 1) n (c.deref.ensures.value ∙ c.in_ok-one.ensures {u = tt}) (c.deref-2.ensures.value ∙ c.in_ok-other.ensures {u = tt}) (omega arith) none f k) c.try_sides-2.ensures

@@ -1,5 +1,5 @@
 use Rattle.std.proofs.lemmas.Result.{IfOk-weaker}
-use Rattle.lin_solve.proofs.Labels.{copy_equal}
+use Rattle.lin_solve.proofs.Alike.{copy_equal}
 use Rattle.lin_solve.proofs.ints.IntsTheory.copy_atom.Goals as goal
 
 pub returns : goal.returns

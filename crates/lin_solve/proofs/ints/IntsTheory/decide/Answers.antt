@@ -1,6 +1,7 @@
-use Rattle.std.proofs.Common.{ap, take, ◌∙◌}
-use Rattle.std.proofs.Math.IntN.{ℤ}
-use Rattle.lin_solve.proofs.Labels.{first_satisfies, none_satisfies, wide_shown, laws_of_equality}
+use Rattle.std.proofs.Common.{ap, take, ◌∙◌, subst}
+use Rattle.model_chain.specs.Literals.{AreLiteralsOver}
+use Rattle.lin_solve.specs.Plain.{plain_literals}
+use Rattle.lin_solve.proofs.Labels.{first_satisfies, none_satisfies, wide_shown}
 use Rattle.lin_solve.proofs.ints.IntsTheory.decide.Goals as goal
 
 pub returns-in_ok-first-in-Sat : goal.returns-in_ok-first-in-Sat
@@ -15,4 +16,4 @@ returns-in-Unsat c = let t = c.args.self.now in none_satisfies t.fields t.few c.
 pub returns-in-Wide : goal.returns-in-Wide
 returns-in-Wide c =
     let t = c.args.self.now in
-    wide_shown t.fields t.few c.args.literals.now c.requires _ laws_of_equality c.in-Wide.chain c.are_over.ensures (rw c.in-Wide.is at c.in_ok-values.ensures)
+    wide_shown t.fields t.few c.args.literals.now c.requires c.in-Wide.chain (subst (λ ls. AreLiteralsOver 8 (plain_literals ls)) c.deref-in-Wide.ensures.value c.are_over.ensures) (rw c.in-Wide.is at c.in_ok-values.ensures)

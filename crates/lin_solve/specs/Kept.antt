@@ -1,0 +1,31 @@
+-- Literals of which none is given twice.
+use Rattle.std.specs.Prelude.{◌≡◌, Bool, false, ◌&&◌, List, All, IsTrue}
+use Rattle.std.specs.Bool.{beq}
+use Rattle.model_chain.specs.Each.{EachTwo}
+use Rattle.model_chain.specs.Literals.{needs_side}
+use Rattle.label_core.specs.Atoms.{has_equal, EachHasEqual}
+use Rattle.label_core.specs.declared.theory.Lit.{Lit}
+use Rattle.lin_solve.specs.declared.compare.Compare.{Compare}
+use Rattle.lin_solve.specs.Plain.{plain_literal}
+
+module _ (E : Compare → Compare → Bool) where
+  -- whether they say the same of equal comparisons
+  abbrev pub is_same : Lit Compare → Lit Compare → Bool
+  is_same l m = beq l.sign m.sign && E l.atom m.atom
+
+  -- no two of them are the same
+  abbrev pub AreDifferent : List (Lit Compare) → Type 0
+  AreDifferent ls = EachTwo (λ l m. is_same l m ≡ false) ls
+
+  -- each of the first once: they are the same literals, but no two of the second are the same
+  pub record AreKept (ls ks : List (Lit Compare)) : Type 0 where
+    pub among : EachHasEqual is_same ks ls
+    pub each : EachHasEqual is_same ls ks
+    pub once : AreDifferent ks
+
+  -- those of the first that are negated equalities, or that are none, came to the others; of these none was lost
+  pub record Keeps (ls : List (Lit Compare)) (sided : Bool) (old ks : List (Lit Compare)) : Type 0 where
+    pub among : EachHasEqual is_same old ls → EachHasEqual is_same ks ls
+    pub each : All (λ l. needs_side (plain_literal l) ≡ sided → IsTrue (has_equal is_same ks l)) ls
+    pub grown : (l : Lit Compare) → IsTrue (has_equal is_same old l) → IsTrue (has_equal is_same ks l)
+    pub once : AreDifferent old → AreDifferent ks
