@@ -7,6 +7,7 @@
 mod formula;
 mod labels;
 mod pair;
+mod same;
 mod theory;
 
 pub use formula::Formula;
