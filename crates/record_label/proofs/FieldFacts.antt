@@ -1,5 +1,11 @@
 -- The value of a field by its number within its sort.
-use Rattle.std.proofs.Common.{◌≡◌, ◌<◌, ℕ, suc, Bool, true, false, cond, List, [], ◌∷◌, map, get_or, Option, Some, None, refl, sym, ◌∙◌, subst, arith}
+use Rattle.std.proofs.Math.IntN.{ℤ, pos}
+use Rattle.std.proofs.Math.ListN.{set}
+use Rattle.std.proofs.lemmas.Bool.{eqb-true}
+use Rattle.std.proofs.lemmas.Bool.Decides.{nat_tests}
+use Rattle.std.proofs.lemmas.Grind.{get_or-set_at}
+use Rattle.std.proofs.lemmas.List.{get_or-set_other}
+use Rattle.std.proofs.Common.{◌≡◌, ◌≢◌, ◌<◌, ◌+◌, ◌==◌, length, ap, ◌⊎◌, inl, inr, ℕ, suc, Bool, true, false, cond, List, [], ◌∷◌, map, get_or, Option, Some, None, refl, sym, ◌∙◌, subst, arith}
 use Rattle.model_tree.specs.Label.{Field, whole, truth, text}
 use Rattle.model_tree.specs.Signature.{Sort, wholes, truths, texts, PlainField, sort_of}
 use Rattle.model_label.specs.Fields.{same_name, same_sort, sort_at, is_field_of, has_field, number_at, value_at}
@@ -68,3 +74,28 @@ one_of_two (Some texts) e = cc
 -- a field that is a truth value is no text
 pub truth_no_text : (fields : List PlainField) (name : List ℕ) → has_field fields truths name ≡ true → has_field fields texts name ≡ false
 truth_no_text fields name e = one_of_two (sort_at fields name) e
+
+no_whole_of : (o : Option Sort) → (is_field_of truths o ≡ true) ⊎ (is_field_of texts o ≡ true) → is_field_of wholes o ≡ false
+no_whole_of None h = refl
+no_whole_of (Some wholes) (inl e) = cc
+no_whole_of (Some wholes) (inr e) = cc
+no_whole_of (Some truths) h = refl
+no_whole_of (Some texts) h = refl
+
+-- a field that is a truth value or a text is no whole number
+pub truth_no_whole : (fields : List PlainField) (name : List ℕ) → has_field fields truths name ≡ true → has_field fields wholes name ≡ false
+truth_no_whole fields name e = no_whole_of (sort_at fields name) (inl e)
+
+pub text_no_whole : (fields : List PlainField) (name : List ℕ) → has_field fields texts name ≡ true → has_field fields wholes name ≡ false
+text_no_whole fields name e = no_whole_of (sort_at fields name) (inr e)
+
+-- one more value written into a list
+pub one_more : (ws ns : List ℤ) (k : ℕ) (z : ℤ) → length ws ≡ 8 → k < 8 → z ≡ get_or ns k (pos 0) → ((j : ℕ) → j < k → get_or ws j (pos 0) ≡ get_or ns j (pos 0)) → (j : ℕ) → j < k + 1 → get_or (set ws k z) j (pos 0) ≡ get_or ns j (pos 0)
+one_more ws ns k z many low is before j l = by (j == k) refl
+  where
+    by : (b : Bool) → (j == k) ≡ b → get_or (set ws k z) j (pos 0) ≡ get_or ns j (pos 0)
+    by true e = let here : j ≡ k = eqb-true j k e in get_or-set_at ws k j z (pos 0) here (omega (arith, many, low)) ∙ is ∙ ap (λ i. get_or ns i (pos 0)) (sym here)
+    by false e = let other : j ≢ k = λ h. absurd (no h e) in get_or-set_other ws k j z (pos 0) other ∙ before j (grind (arith, nat_tests))
+      where
+        no : j ≡ k → (j == k) ≡ false → ⊥
+        no h f = let g : (k == k) ≡ false = subst (λ i. (i == k) ≡ false) h f in absurd (grind (arith, nat_tests))

@@ -2,3 +2,10 @@ pub mod RowFacts
 pub mod ExprParts
 pub mod FieldFacts
 pub mod GuardFacts
+pub mod FormFacts
+pub mod FitFacts
+pub mod MapFacts
+pub mod PutFacts
+pub mod CopyFacts
+pub mod LabelFacts
+pub mod EntryFacts

@@ -1,13 +1,18 @@
 //! The formula of a label expression.
 
-ghost use Rattle.std.specs.Prelude.{◌≡◌, ◌≤◌, [], ◌∷◌, true, IfOk, Some, None, cond, length, map, All};
+ghost use Rattle.std.specs.Prelude.{◌≡◌, ◌≤◌, [], ◌∷◌, ◌++◌, true, IfOk, MatchResult, Some, None, cond, length, map};
 ghost use Rattle.model_tree.specs.Formula as plain;
-ghost use Rattle.model_label.specs.Tests.{is_test, is_text};
+ghost use Rattle.model_label.specs.Tests.{is_text};
+ghost use Rattle.model_guard.specs.Forms.{form_of, forms_in, forms_in_all, HasOutside};
+ghost use Rattle.model_guard.specs.Guards.{is_guard};
+ghost use Rattle.lin_form.specs.Stops.{StopsAt};
 ghost use Rattle.label_core.specs.Formula.{plain_formula};
 ghost use Rattle.fast_tree.specs.Signatures.{plain_signature};
 ghost use Rattle.fast_syntax.specs.Plain.{plain_expr};
-ghost use Rattle.record_label.specs.Guards.{IsGuardOf, IsFormulaOf, AreFormulasOf, agreement_of, compared_by, comparison_of, side_of};
+ghost use Rattle.record_label.specs.Guards.{IsGuardOf, IsFormulaOf, AreFormulasOf, agreement_of, compared_by, compared_by_forms, comparison_of, is_numeric, side_of};
+ghost use Rattle.record_label.specs.Parts.{unmarked};
 
+use crate::forms::form_of;
 use crate::lookups::{has_field, number_of};
 use crate::rows::RowAtom;
 use fast_fault::Memory;
@@ -16,24 +21,26 @@ use fast_syntax::expressions::{Expr, Node};
 use fast_tree::{Signature, Sort};
 use flat_label::{BoolAtom, TextAtom, TextSide};
 use label_core::{Formula, PairAtom};
+use lin_form::{Form, FormStop};
+use lin_solve::{Compare, Relation};
 use std::alloc::Global;
 
 /// Holds where the formula doesn't.
-fn negation(alloc: Global, formula: Formula<RowAtom>) -> Result<Formula<RowAtom>, Memory>
+pub(crate) fn negation(alloc: Global, formula: Formula<RowAtom>) -> Result<Formula<RowAtom>, Memory>
     ensures { IfOk result (λ made. plain_formula made ≡ plain.negation (plain_formula formula)) }
 {
     Ok(Formula::Not(Box::new(alloc, formula)?))
 }
 
 /// Holds where each of the formulas does.
-fn conjunction(formulas: Vec<Formula<RowAtom>>) -> Formula<RowAtom>
+pub(crate) fn conjunction(formulas: Vec<Formula<RowAtom>>) -> Formula<RowAtom>
     ensures { plain_formula result ≡ plain.all_of (plain.formulas_of (map plain_formula formulas.items)) }
 {
     Formula::And(formulas)
 }
 
 /// Holds where one of the formulas does.
-fn disjunction(formulas: Vec<Formula<RowAtom>>) -> Formula<RowAtom>
+pub(crate) fn disjunction(formulas: Vec<Formula<RowAtom>>) -> Formula<RowAtom>
     ensures { plain_formula result ≡ plain.some_of (plain.formulas_of (map plain_formula formulas.items)) }
 {
     Formula::Or(formulas)
@@ -54,7 +61,11 @@ fn pair(
 }
 
 /// The side that the expression is, if it is a text.
-fn side(alloc: Global, expr: &Expr, signature: &Signature) -> Result<Option<TextSide>, Memory>
+pub(crate) fn side(
+    alloc: Global,
+    expr: &Expr,
+    signature: &Signature,
+) -> Result<Option<TextSide>, Memory>
     requires { length signature.now.fields.items ≤ 8 }
     ensures { IfOk result (λ found. found ≡ cond (is_text (plain_signature signature.now).fields (plain_expr expr.now)) (Some (side_of (plain_signature signature.now).fields (plain_expr expr.now))) None) }
 {
@@ -110,31 +121,91 @@ fn compared(alloc: Global, rel: Rel, formula: Formula<RowAtom>) -> Result<Formul
     }
 }
 
-/// The formula of the expression, which is its guard where the expression is a test.
-#[cycle(formulas)]
-fn formula_of(alloc: Global, expr: &Expr, signature: &Signature) -> Result<Formula<RowAtom>, Memory>
+/// Whether the expression is written as a whole number.
+fn is_numeric(expr: &Expr, signature: &Signature) -> bool
+    ensures { result ≡ is_numeric (plain_signature signature.now).fields (plain_expr expr.now) }
+{
+    match &expr.node {
+        Node::Field(name) => has_field(signature, Sort::Int, name),
+        Node::Num(_) | Node::Minus(_) | Node::Sum(_) | Node::Prod(_) => true,
+        _ => false,
+    }
+}
+
+/// What the comparison asks for of two forms.
+fn compared_forms(
+    alloc: Global,
+    rel: Rel,
+    first: Form,
+    second: Form,
+) -> Result<Formula<RowAtom>, Memory>
+    ensures { IfOk result (λ made. plain_formula made ≡ compared_by_forms rel first second) }
+{
+    let (left, relation, right) = match rel {
+        Rel::Less => (first, Relation::Less, second),
+        Rel::AtMost => (first, Relation::AtMost, second),
+        Rel::Greater => (second, Relation::Less, first),
+        Rel::AtLeast => (second, Relation::AtMost, first),
+        Rel::Equal | Rel::NotEqual => (first, Relation::Equal, second),
+    };
+    let compare = Compare {
+        left,
+        relation,
+        right,
+    };
+    compared(alloc, rel, Formula::Atom(PairAtom::Left(compare)))
+}
+
+/// What the comparison asks for of two whole numbers.
+fn compared_numbers(
+    alloc: Global,
+    rel: Rel,
+    left: &Expr,
+    right: &Expr,
+    signature: &Signature,
+) -> Result<Formula<RowAtom>, FormStop>
     requires { length signature.now.fields.items ≤ 8 }
-    ensures { IfOk result (λ made. IsFormulaOf (plain_signature signature.now).fields (plain_expr expr.now) (plain_formula made)) }
+    ensures { MatchResult result (λ made. plain_formula made ≡ compared_by_forms rel (form_of (plain_signature signature.now).fields (plain_expr left.now)) (form_of (plain_signature signature.now).fields (plain_expr right.now))) (λ stop. StopsAt (HasOutside (forms_in (plain_signature signature.now).fields (plain_expr left.now) ++ forms_in (plain_signature signature.now).fields (plain_expr right.now))) stop) }
+{
+    let first = form_of(alloc, left, signature)?;
+    let second = form_of(alloc, right, signature)?;
+    Ok(compared_forms(alloc, rel, first, second)?)
+}
+
+/// The formula of the expression, which is its guard where the expression is one.
+#[cycle(formulas)]
+fn formula_of(
+    alloc: Global,
+    expr: &Expr,
+    signature: &Signature,
+) -> Result<Formula<RowAtom>, FormStop>
+    requires { length signature.now.fields.items ≤ 8 }
+    ensures { MatchResult result (λ made. IsFormulaOf (plain_signature signature.now).fields (plain_expr expr.now) (plain_formula made)) (λ stop. StopsAt (HasOutside (forms_in (plain_signature signature.now).fields (plain_expr expr.now))) stop) }
 {
     match &expr.node {
         Node::Field(name) => {
             let field = number_of(signature, Sort::Bool, name);
-            Ok(Formula::Atom(PairAtom::Left(BoolAtom { field })))
+            let atom = PairAtom::Left(BoolAtom { field });
+            Ok(Formula::Atom(PairAtom::Right(atom)))
         }
         Node::Truth(true) => Ok(Formula::Yes),
         Node::Truth(false) => Ok(Formula::No),
-        Node::Not(part) => negation(alloc, formula_of(alloc, part, signature)?),
+        Node::Not(part) => Ok(negation(alloc, formula_of(alloc, part, signature)?)?),
         Node::And(parts) => Ok(conjunction(formulas_of(alloc, parts, signature)?)),
         Node::Or(parts) => Ok(disjunction(formulas_of(alloc, parts, signature)?)),
         Node::Compare(rel, left, right) => {
+            if is_numeric(left, signature) {
+                return compared_numbers(alloc, *rel, left, right, signature);
+            }
             if let Some(atom) = comparison(alloc, left, right, signature)? {
-                return compared(alloc, *rel, Formula::Atom(PairAtom::Right(atom)));
+                let atom = PairAtom::Right(PairAtom::Right(atom));
+                return Ok(compared(alloc, *rel, Formula::Atom(atom))?);
             }
             let first = formula_of(alloc, left, signature)?;
             let both = pair(alloc, first, formula_of(alloc, right, signature)?)?;
             let first = formula_of(alloc, left, signature)?;
             let either = pair(alloc, first, formula_of(alloc, right, signature)?)?;
-            compared(alloc, *rel, agreement(alloc, both, either)?)
+            Ok(compared(alloc, *rel, agreement(alloc, both, either)?)?)
         }
         _ => Ok(Formula::No),
     }
@@ -146,9 +217,9 @@ fn formulas_of(
     alloc: Global,
     parts: &[Expr],
     signature: &Signature,
-) -> Result<Vec<Formula<RowAtom>>, Memory>
+) -> Result<Vec<Formula<RowAtom>>, FormStop>
     requires { length signature.now.fields.items ≤ 8 }
-    ensures { IfOk result (λ made. AreFormulasOf (plain_signature signature.now).fields (map plain_expr parts.now) (map plain_formula made.items)) }
+    ensures { MatchResult result (λ made. AreFormulasOf (plain_signature signature.now).fields (map plain_expr parts.now) (map plain_formula made.items)) (λ stop. StopsAt (HasOutside (forms_in_all (plain_signature signature.now).fields (unmarked (map plain_expr parts.now)))) stop) }
 {
     let mut formulas = Vec::new(alloc);
     for part in parts {
@@ -157,15 +228,16 @@ fn formulas_of(
     Ok(formulas)
 }
 
-/// The guard that an expression is, where it is a test over fields of truth values and texts.
+/// The guard that an expression is. `Range` comes only where a whole number that is written in it has a form with a
+/// number outside its range, and that number; no well-formed program has one.
 pub fn guard_of(
     alloc: Global,
     expr: &Expr,
     signature: &Signature,
-) -> Result<Formula<RowAtom>, Memory>
+) -> Result<Formula<RowAtom>, FormStop>
     requires few { length signature.now.fields.items ≤ 8 }
-    requires test { is_test (plain_signature signature.now).fields (plain_expr expr.now) ≡ true }
-    ensures { IfOk result (λ guard. IsGuardOf (plain_signature signature.now).fields (plain_expr expr.now) (plain_formula guard)) }
+    requires guard { is_guard (plain_signature signature.now).fields (plain_expr expr.now) ≡ true }
+    ensures { MatchResult result (λ guard. IsGuardOf (plain_signature signature.now).fields (plain_expr expr.now) (plain_formula guard)) (λ stop. StopsAt (HasOutside (forms_in (plain_signature signature.now).fields (plain_expr expr.now))) stop) }
 {
     formula_of(alloc, expr, signature)
 }

@@ -1,4 +1,4 @@
-//! Labels of fields of several sorts from their truth values and texts.
+//! Labels of fields of several sorts from their whole numbers, truth values and texts.
 
 ghost use Rattle.std.specs.Prelude.{◌≡◌, ◌≤◌, IfOk, length, map};
 ghost use Rattle.model_tree.specs.Label.{row};
@@ -14,7 +14,8 @@ use std::alloc::Global;
 /// How many of the sorts are this one.
 pub fn count(sorts: &[Sort], sort: Sort) -> u32
     requires { length sorts.now ≤ 8 }
-    ensures { result ≡ count_of (plain_sort sort) (map plain_sort sorts.now) }
+    ensures count { result ≡ count_of (plain_sort sort) (map plain_sort sorts.now) }
+    ensures few { result ≤ 8 }
 {
     let mut count = 0;
     for other in sorts {
@@ -25,21 +26,23 @@ pub fn count(sorts: &[Sort], sort: Sort) -> u32
     count
 }
 
-/// The label of fields of these sorts with these truth values and texts, in their order.
+/// The label of fields of these sorts with these whole numbers, truth values and texts, in their order.
 pub fn merge(
     alloc: Global,
     sorts: &[Sort],
+    mut numbers: Vec<i64>,
     mut truths: Vec<bool>,
     mut texts: Vec<Text>,
 ) -> Result<Label, Memory>
+    requires numbers { length numbers.items ≡ count_of model.wholes (map plain_sort sorts.now) }
     requires truths { length truths.items ≡ count_of model.truths (map plain_sort sorts.now) }
     requires texts { length texts.items ≡ count_of model.texts (map plain_sort sorts.now) }
-    ensures { IfOk result (λ label. label_meaning label ≡ row (merged (map plain_sort sorts.now) truths.items texts.items)) }
+    ensures { IfOk result (λ label. label_meaning label ≡ row (merged (map plain_sort sorts.now) numbers.items truths.items texts.items)) }
 {
     let mut values = Vec::new(alloc);
     for sort in sorts {
         let value = match sort {
-            Sort::Int => Value::Int(0),
+            Sort::Int => Value::Int(numbers.remove(0)),
             Sort::Bool => Value::Bool(truths.remove(0)),
             Sort::Text => Value::Text(texts.remove(0)),
         };

@@ -1,14 +1,42 @@
 //! Fields of a label by their numbers within their sort.
 
-ghost use Rattle.std.specs.Prelude.{◌≡◌, length, map, false, slice_index_or, slice_get};
+ghost use Rattle.std.specs.Prelude.{◌≡◌, ◌<◌, ℕ, pos, length, map, false, slice_index_or, slice_get};
 ghost use Rattle.std.specs.Option.{option_map};
 ghost use Rattle.fast_tree.specs.Entries.{field_of};
 ghost use Rattle.flat_label.specs.Texts.{SideFits, side_text, texts_label};
+ghost use Rattle.model_guard.specs.Forms.{wholes_in};
 ghost use Rattle.record_label.specs.Rows.{truths_in, texts_in};
 
 use fast_fault::Text;
 use fast_tree::Value;
 use flat_label::TextSide;
+
+/// The whole number with this number, or 0.
+fn whole_at(values: &[Value], number: u32) -> i64
+    ensures { result ≡ slice_index_or (wholes_in (map field_of values.now)) number (pos 0) }
+{
+    let mut before = number;
+    for value in values {
+        if let Value::Int(whole) = value {
+            if before == 0 {
+                return *whole;
+            }
+            before -= 1;
+        }
+    }
+    0
+}
+
+/// The first eight whole numbers. Where there are fewer the rest are 0.
+pub fn wholes(values: &[Value]) -> [i64; 8]
+    ensures { (k : ℕ) → k < 8 → slice_index_or result k (pos 0) ≡ slice_index_or (wholes_in (map field_of values.now)) k (pos 0) }
+{
+    let mut wholes = [0; 8];
+    for k in 0..8 {
+        wholes[k as usize] = whole_at(values, k);
+    }
+    wholes
+}
 
 /// The truth value with this number.
 pub fn truth_at(values: &[Value], number: u32) -> bool

@@ -1,23 +1,30 @@
 //! The theory of labels of several fields.
 
-ghost use Rattle.std.specs.Prelude.{◌≡◌, ◌≤◌, ◌↔◌, IsTrue, IfOk, length};
-ghost use Rattle.model_tree.specs.Signature.{truths, texts};
+ghost use Rattle.std.specs.Prelude.{◌≡◌, ◌≤◌, ◌↔◌, IsTrue, IfOk, length, map};
+ghost use Rattle.model_tree.specs.Signature.{wholes, truths, texts};
 ghost use Rattle.model_tree.specs.Signature as model;
 ghost use Rattle.fast_tree.specs.Signatures.{plain_signature};
-ghost use Rattle.flat_label.specs.Texts.{SideFits};
-ghost use Rattle.record_label.specs.Rows.{count_of, RowFits};
+ghost use Rattle.model_tree.specs.Label.{pair};
+ghost use Rattle.fast_tree.specs.Entries.{field_of};
+ghost use Rattle.flat_label.specs.Bools.{bools_label};
+ghost use Rattle.flat_label.specs.Texts.{SideFits, texts_label};
+ghost use Rattle.label_core.specs.declared.pair.PairChain.{PairChain};
+ghost use Rattle.record_label.specs.Rows.{count_of, truths_in, texts_in, flat_holds, FlatFits, RowFits, HasSides, IsOfNumbers};
 
+use crate::fits::compare_fits;
 use crate::merges::{count, merge};
-use crate::reads::{side_text, truth_at};
+use crate::reads::{side_text, truth_at, wholes};
 use fast_fault::Memory;
 use fast_tree::{Label, Signature, Sort, Value};
 use flat_label::{BoolAtom, Bools, Never, TextAtom, TextSide, Texts};
-use label_core::{Lit, Pair, PairAtom, Theory, Verdict};
+use label_core::{Lit, Pair, PairAtom, PairChain, Theory, Verdict};
+use lin_solve::{Chain, Compare, Ints, Relation};
 use std::alloc::Global;
 use std::marker::Model;
 
-/// That a field is true, or that two texts are one. Fields are numbered from 0 within their sort, in the order of the type.
-pub type RowAtom = PairAtom<BoolAtom, TextAtom>;
+/// A comparison of two forms, that a field is true, or that two texts are one. Fields are numbered from 0 within their
+/// sort, in the order of the type.
+pub type RowAtom = PairAtom<Compare, PairAtom<BoolAtom, TextAtom>>;
 
 /// The labels of a type of trees: the sorts of its fields, eight at most.
 #[derive(Drop)]
@@ -51,6 +58,35 @@ fn side_fits(side: &TextSide, texts: u32) -> bool
     }
 }
 
+/// Whether the atom holds of a label of these values.
+fn flat_holds(atom: &PairAtom<BoolAtom, TextAtom>, values: &[Value]) -> bool
+    requires { HasSides (length (texts_in (map field_of values.now))) atom.now }
+    ensures { result ≡ flat_holds atom.now (pair (bools_label (truths_in (map field_of values.now))) (texts_label (texts_in (map field_of values.now)))) }
+{
+    match atom {
+        PairAtom::Left(atom) => truth_at(values, atom.field),
+        PairAtom::Right(atom) => {
+            let left = side_text(&atom.left, values);
+            let right = side_text(&atom.right, values);
+            match (left, right) {
+                (Some(left), Some(right)) => left == right,
+                _ => false,
+            }
+        }
+    }
+}
+
+/// The chain, since truth values and texts are never too wide.
+fn chain_of_numbers(chain: PairChain<Chain, PairChain<Never, Never>>) -> Chain
+    requires { IsOfNumbers chain }
+    ensures { chain ≡ PairChain.Left result }
+{
+    match chain {
+        PairChain::Left(chain) => chain,
+        PairChain::Right(_) => unreachable!(),
+    }
+}
+
 impl RowLabels {
     /// The labels of a type of at most eight fields.
     pub fn new(alloc: Global, input: &Signature) -> Result<RowLabels, Memory>
@@ -68,6 +104,16 @@ impl RowLabels {
     pub fn fits(&self, atom: &RowAtom) -> bool
         ensures { IsTrue result ↔ RowFits self.now atom.now }
     {
+        match atom {
+            PairAtom::Left(compare) => compare_fits(compare, count(&self.sorts, Sort::Int)),
+            PairAtom::Right(atom) => self.flat_fits(atom),
+        }
+    }
+
+    /// Whether the atom speaks of truth values and texts of these labels.
+    fn flat_fits(&self, atom: &PairAtom<BoolAtom, TextAtom>) -> bool
+        ensures { IsTrue result ↔ FlatFits self.now atom.now }
+    {
         let texts = count(&self.sorts, Sort::Text);
         match atom {
             PairAtom::Left(atom) => atom.field < count(&self.sorts, Sort::Bool),
@@ -75,14 +121,32 @@ impl RowLabels {
         }
     }
 
-    /// The theories of the truth values and of the texts.
-    fn parts(&self) -> Pair<Bools, Texts>
-        ensures truths { result.left.fields ≡ count_of truths self.now }
-        ensures texts { result.right.fields ≡ count_of texts self.now }
+    /// There are eight whole numbers at most. The call does nothing but say so.
+    pub(crate) fn are_few(&self)
+        ensures { count_of wholes self.now ≤ 8 }
+    {
+        count(&self.sorts, Sort::Int);
+    }
+
+    /// The theory of the whole numbers.
+    fn ints(&self) -> Ints
+        ensures { result.fields ≡ count_of wholes self.now }
+    {
+        Ints::new(count(&self.sorts, Sort::Int))
+    }
+
+    /// The theories of the whole numbers, of the truth values and of the texts.
+    fn parts(&self) -> Pair<Ints, Pair<Bools, Texts>>
+        ensures wholes { result.left.fields ≡ count_of wholes self.now }
+        ensures truths { result.right.left.fields ≡ count_of truths self.now }
+        ensures texts { result.right.right.fields ≡ count_of texts self.now }
     {
         let truths = count(&self.sorts, Sort::Bool);
         let texts = count(&self.sorts, Sort::Text);
-        Pair::new(Bools::new(truths), Texts::new(texts))
+        Pair::new(
+            self.ints(),
+            Pair::new(Bools::new(truths), Texts::new(texts)),
+        )
     }
 }
 
@@ -91,15 +155,23 @@ impl Theory for RowLabels {
 
     type Value = Label;
 
-    type Chain = Never;
+    type Chain = Chain;
 
     ghost use Rattle.std.specs.Prelude.{◌≡◌, ◌<◌, refl};
-    ghost use Rattle.model_tree.specs.Signature.{truths, texts, HasSorts};
+    ghost use Rattle.model_tree.specs.Signature.{wholes, truths, texts, HasSorts};
     ghost use Rattle.fast_tree.specs.Entries.{label_meaning};
-    ghost use Rattle.label_core.specs.Pair.{equal_pair_atoms, equal_pair_atoms_fit};
+    ghost use Rattle.label_core.specs.Atoms.{EachHasEqual};
+    ghost use Rattle.label_core.specs.Lit.{atoms_of};
+    ghost use Rattle.label_core.specs.Pair.{lefts, lefts_have_equal, equal_pair_atoms, equal_pair_atoms_fit};
     ghost use Rattle.flat_label.specs.Bools.{truth_at, equal_fields, equal_fields_fit};
     ghost use Rattle.flat_label.specs.Texts.{are_one_text, SidesFit, equal_atoms_hold, equal_atoms_fit};
-    ghost use Rattle.record_label.specs.Rows.{count_of, row_holds, RowFits, KeepsSorts, parts_of};
+    ghost use Rattle.model_chain.specs.Each.{EachTwo};
+    ghost use Rattle.model_chain.specs.Chains.{Passes, IsFar};
+    ghost use Rattle.lin_solve.specs.Plain.{plain_literals};
+    ghost use Rattle.lin_solve.specs.Shown.{plain_chain};
+    ghost use Rattle.lin_solve.specs.Wholes.{compare_at, CompareFits};
+    ghost use Rattle.lin_solve.specs.Equal.{equal_hold, equal_fit, among_grows, compare_laws};
+    ghost use Rattle.record_label.specs.Rows.{count_of, flat_holds, row_holds, FlatFits, RowFits, KeepsSorts, parts_of};
     ghost use Rattle.record_label.specs.Equal.{equal_labels};
 
     ghost label_of = { label_meaning };
@@ -112,33 +184,29 @@ impl Theory for RowLabels {
 
     ghost keeps_label = { KeepsSorts };
 
-    ghost chain_over = { λ t literals c. ⊥ };
+    ghost chain_over = { λ t atoms c. EachHasEqual ⟦<Compare as PartialEq>⟧.eq (atoms_of c.literals.items) (lefts atoms) × EachTwo (λ l m. ¬ (l ≡ m)) (plain_literals c.literals.items) };
 
-    ghost chain_passes = { λ t c. ⊥ };
+    ghost chain_passes = { λ t c. Passes c.bits (plain_chain c) };
 
-    ghost chain_is_far = { λ t c. ⊥ };
+    ghost chain_is_far = { λ t c. IsFar (plain_chain c) };
 
-    ghost equal_atoms = { λ a b l. equal_pair_atoms ⟦<BoolAtom as PartialEq>⟧.eq ⟦<TextAtom as PartialEq>⟧.eq ⟦<PairAtom<BoolAtom, TextAtom> as PartialEq>⟧.eq (record { left_left = λ _ _. refl; left_right = λ _ _. refl; right_left = λ _ _. refl; right_right = λ _ _. refl }) (λ c. truth_at c.field) are_one_text (λ c d. equal_fields c.field d.field) (equal_atoms_hold ⟦<TextSide as PartialEq>⟧.eq (record { fields = λ _ _. refl; field_constant = λ _ _. refl; constant_field = λ _ _. refl; constants = λ _ _. refl })) a b (parts_of l) };
+    ghost equal_atoms = { λ a b l. equal_pair_atoms ⟦<Compare as PartialEq>⟧.eq ⟦<PairAtom<BoolAtom, TextAtom> as PartialEq>⟧.eq ⟦<PairAtom<Compare, PairAtom<BoolAtom, TextAtom>> as PartialEq>⟧.eq (record { left_left = λ _ _. refl; left_right = λ _ _. refl; right_left = λ _ _. refl; right_right = λ _ _. refl }) compare_at flat_holds (equal_hold ⟦<Relation as PartialEq>⟧.eq (record { less = refl; at_most = refl; equal = refl; less_at_most = refl; less_equal = refl; at_most_less = refl; at_most_equal = refl; equal_less = refl; equal_at_most = refl }) ⟦<Compare as PartialEq>⟧.eq (record { parts = λ _ _. refl })) (equal_pair_atoms ⟦<BoolAtom as PartialEq>⟧.eq ⟦<TextAtom as PartialEq>⟧.eq ⟦<PairAtom<BoolAtom, TextAtom> as PartialEq>⟧.eq (record { left_left = λ _ _. refl; left_right = λ _ _. refl; right_left = λ _ _. refl; right_right = λ _ _. refl }) (λ c. truth_at c.field) are_one_text (λ c d. equal_fields c.field d.field) (equal_atoms_hold ⟦<TextSide as PartialEq>⟧.eq (record { fields = λ _ _. refl; field_constant = λ _ _. refl; constant_field = λ _ _. refl; constants = λ _ _. refl }))) a b (parts_of l) };
 
-    ghost equal_atoms_fit = { λ t. equal_pair_atoms_fit ⟦<BoolAtom as PartialEq>⟧.eq ⟦<TextAtom as PartialEq>⟧.eq ⟦<PairAtom<BoolAtom, TextAtom> as PartialEq>⟧.eq (record { left_left = λ _ _. refl; left_right = λ _ _. refl; right_left = λ _ _. refl; right_right = λ _ _. refl }) (λ c. c.field < count_of truths t) (SidesFit (count_of texts t)) (λ c d. equal_fields_fit c.field d.field (count_of truths t)) (equal_atoms_fit ⟦<TextSide as PartialEq>⟧.eq (record { fields = λ _ _. refl; field_constant = λ _ _. refl; constant_field = λ _ _. refl; constants = λ _ _. refl }) (count_of texts t)) };
+    ghost equal_atoms_fit = { λ t. equal_pair_atoms_fit ⟦<Compare as PartialEq>⟧.eq ⟦<PairAtom<BoolAtom, TextAtom> as PartialEq>⟧.eq ⟦<PairAtom<Compare, PairAtom<BoolAtom, TextAtom>> as PartialEq>⟧.eq (record { left_left = λ _ _. refl; left_right = λ _ _. refl; right_left = λ _ _. refl; right_right = λ _ _. refl }) (CompareFits (count_of wholes t)) (FlatFits t) (equal_fit ⟦<Relation as PartialEq>⟧.eq (record { less = refl; at_most = refl; equal = refl; less_at_most = refl; less_equal = refl; at_most_less = refl; at_most_equal = refl; equal_less = refl; equal_at_most = refl }) ⟦<Compare as PartialEq>⟧.eq (record { parts = λ _ _. refl }) (count_of wholes t)) (equal_pair_atoms_fit ⟦<BoolAtom as PartialEq>⟧.eq ⟦<TextAtom as PartialEq>⟧.eq ⟦<PairAtom<BoolAtom, TextAtom> as PartialEq>⟧.eq (record { left_left = λ _ _. refl; left_right = λ _ _. refl; right_left = λ _ _. refl; right_right = λ _ _. refl }) (λ c. c.field < count_of truths t) (SidesFit (count_of texts t)) (λ c d. equal_fields_fit c.field d.field (count_of truths t)) (equal_atoms_fit ⟦<TextSide as PartialEq>⟧.eq (record { fields = λ _ _. refl; field_constant = λ _ _. refl; constant_field = λ _ _. refl; constants = λ _ _. refl }) (count_of texts t))) };
 
     ghost equal_values = { equal_labels ⟦<Value as Ord>⟧.cmp (record { numbers = λ _ _. refl; truths = λ _ _. refl; texts = λ _ _. refl; number_truth = λ _ _. refl; number_text = λ _ _. refl; truth_number = λ _ _. refl; truth_text = λ _ _. refl; text_number = λ _ _. refl; text_truth = λ _ _. refl }) };
 
     ghost keeps_labels = { λ t l kept. kept.0 };
 
-    ghost chain_grows = { λ t atoms more c h over. over };
+    ghost chain_grows = { λ t atoms more c each over. (among_grows ⟦<Compare as PartialEq>⟧.eq (compare_laws ⟦<Relation as PartialEq>⟧.eq (record { less = refl; at_most = refl; equal = refl; less_at_most = refl; less_equal = refl; at_most_less = refl; at_most_equal = refl; equal_less = refl; equal_at_most = refl }) ⟦<Compare as PartialEq>⟧.eq (record { parts = λ _ _. refl })) (atoms_of c.literals.items) (lefts atoms) (lefts more) (lefts_have_equal ⟦<Compare as PartialEq>⟧.eq ⟦<PairAtom<BoolAtom, TextAtom> as PartialEq>⟧.eq ⟦<PairAtom<Compare, PairAtom<BoolAtom, TextAtom>> as PartialEq>⟧.eq (record { left_left = λ _ _. refl; left_right = λ _ _. refl; right_left = λ _ _. refl; right_right = λ _ _. refl }) atoms more each) over.0, over.1) };
 
     fn holds(&self, atom: &RowAtom, value: &Label) -> bool {
         match atom {
-            PairAtom::Left(atom) => truth_at(value.values(), atom.field),
-            PairAtom::Right(atom) => {
-                let left = side_text(&atom.left, value.values());
-                let right = side_text(&atom.right, value.values());
-                match (left, right) {
-                    (Some(left), Some(right)) => left == right,
-                    _ => false,
-                }
+            PairAtom::Left(compare) => {
+                self.are_few();
+                compare.holds(&wholes(value.values()))
             }
+            PairAtom::Right(atom) => flat_holds(atom, value.values()),
         }
     }
 
@@ -146,14 +214,15 @@ impl Theory for RowLabels {
         &self,
         alloc: Global,
         literals: &[Lit<RowAtom>],
-    ) -> Result<Verdict<Label, Never>, Memory> {
+    ) -> Result<Verdict<Label, Chain>, Memory> {
         match self.parts().decide(alloc, literals)? {
             Verdict::Sat(value) => {
-                let label = merge(alloc, &self.sorts, value.left, value.right)?;
+                let flat = value.right;
+                let label = merge(alloc, &self.sorts, value.left, flat.left, flat.right)?;
                 Ok(Verdict::Sat(label))
             }
             Verdict::Unsat => Ok(Verdict::Unsat),
-            Verdict::Wide(_) => Ok(Verdict::Wide(Never)),
+            Verdict::Wide(chain) => Ok(Verdict::Wide(chain_of_numbers(chain))),
         }
     }
 
@@ -165,7 +234,7 @@ impl Theory for RowLabels {
         value.copy(alloc)
     }
 
-    fn far(&self, _chain: &Never) -> bool {
-        false
+    fn far(&self, chain: &Chain) -> bool {
+        self.ints().far(chain)
     }
 }

@@ -1,42 +1,144 @@
-use Rattle.std.proofs.Common.{◌≡◌, map, Some, None, sym, subst, ap, ◌∙◌}
-use Rattle.std.proofs.lemmas.Result.{IfOk-weaker}
-use Rattle.model_tree.specs.Formula.{atom}
-use Rattle.label_core.specs.declared.pair.PairAtom.TheVariants.{Right}
-use Rattle.fast_syntax.specs.declared.expressions.Node.TheVariants.{Compare}
-use Rattle.record_label.specs.Guards.{IsFormulaOf, comparison_of, compared_by, agreement_of}
+use Rattle.std.proofs.Common.{◌≡◌, ◌≤◌, ◌+◌, ◌++◌, ◌∷◌, [], true, false, map, drop, length, Some, None, sym, subst, ap, ◌∙◌}
+use Rattle.std.proofs.Math.IntN.{ℤ}
+use Rattle.std.proofs.lemmas.List.{length-map}
+use Rattle.std.proofs.lemmas.Result.{err_from_is_err_and}
+use Rattle.model_grammar.specs.declared.Chain.TheVariants.{Conjunction, Disjunction}
+use Rattle.model_grammar.specs.Syntax.{chain}
+use Rattle.model_guard.specs.Forms.{form_of, forms_in, forms_in_all, HasOutside}
 use Rattle.label_core.specs.Formula.{plain_formula}
+use Rattle.lin_form.proofs.Putting.{stops_weaker}
+use Rattle.fast_syntax.specs.declared.expressions.Node.TheVariants.{Compare}
 use Rattle.fast_syntax.specs.Plain.{plain_expr, plain_node}
-use Rattle.fast_tree.specs.Signatures.{plain_signature}
-use Rattle.record_label.proofs.GuardFacts.{field_guard, conjunction_of, disjunction_of, formulas_more, text_comparison, test_comparison}
+use Rattle.fast_tree.specs.Signatures.{plain_signature, plain_field}
+use Rattle.record_label.specs.Guards.{IsFormulaOf, comparison_of, compared_by, compared_by_forms, agreement_of, is_numeric}
+use Rattle.record_label.specs.Parts.{unmarked}
+use Rattle.record_label.proofs.ExprParts.{plain_and, plain_or}
+use Rattle.record_label.proofs.FormFacts.{outside_left, outside_right, passed, operand_at, in_first, in_rest}
+use Rattle.record_label.proofs.GuardFacts.{field_guard, conjunction_of, disjunction_of, formulas_more, text_comparison, guard_comparison, number_comparison}
 use Rattle.record_label.proofs.guards.+formulas.Goals as goal
 
 pub formula_of-returns-in-Field : goal.formula_of-returns-in-Field
-formula_of-returns-in-Field t c =
-    rw c.in-Field.is (field_guard (plain_signature c.args.signature.now).fields c.args.expr.now.place c.in-Field.name c.number_of-field.result c.number_of-field.ensures)
+formula_of-returns-in-Field t c = rw c.in-Field.is (field_guard (plain_signature c.args.signature.now).fields c.args.expr.now.place c.in-Field.name c.number_of-field.result c.number_of-field.ensures)
 
-pub formula_of-returns-in_ok-formulas_of-in-And : goal.formula_of-returns-in_ok-formulas_of-in-And
-formula_of-returns-in_ok-formulas_of-in-And t c =
-    rw (c.in-And.is, c.conjunction.ensures) (conjunction_of (plain_signature c.args.signature.now).fields c.in-And.parts c.args.expr.now.place (map plain_formula c.in_ok-formulas_of-in-And.field-0.items) (rw c.deref-in-And.ensures.value at c.in_ok-formulas_of-in-And.ensures))
+pub formula_of-returns-in_err-formulas_of-in-And : goal.formula_of-returns-in_err-formulas_of-in-And
+formula_of-returns-in_err-formulas_of-in-And t c =
+    let fields = (plain_signature c.args.signature.now).fields in
+    let place = c.args.expr.now.place in
+    let parts = c.in-And.parts in
+    let whole : plain_expr c.args.expr.now ≡ chain Conjunction place (unmarked (map plain_expr parts.items)) = ap (λ n. plain_node n place) c.in-And.is ∙ plain_and parts place in
+    let p = err_from_is_err_and c.from_residual-in_err-formulas_of-in-And.result c.from_residual-in_err-formulas_of-in-And.ensures.1 in
+    let out : (n : ℤ) → HasOutside (forms_in_all fields (unmarked (map plain_expr c.deref-in-And.result.now))) n → HasOutside (forms_in fields (plain_expr c.args.expr.now)) n = λ n o.
+    subst (λ e. HasOutside (forms_in fields e) n) (sym whole) (subst (λ es. HasOutside (forms_in_all fields (unmarked (map plain_expr es))) n) c.deref-in-And.ensures.value o) in
+    rw (p.1, p.2) (stops_weaker (HasOutside (forms_in_all fields (unmarked (map plain_expr c.deref-in-And.result.now)))) (HasOutside (forms_in fields (plain_expr c.args.expr.now))) c.in_err-formulas_of-in-And.field-0.0 out (c.in_err-formulas_of-in-And.ensures {u = tt}))
 
-pub formula_of-returns-in_ok-formulas_of-in-Or : goal.formula_of-returns-in_ok-formulas_of-in-Or
-formula_of-returns-in_ok-formulas_of-in-Or t c =
-    rw (c.in-Or.is, c.disjunction.ensures) (disjunction_of (plain_signature c.args.signature.now).fields c.in-Or.parts c.args.expr.now.place (map plain_formula c.in_ok-formulas_of-in-Or.field-0.items) (rw c.deref-in-Or.ensures.value at c.in_ok-formulas_of-in-Or.ensures))
+pub formula_of-returns-in_err-formulas_of-in-Or : goal.formula_of-returns-in_err-formulas_of-in-Or
+formula_of-returns-in_err-formulas_of-in-Or t c =
+    let fields = (plain_signature c.args.signature.now).fields in
+    let place = c.args.expr.now.place in
+    let parts = c.in-Or.parts in
+    let whole : plain_expr c.args.expr.now ≡ chain Disjunction place (unmarked (map plain_expr parts.items)) = ap (λ n. plain_node n place) c.in-Or.is ∙ plain_or parts place in
+    let p = err_from_is_err_and c.from_residual-in_err-formulas_of-in-Or.result c.from_residual-in_err-formulas_of-in-Or.ensures.1 in
+    let out : (n : ℤ) → HasOutside (forms_in_all fields (unmarked (map plain_expr c.deref-in-Or.result.now))) n → HasOutside (forms_in fields (plain_expr c.args.expr.now)) n = λ n o.
+    subst (λ e. HasOutside (forms_in fields e) n) (sym whole) (subst (λ es. HasOutside (forms_in_all fields (unmarked (map plain_expr es))) n) c.deref-in-Or.ensures.value o) in
+    rw (p.1, p.2) (stops_weaker (HasOutside (forms_in_all fields (unmarked (map plain_expr c.deref-in-Or.result.now)))) (HasOutside (forms_in fields (plain_expr c.args.expr.now))) c.in_err-formulas_of-in-Or.field-0.0 out (c.in_err-formulas_of-in-Or.ensures {u = tt}))
 
-pub formulas_of-loop-part-preserved : goal.formulas_of-loop-part-preserved
-formulas_of-loop-part-preserved t c =
-    rw c.in_ok-push.ensures.items (formulas_more (plain_signature c.args.signature.now).fields c.args.parts.now c.loop-part.part-index c.part-item.result c.loop-part.formulas.items c.in_ok-formula_of.field-0 c.loop-part-test.true c.part-item.is c.loop-part.invariant c.in_ok-formula_of.ensures)
+pub formula_of-returns-then-is_numeric : goal.formula_of-returns-then-is_numeric
+formula_of-returns-then-is_numeric t c =
+    let fields = (plain_signature c.args.signature.now).fields in
+    let place = c.args.expr.now.place in
+    let rel = c.in-Compare.rel in
+    let a = plain_expr c.in-Compare.left.value in
+    let b = plain_expr c.in-Compare.right.value in
+    let node = plain_node (Compare rel c.in-Compare.left c.in-Compare.right) place in
+    let few : length fields ≤ 8 = subst (λ k. k ≤ 8) (sym (length-map c.args.signature.now.fields.items plain_field)) c.requires in
+    let numeric : is_numeric fields a ≡ true = sym (rw c.deref-in-Compare.ensures at c.is_numeric.ensures) ∙ c.if-is_numeric.true in
+    rw c.in-Compare.is (passed c.compared_numbers.result (λ made. plain_formula made ≡ compared_by_forms rel (form_of fields a) (form_of fields b)) (λ made. IsFormulaOf fields node (plain_formula made)) (HasOutside (forms_in fields a ++ forms_in fields b)) (HasOutside (forms_in fields a ++ forms_in fields b))
+    (λ made is. subst (IsFormulaOf fields node) (sym is) (number_comparison fields a b few place rel numeric)) (λ n o. o) (rw (c.deref-then-is_numeric.ensures, c.deref-then-is_numeric-2.ensures) at c.compared_numbers.ensures))
 
 pub formula_of-returns-in-Some : goal.formula_of-returns-in-Some
 formula_of-returns-in-Some t c =
-    let found : Some c.in-Some.atom ≡ comparison_of (plain_signature c.args.signature.now).fields (plain_expr c.in-Compare.left.value) (plain_expr c.in-Compare.right.value) = sym c.in-Some.is ∙ (rw (c.deref-in-Compare.ensures, c.deref-in-Compare-2.ensures) at c.in_ok-atom-in-Compare.ensures) in
-    rw c.in-Compare.is (IfOk-weaker c.compared.result (λ made. plain_formula made ≡ compared_by c.in-Compare.rel (atom (Right c.in-Some.atom))) (λ made. IsFormulaOf (plain_signature c.args.signature.now).fields (plain_node (Compare c.in-Compare.rel c.in-Compare.left c.in-Compare.right) c.args.expr.now.place) (plain_formula made))
-    (λ made is. subst (IsFormulaOf (plain_signature c.args.signature.now).fields (plain_node (Compare c.in-Compare.rel c.in-Compare.left c.in-Compare.right) c.args.expr.now.place)) (sym is) (text_comparison (plain_signature c.args.signature.now).fields (plain_expr c.in-Compare.left.value) (plain_expr c.in-Compare.right.value) c.args.expr.now.place c.in-Compare.rel c.in-Some.atom found))
-    c.compared.ensures)
+    let fields = (plain_signature c.args.signature.now).fields in
+    let place = c.args.expr.now.place in
+    let rel = c.in-Compare.rel in
+    let a = plain_expr c.in-Compare.left.value in
+    let b = plain_expr c.in-Compare.right.value in
+    let other : is_numeric fields a ≡ false = sym (rw c.deref-in-Compare.ensures at c.is_numeric.ensures) ∙ c.if-is_numeric.false in
+    let found : Some c.in-Some.atom ≡ comparison_of fields a b = sym c.in-Some.is ∙ (rw (c.deref-in-Compare-2.ensures, c.deref-in-Compare-3.ensures) at (c.in_ok-atom-in-Compare.ensures {u = tt})) in
+    rw c.in-Compare.is (subst (IsFormulaOf fields (plain_node (Compare rel c.in-Compare.left c.in-Compare.right) place)) (sym (c.in_ok-compared-in-Compare.ensures {u = tt})) (text_comparison fields a b place rel c.in-Some.atom other found))
 
-pub formula_of-returns-in_ok-agreement-in-Compare : goal.formula_of-returns-in_ok-agreement-in-Compare
-formula_of-returns-in_ok-agreement-in-Compare t c =
-    let none : None ≡ comparison_of (plain_signature c.args.signature.now).fields (plain_expr c.in-Compare.left.value) (plain_expr c.in-Compare.right.value) = sym c.in_default-2.is ∙ (rw (c.deref-in-Compare.ensures, c.deref-in-Compare-2.ensures) at c.in_ok-atom-in-Compare.ensures) in
-    rw c.in-Compare.is (IfOk-weaker c.compared-in-Compare.result (λ made. plain_formula made ≡ compared_by c.in-Compare.rel (plain_formula c.in_ok-agreement-in-Compare.field-0)) (λ made. IsFormulaOf (plain_signature c.args.signature.now).fields (plain_node (Compare c.in-Compare.rel c.in-Compare.left c.in-Compare.right) c.args.expr.now.place) (plain_formula made))
-    (λ made is. subst (IsFormulaOf (plain_signature c.args.signature.now).fields (plain_node (Compare c.in-Compare.rel c.in-Compare.left c.in-Compare.right) c.args.expr.now.place)) (sym (is ∙ ap (compared_by c.in-Compare.rel) (c.in_ok-agreement-in-Compare.ensures ∙ (λ i. agreement_of (map plain_formula (c.in_ok-both-in-Compare.ensures i)) (map plain_formula (c.in_ok-either-in-Compare.ensures i)))))) (test_comparison (plain_signature c.args.signature.now).fields (plain_expr c.in-Compare.left.value) (plain_expr c.in-Compare.right.value) c.args.expr.now.place c.in-Compare.rel (plain_formula c.in_ok-first-in-Compare.first) (plain_formula c.in_ok-formula_of-in-Compare.field-0) (plain_formula c.in_ok-first-in-Compare-2.first) (plain_formula c.in_ok-formula_of-in-Compare-2.field-0) none
-    (rw c.deref-in-Compare-3.ensures at c.in_ok-first-in-Compare.ensures) (rw c.deref-in-Compare-4.ensures at c.in_ok-formula_of-in-Compare.ensures) (rw c.deref-in-Compare-5.ensures at c.in_ok-first-in-Compare-2.ensures) (rw c.deref-in-Compare-6.ensures at c.in_ok-formula_of-in-Compare-2.ensures)))
-    c.compared-in-Compare.ensures)
+pub formula_of-returns-in_ok-formulas_of-in-And : goal.formula_of-returns-in_ok-formulas_of-in-And
+formula_of-returns-in_ok-formulas_of-in-And t c =
+    rw (c.in-And.is, c.conjunction.ensures) (conjunction_of (plain_signature c.args.signature.now).fields c.in-And.parts c.args.expr.now.place (map plain_formula c.in_ok-formulas_of-in-And.field-0.items) (rw c.deref-in-And.ensures.value at (c.in_ok-formulas_of-in-And.ensures {u = tt})))
+
+pub formula_of-returns-in_ok-formulas_of-in-Or : goal.formula_of-returns-in_ok-formulas_of-in-Or
+formula_of-returns-in_ok-formulas_of-in-Or t c =
+    rw (c.in-Or.is, c.disjunction.ensures) (disjunction_of (plain_signature c.args.signature.now).fields c.in-Or.parts c.args.expr.now.place (map plain_formula c.in_ok-formulas_of-in-Or.field-0.items) (rw c.deref-in-Or.ensures.value at (c.in_ok-formulas_of-in-Or.ensures {u = tt})))
+
+pub formula_of-returns-in_ok-compared-in-Compare-2 : goal.formula_of-returns-in_ok-compared-in-Compare-2
+formula_of-returns-in_ok-compared-in-Compare-2 t c =
+    let fields = (plain_signature c.args.signature.now).fields in
+    let place = c.args.expr.now.place in
+    let rel = c.in-Compare.rel in
+    let a = plain_expr c.in-Compare.left.value in
+    let b = plain_expr c.in-Compare.right.value in
+    let other : is_numeric fields a ≡ false = sym (rw c.deref-in-Compare.ensures at c.is_numeric.ensures) ∙ c.if-is_numeric.false in
+    let none : None ≡ comparison_of fields a b = sym c.in_default-2.is ∙ (rw (c.deref-in-Compare-2.ensures, c.deref-in-Compare-3.ensures) at (c.in_ok-atom-in-Compare.ensures {u = tt})) in
+    let made : plain_formula c.in_ok-compared-in-Compare-2.field-0 ≡ compared_by rel (agreement_of (plain_formula c.in_ok-first-in-Compare.first ∷ plain_formula c.in_ok-formula_of-in-Compare.field-0 ∷ []) (plain_formula c.in_ok-first-in-Compare-2.first ∷ plain_formula c.in_ok-formula_of-in-Compare-2.field-0 ∷ [])) =
+    c.in_ok-compared-in-Compare-2.ensures {u = tt} ∙ ap (compared_by rel) (c.in_ok-agreement-in-Compare.ensures {u = tt} ∙ (λ i. agreement_of (map plain_formula (c.in_ok-both-in-Compare.ensures {u = tt} i)) (map plain_formula (c.in_ok-either-in-Compare.ensures {u = tt} i)))) in
+    rw c.in-Compare.is (subst (IsFormulaOf fields (plain_node (Compare rel c.in-Compare.left c.in-Compare.right) place)) (sym made)
+    (guard_comparison fields a b place rel (plain_formula c.in_ok-first-in-Compare.first) (plain_formula c.in_ok-formula_of-in-Compare.field-0) (plain_formula c.in_ok-first-in-Compare-2.first) (plain_formula c.in_ok-formula_of-in-Compare-2.field-0) other none
+    (rw c.deref-in-Compare-4.ensures at (c.in_ok-first-in-Compare.ensures {u = tt})) (rw c.deref-in-Compare-5.ensures at (c.in_ok-formula_of-in-Compare.ensures {u = tt})) (rw c.deref-in-Compare-6.ensures at (c.in_ok-first-in-Compare-2.ensures {u = tt})) (rw c.deref-in-Compare-7.ensures at (c.in_ok-formula_of-in-Compare-2.ensures {u = tt}))))
+
+pub formula_of-returns-in_err-first-in-Compare : goal.formula_of-returns-in_err-first-in-Compare
+formula_of-returns-in_err-first-in-Compare t c =
+    let fields = (plain_signature c.args.signature.now).fields in
+    let a = plain_expr c.in-Compare.left.value in
+    let b = plain_expr c.in-Compare.right.value in
+    let p = err_from_is_err_and c.from_residual-in_err-first-in-Compare.result c.from_residual-in_err-first-in-Compare.ensures.1 in
+    rw (p.1, p.2, c.in-Compare.is) (stops_weaker (HasOutside (forms_in fields a)) (HasOutside (forms_in fields a ++ forms_in fields b)) c.in_err-first-in-Compare.field-0.0 (outside_left (forms_in fields a) (forms_in fields b)) (rw c.deref-in-Compare-4.ensures at (c.in_err-first-in-Compare.ensures {u = tt})))
+
+pub formula_of-returns-in_err-formula_of-in-Compare : goal.formula_of-returns-in_err-formula_of-in-Compare
+formula_of-returns-in_err-formula_of-in-Compare t c =
+    let fields = (plain_signature c.args.signature.now).fields in
+    let a = plain_expr c.in-Compare.left.value in
+    let b = plain_expr c.in-Compare.right.value in
+    let p = err_from_is_err_and c.from_residual-in_err-formula_of-in-Compare.result c.from_residual-in_err-formula_of-in-Compare.ensures.1 in
+    rw (p.1, p.2, c.in-Compare.is) (stops_weaker (HasOutside (forms_in fields b)) (HasOutside (forms_in fields a ++ forms_in fields b)) c.in_err-formula_of-in-Compare.field-0.0 (outside_right (forms_in fields a) (forms_in fields b)) (rw c.deref-in-Compare-5.ensures at (c.in_err-formula_of-in-Compare.ensures {u = tt})))
+
+pub formula_of-returns-in_err-first-in-Compare-2 : goal.formula_of-returns-in_err-first-in-Compare-2
+formula_of-returns-in_err-first-in-Compare-2 t c =
+    let fields = (plain_signature c.args.signature.now).fields in
+    let a = plain_expr c.in-Compare.left.value in
+    let b = plain_expr c.in-Compare.right.value in
+    let p = err_from_is_err_and c.from_residual-in_err-first-in-Compare-2.result c.from_residual-in_err-first-in-Compare-2.ensures.1 in
+    rw (p.1, p.2, c.in-Compare.is) (stops_weaker (HasOutside (forms_in fields a)) (HasOutside (forms_in fields a ++ forms_in fields b)) c.in_err-first-in-Compare-2.field-0.0 (outside_left (forms_in fields a) (forms_in fields b)) (rw c.deref-in-Compare-6.ensures at (c.in_err-first-in-Compare-2.ensures {u = tt})))
+
+pub formula_of-returns-in_err-formula_of-in-Compare-2 : goal.formula_of-returns-in_err-formula_of-in-Compare-2
+formula_of-returns-in_err-formula_of-in-Compare-2 t c =
+    let fields = (plain_signature c.args.signature.now).fields in
+    let a = plain_expr c.in-Compare.left.value in
+    let b = plain_expr c.in-Compare.right.value in
+    let p = err_from_is_err_and c.from_residual-in_err-formula_of-in-Compare-2.result c.from_residual-in_err-formula_of-in-Compare-2.ensures.1 in
+    rw (p.1, p.2, c.in-Compare.is) (stops_weaker (HasOutside (forms_in fields b)) (HasOutside (forms_in fields a ++ forms_in fields b)) c.in_err-formula_of-in-Compare-2.field-0.0 (outside_right (forms_in fields a) (forms_in fields b)) (rw c.deref-in-Compare-7.ensures at (c.in_err-formula_of-in-Compare-2.ensures {u = tt})))
+
+pub formulas_of-returns-in_err-formula_of : goal.formulas_of-returns-in_err-formula_of
+formulas_of-returns-in_err-formula_of t c =
+    let fields = (plain_signature c.args.signature.now).fields in
+    let it = c.part-item.result in
+    let i = c.loop-part.part-index in
+    let ps = c.args.parts.now in
+    let p = err_from_is_err_and c.from_residual.result c.from_residual.ensures.1 in
+    let at = operand_at ps i it c.loop-part-test.true c.part-item.is in
+    let out : (n : ℤ) → HasOutside (forms_in fields (plain_expr it)) n → HasOutside (forms_in_all fields (unmarked (map plain_expr ps))) n = λ n o. c.loop-part.invariant.1 n (in_first fields false (plain_expr it) (unmarked (map plain_expr (drop (i + 1) ps))) (unmarked (map plain_expr (drop i ps))) n at o) in
+    rw (p.1, p.2) (stops_weaker (HasOutside (forms_in fields (plain_expr it))) (HasOutside (forms_in_all fields (unmarked (map plain_expr ps)))) c.in_err-formula_of.field-0.0 out (c.in_err-formula_of.ensures {u = tt}))
+
+pub formulas_of-loop-part-preserved : goal.formulas_of-loop-part-preserved
+formulas_of-loop-part-preserved t c =
+    let fields = (plain_signature c.args.signature.now).fields in
+    let it = c.part-item.result in
+    let i = c.loop-part.part-index in
+    let ps = c.args.parts.now in
+    let at = operand_at ps i it c.loop-part-test.true c.part-item.is in (
+      rw (c.in_ok-push.ensures {u = tt}).items (formulas_more fields ps i it c.loop-part.formulas.items c.in_ok-formula_of.field-0 c.loop-part-test.true c.part-item.is c.loop-part.invariant.0 (c.in_ok-formula_of.ensures {u = tt})),
+      λ n o. c.loop-part.invariant.1 n (in_rest fields false (plain_expr it) (unmarked (map plain_expr (drop (i + 1) ps))) (unmarked (map plain_expr (drop i ps))) n at o),
+    )

@@ -3,15 +3,27 @@ use Rattle.model_tree.specs.Label.{row}
 use Rattle.fast_tree.specs.Entries.{label_meaning}
 use Rattle.fast_tree.specs.Signatures.{plain_sort}
 use Rattle.record_label.specs.Rows.{merged}
-use Rattle.record_label.proofs.RowFacts.{merged_satisfies, none_satisfies}
+use Rattle.record_label.proofs.RowFacts.{merged_satisfies, none_satisfies, kept_none, some_satisfies, of_numbers}
 use Rattle.record_label.proofs.rows.RowLabelsTheory.decide.Goals as goal
 
 pub returns-in_ok-label-in-Sat : goal.returns-in_ok-label-in-Sat
 returns-in_ok-label-in-Sat c =
-    let both = rw (c.in-Sat.is, c.parts.ensures.truths, c.parts.ensures.texts) at c.in_ok-value.ensures in
-    let made : label_meaning c.in_ok-label-in-Sat.label ≡ row (merged c.args.self.now c.in-Sat.value.left.items c.in-Sat.value.right.items) =
-    c.in_ok-label-in-Sat.ensures ∙ ap (λ sorts. row (merged sorts c.in-Sat.value.left.items c.in-Sat.value.right.items)) (ap (map plain_sort) c.deref.ensures.value ∙ c.self.view_is) in
-    merged_satisfies c.args.self.now c.args.literals.now c.in-Sat.value.left.items c.in-Sat.value.right.items (label_meaning c.in_ok-label-in-Sat.label) made both.0 both.1
+    let v = c.in-Sat.value in
+    let both = rw (c.in-Sat.is, c.parts.ensures.wholes, c.parts.ensures.truths, c.parts.ensures.texts) at c.in_ok-value.ensures in
+    let made : label_meaning c.in_ok-label-in-Sat.label ≡ row (merged c.args.self.now v.left.items v.right.left.items v.right.right.items) =
+    c.in_ok-label-in-Sat.ensures ∙ ap (λ sorts. row (merged sorts v.left.items v.right.left.items v.right.right.items)) (ap (map plain_sort) c.deref.ensures.value ∙ c.self.view_is) in
+    merged_satisfies c.args.self.now c.args.literals.now v.left.items v.right.left.items v.right.right.items (label_meaning c.in_ok-label-in-Sat.label) made both.0 both.1
 
 pub returns-in-Unsat : goal.returns-in-Unsat
-returns-in-Unsat c = none_satisfies c.args.self.now c.args.literals.now (rw (c.in-Unsat.is, c.parts.ensures.truths, c.parts.ensures.texts) at c.in_ok-value.ensures)
+returns-in-Unsat c = none_satisfies c.args.self.now c.args.literals.now (rw (c.in-Unsat.is, c.parts.ensures.wholes, c.parts.ensures.truths, c.parts.ensures.texts) at c.in_ok-value.ensures)
+
+pub chain_of_numbers-requires : goal.chain_of_numbers-requires
+chain_of_numbers-requires c = let h = rw c.in-Wide.is at c.in_ok-value.ensures in of_numbers _ c.in-Wide.chain h.0.0
+
+pub returns-in-Wide : goal.returns-in-Wide
+returns-in-Wide c =
+    let h = rw (c.in-Wide.is, c.chain_of_numbers.ensures) at c.in_ok-value.ensures in (
+      h.0,
+      λ far. let told = rw (c.parts.ensures.wholes, c.parts.ensures.truths, c.parts.ensures.texts) at (h.1 far) in
+          (some_satisfies c.args.self.now c.args.literals.now told.0, kept_none c.args.self.now c.args.literals.now told.1),
+    )

@@ -1,0 +1,41 @@
+-- A copy of a map is equal to it.
+use Rattle.std.proofs.Common.{◌≡◌, ◌&&◌, List, [], ◌∷◌, map, Bool, true, refl, subst, Result, Ok, Err, IfOk}
+use Rattle.std.specs.Cmp.Lexicographic.{pointwise}
+use Rattle.label_core.specs.Formula.{plain_formula}
+use Rattle.label_core.specs.declared.formula.Formula.{Formula}
+use Rattle.label_core.specs.SameFormula.{same_formula}
+use Rattle.record_label.specs.declared.maps.RowEntry.{RowEntry}
+use Rattle.record_label.specs.declared.maps.RowEntry.TheVariants.{Number, Truth, Text}
+use Rattle.record_label.specs.contracts.maps.RowEntryPartialEq.TheImpl.{eq-value}
+use Rattle.record_label.specs.contracts.maps.RowEntryEq.TheImpl.Laws.{laws-law}
+use Rattle.record_label.specs.Rows.{RowAtom}
+use Rattle.record_label.specs.PlainMaps.{plain_entry}
+
+by_plain : (A : RowAtom → RowAtom → Bool) (f g : Formula RowAtom) → plain_formula f ≡ plain_formula g → same_formula A (plain_formula f) (plain_formula f) ≡ true → same_formula A (plain_formula f) (plain_formula g) ≡ true
+by_plain A f g one h = subst (λ p. same_formula A (plain_formula f) p ≡ true) one h
+
+truths : (f g : Formula RowAtom) → plain_formula f ≡ plain_formula g → eq-value.it (Truth f) (Truth g) ≡ true
+truths f g one = by_plain _ f g one (laws-law.refl (Truth f))
+
+same_entry : (x y : RowEntry) → plain_entry x ≡ plain_entry y → eq-value.it x y ≡ true
+same_entry (Number f) (Number g) e = let one : f ≡ g = cc in subst (λ h. eq-value.it (Number f) (Number h) ≡ true) one (laws-law.refl (Number f))
+same_entry (Number f) (Truth g) e = absurd cc
+same_entry (Number f) (Text t) e = absurd cc
+same_entry (Truth f) (Number g) e = absurd cc
+same_entry (Truth f) (Truth g) e = let one : plain_formula f ≡ plain_formula g = cc in truths f g one
+same_entry (Truth f) (Text t) e = absurd cc
+same_entry (Text s) (Number g) e = absurd cc
+same_entry (Text s) (Truth g) e = absurd cc
+same_entry (Text s) (Text t) e = let one : s ≡ t = cc in subst (λ u. eq-value.it (Text s) (Text u) ≡ true) one (laws-law.refl (Text s))
+
+pub same_entries : (xs ys : List RowEntry) → map plain_entry xs ≡ map plain_entry ys → pointwise eq-value.it xs ys ≡ true
+same_entries [] [] e = refl
+same_entries [] (y ∷ ys) e = absurd cc
+same_entries (x ∷ xs) [] e = absurd cc
+same_entries (x ∷ xs) (y ∷ ys) e =
+    let first : plain_entry x ≡ plain_entry y = cc in
+    let rest : map plain_entry xs ≡ map plain_entry ys = cc in λ i. same_entry x y first i && same_entries xs ys rest i
+
+pub if_ok : {T E : Type 0} (r : Result T E) (P Q : T → Type 0) → ((x : T) → P x → Q x) → IfOk r P → IfOk r Q
+if_ok (Ok x) P Q f h = f x h
+if_ok (Err e) P Q f h = h

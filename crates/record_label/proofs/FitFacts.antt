@@ -1,0 +1,47 @@
+-- Forms over the first fields, term by term.
+use Rattle.std.proofs.Common.{◌≡◌, ◌↔◌, ℕ, ◌+◌, ◌<◌, ◌≤◌, List, ◌∷◌, length, drop, get_or, sym, ap, ◌∙◌, subst, arith}
+use Rattle.std.proofs.lemmas.List.{at_drop_more, at_drop_all}
+use Rattle.model_form.specs.Form.{Form, form, fields_of, remainders_of}
+use Rattle.model_form.specs.Over.{IsOver, AreBelow, AreOver}
+use Rattle.lin_form.specs.declared.form.FieldTerm.{FieldTerm}
+use Rattle.lin_form.specs.declared.form.RemTerm.{RemTerm}
+use Rattle.lin_form.specs.Terms.{plain_fields, plain_remainders}
+
+drop_is : {X : Type 0} (xs : List X) (i : ℕ) (x : X) → i < length xs → x ≡ get_or xs i x → drop i xs ≡ x ∷ drop (i + 1) xs
+drop_is xs i x l is = at_drop_more (λ us. us) xs i x l ∙ ap (λ y. y ∷ drop (i + 1) xs) (sym is)
+
+module _ (n : ℕ) where
+  abbrev Below : List FieldTerm → Type 0
+  Below ts = AreBelow n (plain_fields ts)
+
+  abbrev Over : List RemTerm → Type 0
+  Over ts = AreOver n (plain_remainders ts)
+
+  pub below_more : (ts : List FieldTerm) (i : ℕ) (d : FieldTerm) → i < length ts → (get_or ts i d).field < n → Below (drop i ts) ↔ Below ts → Below (drop (i + 1) ts) ↔ Below ts
+  below_more ts i d l low inv =
+      let here = at_drop_more (λ us. us) ts i d l in (λ h. inv.0 (subst Below (sym here) (low, h)), λ w. (subst Below here (inv.1 w)).1)
+
+  pub not_below : (ts : List FieldTerm) (i : ℕ) (d : FieldTerm) → i < length ts → n ≤ (get_or ts i d).field → Below (drop i ts) ↔ Below ts → Below ts → ⊥
+  not_below ts i d l high inv w = let low = (subst Below (at_drop_more (λ us. us) ts i d l) (inv.1 w)).0 in absurd (omega (arith, low, high))
+
+  pub below_all : (ts : List FieldTerm) (i : ℕ) → length ts ≤ i → Below (drop i ts) ↔ Below ts → Below ts
+  below_all ts i h inv = inv.0 (subst Below (sym (at_drop_all (λ us. us) ts i h)) tt)
+
+  pub over_more : (ts : List RemTerm) (i : ℕ) (t : RemTerm) → i < length ts → t ≡ get_or ts i t → IsOver n t.inner → Over (drop i ts) ↔ Over ts → Over (drop (i + 1) ts) ↔ Over ts
+  over_more ts i t l is low inv = let here = drop_is ts i t l is in (λ h. inv.0 (subst Over (sym here) (low, h)), λ w. (subst Over here (inv.1 w)).1)
+
+  pub not_over : (ts : List RemTerm) (i : ℕ) (t : RemTerm) → i < length ts → t ≡ get_or ts i t → (IsOver n t.inner → ⊥) → Over (drop i ts) ↔ Over ts → Over ts → ⊥
+  not_over ts i t l is other inv w = other (subst Over (drop_is ts i t l is) (inv.1 w)).0
+
+  pub over_all : (ts : List RemTerm) (i : ℕ) → length ts ≤ i → Over (drop i ts) ↔ Over ts → Over ts
+  over_all ts i h inv = inv.0 (subst Over (sym (at_drop_all (λ us. us) ts i h)) tt)
+
+  -- a form by its terms
+  pub form_over : (f : Form) (ts : List FieldTerm) (rs : List RemTerm) → plain_fields ts ≡ fields_of f → plain_remainders rs ≡ remainders_of f → Below ts → Over rs → IsOver n f
+  form_over (form c us qs) ts rs e g b o = (subst (AreBelow n) e b, subst (AreOver n) g o)
+
+  pub over_below : (f : Form) (ts : List FieldTerm) → plain_fields ts ≡ fields_of f → IsOver n f → Below ts
+  over_below (form c us qs) ts e o = subst (AreBelow n) (sym e) o.0
+
+  pub over_rest : (f : Form) (rs : List RemTerm) → plain_remainders rs ≡ remainders_of f → IsOver n f → Over rs
+  over_rest (form c us qs) rs g o = subst (AreOver n) (sym g) o.1

@@ -1,0 +1,131 @@
+use Rattle.std.proofs.Common.{◌≡◌, ◌+◌, ◌++◌, rules, ◌∷◌, [], drop, ap, sym, subst, ◌∙◌}
+use Rattle.std.proofs.Math.IntN.{ℤ, pos, negsuc}
+use Rattle.std.proofs.Common.{MatchResult, to_z, of_z}
+use Rattle.std.specs.Prelude.{FitsSigned}
+use Rattle.std.specs.Int.{w128}
+use Rattle.std.proofs.lemmas.Int.{to_z-of_z}
+use Rattle.model_grammar.specs.declared.Chain.TheVariants.{Sum, Product}
+use Rattle.model_grammar.specs.Syntax.{chain}
+use Rattle.lin_form.specs.Stops.{StopsAt}
+use Rattle.std.proofs.lemmas.Result.{err_from_is_err_and}
+use Rattle.model_form.specs.Ranges.{IsOutside}
+use Rattle.model_form.specs.Sums.{number_form, product_form, sum_form}
+use Rattle.model_guard.specs.Forms.{step, form_of, added, steps, forms_in, forms_in_all, HasOutside}
+use Rattle.lin_form.specs.Gathered.{plain_parts}
+use Rattle.lin_form.proofs.Putting.{stops_weaker}
+use Rattle.fast_tree.specs.Signatures.{plain_signature}
+use Rattle.fast_syntax.specs.Plain.{plain_expr, plain_node}
+use Rattle.fast_syntax.specs.Slices.{plain_sum_parts, plain_prod_parts}
+use Rattle.fast_syntax.proofs.Rows.{plain_sum_of, plain_product_of}
+use Rattle.record_label.proofs.FormFacts.{outside_left, outside_right, outside_first, passed, sum_at, product_at, added_more, in_first, in_rest, multiplied_more, step_first, step_rest}
+use Rattle.record_label.proofs.forms.+forms.Goals as goal
+
+pub added-returns-in_err-form : goal.added-returns-in_err-form
+added-returns-in_err-form t c =
+    let fields = (plain_signature c.args.signature.now).fields in
+    let it = c.part-item.result in
+    let i = c.loop-part.part-index in
+    let ps = c.args.parts.now in
+    let p = err_from_is_err_and c.from_residual.result c.from_residual.ensures.1 in
+    let at = sum_at ps i it c.loop-part-test.true c.part-item.is in
+    let out : (n : ℤ) → HasOutside (forms_in fields (plain_expr it.part)) n → HasOutside (forms_in_all fields (plain_sum_parts ps)) n = λ n o. c.loop-part.invariant.1 n (in_first fields it.minus (plain_expr it.part) (plain_sum_parts (drop (i + 1) ps)) (plain_sum_parts (drop i ps)) n at o) in
+    rw (p.1, p.2) (stops_weaker (HasOutside (forms_in fields (plain_expr it.part))) (HasOutside (forms_in_all fields (plain_sum_parts ps))) c.in_err-form.field-0.0 out (c.in_err-form.ensures {u = tt}))
+
+pub added-loop-part-preserved : goal.added-loop-part-preserved
+added-loop-part-preserved t c =
+    let fields = (plain_signature c.args.signature.now).fields in
+    let it = c.part-item.result in
+    let i = c.loop-part.part-index in
+    let ps = c.args.parts.now in
+    let at = sum_at ps i it c.loop-part-test.true c.part-item.is in (
+      added_more fields c.loop-part.made.items c.push.new.self.items it.minus c.in_ok-form.form (plain_expr it.part) (plain_sum_parts (drop (i + 1) ps)) (plain_sum_parts (drop i ps)) (plain_sum_parts ps) (c.in_ok-push.ensures {u = tt}).items (c.in_ok-form.ensures {u = tt}) at c.loop-part.invariant.0,
+      λ n o. c.loop-part.invariant.1 n (in_rest fields it.minus (plain_expr it.part) (plain_sum_parts (drop (i + 1) ps)) (plain_sum_parts (drop i ps)) n at o),
+    )
+
+pub form_of-returns-in_err-added-in-Sum : goal.form_of-returns-in_err-added-in-Sum
+form_of-returns-in_err-added-in-Sum t c =
+    let fields = (plain_signature c.args.signature.now).fields in
+    let place = c.args.expr.now.place in
+    let parts = c.in-Sum.parts in
+    let whole : plain_expr c.args.expr.now ≡ chain Sum place (plain_sum_parts parts.items) = ap (λ n. plain_node n place) c.in-Sum.is ∙ plain_sum_of place parts in
+    let p = err_from_is_err_and c.from_residual-in_err-added-in-Sum.result c.from_residual-in_err-added-in-Sum.ensures.1 in
+    let out : (n : ℤ) → HasOutside (forms_in_all fields (plain_sum_parts c.deref-in-Sum.result.now)) n → HasOutside (forms_in fields (plain_expr c.args.expr.now)) n = λ n o.
+    subst (λ e. HasOutside (forms_in fields e) n) (sym whole) (outside_left (forms_in_all fields (plain_sum_parts parts.items)) (form_of fields (chain Sum place (plain_sum_parts parts.items)) ∷ []) n (subst (λ ps. HasOutside (forms_in_all fields (plain_sum_parts ps)) n) c.deref-in-Sum.ensures.value o)) in
+    rw (p.1, p.2) (stops_weaker (HasOutside (forms_in_all fields (plain_sum_parts c.deref-in-Sum.result.now))) (HasOutside (forms_in fields (plain_expr c.args.expr.now))) c.in_err-added-in-Sum.field-0.0 out (c.in_err-added-in-Sum.ensures {u = tt}))
+
+pub form_of-returns-in-Num : goal.form_of-returns-in-Num
+form_of-returns-in-Num t c =
+    let v = c.in-Num.value in
+    let fits : FitsSigned w128 v = search rules in
+    let held = to_z-of_z w128 v fits in
+    rw c.in-Num.is (passed c.number.result (λ f. f ≡ number_form (to_z w128 (of_z w128 v))) (λ f. f ≡ number_form v) (IsOutside (number_form (to_z w128 (of_z w128 v)))) (HasOutside (number_form v ∷ []))
+    (λ f is. is ∙ ap number_form held) (λ n o. outside_first (number_form v) [] n (subst (λ z. IsOutside (number_form z) n) held o)) c.number.ensures)
+
+pub form_of-returns-in_ok-form_of-in-Minus : goal.form_of-returns-in_ok-form_of-in-Minus
+form_of-returns-in_ok-form_of-in-Minus t c =
+    let fields = (plain_signature c.args.signature.now).fields in
+    let e = plain_expr c.in-Minus.part.value in
+    let inner : c.in_ok-form_of-in-Minus.field-0 ≡ form_of fields e = rw c.deref.ensures at (c.in_ok-form_of-in-Minus.ensures {u = tt}) in
+    rw c.in-Minus.is (passed c.scaled-in-Minus.result (λ f. f ≡ product_form (negsuc 0) c.in_ok-form_of-in-Minus.field-0) (λ f. f ≡ product_form (negsuc 0) (form_of fields e)) (IsOutside (product_form (negsuc 0) c.in_ok-form_of-in-Minus.field-0)) (HasOutside (forms_in fields e ++ product_form (negsuc 0) (form_of fields e) ∷ []))
+    (λ f is. is ∙ ap (product_form (negsuc 0)) inner) (λ n o. outside_right (forms_in fields e) (product_form (negsuc 0) (form_of fields e) ∷ []) n (outside_first (product_form (negsuc 0) (form_of fields e)) [] n (subst (λ f. IsOutside (product_form (negsuc 0) f) n) inner o))) c.scaled-in-Minus.ensures.form)
+
+pub form_of-returns-in_ok-added-in-Sum : goal.form_of-returns-in_ok-added-in-Sum
+form_of-returns-in_ok-added-in-Sum t c =
+    let fields = (plain_signature c.args.signature.now).fields in
+    let place = c.args.expr.now.place in
+    let parts = c.in-Sum.parts in
+    let e = chain Sum place (plain_sum_parts parts.items) in
+    let whole : plain_expr c.args.expr.now ≡ e = ap (λ n. plain_node n place) c.in-Sum.is ∙ plain_sum_of place parts in
+    let made : sum_form (plain_parts c.deref-in-Sum-2.result.now) ≡ form_of fields e = ap (λ xs. sum_form (plain_parts xs)) c.deref-in-Sum-2.ensures.value ∙ ap sum_form (c.in_ok-added-in-Sum.ensures {u = tt} ∙ ap (λ ps. added fields (plain_sum_parts ps)) c.deref-in-Sum.ensures.value) in
+    subst (λ d. MatchResult c.sum.result (λ f. f ≡ form_of fields d) (λ stop. StopsAt (HasOutside (forms_in fields d)) stop)) (sym whole)
+    (passed c.sum.result (λ f. f ≡ sum_form (plain_parts c.deref-in-Sum-2.result.now)) (λ f. f ≡ form_of fields e) (IsOutside (sum_form (plain_parts c.deref-in-Sum-2.result.now))) (HasOutside (forms_in fields e))
+    (λ f is. is ∙ made) (λ n o. outside_right (forms_in_all fields (plain_sum_parts parts.items)) (form_of fields e ∷ []) n (outside_first (form_of fields e) [] n (subst (λ f. IsOutside f n) made o))) c.sum.ensures)
+
+pub form_of-returns-in-Prod : goal.form_of-returns-in-Prod
+form_of-returns-in-Prod t c =
+    let fields = (plain_signature c.args.signature.now).fields in
+    let place = c.args.expr.now.place in
+    let parts = c.in-Prod.parts in
+    let whole : plain_expr c.args.expr.now ≡ chain Product place (plain_prod_parts parts.items) = ap (λ n. plain_node n place) c.in-Prod.is ∙ plain_product_of place parts in
+    subst (λ d. MatchResult c.multiplied.result (λ f. f ≡ form_of fields d) (λ stop. StopsAt (HasOutside (forms_in fields d)) stop)) (sym whole) (rw c.deref-in-Prod.ensures.value at c.multiplied.ensures)
+
+pub multiplied-returns-in_err-own : goal.multiplied-returns-in_err-own
+multiplied-returns-in_err-own t c =
+    let fields = (plain_signature c.args.signature.now).fields in
+    let it = c.part-item.result in
+    let i = c.loop-part.part-index in
+    let ps = c.args.parts.now in
+    let p = err_from_is_err_and c.from_residual-in_err-own.result c.from_residual-in_err-own.ensures.1 in
+    let at = product_at ps i it c.loop-part-test.true c.part-item.is in
+    let all = forms_in_all fields (plain_prod_parts ps) ++ steps fields (number_form (pos 1)) (plain_prod_parts ps) in
+    let out : (n : ℤ) → HasOutside (forms_in fields (plain_expr it.part)) n → HasOutside all n = λ n o.
+    outside_left (forms_in_all fields (plain_prod_parts ps)) (steps fields (number_form (pos 1)) (plain_prod_parts ps)) n (c.loop-part.invariant.1 n (in_first fields it.remainder (plain_expr it.part) (plain_prod_parts (drop (i + 1) ps)) (plain_prod_parts (drop i ps)) n at o)) in
+    rw (p.1, p.2) (stops_weaker (HasOutside (forms_in fields (plain_expr it.part))) (HasOutside all) c.in_err-own.field-0.0 out (c.in_err-own.ensures {u = tt}))
+
+pub multiplied-returns-in_err-form-2 : goal.multiplied-returns-in_err-form-2
+multiplied-returns-in_err-form-2 t c =
+    let fields = (plain_signature c.args.signature.now).fields in
+    let it = c.part-item.result in
+    let i = c.loop-part.part-index in
+    let ps = c.args.parts.now in
+    let p = err_from_is_err_and c.from_residual-in_err-form-2.result c.from_residual-in_err-form-2.ensures.1 in
+    let at = product_at ps i it c.loop-part-test.true c.part-item.is in
+    let all = forms_in_all fields (plain_prod_parts ps) ++ steps fields (number_form (pos 1)) (plain_prod_parts ps) in
+    let out : (n : ℤ) → IsOutside (step c.loop-part.form it.remainder (plain_expr it.part) c.in_ok-own.own) n → HasOutside all n = λ n o.
+    outside_right (forms_in_all fields (plain_prod_parts ps)) (steps fields (number_form (pos 1)) (plain_prod_parts ps)) n (c.loop-part.invariant.2 n (step_first fields c.loop-part.form it.remainder (plain_expr it.part) c.in_ok-own.own (plain_prod_parts (drop (i + 1) ps)) (plain_prod_parts (drop i ps)) n (c.in_ok-own.ensures {u = tt}) at o)) in
+    rw (p.1, p.2) (stops_weaker (IsOutside (step c.loop-part.form it.remainder (plain_expr it.part) c.in_ok-own.own)) (HasOutside all) c.in_err-form-2.field-0.0 out (c.in_err-form-2.ensures {u = tt}))
+
+pub multiplied-loop-part-preserved : goal.multiplied-loop-part-preserved
+multiplied-loop-part-preserved t c =
+    let fields = (plain_signature c.args.signature.now).fields in
+    let it = c.part-item.result in
+    let e = plain_expr it.part in
+    let i = c.loop-part.part-index in
+    let ps = c.args.parts.now in
+    let rest = plain_prod_parts (drop (i + 1) ps) in
+    let at = product_at ps i it c.loop-part-test.true c.part-item.is in
+    let now : c.in_ok-form-2.form ≡ step c.loop-part.form it.remainder e (form_of fields e) = c.in_ok-form-2.ensures {u = tt} ∙ ap (step c.loop-part.form it.remainder e) (c.in_ok-own.ensures {u = tt}) in (
+      multiplied_more fields c.loop-part.form c.in_ok-form-2.form it.remainder e rest (plain_prod_parts (drop i ps)) (plain_prod_parts ps) now at c.loop-part.invariant.0,
+      λ n o. c.loop-part.invariant.1 n (in_rest fields it.remainder e rest (plain_prod_parts (drop i ps)) n at o),
+      λ n o. c.loop-part.invariant.2 n (step_rest fields c.loop-part.form c.in_ok-form-2.form it.remainder e rest (plain_prod_parts (drop i ps)) n now at o),
+    )

@@ -1,0 +1,74 @@
+//! The labels of a type, with the maps from them and into them.
+
+use crate::maps::{RowEntry, RowMap};
+use crate::puts::{forms_of, put_atom};
+use crate::rows::{RowAtom, RowLabels};
+use fast_fault::Memory;
+use fast_tree::Label;
+use flat_label::TextSide;
+use label_core::{Applied, Labels, Put, PutMap, Theory};
+use lin_form::FormStop;
+use std::alloc::Global;
+
+impl Labels for RowLabels {
+    type Map = RowMap;
+
+    ghost use Rattle.std.specs.Prelude.{◌≡◌, refl, map, Contains};
+    ghost use Rattle.label_core.specs.Formula.{atoms_in};
+    ghost use Rattle.record_label.specs.Maps.{made, sort_by, EntriesFit, put_atom, IsOutsidePut, IsOutsideEntry, SomeOutside};
+    ghost use Rattle.record_label.specs.PlainMaps.{plain_entry};
+    ghost use Rattle.record_label.specs.MapLaws.{made_labels, equal_made, equal_maps_fit, equal_maps_make};
+    ghost use Rattle.record_label.specs.contracts.rows.RowLabelsTheory.TheImpl.Laws.{equal_atoms-law, equal_atoms_fit-law};
+
+    ghost make = { λ m. made (map plain_entry m.entries.items) };
+
+    ghost map_fits = { λ t m. EntriesFit t (map plain_entry m.entries.items) };
+
+    ghost map_makes = { λ t m. map sort_by (map plain_entry m.entries.items) ≡ t };
+
+    ghost is_put = { λ m a. Contains (atoms_in (put_atom (map plain_entry m.entries.items) a)) };
+
+    ghost put_outside = { λ m. IsOutsidePut (map plain_entry m.entries.items) };
+
+    ghost chain_outside = { λ m n. SomeOutside (IsOutsideEntry (map plain_entry m.entries.items)) (map plain_entry n.entries.items) };
+
+    ghost made_labels = { λ t into m l fits makes has. made_labels into (map plain_entry m.entries.items) l makes };
+
+    ghost equal_maps = { λ m n l. equal_made ⟦<RowAtom as PartialEq>⟧.eq ⟦<TextSide as PartialEq>⟧.eq (record { fields = λ _ _. refl; field_constant = λ _ _. refl; constant_field = λ _ _. refl; constants = λ _ _. refl }) ⟦<RowEntry as PartialEq>⟧.eq (record { numbers = λ _ _. refl; formulas = λ _ _. refl; sides = λ _ _. refl; number_truth = λ _ _. refl; number_text = λ _ _. refl; truth_number = λ _ _. refl; truth_text = λ _ _. refl; text_number = λ _ _. refl; text_truth = λ _ _. refl }) equal_atoms-law m.entries.items n.entries.items l };
+
+    ghost equal_maps_fit = { λ t m n. equal_maps_fit ⟦<RowAtom as PartialEq>⟧.eq ⟦<TextSide as PartialEq>⟧.eq (record { fields = λ _ _. refl; field_constant = λ _ _. refl; constant_field = λ _ _. refl; constants = λ _ _. refl }) ⟦<RowEntry as PartialEq>⟧.eq (record { numbers = λ _ _. refl; formulas = λ _ _. refl; sides = λ _ _. refl; number_truth = λ _ _. refl; number_text = λ _ _. refl; truth_number = λ _ _. refl; truth_text = λ _ _. refl; text_number = λ _ _. refl; text_truth = λ _ _. refl }) t (equal_atoms_fit-law t) m.entries.items n.entries.items };
+
+    ghost equal_maps_make = { λ t m n. equal_maps_make ⟦<RowAtom as PartialEq>⟧.eq ⟦<TextSide as PartialEq>⟧.eq (record { fields = λ _ _. refl; field_constant = λ _ _. refl; constant_field = λ _ _. refl; constants = λ _ _. refl }) ⟦<RowEntry as PartialEq>⟧.eq (record { numbers = λ _ _. refl; formulas = λ _ _. refl; sides = λ _ _. refl; number_truth = λ _ _. refl; number_text = λ _ _. refl; truth_number = λ _ _. refl; truth_text = λ _ _. refl; text_number = λ _ _. refl; text_truth = λ _ _. refl }) t m.entries.items n.entries.items };
+
+    fn copy_map(&self, alloc: Global, map: &RowMap) -> Result<RowMap, Memory> {
+        map.copy(alloc)
+    }
+
+    fn apply(&self, alloc: Global, map: &RowMap, value: &Label) -> Result<Applied<Label>, Memory> {
+        map.apply(alloc, self, value)
+    }
+
+    fn subst(&self, alloc: Global, map: &RowMap, atom: &RowAtom) -> Result<Put<RowAtom>, Memory> {
+        self.are_few();
+        let forms = forms_of(alloc, &map.entries)?;
+        match put_atom(alloc, atom, &map.entries, &forms) {
+            Ok(formula) => Ok(Put::Formula(formula)),
+            Err(FormStop::Range(number)) => Ok(Put::Range(number)),
+            Err(FormStop::Memory) => Err(Memory),
+        }
+    }
+
+    fn chain_maps(
+        &self,
+        alloc: Global,
+        first: &RowMap,
+        second: &RowMap,
+    ) -> Result<PutMap<RowMap>, Memory> {
+        self.are_few();
+        match second.after(alloc, first) {
+            Ok(map) => Ok(PutMap::Map(map)),
+            Err(FormStop::Range(number)) => Ok(PutMap::Range(number)),
+            Err(FormStop::Memory) => Err(Memory),
+        }
+    }
+}
