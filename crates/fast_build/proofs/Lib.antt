@@ -4,6 +4,7 @@ pub mod Grown
 pub mod Standing
 pub mod Declaring
 pub mod Reaching
+pub mod Guarding
 pub mod Meaning
 pub mod Rounds
 pub mod Whole

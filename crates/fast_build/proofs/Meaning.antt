@@ -20,7 +20,9 @@ use Rattle.sta_core.specs.Sta.{rule_meaning}
 use Rattle.fast_build.specs.Numbers.{number_in, numbers_for, numbers_for_each}
 use Rattle.fast_build.specs.Reached.{demanded_by, demanded_in}
 use Rattle.fast_build.specs.Rules.{IsRuleFor, AreRulesFor}
+use Rattle.record_label.specs.Rows.{RowAtom, row_holds}
 use Rattle.fast_build.specs.Stands.{are_apart}
+use Rattle.fast_build.proofs.Guarding.{guard_means}
 use Rattle.fast_build.proofs.Naming.{named_by_number, numbered_below, number_named}
 use Rattle.fast_build.proofs.Elements.{all_left, all_right}
 use Rattle.std.proofs.lemmas.List.Elements.{All-head, All-tail}
@@ -29,13 +31,13 @@ and_assoc : (a b c : Bool) → ((a && b) && c) ≡ (a && (b && c))
 and_assoc true b c = refl
 and_assoc false b c = refl
 
-module _ {A : Type 0} (holds : A → Label → Bool) (fits : A → Type 0) (items : List Item) (t : PlainSignature) (names : List (List ℕ)) (rules : List (List (PlainRule A)))
+module _ (items : List Item) (t : PlainSignature) (names : List (List ℕ)) (rules : List (List (PlainRule RowAtom)))
     (typed : (k : ℕ) → k < length names → input_of items (get_or names k []) ≡ t)
     (closed : (k : ℕ) → k < length names → All (Contains names) (demanded_in (rules_of items (get_or names k []))))
-    (are : (k : ℕ) → k < length names → AreRulesFor holds fits t names (get_or rules k []) (rules_of items (get_or names k [])))
+    (are : (k : ℕ) → k < length names → AreRulesFor t names (get_or rules k []) (rules_of items (get_or names k [])))
     (apart : are_apart (names_of t) ≡ true) where
   abbrev automaton : List (List (machines.Rule Label))
-  automaton = map (map (rule_meaning holds)) rules
+  automaton = map (map (rule_meaning row_holds)) rules
 
   abbrev Means : LabelTree → Type 0
   Means u = (k : ℕ) → k < length names → is_in items u (get_or names k []) ≡ is_accepted automaton u k
@@ -64,15 +66,15 @@ module _ {A : Type 0} (holds : A → Label → Bool) (fits : A → Type 0) (item
   meet_more u us means meets given there (v ∷ vars) = ap₂ (λ x y. x && y) (demands_match u means given there v.text) (meets given there vars)
 
   -- one rule
-  rule_match : (c : ℕ) (l : Label) (us : Trees Label) → c < length t.constructors → HasSorts (sorts_of t) l → Meets us → (r : Rule) (p : PlainRule A) → IsRuleFor holds fits t names p r → All (Contains names) (demanded_by r.given)
-      → (heads t r c l && are_in items us r.vars r.given) ≡ ((p.constructor == c) && (formula_holds (λ a. holds a l) p.guard && meet_demands automaton us p.demands))
+  rule_match : (c : ℕ) (l : Label) (us : Trees Label) → c < length t.constructors → HasSorts (sorts_of t) l → Meets us → (r : Rule) (p : PlainRule RowAtom) → IsRuleFor t names p r → All (Contains names) (demanded_by r.given)
+      → (heads t r c l && are_in items us r.vars r.given) ≡ ((p.constructor == c) && (formula_holds (λ a. row_holds a l) p.guard && meet_demands automaton us p.demands))
   rule_match c l us low sorted meets r p is there =
       and_assoc (same_text (get_or (names_of t) c []) r.ctor.text) (guard_holds t.fields r.guard l) (are_in items us r.vars r.given)
       ∙ ap₂ (λ x y. x && y) (number_named t r.ctor.text p.constructor c apart is.numbered low)
-      (ap₂ (λ x y. x && y) (sym (is.guard.holds_of l sorted)) (meets r.given there r.vars ∙ ap (meet_demands automaton us) (sym is.demands)))
+      (ap₂ (λ x y. x && y) (sym (guard_means t.fields r.guard p.guard l is.guard sorted)) (meets r.given there r.vars ∙ ap (meet_demands automaton us) (sym is.demands)))
 
-  rules_match : (c : ℕ) (l : Label) (us : Trees Label) → c < length t.constructors → HasSorts (sorts_of t) l → Meets us → (rs : List Rule) (ps : List (PlainRule A)) → AreRulesFor holds fits t names ps rs → All (Contains names) (demanded_in rs)
-      → list_any (λ r. heads t r c l && are_in items us r.vars r.given) rs ≡ list_any (λ r. (r.constructor == c) && (r.guard l && meet_demands automaton us r.demands)) (map (rule_meaning holds) ps)
+  rules_match : (c : ℕ) (l : Label) (us : Trees Label) → c < length t.constructors → HasSorts (sorts_of t) l → Meets us → (rs : List Rule) (ps : List (PlainRule RowAtom)) → AreRulesFor t names ps rs → All (Contains names) (demanded_in rs)
+      → list_any (λ r. heads t r c l && are_in items us r.vars r.given) rs ≡ list_any (λ r. (r.constructor == c) && (r.guard l && meet_demands automaton us r.demands)) (map (rule_meaning row_holds) ps)
   rules_match c l us low sorted meets [] [] is there = refl
   rules_match c l us low sorted meets [] (p ∷ ps) is there = absurd is
   rules_match c l us low sorted meets (r ∷ rs) [] is there = absurd is
@@ -84,7 +86,7 @@ module _ {A : Type 0} (holds : A → Label → Bool) (fits : A → Type 0) (item
   node_match c l us low sorted meets k below =
       (λ i. list_any (λ r. heads (typed k below i) r c l && are_in items us r.vars r.given) (rules_of items (get_or names k [])))
       ∙ rules_match c l us low sorted meets (rules_of items (get_or names k [])) (get_or rules k []) (are k below) (closed k below)
-      ∙ ap (list_any (λ r. (r.constructor == c) && (r.guard l && meet_demands automaton us r.demands))) (sym (get_or-map (map (rule_meaning holds)) rules k []))
+      ∙ ap (list_any (λ r. (r.constructor == c) && (r.guard l && meet_demands automaton us r.demands))) (sym (get_or-map (map (rule_meaning row_holds)) rules k []))
 
   ctors_many : length (ranks_of t) ≡ length t.constructors
   ctors_many = length-map _ _

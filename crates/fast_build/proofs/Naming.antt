@@ -1,11 +1,10 @@
 -- Numbers of names.
-use Rattle.std.proofs.Common.{◌≡◌, ℕ, zero, suc, ◌+◌, ◌<◌, ◌==◌, Bool, true, false, cond, List, [], ◌∷◌, Option, Some, None, map, length, get_or, Contains, refl, sym, ap, ap₂, ◌∙◌, arith}
+use Rattle.std.proofs.Common.{◌≡◌, ℕ, zero, suc, ◌+◌, ◌<◌, ◌==◌, Bool, true, false, cond, List, [], ◌∷◌, Option, Some, None, map, length, get_or, Contains, refl, sym, ap, ◌∙◌, arith}
 use Rattle.std.specs.Prelude.{not, find, nat_lt, position, is_some}
 use Rattle.std.specs.List.{list_any, position_or_len}
 use Rattle.std.proofs.lemmas.Slice.Eq.{bytes_eq-Decides}
 use Rattle.std.proofs.lemmas.Bool.Decides.{nat_tests}
 use Rattle.std.proofs.lemmas.List.{get_or-map, length-map}
-use Rattle.std.proofs.lemmas.Simd.{map-map}
 use Rattle.model_tree.specs.Signature.{PlainConstructor, PlainSignature, names_of}
 use Rattle.model_names.specs.Declared.{same_text}
 use Rattle.fast_tree.specs.declared.signature.CtorOf as code

@@ -1,8 +1,8 @@
 -- A language that is reached is declared, and has trees of the same type.
-use Rattle.std.proofs.Common.{◌≡◌, ◌<◌, ℕ, length, arith, true, false, List, [], Option, Some, None, Contains, refl, sym, ap, subst, ◌∙◌}
+use Rattle.std.proofs.Common.{◌≡◌, ℕ, length, arith, true, false, List, [], Option, Some, None, Contains, refl, sym, ap, subst, ◌∙◌}
 use Rattle.std.specs.Option.{option_map_or}
-use Rattle.model_program.specs.Syntax.{Name, Demand}
-use Rattle.model_grammar.specs.Syntax.{Rule, OutRule, LangItem, Item}
+use Rattle.model_program.specs.Syntax.{Demand}
+use Rattle.model_grammar.specs.Syntax.{Rule, LangItem, Item}
 use Rattle.model_names.specs.Declared.{same_text, rules_of}
 use Rattle.model_meaning.specs.Types.{signature_at, input_of}
 use Rattle.model_meaning.specs.Reached.{Reaches, itself, by_demand, by_lookahead, by_call, by_definition}

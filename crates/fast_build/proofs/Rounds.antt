@@ -1,22 +1,21 @@
 -- The rounds in which the languages that a language reaches are gathered.
-use Rattle.std.proofs.Common.{◌≡◌, ℕ, zero, suc, ◌+◌, ◌<◌, ◌≤◌, Bool, true, false, cond, inl, inr, ◌⊎◌, List, [], ◌∷◌, ◌++◌, Option, Some, None, map, take, length, get_or, All, Contains, refl, sym, ap, subst, ◌∙◌, add-one, arith}
+use Rattle.std.proofs.Common.{◌≡◌, ℕ, zero, suc, ◌+◌, ◌<◌, ◌≤◌, true, inl, inr, ◌⊎◌, List, [], ◌∷◌, ◌++◌, Option, Some, None, map, take, length, get_or, All, Contains, refl, sym, ap, subst, ◌∙◌, add-one, arith}
 use Rattle.std.specs.Prelude.{is_some}
 use Rattle.std.specs.List.{IsDistinct}
 use Rattle.std.specs.Cmp.{IsEquivalence}
-use Rattle.std.proofs.lemmas.List.{length-append, length-map, map-append, take-append-le}
+use Rattle.std.proofs.lemmas.List.{length-append, map-append, take-append-le}
 use Rattle.std.proofs.lemmas.List.Elements.{All-nil, All-cons, All-append, Contains-append_left, Contains-append_right, Contains-get_or}
 use Rattle.std.proofs.lemmas.Map.Made.{length-le_from_is_member}
 use Rattle.std.proofs.Math.Seq.{take-suc}
 use Rattle.model_program.specs.Syntax.{Demand}
 use Rattle.model_grammar.specs.Syntax.{Rule, LangItem, Item}
 use Rattle.model_names.specs.Declared.{same_text, rules_of}
-use Rattle.model_meaning.specs.Reached.{Reaches, itself, by_demand, by_lookahead, by_call, by_definition}
+use Rattle.model_meaning.specs.Reached.{Reaches, itself, by_demand}
 use Rattle.fast_build.specs.Items.{find_lang}
 use Rattle.fast_build.specs.Stands.{AllStand}
 use Rattle.fast_build.specs.Reached.{demanded_by, demanded_in, IsGrown, AreReached, AreClosed}
 use Rattle.fast_build.proofs.Reaching.{reached_of}
 use Rattle.fast_build.proofs.Grown.{test_by_there, there_by_test}
-use Rattle.fast_build.proofs.Naming.{same_from_test}
 use Rattle.fast_build.proofs.Elements.{all_of_contained}
 
 -- who demands a language

@@ -1,18 +1,18 @@
 -- What is said of a language that stands, taken apart.
-use Rattle.std.proofs.Common.{◌≡◌, ℕ, ◌==◌, Bool, true, false, ◌&&◌, List, [], ◌∷◌, Option, Some, None, map, length, refl, sym, ap, ◌∙◌}
+use Rattle.std.proofs.Common.{◌≡◌, ℕ, ◌==◌, Bool, true, false, ◌&&◌, List, [], ◌∷◌, Option, Some, None, length, refl, ap}
 use Rattle.std.specs.Prelude.{is_some}
 use Rattle.std.specs.List.{list_all}
 use Rattle.std.specs.Option.{option_map_or, option_and_then}
 use Rattle.model_tree.specs.Signature.{PlainSignature}
-use Rattle.model_program.specs.Syntax.{Name, TypeItem}
-use Rattle.model_grammar.specs.Syntax.{named, Rule, OutRule, LangItem, Body, sorts, tree, lang, trans, def, assertion, Item}
+use Rattle.model_program.specs.Syntax.{Name}
+use Rattle.model_grammar.specs.Syntax.{named, Rule, LangItem, Body, sorts, tree, lang, trans, def, assertion, Item}
 use Rattle.model_names.specs.Declared.{find_type, find_item, own_rules, rules_of, own_out_rules, out_rules_of}
 use Rattle.model_meaning.specs.Reached.{own_value, definition_of}
 use Rattle.model_names.specs.Kinds.{language, own_kind, own_type, declared_type, kind_of, type_of}
 use Rattle.model_meaning.specs.Types.{signature_of, signature_at, input_of, no_signature}
 use Rattle.fast_build.specs.Items.{own_lang, find_lang}
 use Rattle.fast_build.specs.Numbers.{find_constructor, has_ctor}
-use Rattle.fast_build.specs.Stands.{has_rank, is_guarded, demand_stands, rule_stands}
+use Rattle.fast_build.specs.Stands.{has_rank, demand_stands, rule_stands}
 use Rattle.fast_build.proofs.Elements.{first_true, second_true}
 
 some_found : {A : Type 0} (f : A → Bool) (found : Option A) → option_map_or f found false ≡ true → is_some found ≡ true
@@ -23,25 +23,18 @@ both : (a b : Bool) → a ≡ true → b ≡ true → (a && b) ≡ true
 both a b p q = λ i. p i && q i
 
 module _ (items : List Item) (of : Name) (t : PlainSignature) where
-  pub ctor_there : (r : Rule) → rule_stands items of t r ≡ true → has_ctor t r ≡ true
-  ctor_there r e = some_found (λ c. c.rank == length r.vars) (find_constructor t.constructors r.ctor.text) (first_true (has_rank t r) (is_guarded t.fields r && list_all (demand_stands items of) r.given) e)
-
   pub rank_there : (r : Rule) → rule_stands items of t r ≡ true → has_rank t r ≡ true
-  rank_there r e = first_true (has_rank t r) (is_guarded t.fields r && list_all (demand_stands items of) r.given) e
+  rank_there r e = first_true (has_rank t r) (list_all (demand_stands items of) r.given) e
 
-  pub guard_there : (r : Rule) → rule_stands items of t r ≡ true → is_guarded t.fields r ≡ true
-  guard_there r e = first_true (is_guarded t.fields r) (list_all (demand_stands items of) r.given) (second_true (has_rank t r) (is_guarded t.fields r && list_all (demand_stands items of) r.given) e)
+  pub ctor_there : (r : Rule) → rule_stands items of t r ≡ true → has_ctor t r ≡ true
+  ctor_there r e = some_found (λ c. c.rank == length r.vars) (find_constructor t.constructors r.ctor.text) (rank_there r e)
 
   pub demands_there : (r : Rule) → rule_stands items of t r ≡ true → list_all (demand_stands items of) r.given ≡ true
-  demands_there r e = second_true (is_guarded t.fields r) (list_all (demand_stands items of) r.given) (second_true (has_rank t r) (is_guarded t.fields r && list_all (demand_stands items of) r.given) e)
+  demands_there r e = second_true (has_rank t r) (list_all (demand_stands items of) r.given) e
 
   pub ctors_there : (rs : List Rule) → list_all (rule_stands items of t) rs ≡ true → list_all (has_ctor t) rs ≡ true
   ctors_there [] e = refl
   ctors_there (r ∷ rs) e = both (has_ctor t r) (list_all (has_ctor t) rs) (ctor_there r (first_true (rule_stands items of t r) (list_all (rule_stands items of t) rs) e)) (ctors_there rs (second_true (rule_stands items of t r) (list_all (rule_stands items of t) rs) e))
-
-  pub guards_there : (rs : List Rule) → list_all (rule_stands items of t) rs ≡ true → list_all (is_guarded t.fields) rs ≡ true
-  guards_there [] e = refl
-  guards_there (r ∷ rs) e = both (is_guarded t.fields r) (list_all (is_guarded t.fields) rs) (guard_there r (first_true (rule_stands items of t r) (list_all (rule_stands items of t) rs) e)) (guards_there rs (second_true (rule_stands items of t r) (list_all (rule_stands items of t) rs) e))
 
 -- what the item of a language gives
 rules_by : (found : Option Item) (l : LangItem) → option_and_then (λ item. own_lang item.body) found ≡ Some l → option_map_or (λ item. own_rules item.body) found [] ≡ l.rules

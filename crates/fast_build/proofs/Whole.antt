@@ -3,12 +3,11 @@ use Rattle.std.proofs.Common.{◌≡◌, ℕ, zero, suc, ◌<◌, ◌≤◌, ◌
 use Rattle.std.specs.Prelude.{is_some}
 use Rattle.std.specs.List.{list_all}
 use Rattle.std.specs.Option.{option_map_or}
-use Rattle.std.proofs.lemmas.List.{length-map, get_or-map}
-use Rattle.std.proofs.lemmas.List.Elements.{All-nil, All-cons, All-tail}
+use Rattle.std.proofs.lemmas.List.{length-map, get_or-map, get_or_default}
+use Rattle.std.proofs.lemmas.List.Elements.{All-nil, All-cons, All-tail, Contains-append_right}
 use Rattle.std.proofs.lemmas.Bool.{eqb-true}
-use Rattle.model_tree.specs.Label.{Label}
-use Rattle.model_tree.specs.Formula.{EveryAtom}
-use Rattle.model_tree.specs.Signature.{PlainConstructor, PlainSignature, ranks_of, names_of, HasType}
+use Rattle.model_tree.specs.Formula.{Formula, EveryAtom}
+use Rattle.model_tree.specs.Signature.{PlainConstructor, PlainSignature, ranks_of, names_of, sorts_of, HasType}
 use Rattle.model_program.specs.Syntax.{Name, Demand}
 use Rattle.model_grammar.specs.Syntax.{Rule, LangItem, Item}
 use Rattle.model_names.specs.Declared.{same_text, rules_of}
@@ -16,21 +15,23 @@ use Rattle.model_meaning.specs.Types.{signature_at, input_of}
 use Rattle.model_meaning.specs.Languages.{is_in}
 use Rattle.model_meaning.specs.Reached.{Reaches}
 use Rattle.model_sta.specs.Automaton.{is_accepted}
-use Rattle.sta_core.specs.Sta.{rule_meaning}
-use Rattle.sta_core.specs.Machine.{PlainRule, plain_rule}
+use Rattle.sta_core.specs.Sta.{rule_meaning, AtomsFit}
+use Rattle.sta_core.specs.Machine.{Machine, PlainRule, plain_rule}
 use Rattle.sta_core.specs.Fits.{RuleFits, RulesFit}
 use Rattle.sta_core.specs.declared.StaRule.{StaRule}
 use Rattle.sta_core.proofs.Meaning.{All_from_map}
+use Rattle.record_label.specs.Rows.{RowAtom, row_holds, RowFits}
 use Rattle.fast_build.specs.Items.{find_lang}
 use Rattle.fast_build.specs.Numbers.{ctor_at, IsNumbered, number_in, numbers_for, numbers_for_each, has_ctor}
 use Rattle.fast_build.specs.Reached.{demanded_by, demanded_in, AreReached, AreClosed}
-use Rattle.fast_build.specs.Rules.{IsRuleFor, AreRulesFor, AreStatesFor}
-use Rattle.fast_build.specs.Stands.{are_apart, has_rank, is_guarded, rule_stands, LangStands, AllStand}
-use Rattle.fast_build.specs.Automaton.{IsAutomatonOf}
+use Rattle.fast_build.specs.Rules.{IsGuardFor, IsRuleFor, AreRulesFor, AreStatesFor}
+use Rattle.fast_build.specs.Stands.{are_apart, has_rank, GuardStands, rule_stands, LangStands, AllStand}
+use Rattle.fast_build.specs.Automaton.{IsGuardReached, IsAutomatonOf}
 use Rattle.fast_build.proofs.Naming.{numbered_below}
 use Rattle.fast_build.proofs.Elements.{first_true, second_true, all_left, all_right}
-use Rattle.fast_build.proofs.Standing.{rank_there, ctors_there, guards_there, rules_are, type_is, same_type}
+use Rattle.fast_build.proofs.Standing.{rank_there, ctors_there, rules_are, type_is, same_type}
 use Rattle.fast_build.proofs.Reaching.{IsOf, reached_of, reached_type}
+use Rattle.fast_build.proofs.Guarding.{guard_fits}
 use Rattle.fast_build.proofs.Meaning.{means}
 
 -- the demands of a rule are of the states
@@ -52,15 +53,19 @@ vars_many t r n ok at =
     sym (eqb-true (ctor_at t.constructors n).rank (length r.vars) (sym (ap (λ found. option_map_or (λ c. c.rank == length r.vars) found false) at.found) ∙ ok))
     ∙ sym (get_or-map (λ (c : PlainConstructor). c.rank) t.constructors n _ 0 at.below)
 
-module _ {A : Type 0} (holds : A → Label → Bool) (fits : A → Type 0) (t : PlainSignature) (names : List (List ℕ)) where
-  rule_fits : (items : List Item) (of : Name) (r : Rule) (p : StaRule A) → rule_stands items of t r ≡ true → All (Contains names) (demanded_by r.given) → IsRuleFor holds fits t names (plain_rule p) r → RuleFits (ranks_of t) (length names) p
+module _ (t : PlainSignature) (names : List (List ℕ)) where
+  -- the labels of the type have fields of these sorts
+  abbrev fits : RowAtom → Type 0
+  fits = RowFits (sorts_of t)
+
+  rule_fits : (items : List Item) (of : Name) (r : Rule) (p : StaRule RowAtom) → rule_stands items of t r ≡ true → All (Contains names) (demanded_by r.given) → IsRuleFor t names (plain_rule p) r → RuleFits (ranks_of t) (length names) p
   rule_fits items of r p ok named is = (
     rw length-map is.numbered.below,
     sym (length-map p.demands.items (λ d. d.items)) ∙ ap length is.demands ∙ length-map r.vars (λ v. numbers_for names r.given v.text) ∙ vars_many t r p.constructor (rank_there items of t r ok) is.numbered,
     All_from_map (All (λ s. s < length names)) (λ d. d.items) p.demands.items (subst (All (All (λ s. s < length names))) (sym is.demands) (few_numbers_each names r.given r.vars named)),
   )
 
-  rules_fit : (items : List Item) (of : Name) (rs : List Rule) (ps : List (StaRule A)) → list_all (rule_stands items of t) rs ≡ true → All (Contains names) (demanded_in rs) → AreRulesFor holds fits t names (map plain_rule ps) rs → All (RuleFits (ranks_of t) (length names)) ps
+  rules_fit : (items : List Item) (of : Name) (rs : List Rule) (ps : List (StaRule RowAtom)) → list_all (rule_stands items of t) rs ≡ true → All (Contains names) (demanded_in rs) → AreRulesFor t names (map plain_rule ps) rs → All (RuleFits (ranks_of t) (length names)) ps
   rules_fit items of [] [] ok named are = All-nil (RuleFits (ranks_of t) (length names))
   rules_fit items of [] (p ∷ ps) ok named are = absurd are
   rules_fit items of (r ∷ rs) [] ok named are = absurd are
@@ -69,15 +74,15 @@ module _ {A : Type 0} (holds : A → Label → Bool) (fits : A → Type 0) (t : 
       (rule_fits items of r p (first_true (rule_stands items of t r) (list_all (rule_stands items of t) rs) ok) (all_left (Contains names) (demanded_by r.given) (demanded_in rs) named) are.0)
       (rules_fit items of rs ps (second_true (rule_stands items of t r) (list_all (rule_stands items of t) rs) ok) (all_right (Contains names) (demanded_by r.given) (demanded_in rs) named) are.1)
 
-  rules_atoms : (rs : List Rule) (ps : List (PlainRule A)) → AreRulesFor holds fits t names ps rs → All (λ p. EveryAtom fits p.guard) ps
+  rules_atoms : (rs : List Rule) (ps : List (PlainRule RowAtom)) → AreRulesFor t names ps rs → All (λ p. EveryAtom fits p.guard) ps
   rules_atoms [] [] are = All-nil (λ p. EveryAtom fits p.guard)
   rules_atoms [] (p ∷ ps) are = absurd are
   rules_atoms (r ∷ rs) [] are = absurd are
-  rules_atoms (r ∷ rs) (p ∷ ps) are = All-cons (λ q. EveryAtom fits q.guard) p ps are.0.guard.fit (rules_atoms rs ps are.1)
+  rules_atoms (r ∷ rs) (p ∷ ps) are = All-cons (λ q. EveryAtom fits q.guard) p ps (guard_fits t.fields r.guard p.guard are.0.guard) (rules_atoms rs ps are.1)
 
   -- the same for all states
-  pub states_fit : {G : Type 0} (items : List Item) (ls : List LangItem) (states : List (Vec (StaRule A) G)) → All (λ l. list_all (rule_stands items l.of t) l.rules ≡ true) ls → All (λ l. All (Contains names) (demanded_in l.rules)) ls
-      → AreStatesFor holds fits t names (map (λ those. map plain_rule those.items) states) (map (λ l. l.rules) ls) → All (λ those. All (RuleFits (ranks_of t) (length names)) those.items) states
+  pub states_fit : {G : Type 0} (items : List Item) (ls : List LangItem) (states : List (Vec (StaRule RowAtom) G)) → All (λ l. list_all (rule_stands items l.of t) l.rules ≡ true) ls → All (λ l. All (Contains names) (demanded_in l.rules)) ls
+      → AreStatesFor t names (map (λ those. map plain_rule those.items) states) (map (λ l. l.rules) ls) → All (λ those. All (RuleFits (ranks_of t) (length names)) those.items) states
   states_fit items [] [] ok named are = All-nil (λ those. All (RuleFits (ranks_of t) (length names)) those.items)
   states_fit items [] (s ∷ ss) ok named are = absurd are
   states_fit items (l ∷ ls) [] ok named are = absurd are
@@ -85,20 +90,27 @@ module _ {A : Type 0} (holds : A → Label → Bool) (fits : A → Type 0) (t : 
       All-cons (λ those. All (RuleFits (ranks_of t) (length names)) those.items) s ss (rules_fit items l.of l.rules s.items (ok 0 l (omega arith)) (named 0 l (omega arith)) are.0)
       (states_fit items ls ss (All-tail (λ k. list_all (rule_stands items k.of t) k.rules ≡ true) l ls ok) (All-tail (λ k. All (Contains names) (demanded_in k.rules)) l ls named) are.1)
 
-  states_atoms : (ls : List (List Rule)) (states : List (List (PlainRule A))) → AreStatesFor holds fits t names states ls → All (λ ps. All (λ p. EveryAtom fits p.guard) ps) states
+  states_atoms : (ls : List (List Rule)) (states : List (List (PlainRule RowAtom))) → AreStatesFor t names states ls → All (λ ps. All (λ p. EveryAtom fits p.guard) ps) states
   states_atoms [] [] are = All-nil (λ ps. All (λ p. EveryAtom fits p.guard) ps)
   states_atoms [] (s ∷ ss) are = absurd are
   states_atoms (l ∷ ls) [] are = absurd are
   states_atoms (l ∷ ls) (s ∷ ss) are = All-cons (λ ps. All (λ p. EveryAtom fits p.guard) ps) s ss (rules_atoms l s are.0) (states_atoms ls ss are.1)
 
-  state_at : (ls : List (List Rule)) (states : List (List (PlainRule A))) (k : ℕ) → AreStatesFor holds fits t names states ls → AreRulesFor holds fits t names (get_or states k []) (get_or ls k [])
+  -- what is so of the guards of the rules is so of their formulas
+  guards_of : (Q : Formula RowAtom → Type 0) (rs : List Rule) (ps : List (PlainRule RowAtom)) → AreRulesFor t names ps rs → ((r : Rule) (f : Formula RowAtom) → Contains rs r → IsGuardFor t.fields r.guard f → Q f) → All (λ p. Q p.guard) ps
+  guards_of Q [] [] are each = All-nil (λ p. Q p.guard)
+  guards_of Q [] (p ∷ ps) are each = absurd are
+  guards_of Q (r ∷ rs) [] are each = absurd are
+  guards_of Q (r ∷ rs) (p ∷ ps) are each = All-cons (λ q. Q q.guard) p ps (each r p.guard (0, omega arith, refl) are.0.guard) (guards_of Q rs ps are.1 (λ s f at is. each s f (Contains-append_right (r ∷ []) rs s at) is))
+
+  state_at : (ls : List (List Rule)) (states : List (List (PlainRule RowAtom))) (k : ℕ) → AreStatesFor t names states ls → AreRulesFor t names (get_or states k []) (get_or ls k [])
   state_at [] [] k are = tt
   state_at [] (s ∷ ss) k are = absurd are
   state_at (l ∷ ls) [] k are = absurd are
   state_at (l ∷ ls) (s ∷ ss) zero are = are.0
   state_at (l ∷ ls) (s ∷ ss) (suc k) are = state_at ls ss k are.1
 
-  pub as_many : (ls : List (List Rule)) (states : List (List (PlainRule A))) → AreStatesFor holds fits t names states ls → length states ≡ length ls
+  pub as_many : (ls : List (List Rule)) (states : List (List (PlainRule RowAtom))) → AreStatesFor t names states ls → length states ≡ length ls
   as_many [] [] are = refl
   as_many [] (s ∷ ss) are = absurd are
   as_many (l ∷ ls) [] are = absurd are
@@ -139,49 +151,67 @@ module _ (items : List Item) (name : List ℕ) (names : List (List ℕ)) (ls : L
     pub ctors_apart : are_apart (names_of t) ≡ true
     ctors_apart = subst (λ s. are_apart (names_of s) ≡ true) own_signature own_stands.apart
 
-    pub rules_stand : All (λ l. list_all (rule_stands items l.of t) l.rules ≡ true) ls
-    rules_stand k d low =
+    -- each of them stands, and is of the same type
+    lang_stands : (k : ℕ) (d : LangItem) → k < length ls → LangStands items (get_or ls k d)
+    lang_stands k d low = stand (get_or names k []) (get_or ls k d) (lang_at k d low)
+
+    lang_signature : (k : ℕ) (d : LangItem) → k < length ls → signature_at items (get_or ls k d).of ≡ t
+    lang_signature k d low =
         let at = reached_of items own.0.of.text name (get_or names k []) stand own_of (name_reached k (omega (arith, low, names_many))) in
-        let same : get_or ls k d ≡ at.lang = some_same (sym (lang_at k d low) ∙ at.found) in
-        subst (λ (l : LangItem). list_all (rule_stands items l.of t) l.rules ≡ true) (sym same)
-        (subst (λ s. list_all (rule_stands items at.lang.of s) at.lang.rules ≡ true) (same_type items at.lang.of own.0.of at.of_is ∙ own_signature) (stand (get_or names k []) at.lang at.found).rules)
+        let same : at.lang ≡ get_or ls k d = some_same (sym at.found ∙ lang_at k d low) in
+        same_type items (get_or ls k d).of own.0.of (ap (λ (l : LangItem). l.of.text) (sym same) ∙ at.of_is) ∙ own_signature
       where
         some_same : {x y : LangItem} → Some x ≡ Some y → x ≡ y
         some_same e = cc
 
+    pub rules_stand : All (λ l. list_all (rule_stands items l.of t) l.rules ≡ true) ls
+    rules_stand k d low = subst (λ s. list_all (rule_stands items (get_or ls k d).of s) (get_or ls k d).rules ≡ true) (lang_signature k d low) (lang_stands k d low).rules
+
     pub ctors_stand : All (λ l. list_all (has_ctor t) l.rules ≡ true) ls
     ctors_stand k d low = ctors_there items (get_or ls k d).of t (get_or ls k d).rules (rules_stand k d low)
 
-    pub guards_stand : All (λ l. list_all (is_guarded t.fields) l.rules ≡ true) ls
-    guards_stand k d low = guards_there items (get_or ls k d).of t (get_or ls k d).rules (rules_stand k d low)
+    pub guards_stand : All (λ l. All (λ r. GuardStands t.fields r.guard) l.rules) ls
+    guards_stand k d low = subst (λ (s : PlainSignature). All (λ r. GuardStands s.fields r.guard) (get_or ls k d).rules) (lang_signature k d low) (lang_stands k d low).guards
 
     pub demands_stand : All (λ l. All (Contains names) (demanded_in l.rules)) ls
     demands_stand k d low = subst (λ rs. All (Contains names) (demanded_in rs)) (rules_are items (get_or names k []) (get_or ls k d) (lang_at k d low)) (closed k [] (omega (arith, low, names_many)))
 
-    module _ {A G : Type 0} (holds : A → Label → Bool) (fits : A → Type 0) (states : List (Vec (StaRule A) G)) (are : AreStatesFor holds fits t names (map (λ those. map plain_rule those.items) states) (map (λ l. l.rules) ls)) where
+    module _ {G : Type 0} (states : List (Vec (StaRule RowAtom) G)) (are : AreStatesFor t names (map (λ those. map plain_rule those.items) states) (map (λ l. l.rules) ls)) where
       pub states_many : length states ≡ length names
-      states_many = sym (length-map states (λ those. map plain_rule those.items)) ∙ as_many holds fits t names (map (λ l. l.rules) ls) (map (λ those. map plain_rule those.items) states) are ∙ length-map ls (λ l. l.rules) ∙ sym names_many
+      states_many = sym (length-map states (λ those. map plain_rule those.items)) ∙ as_many t names (map (λ l. l.rules) ls) (map (λ those. map plain_rule those.items) states) are ∙ length-map ls (λ l. l.rules) ∙ sym names_many
 
       pub all_fit : RulesFit (ranks_of t) states
-      all_fit = subst (λ n. All (λ those. All (RuleFits (ranks_of t) n) those.items) states) (sym states_many) (states_fit holds fits t names items ls states rules_stand demands_stand are)
+      all_fit = subst (λ n. All (λ those. All (RuleFits (ranks_of t) n) those.items) states) (sym states_many) (states_fit t names items ls states rules_stand demands_stand are)
 
-      rules_at : (k : ℕ) → k < length names → AreRulesFor holds fits t names (get_or (map (λ those. map plain_rule those.items) states) k []) (rules_of items (get_or names k []))
+      rules_at : (k : ℕ) → k < length names → AreRulesFor t names (get_or (map (λ those. map plain_rule those.items) states) k []) (rules_of items (get_or names k []))
       rules_at k low =
-          subst (AreRulesFor holds fits t names (get_or (map (λ those. map plain_rule those.items) states) k [])) (get_or-map (λ (l : LangItem). l.rules) ls k own.0 [] below ∙ sym (rules_are items (get_or names k []) (get_or ls k own.0) (lang_at k own.0 below)))
-          (state_at holds fits t names (map (λ l. l.rules) ls) (map (λ those. map plain_rule those.items) states) k are)
+          subst (AreRulesFor t names (get_or (map (λ those. map plain_rule those.items) states) k [])) (get_or-map (λ (l : LangItem). l.rules) ls k own.0 [] below ∙ sym (rules_are items (get_or names k []) (get_or ls k own.0) (lang_at k own.0 below)))
+          (state_at t names (map (λ l. l.rules) ls) (map (λ those. map plain_rule those.items) states) k are)
         where
           below : k < length ls
           below = omega (arith, low, names_many)
 
+      abbrev machine : Machine RowAtom
+      machine = record { ranks = ranks_of t; rules = map (λ those. map plain_rule those.items) states }
+
+      -- each guard is that of a rule of a language that is reached
+      guards_reached : All (λ ps. All (λ p. IsGuardReached items name p.guard) ps) (map (λ those. map plain_rule those.items) states)
+      guards_reached k d low =
+          let below : k < length names = omega (arith, low, length-map states (λ those. map plain_rule those.items), states_many) in
+          subst (All (λ p. IsGuardReached items name p.guard)) (get_or_default (map (λ those. map plain_rule those.items) states) k [] d low)
+          (guards_of t names (IsGuardReached items name) (rules_of items (get_or names k [])) (get_or (map (λ those. map plain_rule those.items) states) k []) (rules_at k below)
+          (λ r f at is. (get_or names k [], name_reached k below, r, at, subst (λ (s : PlainSignature). IsGuardFor s.fields r.guard f) (sym typed) is)))
+
       -- they are the automaton of the language
-      pub is_automaton : IsAutomatonOf holds fits items name (record { ranks = ranks_of t; rules = map (λ those. map plain_rule those.items) states })
+      pub is_automaton : IsAutomatonOf items name machine
       is_automaton = record {
         others = reached.others;
         reached = subst (All (Reaches items name)) reached.first reached.reached;
         ranks = sym (ap ranks_of typed);
         states = length-map states (λ those. map plain_rule those.items) ∙ states_many ∙ ap length reached.first;
-        fit = states_atoms holds fits t names (map (λ l. l.rules) ls) (map (λ those. map plain_rule those.items) states) are;
-        means = λ u h. subst (λ (ns : List (List ℕ)). (k : ℕ) → k < length ns → is_in items u (get_or ns k []) ≡ is_accepted (map (map (rule_meaning holds)) (map (λ those. map plain_rule those.items) states)) u k) reached.first
-            (means holds fits items t names (map (λ those. map plain_rule those.items) states) (λ k low. reached_type items own.0.of.text name (get_or names k []) stand own_of (name_reached k low) ∙ typed) (λ k low. closed k [] low) rules_at ctors_apart u
+        fit = subst (λ s. AtomsFit (RowFits (sorts_of s)) machine) (sym typed) (states_atoms t names (map (λ l. l.rules) ls) (map (λ those. map plain_rule those.items) states) are);
+        means = λ u h. subst (λ (ns : List (List ℕ)). (k : ℕ) → k < length ns → is_in items u (get_or ns k []) ≡ is_accepted (map (map (rule_meaning row_holds)) (map (λ those. map plain_rule those.items) states)) u k) reached.first
+            (means items t names (map (λ those. map plain_rule those.items) states) (λ k low. reached_type items own.0.of.text name (get_or names k []) stand own_of (name_reached k low) ∙ typed) (λ k low. closed k [] low) rules_at ctors_apart u
             (subst (λ s. HasType s u) typed h));
+        guards = guards_reached;
       }

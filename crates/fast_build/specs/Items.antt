@@ -1,5 +1,5 @@
 -- A program with what it declares.
-use Rattle.std.specs.Prelude.{◌≡◌, ℕ, true, List, [], ◌∷◌, Option, Some, None, map, is_some, Contains}
+use Rattle.std.specs.Prelude.{◌≡◌, ℕ, true, List, Option, Some, None, map, is_some, Contains}
 use Rattle.std.specs.Option.{option_and_then}
 use Rattle.fast_syntax.specs.Plain.{plain_item, plain_program}
 use Rattle.model_grammar.specs.Syntax.{LangItem, Body, sorts, tree, lang, trans, def, assertion, Item}

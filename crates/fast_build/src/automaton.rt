@@ -2,14 +2,12 @@
 
 ghost use Rattle.std.specs.Prelude.{◌≡◌, ◌≤◌, IfOk, map, length, true, is_some, All, Contains};
 ghost use Rattle.std.specs.List.{list_all};
-ghost use Rattle.model_tree.specs.Signature.{sorts_of};
 ghost use Rattle.fast_tree.specs.Signatures.{plain_signature};
 ghost use Rattle.fast_syntax.specs.Plain.{plain_lang};
 ghost use Rattle.model_meaning.specs.Types.{input_of};
-ghost use Rattle.record_label.specs.Rows.{row_holds, RowFits};
 ghost use Rattle.sta_core.specs.Machine.{plain_rule as machine_rule};
 ghost use Rattle.fast_build.specs.Items.{items_of, find_lang, IsDeclared};
-ghost use Rattle.fast_build.specs.Stands.{AllStand, is_guarded};
+ghost use Rattle.fast_build.specs.Stands.{AllStand, GuardStands};
 ghost use Rattle.fast_build.specs.Numbers.{has_ctor};
 ghost use Rattle.fast_build.specs.Reached.{demanded_in};
 ghost use Rattle.fast_build.specs.Rules.{AreStatesFor};
@@ -42,9 +40,9 @@ fn states_for(
 ) -> Result<Vec<Vec<StaRule<RowAtom>>>, Memory>
     requires few { length signature.now.fields.items ≤ 8 }
     requires ctors { All (λ l. list_all (has_ctor (plain_signature signature.now)) (plain_lang l.now).rules ≡ true) reached.now.langs.items }
-    requires guarded { All (λ l. list_all (is_guarded (plain_signature signature.now).fields) (plain_lang l.now).rules ≡ true) reached.now.langs.items }
+    requires guarded { All (λ l. All (λ r. GuardStands (plain_signature signature.now).fields r.guard) (plain_lang l.now).rules) reached.now.langs.items }
     requires named { All (λ l. All (Contains reached.now.names.keys) (demanded_in (plain_lang l.now).rules)) reached.now.langs.items }
-    ensures { IfOk result (λ states. AreStatesFor row_holds (RowFits (sorts_of (plain_signature signature.now))) (plain_signature signature.now) reached.now.names.keys (map (λ those. map machine_rule those.items) states.items) (map (λ l. (plain_lang l.now).rules) reached.now.langs.items)) }
+    ensures { IfOk result (λ states. AreStatesFor (plain_signature signature.now) reached.now.names.keys (map (λ those. map machine_rule those.items) states.items) (map (λ l. (plain_lang l.now).rules) reached.now.langs.items)) }
 {
     let mut states = Vec::new(alloc);
     'langs: for lang in &reached.langs {
@@ -64,7 +62,7 @@ pub fn language(
     requires stand { AllStand (items_of declared.now) }
     requires there { is_some (find_lang (items_of declared.now) name.now) ≡ true }
     requires typed { input_of (items_of declared.now) name.now ≡ plain_signature signature.now }
-    ensures { IfOk result (IsAutomatonOf row_holds (RowFits (sorts_of (plain_signature signature.now))) (items_of declared.now) name.now) }
+    ensures { IfOk result (IsAutomatonOf (items_of declared.now) name.now) }
 {
     let reached = reach(alloc, declared, name)?;
     let ranks = ranks_of(alloc, &signature.constructors)?;

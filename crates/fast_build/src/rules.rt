@@ -2,17 +2,15 @@
 
 ghost use Rattle.std.specs.Prelude.{◌≡◌, ◌≤◌, IfOk, map, length, true, All, Contains};
 ghost use Rattle.std.specs.List.{list_all};
-ghost use Rattle.model_tree.specs.Signature.{sorts_of};
 ghost use Rattle.fast_tree.specs.Signatures.{plain_signature};
 ghost use Rattle.fast_syntax.specs.View.{plain_demand};
 ghost use Rattle.fast_syntax.specs.Plain.{plain_rule};
 ghost use Rattle.label_core.specs.Formula.{plain_formula};
-ghost use Rattle.record_label.specs.Rows.{row_holds, RowFits};
 ghost use Rattle.sta_core.specs.Machine.{plain_rule as machine_rule};
 ghost use Rattle.fast_build.specs.Reached.{demanded_by, demanded_in};
 ghost use Rattle.fast_build.specs.Rules.{IsGuardFor, IsRuleFor, AreRulesFor};
 ghost use Rattle.fast_build.specs.Numbers.{has_ctor};
-ghost use Rattle.fast_build.specs.Stands.{is_guarded};
+ghost use Rattle.fast_build.specs.Stands.{GuardStands};
 
 use crate::numbers::{constructor_number, demands_on_each};
 use fast_fault::{Memory, Text};
@@ -20,18 +18,23 @@ use fast_syntax::items::Rule;
 use fast_tree::Signature;
 use indexmap::IndexSet;
 use label_core::Formula;
+use lin_form::FormStop;
 use record_label::{RowAtom, guard_of};
 use sta_core::StaRule;
 use std::alloc::Global;
 
-/// The formula that holds where the rule's guard does.
+/// The rule's guard.
 fn guard_for(alloc: Global, signature: &Signature, rule: &Rule) -> Result<Formula<RowAtom>, Memory>
     requires few { length signature.now.fields.items ≤ 8 }
-    requires guarded { is_guarded (plain_signature signature.now).fields (plain_rule rule.now) ≡ true }
-    ensures { IfOk result (λ f. IsGuardFor row_holds (RowFits (sorts_of (plain_signature signature.now))) (plain_signature signature.now) (plain_rule rule.now) (plain_formula f)) }
+    requires guarded { GuardStands (plain_signature signature.now).fields (plain_rule rule.now).guard }
+    ensures { IfOk result (λ f. IsGuardFor (plain_signature signature.now).fields (plain_rule rule.now).guard (plain_formula f)) }
 {
     match &rule.guard {
-        Some(guard) => guard_of(alloc, guard, signature),
+        Some(guard) => match guard_of(alloc, guard, signature) {
+            Ok(formula) => Ok(formula),
+            Err(FormStop::Memory) => Err(Memory),
+            Err(FormStop::Range(_)) => unreachable!(),
+        },
         None => Ok(Formula::Yes),
     }
 }
@@ -45,9 +48,9 @@ fn rule_for(
 ) -> Result<StaRule<RowAtom>, Memory>
     requires few { length signature.now.fields.items ≤ 8 }
     requires ctor { has_ctor (plain_signature signature.now) (plain_rule rule.now) ≡ true }
-    requires guarded { is_guarded (plain_signature signature.now).fields (plain_rule rule.now) ≡ true }
+    requires guarded { GuardStands (plain_signature signature.now).fields (plain_rule rule.now).guard }
     requires named { All (Contains names.now.keys) (demanded_by (map plain_demand rule.now.given.items)) }
-    ensures { IfOk result (λ r. IsRuleFor row_holds (RowFits (sorts_of (plain_signature signature.now))) (plain_signature signature.now) names.now.keys (machine_rule r) (plain_rule rule.now)) }
+    ensures { IfOk result (λ r. IsRuleFor (plain_signature signature.now) names.now.keys (machine_rule r) (plain_rule rule.now)) }
 {
     Ok(StaRule {
         constructor: constructor_number(&signature.constructors, &rule.ctor.text)?,
@@ -65,9 +68,9 @@ pub fn rules_for(
 ) -> Result<Vec<StaRule<RowAtom>>, Memory>
     requires few { length signature.now.fields.items ≤ 8 }
     requires ctors { list_all (has_ctor (plain_signature signature.now)) (map plain_rule rules.now) ≡ true }
-    requires guarded { list_all (is_guarded (plain_signature signature.now).fields) (map plain_rule rules.now) ≡ true }
+    requires guarded { All (λ r. GuardStands (plain_signature signature.now).fields r.guard) (map plain_rule rules.now) }
     requires named { All (Contains names.now.keys) (demanded_in (map plain_rule rules.now)) }
-    ensures { IfOk result (λ made. AreRulesFor row_holds (RowFits (sorts_of (plain_signature signature.now))) (plain_signature signature.now) names.now.keys (map machine_rule made.items) (map plain_rule rules.now)) }
+    ensures { IfOk result (λ made. AreRulesFor (plain_signature signature.now) names.now.keys (map machine_rule made.items) (map plain_rule rules.now)) }
 {
     let mut made = Vec::new(alloc);
     'rules: for rule in rules {

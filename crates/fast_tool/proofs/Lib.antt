@@ -1,4 +1,6 @@
 pub mod Typed
+pub mod Written
+pub mod Wide
 pub mod Tables
 pub mod AllBuilt
 pub mod Judging

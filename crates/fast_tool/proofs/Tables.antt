@@ -20,8 +20,8 @@ use Rattle.model_meaning.specs.Truth.{IsTrue, Shows, IsAmong}
 use Rattle.model_meaning.specs.Reached.{Reaches}
 use Rattle.model_meaning.proofs.Named.{input_type_of_name, lang_closed, lang_inside, inside_lang}
 use Rattle.model_run.specs.Outcomes.{IsPrintable}
-use Rattle.model_run.specs.Parts.{AreApart, EachTwo, HasMoreTrees}
-use Rattle.model_run.specs.Causes.{AreAllLarge, judged, judged_empty, HasCause, more_classes, too_large}
+use Rattle.model_run.specs.Parts.{AreApart, HasMoreTrees}
+use Rattle.model_run.specs.Causes.{AreAllLarge, IsTooWide, judged, judged_empty, HasCause, more_classes, too_wide, too_large}
 use Rattle.model_run.proofs.Apart.{name_of, apart_by_reached}
 use Rattle.model_sta.specs.Automaton.{Rule, is_accepted}
 use Rattle.model_sta.specs.Sets.{Row, has, set_of, Fits}
@@ -31,12 +31,24 @@ use Rattle.sta_core.specs.Machine.{Machine}
 use Rattle.sta_core.specs.Sta.{automaton_of}
 use Rattle.sta_ops.specs.Empty.{IsLeastOf, HasBigAlone}
 use Rattle.sta_ops.specs.Empty as ops
-use Rattle.record_label.specs.Rows.{RowAtom, row_holds, RowFits, KeepsSorts}
+use Rattle.record_label.specs.Rows.{RowAtom, row_holds, KeepsSorts}
+use Rattle.model_chain.specs.Each.{EachTwo}
+use Rattle.model_chain.specs.Chains.{Passes, IsFar}
+use Rattle.label_core.specs.Atoms.{EachHasEqual}
+use Rattle.label_core.specs.Lit.{atoms_of}
+use Rattle.label_core.specs.Pair.{lefts}
+use Rattle.label_split.specs.Split.{HasUnkeptRow}
+use Rattle.lin_solve.specs.declared.chain.Chain.{Chain}
+use Rattle.lin_solve.specs.Plain.{plain_literals}
+use Rattle.lin_solve.specs.Shown.{plain_chain}
+use Rattle.lin_solve.specs.contracts.compare.ComparePartialEq.TheImpl.{ghosts as compares}
+use Rattle.sta_classes.specs.Guards.{all_guards, atoms_of_all, truths}
 use Rattle.fast_build.specs.Items.{find_lang}
 use Rattle.fast_build.specs.Stands.{LangStands, AllStand}
 use Rattle.fast_build.specs.Automaton.{IsAutomatonOf}
 use Rattle.fast_build.proofs.Standing.{kind_is, type_named, type_is, item_there}
 use Rattle.fast_build.proofs.Reaching.{IsOf, reached_of}
+use Rattle.fast_tool.proofs.Wide.{wide}
 use Rattle.fast_tool.proofs.Typed.{fits_from_type, type_from_fits, fits_if_kept, kept_if_fits}
 
 -- where two sets differ, a state is in one of them alone
@@ -55,7 +67,7 @@ differing (a ∷ p) (b ∷ q) many apart =
     by false true later = (0, omega arith, λ e. let no : false ≡ true = e in absurd (cc))
 
 module _ (items : List Item) (n : Name) (l : LangItem) (stand : AllStand items) (found : find_lang items n.text ≡ Some l) (t : PlainSignature) (typed : input_of items n.text ≡ t) (m : Machine RowAtom)
-    (is : IsAutomatonOf row_holds (RowFits (sorts_of t)) items n.text m) where
+    (is : IsAutomatonOf items n.text m) where
   abbrev D : Label → Type 0
   D = HasSorts (sorts_of t)
 
@@ -192,6 +204,21 @@ module _ (items : List Item) (n : Name) (l : LangItem) (stand : AllStand items) 
 
   pub many_cause : (wanted : Bool) (most : ℕ) (trees : List Printed) → HasMoreSets m.ranks K rules most → HasCause items most trees (assertion (record { wanted = wanted; claim = empty (named n) })) (more_classes most)
   many_cause wanted most trees sets = (refl, refl, subst (λ x. HasMoreTrees items (x ∷ []) most) (sym judged_is) (more_trees most sets))
+
+  -- a chain over its guards
+  on_type : (other : List ℕ) → Reaches items n.text other → type_of items (named (name_of other)) ≡ Some type
+  on_type other reached = let there = reached_of items l.of.text n.text other stand (record { lang = l; found = found; of_is = refl }) reached in type_of_name (name_of other) there.lang there.found there.of_is
+
+  sorts_are : sorts_of t ≡ sorts_of (signature_named items (Some type))
+  sorts_are = ap sorts_of (sym (signature_is ∙ typed))
+
+  pub wide_cause : (wanted : Bool) (most : ℕ) (trees : List Printed) (c : Chain) → EachHasEqual compares.eq (atoms_of c.literals.items) (lefts (atoms_of_all (all_guards m.rules))) × EachTwo (λ j k. ¬ (j ≡ k)) (plain_literals c.literals.items) → Passes c.bits (plain_chain c)
+      → (IsFar (plain_chain c) → HasUnkeptRow D K (truths row_holds (all_guards m.rules))) → HasCause items most trees (assertion (record { wanted = wanted; claim = empty (named n) })) (too_wide c.bits)
+  wide_cause wanted most trees c over passes unkept = (
+    refl,
+    subst (λ x. IsTooWide items (x ∷ []) c.bits) (sym judged_is)
+        (wide items n type m signature_is on_type is.guards c over.0 over.1 passes (λ far. subst (λ s. HasUnkeptRow (HasSorts s) (KeepsSorts s) (truths row_holds (all_guards m.rules))) sorts_are (unkept far))),
+  )
 
   pub large_cause : (wanted : Bool) (most : ℕ) (trees : List Printed) → HasBigAlone m.ranks D K rules 0 → HasCause items most trees (assertion (record { wanted = wanted; claim = empty (named n) })) too_large
   large_cause wanted most trees big = inr (inl (large_in big))

@@ -1,26 +1,25 @@
--- What is said of the languages of a well-formed program that is built.
+-- What is said of the languages of a well-formed program.
 use Rattle.std.proofs.Common.{◌≡◌, ℕ, zero, suc, ℤ, pos, negsuc, ◌<◌, ◌≤◌, ◌==◌, Bool, true, false, cond, ◌&&◌, ◌||◌, List, [], ◌∷◌, ◌++◌, Option, Some, None, map, length, get_or, Contains, refl, sym, ap, ap₂, subst, ◌∙◌, arith}
 use Rattle.std.specs.Prelude.{not, find}
 use Rattle.std.specs.List.{list_all, list_any}
 use Rattle.std.specs.Option.{option_map, option_map_or, option_and_then}
 use Rattle.std.proofs.lemmas.List.{length-map}
+use Rattle.std.proofs.lemmas.List.Elements.{Contains-get_or}
 use Rattle.std.proofs.lemmas.Slice.Eq.{bytes_eq-Decides}
 use Rattle.model_tree.specs.Signature.{PlainConstructor, PlainSignature, names_of}
 use Rattle.model_program.specs.Syntax.{Name, Demand, CtorItem, TypeItem}
-use Rattle.model_grammar.specs.Syntax.{Rule, LangItem, sorts, tree, lang, trans, def, assertion, Body, Item}
-use Rattle.model_names.specs.Declared.{same_text, find_type, find_item}
+use Rattle.model_grammar.specs.Syntax.{Expr, Rule, LangItem, Item}
+use Rattle.model_names.specs.Declared.{same_text}
 use Rattle.model_meaning.specs.Types.{rank_of, signature_of, signature_at, no_signature}
 use Rattle.model_checks.specs.Types.{is_rank}
 use Rattle.model_checks.specs.Rules.{find_ctor}
 use Rattle.model_checks.specs.Programs.{is_well_formed}
-use Rattle.model_checks.specs.Sound.{are_distinct, names_of_ctors, IsSoundType, IsSoundDemand, IsSoundRule, IsSoundLang, StandsIn, IsSound}
+use Rattle.model_checks.specs.Sound.{are_distinct, names_of_ctors, IsSoundType, IsSoundGuard, IsSoundDemand, IsSoundRule, IsSoundLang, IsSound}
 use Rattle.model_checks.proofs.SoundWhole.{sound, finds}
-use Rattle.model_run.specs.Built.{is_built_rule, is_built_body, is_built}
+use Rattle.model_run.proofs.SoundGuards.{sound_guard}
 use Rattle.fast_build.specs.Items.{own_lang, find_lang}
 use Rattle.fast_build.specs.Numbers.{find_constructor}
-use Rattle.fast_build.specs.Stands.{are_apart, has_rank, is_guarded, demand_stands, rule_stands, LangStands, AllStand}
-use Rattle.fast_tool.specs.Declarations.{HasTypeIfLangBody, HasTypeIfLang}
-use Rattle.fast_build.proofs.Elements.{first_true, second_true, test_of_contained}
+use Rattle.fast_build.specs.Stands.{are_apart, has_rank, GuardStands, demand_stands, rule_stands, LangStands, AllStand}
 use Rattle.fast_build.proofs.Standing.{item_there}
 
 same_itself : (x : List ℕ) → same_text x x ≡ true
@@ -63,20 +62,11 @@ rank_same : (r : ℤ) (k : ℕ) → is_rank k r ≡ true → (rank_of r == k) �
 rank_same (pos n) k e = e
 rank_same (negsuc n) k e = absurd (cc)
 
-module _ (items : List Item) (ok : is_well_formed items ≡ true) (built : list_all (is_built items) items ≡ true) where
+module _ (items : List Item) (ok : is_well_formed items ≡ true) where
   is_sound : IsSound items
   is_sound = sound items ok
 
-  -- an item that stands in the program is built
-  item_built : (item : Item) → StandsIn items item → is_built_body items item.body ≡ true
-  item_built item at = by at.before items at.is built
-    where
-      by : (before xs : List Item) → xs ≡ before ++ item ∷ at.behind → list_all (is_built items) xs ≡ true → is_built_body items item.body ≡ true
-      by [] xs e all = first_true (is_built items item) (list_all (is_built items) at.behind) (ap (list_all (is_built items)) (sym e) ∙ all)
-      by (y ∷ ys) [] e all = absurd (cc)
-      by (y ∷ ys) (x ∷ xs) e all = by ys xs (cc) (second_true (is_built items x) (list_all (is_built items) xs) all)
-
-  module _ (l : LangItem) (s : IsSoundLang items l) (guards : list_all (is_built_rule (signature_at items l.of).fields) l.rules ≡ true) where
+  module _ (l : LangItem) (s : IsSoundLang items l) where
     abbrev t : TypeItem
     t = s.type
 
@@ -97,9 +87,11 @@ module _ (items : List Item) (ok : is_well_formed items ≡ true) (built : list_
     rule_ok : (r : Rule) → Contains l.rules r → rule_stands items l.of (signature_at items l.of) r ≡ true
     rule_ok r at =
         let sr = s.rules r at in
-        ap₂ (λ a b. a && b) (ap (λ g. has_rank g r) signature_is ∙ rank_ok r sr)
-        (ap₂ (λ a b. a && b) (test_of_contained (is_built_rule (signature_at items l.of).fields) l.rules r guards at)
-        (all_from (demand_stands items l.of) r.given (λ d named. demand_ok r.vars d (sr.given d named))))
+        ap₂ (λ a b. a && b) (ap (λ g. has_rank g r) signature_is ∙ rank_ok r sr) (all_from (demand_stands items l.of) r.given (λ d named. demand_ok r.vars d (sr.given d named)))
+
+    guard_ok : IsSoundType t → (guard : Option Expr) → IsSoundGuard t.fields guard → GuardStands (signature_of t).fields guard
+    guard_ok st None sound = tt
+    guard_ok st (Some e) sound = let g = sound_guard t.fields st.sorts st.few_fields e (sound e refl) in (g.is, g.within)
 
     lang_ok : IsSoundType t → LangStands items l
     lang_ok st = record {
@@ -108,6 +100,8 @@ module _ (items : List Item) (ok : is_well_formed items ≡ true) (built : list_
       apart = ap (λ g. are_apart (names_of g)) signature_is ∙ ap are_apart (ctor_texts t.ctors) ∙ apart_texts (names_of_ctors t.ctors) ∙ st.ctors;
       few = subst (λ (g : PlainSignature). length g.fields ≤ 8) (sym signature_is) (rw length-map st.few_fields);
       rules = all_from (rule_stands items l.of (signature_at items l.of)) l.rules rule_ok;
+      guards = λ k d low. let r = get_or l.rules k d in
+          subst (λ (g : PlainSignature). GuardStands g.fields r.guard) (sym signature_is) (guard_ok st r.guard (s.rules r (Contains-get_or l.rules k d low)).guard);
     }
 
   -- its languages stand
@@ -117,26 +111,4 @@ module _ (items : List Item) (ok : is_well_formed items ≡ true) (built : list_
       let here = (finds items).item name at.0 at.1 in
       let s = is_sound.langs at.0 l here at.2 in
       let type = (finds items).type l.of.text s.type s.found in
-      lang_ok l s (ap (is_built_body items) (sym at.2) ∙ item_built at.0 here) (is_sound.types type.0 s.type type.1 type.2)
-
--- the type of a language that stands in a well-formed program is declared
-pub type_declared : (items : List Item) → is_well_formed items ≡ true → (item : Item) (l : LangItem) → StandsIn items item → item.body ≡ lang l → (t : TypeItem) × (find_type items l.of.text ≡ Some t)
-type_declared items ok item l at is = let s = (sound items ok).langs item l at is in (s.type, s.found)
-
--- where an element stands
-stands_at : (items : List Item) (k : ℕ) (x : Item) → k < length items → get_or items k x ≡ x → StandsIn items x
-stands_at [] k x low is = absurd (omega (arith, low))
-stands_at (y ∷ ys) zero x low is = record { before = []; behind = ys; is = ap (λ z. z ∷ ys) is }
-stands_at (y ∷ ys) (suc k) x low is = let rest = stands_at ys k x (omega (arith, low)) is in record { before = y ∷ rest.before; behind = rest.behind; is = ap (λ zs. y ∷ zs) rest.is }
-
-typed_body : (items : List Item) → is_well_formed items ≡ true → (item : Item) → StandsIn items item → (b : Body) → item.body ≡ b → HasTypeIfLangBody items b
-typed_body items ok item at (sorts t) is = tt
-typed_body items ok item at (tree t) is = tt
-typed_body items ok item at (lang l) is = type_declared items ok item l at is
-typed_body items ok item at (trans t) is = tt
-typed_body items ok item at (def d) is = tt
-typed_body items ok item at (assertion a) is = tt
-
--- the type of each language is declared
-pub typed_item : (items : List Item) → is_well_formed items ≡ true → (k : ℕ) (x : Item) → k < length items → get_or items k x ≡ x → HasTypeIfLang items x
-typed_item items ok k x low is = typed_body items ok x (stands_at items k x low is) x.body refl
+      lang_ok l s (is_sound.types type.0 s.type type.1 type.2)

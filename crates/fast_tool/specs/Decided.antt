@@ -7,7 +7,7 @@ use Rattle.model_grammar.specs.Syntax.{AssertItem, Body, assertion, Item, empty,
 use Rattle.model_meaning.specs.Values.{Printed}
 use Rattle.model_meaning.specs.Truth.{IsTrue, Shows}
 use Rattle.model_run.specs.Outcomes.{Outcome, IsPrintable, IsVerdict, IsOutcome, silent, line_of, says_fail}
-use Rattle.model_run.specs.Causes.{HasCause, more_classes, too_large}
+use Rattle.model_run.specs.Causes.{HasCause, more_classes, too_wide, too_large}
 use Rattle.model_run.specs.Causes as model
 use Rattle.fast_tool.specs.declared.verdicts.Verdict.{Verdict}
 use Rattle.fast_tool.specs.declared.verdicts.Stop.{Stop}
@@ -19,6 +19,7 @@ use Rattle.fast_tool.specs.declared.verdicts.Judged.TheVariants as judged
 
 abbrev pub plain_stop : Stop → model.Stop
 plain_stop (stop.Classes limit) = more_classes limit
+plain_stop (stop.Width bits) = too_wide bits
 plain_stop stop.TreeSize = too_large
 
 -- a cause whatever trees were printed before

@@ -149,7 +149,7 @@ pub fn run_program<K: Sink>(alloc: Global, file: &str, checked: &Checked, sink: 
         Ok(declared) => declared,
         Err(Memory) => return Status::Memory,
     };
-    match unbuilt_at(checked, &declared) {
+    match unbuilt_at(&declared) {
         Some(place) => {
             let code = Code::NotYet;
             refuse(alloc, sink, file, Refusal { code, place })

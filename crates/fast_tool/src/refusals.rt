@@ -67,6 +67,7 @@ fn stop_shows(alloc: Global, stop: Stop) -> Result<String, Memory>
 {
     match stop {
         Stop::Classes(limit) => Ok(format!(in alloc; " {limit}")?),
+        Stop::Width(bits) => Ok(format!(in alloc; " {bits}")?),
         Stop::TreeSize => Ok(String::new(alloc)),
     }
 }
@@ -76,6 +77,7 @@ fn stop_code(stop: Stop) -> Code
 {
     match stop {
         Stop::Classes(_) => Code::Classes,
+        Stop::Width(_) => Code::Width,
         Stop::TreeSize => Code::TreeSize,
     }
 }

@@ -401,17 +401,47 @@ assert 7 pass
 ";
 
 /// Command lines, texts, exit codes and reports.
-const RUNS: [(&str, &str, u8, &str); 21] = [
+const RUNS: [(&str, &str, u8, &str); 26] = [
     ("run F", EIGHT, 0, EIGHT_REPORT),
     ("run F", "", 0, ""),
     ("check F", "", 0, "checked 0 items\n"),
     ("check F", LISTS, 0, "checked 8 items\n"),
-    ("run F", LISTS, 3, "refused 9 NotYet at F:1:1\n"),
+    ("run F", LISTS, 3, "refused 9 NotYet at F:2:1\n"),
     ("check F", DOCUMENTS, 0, "checked 12 items\n"),
     ("run F", DOCUMENTS, 1, DOCUMENTS_REPORT),
     ("run F", PAIRS, 1, PAIRS_REPORT),
     ("run F", BOTH, 0, "assert 5 pass\n"),
     ("run F", FIELDS, 0, FIELDS_REPORT),
+    (
+        "run F",
+        "type N[x : Int, y : Int]{z(0)}\nlang e : N { z() where 2*x = 2*y + 1 }\nassert-true (is-empty e)",
+        0,
+        "assert 3 pass\n",
+    ),
+    (
+        "run F",
+        "type N[x : Int, y : Int]{z(0)}\nlang m : N { z() where x % 3 = 2 and x < 0 and x > -3 and y = x + 1 }\nassert-false (is-empty m)",
+        0,
+        "assert 3 pass (z [-1, 0])\n",
+    ),
+    (
+        "run F",
+        "type N[x : Int]{z(0)}\nlang big : N { z() where x > 9223372036854775807 }\nassert-false (is-empty big)",
+        4,
+        "refused 31 Width at F:3:1 64\n",
+    ),
+    (
+        "run F",
+        "type N[x : Int, y : Int]{z(0)}\nlang p : N { z() where x = 9223372036854775807 and y = x + x }\nassert-false (is-empty p)",
+        4,
+        "refused 31 Width at F:3:1 64\n",
+    ),
+    (
+        "run F",
+        "type N[x : Int]{z(0)}\nlang p : N { z() where x > 9223372036854775807 and x < 0 }\nassert-true (is-empty p)",
+        0,
+        "assert 3 pass\n",
+    ),
     (
         "run F",
         "type B[]{a(0)} assert-true (is-empty p) lang p : B { a() }\ndef d : B := p",

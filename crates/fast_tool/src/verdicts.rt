@@ -29,6 +29,8 @@ use std::alloc::Global;
 pub enum Stop {
     /// More trees than this limit are told apart.
     Classes(u32),
+    /// A number has no place in so many bits.
+    Width(u32),
     /// Each tree that shows it is too large.
     TreeSize,
 }
@@ -64,7 +66,7 @@ fn decide(
         Ok(Found::Shown(tree)) => Ok(Decided::Shows(tree)),
         Ok(Found::TooBig) => Ok(Decided::Stopped(Stop::TreeSize)),
         Err(ClassStop::Classes) => Ok(Decided::Stopped(Stop::Classes(limit))),
-        Err(ClassStop::Wide(_)) => unreachable!(),
+        Err(ClassStop::Wide(chain)) => Ok(Decided::Stopped(Stop::Width(chain.bits))),
         Err(ClassStop::Memory) => Err(Memory),
     }
 }

@@ -5,7 +5,8 @@ use Rattle.model_tree.specs.Label.{Label}
 use Rattle.model_tree.specs.Tree.{LabelTree}
 use Rattle.model_grammar.specs.Syntax.{X, Item}
 use Rattle.model_meaning.specs.Truth.{ExactlyOne}
-use Rattle.model_run.specs.Parts.{AreApart, EachTwo}
+use Rattle.model_chain.specs.Each.{EachTwo}
+use Rattle.model_run.specs.Parts.{AreApart}
 use Rattle.model_layers.specs.Operations.{Auto}
 use Rattle.model_layers.specs.Carries.{IsTyped, Carries, AreTold, CausesGoUp}
 

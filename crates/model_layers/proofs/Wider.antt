@@ -9,8 +9,9 @@ use Rattle.model_grammar.specs.declared.Op2.{Op2}
 use Rattle.model_grammar.specs.declared.Op1.TheVariants.{Complement, Minimize, Domain, GetWitness}
 use Rattle.model_grammar.specs.declared.Op2.TheVariants.{Intersect, Union, Difference, PreImage, Compose, Restrict, RestrictOut, Apply}
 use Rattle.model_grammar.specs.Syntax.{X, one, two, Item}
+use Rattle.model_chain.specs.Each.{EachTwo}
 use Rattle.model_meaning.proofs.Members.{one_of, none_of}
-use Rattle.model_run.specs.Parts.{LanguagePart, IsLanguage, AreApart, EachTwo}
+use Rattle.model_run.specs.Parts.{LanguagePart, IsLanguage, AreApart}
 use Rattle.model_run.specs.Seen.{Guard, IsGuard, Agree}
 use Rattle.model_layers.specs.Carries.{AreAmong, AreWidened, OperandsAreAmong}
 

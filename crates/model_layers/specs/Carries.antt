@@ -13,10 +13,11 @@ use Rattle.model_grammar.specs.declared.Op2.{Op2}
 use Rattle.model_grammar.specs.declared.Op1.TheVariants.{Complement, Minimize}
 use Rattle.model_grammar.specs.declared.Op2.TheVariants.{Intersect, Union, Difference, Apply}
 use Rattle.model_grammar.specs.Syntax.{X, named, one, two, Item}
+use Rattle.model_chain.specs.Each.{EachTwo}
 use Rattle.model_meaning.specs.Languages.{is_in}
 use Rattle.model_meaning.specs.Meaning.{IsOf, signature_named}
 use Rattle.model_meaning.specs.Reached.{Reaches}
-use Rattle.model_run.specs.Parts.{LanguagePart, IsIn, IsOn, IsLanguage, EachTwo, HasMoreTrees}
+use Rattle.model_run.specs.Parts.{LanguagePart, IsIn, IsOn, IsLanguage, HasMoreTrees}
 use Rattle.model_run.specs.Seen.{Guard, IsGuard, Agree, IsLabelOf, HasFarLabel}
 use Rattle.model_layers.specs.Operations.{Auto, AgreeIn, KeepsGuards, Has, count, Alike, IsUnion, IsIntersection, IsDifference, IsComplement, IsMinimal}
 

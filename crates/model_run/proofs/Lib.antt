@@ -9,3 +9,4 @@ pub mod Complete
 pub mod Told
 pub mod Free
 pub mod Far
+pub mod SoundGuards

@@ -1,29 +1,10 @@
 -- What is built so far. A program with an item that isn't built is read and checked, and not run.
-use Rattle.std.specs.Prelude.{Bool, true, false, not, List, Option, Some, None, find, codes}
-use Rattle.std.specs.List.{list_all}
+use Rattle.std.specs.Prelude.{Bool, true, false, not, List, Option, Some, None, find}
 use Rattle.std.specs.Option.{option_map, option_map_or}
 use Rattle.fast_fault.specs.declared.place.Pos.{Pos}
-use Rattle.model_tree.specs.Signature.{PlainField}
-use Rattle.model_program.specs.Syntax.{FieldItem, TypeItem}
-use Rattle.model_grammar.specs.Syntax.{X, named, one, two, literal, Rule, LangItem, Claim, equal, member, empty, type_check, Body, sorts, tree, lang, trans, def, assertion, Item}
-use Rattle.model_label.specs.Tests.{is_test}
-use Rattle.model_names.specs.Declared.{same_text, find_item}
-use Rattle.model_meaning.specs.Types.{signature_at}
+use Rattle.model_grammar.specs.Syntax.{X, named, one, two, literal, Claim, equal, member, empty, type_check, Body, sorts, tree, lang, trans, def, assertion, Item}
+use Rattle.model_names.specs.Declared.{find_item}
 use Rattle.model_run.specs.Words.{Form, check_form, run_form, apply_form, accepts_form, self_form}
-
--- a field of truth values or of texts
-abbrev pub is_built_field : FieldItem → Bool
-is_built_field f = not (same_text f.sort.text (codes "Int"))
-
-abbrev pub is_built_type : TypeItem → Bool
-is_built_type t = list_all is_built_field t.fields
-
--- a guard over truth values and texts
-abbrev pub is_built_rule : List PlainField → Rule → Bool
-is_built_rule fields r = option_map_or (is_test fields) r.guard true
-
-abbrev pub is_built_lang : List Item → LangItem → Bool
-is_built_lang items l = list_all (is_built_rule (signature_at items l.of).fields) l.rules
 
 abbrev pub is_lang : Body → Bool
 is_lang (sorts t) = false
@@ -48,9 +29,9 @@ is_built_claim items (empty x) = is_built_language items x
 is_built_claim items (type_check x f y) = false
 
 abbrev pub is_built_body : List Item → Body → Bool
-is_built_body items (sorts t) = is_built_type t
+is_built_body items (sorts t) = true
 is_built_body items (tree t) = false
-is_built_body items (lang l) = is_built_lang items l
+is_built_body items (lang l) = true
 is_built_body items (trans t) = false
 is_built_body items (def d) = false
 is_built_body items (assertion a) = is_built_claim items a.claim

@@ -10,6 +10,7 @@ use Rattle.model_grammar.specs.Syntax.{X, named, one, two, literal, Xs, no_x, an
 use Rattle.model_grammar.specs.Places.{nowhere}
 use Rattle.model_form.specs.Form.{Form}
 use Rattle.model_form.specs.Ranges.{IsOutside}
+use Rattle.model_chain.specs.Each.{EachTwo}
 use Rattle.model_chain.specs.Literals.{Compare}
 use Rattle.model_chain.specs.Chains.{Chain, Passes}
 use Rattle.model_names.specs.Kinds.{Kind, language, transformation, a_tree, kind_of, type_of}
@@ -18,7 +19,7 @@ use Rattle.model_meaning.specs.Closed.{closed}
 use Rattle.model_meaning.specs.Meaning.{IsRelated, IsTreeOf, input_type, output_type}
 use Rattle.model_meaning.specs.Values.{Printed, IsValue}
 use Rattle.model_meaning.specs.Truth.{Shows}
-use Rattle.model_run.specs.Parts.{RelationPart, Links, IsRelation, HasMoreTrees, EachTwo}
+use Rattle.model_run.specs.Parts.{RelationPart, Links, IsRelation, HasMoreTrees}
 use Rattle.model_run.specs.Seen.{IsCompare, IsSameCompare, HasFarLabel, IsFormOf}
 use Rattle.model_run.specs.Plain.{ReachesSome, Meet, Copies, IsComposedIn, is_before}
 use Rattle.model_run.specs.Loads.{Load, IsTooMuch, IsPartOf, IsFarNumberOf}

@@ -5,9 +5,9 @@ use Rattle.model_tree.specs.Label.{Label}
 use Rattle.model_tree.specs.Tree.{node, trees_of, LabelTree}
 use Rattle.model_tree.specs.Signature.{HasType}
 use Rattle.model_grammar.specs.Syntax.{X, Item}
+use Rattle.model_chain.specs.Each.{EachTwo}
 use Rattle.model_meaning.specs.Meaning.{IsInLanguage, input_type}
 use Rattle.model_meaning.specs.Truth.{ExactlyOne}
-use Rattle.model_run.specs.Parts.{EachTwo}
 
 -- a tree with one hole in the place of a subtree
 pub data Context : Type 0 where

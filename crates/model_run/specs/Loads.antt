@@ -4,7 +4,7 @@ use Rattle.std.specs.List.{All, Contains, sum_by}
 use Rattle.model_tree.specs.Label.{Label, row, pair, whole}
 use Rattle.model_tree.specs.Tree.{node, Trees, no_trees, tree, LabelTree, node_count, depth}
 use Rattle.model_tree.specs.Kept.{is_kept_field}
-use Rattle.model_run.specs.Parts.{EachTwo}
+use Rattle.model_chain.specs.Each.{EachTwo}
 
 abbrev pub AreDifferent : List LabelTree → Type 0
 AreDifferent = EachTwo (λ t u. ¬ (t ≡ u))

@@ -7,6 +7,7 @@ use Rattle.model_program.specs.Syntax.{Name}
 use Rattle.model_grammar.specs.declared.Op1.TheVariants.{Complement, Minimize, Domain, GetWitness}
 use Rattle.model_grammar.specs.declared.Op2.TheVariants.{Intersect, Union, Difference, PreImage, Compose, Restrict, RestrictOut, Apply}
 use Rattle.model_grammar.specs.Syntax.{X, named, one, two, literal, OutRule, Item}
+use Rattle.model_chain.specs.Each.{EachTwo}
 use Rattle.model_names.specs.Declared.{out_rules_of}
 use Rattle.model_names.specs.Kinds.{language, transformation, kind_of, type_of, output_of}
 use Rattle.model_meaning.specs.Types.{input_of}
@@ -172,11 +173,6 @@ module _ (items : List Item) where
   -- a language of which one of the closed expressions is made holds of exactly one of two trees of the type
   abbrev pub AreApart : List X → List ℕ → LabelTree → LabelTree → Type 0
   AreApart es type s t = (e : X) × Contains es e × (d : LanguagePart) × IsLanguage e type d × ExactlyOne (IsIn items d s) (IsIn items d t)
-
--- R holds of each two elements, the earlier one first
-abbrev pub EachTwo : {A : Type 0} → (A → A → Type 0) → List A → Type 0
-EachTwo R [] = Unit {0}
-EachTwo R (x ∷ xs) = All (R x) xs × EachTwo R xs
 
 -- more than so many trees of one type, each two of them told apart by the expressions
 pub record HasMoreTrees (items : List Item) (es : List X) (most : ℕ) : Type 0 where

@@ -14,12 +14,12 @@ use Rattle.model_grammar.specs.Syntax.{X, named, Item}
 use Rattle.model_grammar.specs.Places.{nowhere}
 use Rattle.model_grammar.specs.Grammar.{IsProgram}
 use Rattle.model_grammar.specs.Texts.{IsText}
+use Rattle.model_chain.specs.Each.{EachTwo}
 use Rattle.model_checks.specs.Programs.{is_well_formed}
 use Rattle.model_names.specs.Declared.{own_name}
 use Rattle.model_names.specs.Kinds.{Kind, language, transformation}
 use Rattle.model_meaning.specs.Meaning.{IsInLanguage, IsRelated, input_type, output_type}
 use Rattle.model_meaning.specs.Reached.{Reaches}
-use Rattle.model_run.specs.Parts.{EachTwo}
 use Rattle.model_run.specs.Order.{label_tree_cmp}
 use Rattle.model_run.specs.Causes.{Stop, HasCause, TreeHasCause}
 use Rattle.model_run.specs.Words.{Form, check_form, run_form, apply_form, accepts_form, self_form, IsForm, limit_of, usage_line}

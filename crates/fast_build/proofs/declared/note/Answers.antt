@@ -1,9 +1,8 @@
-use Rattle.std.proofs.Common.{◌≡◌, true, false, cond, List, [], ◌∷◌, ◌++◌, map, sym, ap, subst, ◌∙◌, Contains, refl}
+use Rattle.std.proofs.Common.{◌≡◌, true, false, cond, [], ◌∷◌, ◌++◌, map, sym, ap, subst, ◌∙◌}
 use Rattle.std.specs.List.{list_any}
 use Rattle.std.proofs.lemmas.List.{map-append}
 use Rattle.fast_syntax.specs.View.{plain_name}
 use Rattle.fast_syntax.specs.Plain.{plain_item}
-use Rattle.model_grammar.specs.Syntax.{Item}
 use Rattle.model_names.specs.Declared.{same_text}
 use Rattle.fast_build.specs.Items.{AreDeclared}
 use Rattle.fast_build.proofs.Declaring.{skip_unnamed, skip_known, add_new}

@@ -1,14 +1,12 @@
-use Rattle.std.proofs.Common.{length}
-use Rattle.model_tree.specs.Signature.{sorts_of}
 use Rattle.fast_tree.specs.Signatures.{plain_signature}
 use Rattle.fast_syntax.specs.Plain.{plain_rule}
-use Rattle.record_label.specs.Rows.{row_holds, RowFits}
 use Rattle.sta_core.specs.Machine.{plain_rule as machine_rule}
+use Rattle.sta_core.proofs.Meaning.{All_from_map}
 use Rattle.model_sta.proofs.Pairs.{pairwise_more}
 use Rattle.fast_build.specs.Numbers.{has_ctor}
 use Rattle.fast_build.specs.Rules.{IsRuleFor}
-use Rattle.fast_build.specs.Stands.{is_guarded}
-use Rattle.fast_build.proofs.Elements.{all_mapped, mapped_at, mapped_below}
+use Rattle.fast_build.specs.Stands.{GuardStands}
+use Rattle.fast_build.proofs.Elements.{all_mapped, all_here, mapped_at, mapped_below}
 use Rattle.fast_build.proofs.Grown.{rule_demands_there}
 use Rattle.fast_build.proofs.rules.rules_for.Goals as goal
 
@@ -16,7 +14,9 @@ pub rule_for-requires-clause-ctor : goal.rule_for-requires-clause-ctor
 rule_for-requires-clause-ctor c = all_mapped (has_ctor (plain_signature c.args.signature.now)) plain_rule c.args.rules.now c.rules.rule-index c.rule-item.result c.requires.ctors c.rule-item.is c.rules-test.true
 
 pub rule_for-requires-clause-guarded : goal.rule_for-requires-clause-guarded
-rule_for-requires-clause-guarded c = all_mapped (is_guarded (plain_signature c.args.signature.now).fields) plain_rule c.args.rules.now c.rules.rule-index c.rule-item.result c.requires.guarded c.rule-item.is c.rules-test.true
+rule_for-requires-clause-guarded c =
+    all_here (λ r. GuardStands (plain_signature c.args.signature.now).fields (plain_rule r).guard) c.args.rules.now c.rules.rule-index c.rule-item.result
+    (All_from_map (λ r. GuardStands (plain_signature c.args.signature.now).fields r.guard) plain_rule c.args.rules.now c.requires.guarded) c.rule-item.is c.rules-test.true
 
 pub rule_for-requires-clause-named : goal.rule_for-requires-clause-named
 rule_for-requires-clause-named c =
@@ -25,5 +25,5 @@ rule_for-requires-clause-named c =
 
 pub rules-preserved : goal.rules-preserved
 rules-preserved c =
-    pairwise_more (IsRuleFor row_holds (RowFits (sorts_of (plain_signature c.args.signature.now))) (plain_signature c.args.signature.now) c.args.names.now.keys) machine_rule plain_rule c.rules.made.items c.push.new.self.items c.in_ok-rule_for.field-0
+    pairwise_more (IsRuleFor (plain_signature c.args.signature.now) c.args.names.now.keys) machine_rule plain_rule c.rules.made.items c.push.new.self.items c.in_ok-rule_for.field-0
     c.args.rules.now c.rules.rule-index c.rule-item.result c.rules-test.true c.rule-item.is c.in_ok-push.ensures.items c.in_ok-rule_for.ensures c.rules.invariant

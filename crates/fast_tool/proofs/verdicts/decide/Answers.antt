@@ -1,17 +1,21 @@
-use Rattle.std.proofs.Common.{◌≤◌, length, subst, sym, ◌∙◌}
+use Rattle.std.proofs.Common.{◌≤◌, length, subst, sym, ap, ◌∙◌}
 use Rattle.std.proofs.lemmas.List.{length-map}
 use Rattle.model_tree.specs.Tree.{LabelTree, relabel}
-use Rattle.model_tree.specs.Signature.{PlainSignature, HasSorts}
+use Rattle.model_tree.specs.Signature.{PlainSignature, HasSorts, sorts_of}
 use Rattle.fast_tree.specs.Entries.{label_meaning}
 use Rattle.fast_tree.specs.Signatures.{plain_signature, plain_field}
 use Rattle.fast_syntax.specs.View.{plain_name}
 use Rattle.model_sta.specs.Reached.{HasMoreSets}
+use Rattle.model_chain.specs.Chains.{IsFar}
+use Rattle.label_split.specs.Split.{HasUnkeptRow}
+use Rattle.lin_solve.specs.Shown.{plain_chain}
+use Rattle.sta_classes.specs.Guards.{all_guards, truths}
 use Rattle.sta_core.specs.Sta.{automaton_of, AtomsFit}
 use Rattle.sta_ops.specs.Empty.{IsTreeOf, IsLeastOf, HasBigAlone}
 use Rattle.record_label.specs.Rows.{row_holds, RowFits, KeepsSorts}
 use Rattle.fast_build.specs.Items.{items_of}
 use Rattle.fast_build.proofs.Standing.{lang_there, type_is}
-use Rattle.fast_tool.proofs.Tables.{none_in, shown_in, large_cause, many_cause}
+use Rattle.fast_tool.proofs.Tables.{none_in, shown_in, large_cause, many_cause, wide_cause}
 use Rattle.fast_tool.proofs.verdicts.decide.Goals as goal
 
 pub new-requires : goal.new-requires
@@ -24,7 +28,7 @@ new-requires c =
     subst (λ k. k ≤ 8) (length-map c.args.signature.now.fields.items plain_field) few
 
 pub empty-requires : goal.empty-requires
-empty-requires c = record { fit = subst (λ s. AtomsFit (RowFits s) c.in_ok-sta.sta) (sym c.in_ok-theory.ensures) c.in_ok-sta.ensures.fit }
+empty-requires c = record { fit = subst (λ s. AtomsFit (RowFits s) c.in_ok-sta.sta) (ap sorts_of c.requires.typed ∙ sym c.in_ok-theory.ensures) c.in_ok-sta.ensures.fit }
 
 pub returns-in-Ok-Absent : goal.returns-in-Ok-Absent
 returns-in-Ok-Absent c =
@@ -62,3 +66,13 @@ returns-in-Err-Classes c =
     let t = plain_signature c.args.signature.now in
     let many = subst (λ s. HasMoreSets c.in_ok-sta.sta.ranks (KeepsSorts s) (automaton_of row_holds c.in_ok-sta.sta) c.args.limit) c.in_ok-theory.ensures (rw c.in-Err-Classes.field-0-is at c.in-Err-Classes.ensures.stop) in
     λ wanted trees. many_cause items n at.0 c.requires.runs.stand at.1 t c.requires.typed c.in_ok-sta.sta c.in_ok-sta.ensures wanted c.args.limit trees many
+
+pub returns-in-Err-Wide : goal.returns-in-Err-Wide
+returns-in-Err-Wide c =
+    let items = items_of c.args.declared.now in
+    let n = plain_name c.args.name.now in
+    let at = lang_there items n.text c.requires.there in
+    let t = plain_signature c.args.signature.now in
+    let stop = rw c.in-Err-Wide.field-0-is at c.in-Err-Wide.ensures.stop in
+    let unkept = subst (λ s. IsFar (plain_chain c.in-Err-Wide.chain) → HasUnkeptRow (HasSorts s) (KeepsSorts s) (truths row_holds (all_guards c.in_ok-sta.sta.rules))) c.in_ok-theory.ensures stop.1 in
+    λ wanted trees. wide_cause items n at.0 c.requires.runs.stand at.1 t c.requires.typed c.in_ok-sta.sta c.in_ok-sta.ensures wanted c.args.limit trees c.in-Err-Wide.chain stop.0.0 stop.0.1 unkept

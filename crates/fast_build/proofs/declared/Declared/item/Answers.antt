@@ -1,4 +1,4 @@
-use Rattle.std.proofs.Common.{◌≡◌, ◌<◌, map, length, Some, sym, ap, ◌∙◌}
+use Rattle.std.proofs.Common.{◌<◌, map, length, Some, sym, ap, ◌∙◌}
 use Rattle.std.proofs.lemmas.List.{length-map}
 use Rattle.fast_syntax.specs.Plain.{plain_item}
 use Rattle.fast_build.specs.Items.{items_of}
