@@ -1,14 +1,7 @@
 #!/usr/bin/env bash
 # Measures `fast check`: programs of K items, each a language, definition or assertion that names earlier and later ones,
-# programs of one language with K rules, and both at once. Prints milliseconds of a processor, the best of three, with
-# the ratio for each doubling of K.
-set -u
-here=$(cd "$(dirname "${BASH_SOURCE[0]}")/.." && pwd)
-folder=$(mktemp -d)
-trap 'rm -rf "$folder"' EXIT
-
-"$here/fast" run /dev/null >/dev/null
-program=$here/crates/fast/out/fast
+# programs of one language with K rules, and both at once.
+. "$(dirname "${BASH_SOURCE[0]}")/common.sh"
 
 items() {
   awk -v count="$1" 'BEGIN {
@@ -41,33 +34,6 @@ rules() {
   }'
 }
 
-measure() {
-  local least= took TIMEFORMAT=%U
-  for _ in 1 2 3; do
-    took=$( { time "$program" check "$1" >/dev/null 2>&1; } 2>&1 | tr -d .)
-    took=$((10#$took))
-    if [ -z "$least" ] || [ "$took" -lt "$least" ]; then least=$took; fi
-  done
-  echo "$least"
-}
-
-# Times checks of programs of this kind, for each of these K.
-table() {
-  local kind=$1 count took previous=
-  shift
-  printf '%6s %6s %8s %14s %8s\n' "$kind" K bytes milliseconds ratio
-  for count in "$@"; do
-    "$kind" "$count" >"$folder/text"
-    took=$(measure "$folder/text")
-    awk -v count="$count" -v bytes="$(wc -c <"$folder/text")" -v took="$took" -v previous="$previous" 'BEGIN {
-      printf "%6s %6d %8d %14d", "", count, bytes, took
-      if (previous > 0) printf " %8.2f", took / previous
-      printf "\n"
-    }'
-    previous=$took
-  done
-}
-
-table items 1250 2500 5000 10000
-table rules 512 1024 2048 4096
-table mixed 2500 5000 10000
+table check items 1250 2500 5000 10000
+table check rules 512 1024 2048 4096
+table check mixed 2500 5000 10000

@@ -1,14 +1,7 @@
 #!/usr/bin/env bash
 # Measures emptiness: a cycle of K languages over lists, each of which takes the lists whose length has its remainder by
-# K, and a chain of K languages whose trees double. Prints milliseconds of a processor, the best of three, with the
-# ratio for each doubling of K.
-set -u
-here=$(cd "$(dirname "${BASH_SOURCE[0]}")/.." && pwd)
-folder=$(mktemp -d)
-trap 'rm -rf "$folder"' EXIT
-
-"$here/fast" run /dev/null >/dev/null
-program=$here/crates/fast/out/fast
+# K, and a chain of K languages whose trees double.
+. "$(dirname "${BASH_SOURCE[0]}")/common.sh"
 
 cycle() {
   local count=$1 own
@@ -30,32 +23,5 @@ chain() {
   echo "assert-false (is-empty h$count)"
 }
 
-measure() {
-  local least= took TIMEFORMAT=%U
-  for _ in 1 2 3; do
-    took=$( { time "$program" run "$1" >/dev/null 2>&1; } 2>&1 | tr -d .)
-    took=$((10#$took))
-    if [ -z "$least" ] || [ "$took" -lt "$least" ]; then least=$took; fi
-  done
-  echo "$least"
-}
-
-# Times runs of programs of this kind, for each of these K.
-table() {
-  local kind=$1 count took previous=
-  shift
-  printf '%6s %6s %14s %8s\n' "$kind" K milliseconds ratio
-  for count in "$@"; do
-    "$kind" "$count" >"$folder/text"
-    took=$(measure "$folder/text")
-    awk -v count="$count" -v took="$took" -v previous="$previous" 'BEGIN {
-      printf "%6s %6d %14d", "", count, took
-      if (previous > 0) printf " %8.2f", took / previous
-      printf "\n"
-    }'
-    previous=$took
-  done
-}
-
-table cycle 50 100 200 400 800
-table chain 50 100 200 400
+table run cycle 50 100 200 400 800
+table run chain 50 100 200 400
