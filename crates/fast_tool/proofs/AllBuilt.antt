@@ -1,12 +1,9 @@
 -- Which items are built, and what stands in a well-formed program.
-use Rattle.std.proofs.Common.{◌≡◌, ℕ, suc, ◌+◌, ◌<◌, Bool, true, false, cond, List, [], ◌∷◌, Option, Some, None, map, drop, length, get_or, add-one, refl, sym, ap, ◌∙◌}
+use Rattle.std.proofs.Common.{◌≡◌, ℕ, suc, ◌+◌, ◌<◌, Bool, true, false, cond, List, [], ◌∷◌, Some, None, map, drop, length, get_or, add-one, refl, sym, ap, ◌∙◌}
 use Rattle.std.proofs.Math.Seq.{drop-cons}
-use Rattle.std.specs.Prelude.{not, find, is_some}
-use Rattle.std.specs.List.{list_all, list_any}
-use Rattle.std.specs.Option.{option_map, option_map_or}
-use Rattle.std.proofs.lemmas.List.{length-map}
-use Rattle.std.proofs.lemmas.Simd.{map-map}
-use Rattle.fast_fault.specs.declared.place.Pos.{Pos}
+use Rattle.std.specs.Prelude.{not, find}
+use Rattle.std.specs.List.{list_all}
+use Rattle.std.specs.Option.{option_map}
 use Rattle.model_grammar.specs.Syntax.{Item}
 use Rattle.model_run.specs.Built.{is_built, unbuilt_at}
 

@@ -1,6 +1,6 @@
 -- An assertion that is judged is an item that is judged.
 use Rattle.std.proofs.Common.{◌≡◌, ℕ, List, Result, Ok, Err, IfOk, sym, subst}
-use Rattle.model_grammar.specs.Syntax.{AssertItem, Body, assertion, Item}
+use Rattle.model_grammar.specs.Syntax.{AssertItem, assertion, Item}
 use Rattle.model_meaning.specs.Values.{Printed}
 use Rattle.model_run.specs.Outcomes.{IsOutcomeOf}
 use Rattle.model_run.specs.Causes.{HasCause}

@@ -1,14 +1,14 @@
 -- What was appended so far, and what that makes of the report at each end.
-use Rattle.std.proofs.Common.{ℕ, ◌≡◌, ◌<◌, ◌+◌, List, [], ◌∷◌, ◌++◌, Option, Some, None, Bool, true, false, ◌||◌, length, get_or, drop, append_assoc, append-nil, add-one, suc, ap, ◌∙◌, sym, subst, inl, inr, refl, arith}
+use Rattle.std.proofs.Common.{ℕ, ◌≡◌, ◌<◌, ◌+◌, List, [], ◌∷◌, ◌++◌, Option, Some, None, Bool, true, false, ◌||◌, length, get_or, drop, append_assoc, append-nil, add-one, suc, ap, ◌∙◌, sym, subst, inl, inr, refl}
 use Rattle.std.proofs.Math.Seq.{drop-cons}
 use Rattle.fast_fault.specs.Written.{Appends, AppendsPrefix}
 use Rattle.fast_fault.specs.declared.status.Status.{Status}
-use Rattle.fast_fault.specs.declared.status.Status.TheVariants.{Hold, Fails, RunRefused, SinkFault, Memory}
+use Rattle.fast_fault.specs.declared.status.Status.TheVariants.{Hold, Fails, RunRefused, Memory}
 use Rattle.model_grammar.specs.Syntax.{Item}
-use Rattle.model_run.specs.Outcomes.{Outcome, line_of, trees_in, has_failed, says_fail}
+use Rattle.model_run.specs.Outcomes.{Outcome, line_of, trees_in}
 use Rattle.model_run.specs.Lines.{stop_line}
-use Rattle.model_run.specs.Scripts.{Comes, begun, more, whole, unfinished, Writes}
-use Rattle.model_run.specs.Report.{items_script, Work, IsItemDone, StopsAtItem, Reports, StatusReport}
+use Rattle.model_run.specs.Scripts.{begun, more, unfinished, Writes}
+use Rattle.model_run.specs.Report.{items_script, IsItemDone, StopsAtItem, Reports}
 use Rattle.fast_tool.specs.Decided.{plain_stop, IsCauseOf, MayGive}
 use Rattle.fast_tool.specs.declared.verdicts.Stop.{Stop}
 use Rattle.fast_tool.specs.Runs.{IsFault, EndsWith, Past, ItemsReport, IsDone, IsEnded, IsStopped}

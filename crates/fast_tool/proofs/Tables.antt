@@ -1,17 +1,16 @@
 -- What the automaton of a language tells of the language.
-use Rattle.std.proofs.Common.{◌≡◌, ℕ, suc, ◌<◌, ◌≤◌, inl, inr, Bool, true, false, List, [], ◌∷◌, Option, Some, None, map, length, get_or, All, refl, sym, ap, subst, ◌∙◌, arith}
-use Rattle.std.specs.Prelude.{is_some}
+use Rattle.std.proofs.Common.{◌≡◌, ℕ, suc, ◌<◌, ◌≤◌, inl, inr, Bool, true, false, List, [], ◌∷◌, Some, map, length, get_or, All, refl, sym, ap, subst, ◌∙◌, arith}
 use Rattle.std.specs.Option.{option_map}
 use Rattle.std.proofs.lemmas.List.{length-map, get_or-map}
 use Rattle.std.proofs.lemmas.List.Elements.{All-nil, All-cons, All-tail}
 use Rattle.model_tree.specs.Label.{Label}
-use Rattle.model_tree.specs.Tree.{node, LabelTree, node_count}
+use Rattle.model_tree.specs.Tree.{node, LabelTree}
 use Rattle.model_tree.specs.Signature.{PlainSignature, ranks_of, sorts_of, HasSorts, HasType}
 use Rattle.model_program.specs.Syntax.{Name, TypeItem}
-use Rattle.model_grammar.specs.Syntax.{X, empty, named, LangItem, lang, assertion, Item}
+use Rattle.model_grammar.specs.Syntax.{empty, named, LangItem, lang, assertion, Item}
 use Rattle.model_names.specs.Declared.{find_type, find_item}
-use Rattle.model_names.specs.Kinds.{language, kind_of, type_of}
-use Rattle.model_meaning.specs.Types.{signature_at, input_of}
+use Rattle.model_names.specs.Kinds.{kind_of, type_of}
+use Rattle.model_meaning.specs.Types.{input_of}
 use Rattle.model_meaning.specs.Languages.{is_in}
 use Rattle.model_meaning.specs.Closed.{closed}
 use Rattle.model_meaning.specs.Meaning.{input_type, signature_named}
@@ -21,7 +20,7 @@ use Rattle.model_meaning.specs.Reached.{Reaches}
 use Rattle.model_meaning.proofs.Named.{input_type_of_name, lang_closed, lang_inside, inside_lang}
 use Rattle.model_run.specs.Outcomes.{IsPrintable}
 use Rattle.model_run.specs.Parts.{AreApart, HasMoreTrees}
-use Rattle.model_run.specs.Causes.{AreAllLarge, IsTooWide, judged, judged_empty, HasCause, more_classes, too_wide, too_large}
+use Rattle.model_run.specs.Causes.{AreAllLarge, IsTooWide, judged_empty, HasCause, more_classes, too_wide, too_large}
 use Rattle.model_run.proofs.Apart.{name_of, apart_by_reached}
 use Rattle.model_sta.specs.Automaton.{Rule, is_accepted}
 use Rattle.model_sta.specs.Sets.{Row, has, set_of, Fits}
@@ -46,8 +45,8 @@ use Rattle.sta_classes.specs.Guards.{all_guards, atoms_of_all, truths}
 use Rattle.fast_build.specs.Items.{find_lang}
 use Rattle.fast_build.specs.Stands.{LangStands, AllStand}
 use Rattle.fast_build.specs.Automaton.{IsAutomatonOf}
-use Rattle.fast_build.proofs.Standing.{kind_is, type_named, type_is, item_there}
-use Rattle.fast_build.proofs.Reaching.{IsOf, reached_of}
+use Rattle.fast_build.proofs.Standing.{kind_is, type_named, item_there}
+use Rattle.fast_build.proofs.Reaching.{reached_of}
 use Rattle.fast_tool.proofs.Wide.{wide}
 use Rattle.fast_tool.proofs.Typed.{fits_from_type, type_from_fits, fits_if_kept, kept_if_fits}
 

@@ -1,5 +1,5 @@
 -- Trees of a type, as trees over its ranks and its labels.
-use Rattle.std.proofs.Common.{◌≡◌, ℕ, suc, true, ◌&&◌, List, map, length, refl, sym, ap, ap₂, ◌∙◌}
+use Rattle.std.proofs.Common.{◌≡◌, ℕ, suc, true, ◌&&◌, List, length, refl, sym, ap, ap₂, ◌∙◌}
 use Rattle.model_tree.specs.Label.{Label}
 use Rattle.model_tree.specs.Tree.{node, Trees, no_trees, tree, list_of, LabelTree}
 use Rattle.model_tree.specs.Signature.{Sort, PlainSignature, ranks_of, sorts_of, HasSorts, HasType, EachHasType}

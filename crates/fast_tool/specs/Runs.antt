@@ -1,6 +1,5 @@
 -- How a run goes on, and how it ends.
-use Rattle.std.specs.Prelude.{◌≡◌, ℕ, Bool, true, List, ◌++◌, Option, ◌⊎◌, drop}
-use Rattle.std.specs.List.{list_all}
+use Rattle.std.specs.Prelude.{◌≡◌, ℕ, Bool, List, Option, ◌⊎◌, drop}
 use Rattle.fast_fault.specs.declared.status.Status.{Status}
 use Rattle.fast_fault.specs.declared.status.Status.TheVariants.{RunRefused, SinkFault, Memory}
 use Rattle.fast_fault.specs.Written.{Appends, AppendsPrefix}
