@@ -1,11 +1,16 @@
-# What the benchmarks share: the built program, a folder for texts, and how a run is measured.
+# What the benchmarks share: the built program, a folder for texts, and how a run is measured. Where FAST names a program,
+# that one is measured, and nothing is built.
 set -u
 here=$(cd "$(dirname "${BASH_SOURCE[0]}")/.." && pwd)
 folder=$(mktemp -d)
 trap 'rm -rf "$folder"' EXIT
 
-"$here/fast" run /dev/null >/dev/null
-program=$here/crates/fast/out/fast
+if [ -n "${FAST-}" ]; then
+  program=$FAST
+else
+  "$here/fast" run /dev/null >/dev/null
+  program=$here/crates/fast/out/fast
+fi
 
 # The milliseconds of a processor that the command takes on the file, the best of three.
 milliseconds() {
