@@ -49,3 +49,5 @@ module _ {A : Type 0} (P : A → Type 0) where
   every_atom_of_or v h = every v.items (subst (EveryAtomOfAll P) (parts v) h)
 
 pub ruleset on_formulas = (formula_holds_and, formula_holds_or, every_atom_of_and, every_atom_of_or)
+
+pub ruleset on_parts = (plain_and, plain_or)

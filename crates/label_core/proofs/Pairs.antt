@@ -1,60 +1,13 @@
 -- Facts on literals of two parts.
-use Rattle.std.proofs.Common.{◌≡◌, ℕ, ◌+◌, ◌<◌, get_or, Bool, true, IsTrue, List, [], ◌∷◌, ◌++◌, take, length, refl, sym, ap, subst, ◌∙◌, suc, ◌||◌, arith, append-nil, false}
+use Rattle.std.proofs.Common.{◌≡◌, ℕ, ◌+◌, ◌<◌, get_or, Bool, List, [], ◌∷◌, ◌++◌, take, length, refl, sym, ap, ◌∙◌, suc, arith, append-nil}
 use Rattle.std.proofs.lemmas.List.Elements.{All-nil, All-cons}
 use Rattle.model_tree.specs.Label.{Label, pair}
-use Rattle.label_core.specs.Atoms.{has_equal, EachHasEqual}
 use Rattle.std.proofs.lemmas.List.{take_more}
 use Rattle.label_core.specs.Lit.{SatisfiesAll, LitsFit, atoms_of}
 use Rattle.label_core.specs.declared.theory.Lit.{Lit}
 use Rattle.label_core.specs.declared.pair.PairAtom.{PairAtom}
 use Rattle.label_core.specs.declared.pair.PairAtom.TheVariants.{Left, Right}
-use Rattle.label_core.specs.Pair.{pair_holds, OfAtom, lefts, rights, left_lit, right_lit, left_lits, right_lits, AreCopies}
-
-first : (a b : Bool) → a ≡ true → IsTrue (a || b)
-first true b h = refl
-first false b h = cc
-
-either : (a b : Bool) → IsTrue b → IsTrue (a || b)
-either true b h = refl
-either false b h = h
-
-module _ {A : Type 0} (eq : A → A → Bool) where
-  pub copies_append : (xs ys vs ws : List (Lit A)) → AreCopies eq xs ys → AreCopies eq vs ws → AreCopies eq (xs ++ vs) (ys ++ ws)
-  copies_append [] [] vs ws h k = k
-  copies_append [] (y ∷ ys) vs ws h k = absurd h
-  copies_append (x ∷ xs) [] vs ws h k = absurd h
-  copies_append (x ∷ xs) (y ∷ ys) vs ws h k = (h.0, h.1, copies_append xs ys vs ws h.2 k)
-
-  -- one more
-  pub copies_push : (xs ys : List (Lit A)) (a b : A) (s : Bool) → AreCopies eq xs ys → eq b a ≡ true → AreCopies eq (xs ++ record { atom = a; sign = s } ∷ []) (ys ++ record { atom = b; sign = s } ∷ [])
-  copies_push xs ys a b s h e = copies_append xs ys _ _ h (e, refl, tt)
-
-  pub copies_satisfy : (holds : A → Label → Bool) → ((a b : A) (l : Label) → eq a b ≡ true → holds a l ≡ holds b l) → (l : Label) (xs ys : List (Lit A)) → AreCopies eq xs ys → SatisfiesAll holds xs l → SatisfiesAll holds ys l
-  copies_satisfy holds same l [] [] h s = All-nil (λ x. holds x.atom l ≡ x.sign)
-  copies_satisfy holds same l [] (y ∷ ys) h s = absurd h
-  copies_satisfy holds same l (x ∷ xs) [] h s = absurd h
-  copies_satisfy holds same l (x ∷ xs) (y ∷ ys) h s = All-cons (λ x. holds x.atom l ≡ x.sign) y ys (same y.atom x.atom l h.0 ∙ s 0 x (omega arith) ∙ sym h.1) (copies_satisfy holds same l xs ys h.2 (λ k d b. s (suc k) d (omega (arith, b))))
-
-  pub satisfy_copied : (holds : A → Label → Bool) → ((a b : A) (l : Label) → eq a b ≡ true → holds a l ≡ holds b l) → (l : Label) (xs ys : List (Lit A)) → AreCopies eq xs ys → SatisfiesAll holds ys l → SatisfiesAll holds xs l
-  satisfy_copied holds same l [] [] h s = All-nil (λ x. holds x.atom l ≡ x.sign)
-  satisfy_copied holds same l [] (y ∷ ys) h s = absurd h
-  satisfy_copied holds same l (x ∷ xs) [] h s = absurd h
-  satisfy_copied holds same l (x ∷ xs) (y ∷ ys) h s = All-cons (λ x. holds x.atom l ≡ x.sign) x xs (sym (same y.atom x.atom l h.0) ∙ s 0 y (omega arith) ∙ h.1) (satisfy_copied holds same l xs ys h.2 (λ k d b. s (suc k) d (omega (arith, b))))
-
-  pub copies_fit : (F : A → Type 0) → ((a b : A) → eq a b ≡ true → F b → F a) → (xs ys : List (Lit A)) → AreCopies eq xs ys → LitsFit F xs → LitsFit F ys
-  copies_fit F same [] [] h s = All-nil (λ x. F x.atom)
-  copies_fit F same [] (y ∷ ys) h s = absurd h
-  copies_fit F same (x ∷ xs) [] h s = absurd h
-  copies_fit F same (x ∷ xs) (y ∷ ys) h s = All-cons (λ x. F x.atom) y ys (same y.atom x.atom h.0 (s 0 x (omega arith))) (copies_fit F same xs ys h.2 (λ k d b. s (suc k) d (omega (arith, b))))
-
-  among_cons : (more : List A) (a b : A) → IsTrue (has_equal eq more a) → IsTrue (has_equal eq (b ∷ more) a)
-  among_cons more a b h = either (eq a b) (has_equal eq more a) h
-
-  pub copies_among : (xs ys : List (Lit A)) → AreCopies eq xs ys → EachHasEqual eq (atoms_of ys) (atoms_of xs)
-  copies_among [] [] h = All-nil (λ a. IsTrue (has_equal eq [] a))
-  copies_among [] (y ∷ ys) h = absurd h
-  copies_among (x ∷ xs) [] h = absurd h
-  copies_among (x ∷ xs) (y ∷ ys) h = All-cons (λ a. IsTrue (has_equal eq (x.atom ∷ atoms_of xs) a)) y.atom (atoms_of ys) (first (eq y.atom x.atom) (has_equal eq (atoms_of xs) y.atom) h.0) (λ k d b. among_cons (atoms_of xs) (get_or (atoms_of ys) k d) x.atom (copies_among xs ys h.2 k d b))
+use Rattle.label_core.specs.Pair.{pair_holds, OfAtom, lefts, rights, left_lit, right_lit, left_lits, right_lits}
 
 module _ {P Q : Type 0} where
   -- the literals of a part, one by one
@@ -89,16 +42,14 @@ module _ {P Q : Type 0} where
   pub right_none : (xs : List (Lit (PairAtom P Q))) (i : ℕ) (x : Lit (PairAtom P Q)) (p : P) → i < length xs → x ≡ get_or xs i x → x.atom ≡ Left p → right_lits (take (i + 1) xs) ≡ right_lits (take i xs)
   right_none xs i x p l e is = right_more xs i x l e ∙ ap (λ a. right_lits (take i xs) ++ right_lit a x.sign []) is ∙ append-nil (right_lits (take i xs))
 
-module _ {P Q : Type 0} (eq : P → P → Bool) where
-  -- a copy of one more literal of the left part
-  pub left_copied : (xs : List (Lit (PairAtom P Q))) (i : ℕ) (x : Lit (PairAtom P Q)) (p b : P) (ys : List (Lit P)) → i < length xs → x ≡ get_or xs i x → x.atom ≡ Left p → eq b p ≡ true → AreCopies eq (left_lits (take i xs)) ys → AreCopies eq (left_lits (take (i + 1) xs)) (ys ++ record { atom = b; sign = x.sign } ∷ [])
-  left_copied xs i x p b ys l e is same h = subst (λ vs. AreCopies eq vs (ys ++ record { atom = b; sign = x.sign } ∷ [])) (sym (left_more xs i x l e ∙ ap (λ a. left_lits (take i xs) ++ left_lit a x.sign []) is)) (copies_push eq (left_lits (take i xs)) ys p b x.sign h same)
+  -- one more literal of the left part, and one more of the right part
+  pub left_taken : (xs : List (Lit (PairAtom P Q))) (i : ℕ) (x : Lit (PairAtom P Q)) (p : P) → i < length xs → x ≡ get_or xs i x → x.atom ≡ Left p → left_lits (take (i + 1) xs) ≡ left_lits (take i xs) ++ record { atom = p; sign = x.sign } ∷ []
+  left_taken xs i x p l e is = left_more xs i x l e ∙ ap (λ a. left_lits (take i xs) ++ left_lit a x.sign []) is
 
-module _ {P Q : Type 0} (eq : Q → Q → Bool) where
-  pub right_copied : (xs : List (Lit (PairAtom P Q))) (i : ℕ) (x : Lit (PairAtom P Q)) (q b : Q) (ys : List (Lit Q)) → i < length xs → x ≡ get_or xs i x → x.atom ≡ Right q → eq b q ≡ true → AreCopies eq (right_lits (take i xs)) ys → AreCopies eq (right_lits (take (i + 1) xs)) (ys ++ record { atom = b; sign = x.sign } ∷ [])
-  right_copied xs i x q b ys l e is same h = subst (λ vs. AreCopies eq vs (ys ++ record { atom = b; sign = x.sign } ∷ [])) (sym (right_more xs i x l e ∙ ap (λ a. right_lits (take i xs) ++ right_lit a x.sign []) is)) (copies_push eq (right_lits (take i xs)) ys q b x.sign h same)
+  pub right_taken : (xs : List (Lit (PairAtom P Q))) (i : ℕ) (x : Lit (PairAtom P Q)) (q : Q) → i < length xs → x ≡ get_or xs i x → x.atom ≡ Right q → right_lits (take (i + 1) xs) ≡ right_lits (take i xs) ++ record { atom = q; sign = x.sign } ∷ []
+  right_taken xs i x q l e is = right_more xs i x l e ∙ ap (λ a. right_lits (take i xs) ++ right_lit a x.sign []) is
 
-pub ruleset on_pairs = (left_none, right_none, left_copied, right_copied)
+pub ruleset on_pairs = (left_none, right_none, left_taken, right_taken)
 
 module _ {P Q : Type 0} (h : P → Label → Bool) (k : Q → Label → Bool) (l m : Label) where
   split_one : (a : PairAtom P Q) (s : Bool) (vs : List (Lit P)) (ws : List (Lit Q)) → SatisfiesAll h (left_lit a s vs) l → SatisfiesAll k (right_lit a s ws) m → (pair_holds h k a (pair l m) ≡ s) × SatisfiesAll h vs l × SatisfiesAll k ws m

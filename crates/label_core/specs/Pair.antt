@@ -1,5 +1,5 @@
 -- Labels of two parts.
-use Rattle.std.specs.Prelude.{◌≡◌, ◌↔◌, Bool, true, false, IsTrue, List, [], ◌∷◌, ⊤}
+use Rattle.std.specs.Prelude.{◌≡◌, ◌↔◌, Bool, true, false, IsTrue, List, [], ◌∷◌}
 use Rattle.std.proofs.Common.{refl, sym, subst, ◌∙◌, ◌||◌, arith, suc}
 use Rattle.std.proofs.lemmas.List.Elements.{All-nil, All-cons}
 use Rattle.std.specs.declared.cmp.Ordering.{Ordering}
@@ -63,13 +63,6 @@ module _ {P Q : Type 0} where
   abbrev pub right_lits : List (Lit (PairAtom P Q)) → List (Lit Q)
   right_lits [] = []
   right_lits (x ∷ xs) = right_lit x.atom x.sign (right_lits xs)
-
--- equal atoms with the same signs, in the same order
-abbrev pub AreCopies : {A : Type 0} → (A → A → Bool) → List (Lit A) → List (Lit A) → Type 0
-AreCopies eq [] [] = ⊤
-AreCopies eq [] (y ∷ ys) = ⊥
-AreCopies eq (x ∷ xs) [] = ⊥
-AreCopies eq (x ∷ xs) (y ∷ ys) = (eq y.atom x.atom ≡ true) × (y.sign ≡ x.sign) × AreCopies eq xs ys
 
 module _ {P Q : Type 0} (e : P → P → Bool) (f : Q → Q → Bool) where
   -- the equality that is derived

@@ -1,10 +1,13 @@
 //! Formulas over atoms.
 
-ghost use Rattle.std.specs.Prelude.{◌≡◌};
+ghost use Rattle.std.specs.Prelude.{◌≡◌, IfOk, map};
+ghost use Rattle.model_tree.specs.Formula as plain;
 ghost use Rattle.model_tree.specs.Formula.{formula_holds, EveryAtom};
 ghost use Rattle.label_core.specs.Formula.{plain_formula};
 
 use crate::theory::Theory;
+use fast_fault::Memory;
+use std::alloc::Global;
 
 /// A formula over atoms.
 #[derive(Drop)]
@@ -15,6 +18,29 @@ pub enum Formula<A> {
     Not(Box<Formula<A>>),
     And(Vec<Formula<A>>),
     Or(Vec<Formula<A>>),
+}
+
+/// Holds where the formula doesn't.
+pub fn negation<A: Drop>(alloc: Global, formula: Formula<A>) -> Result<Formula<A>, Memory>
+    ensures { IfOk result (λ made. plain_formula made ≡ plain.negation (plain_formula formula)) }
+{
+    Ok(Formula::Not(Box::new(alloc, formula)?))
+}
+
+/// Holds where each of the formulas does.
+#[tactic(auto, using(crate::proofs::Formulas::on_parts))]
+pub fn conjunction<A>(formulas: Vec<Formula<A>>) -> Formula<A>
+    ensures { plain_formula result ≡ plain.all_of (plain.formulas_of (map plain_formula formulas.items)) }
+{
+    Formula::And(formulas)
+}
+
+/// Holds where one of the formulas does.
+#[tactic(auto, using(crate::proofs::Formulas::on_parts))]
+pub fn disjunction<A>(formulas: Vec<Formula<A>>) -> Formula<A>
+    ensures { plain_formula result ≡ plain.some_of (plain.formulas_of (map plain_formula formulas.items)) }
+{
+    Formula::Or(formulas)
 }
 
 impl<A> Formula<A> {

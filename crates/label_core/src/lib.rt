@@ -4,13 +4,15 @@
 //! the trait alone, so a new kind of label is one more implementation of it.
 #![tactic(auto)]
 
+mod copies;
 mod formula;
 mod labels;
 mod pair;
 mod same;
 mod theory;
 
-pub use formula::Formula;
+pub use copies::Duplicate;
+pub use formula::{Formula, conjunction, disjunction, negation};
 pub use labels::{Applied, Labels, Put, PutMap};
 pub use pair::{Pair, PairAtom, PairChain, PairValue};
 pub use theory::{Lit, Theory, Verdict};

@@ -2,8 +2,9 @@
 
 ghost use Rattle.std.specs.Prelude.{◌≡◌, IfOk};
 ghost use Rattle.label_core.specs.Lit.{LitsFit};
-ghost use Rattle.label_core.specs.Pair.{OfAtom, AreCopies, left_lits, right_lits};
+ghost use Rattle.label_core.specs.Pair.{OfAtom, left_lits, right_lits};
 
+use crate::copies::Duplicate;
 use crate::theory::{Lit, Theory, Verdict};
 use fast_fault::Memory;
 use std::alloc::Global;
@@ -13,6 +14,15 @@ use std::alloc::Global;
 pub enum PairAtom<P, Q> {
     Left(P),
     Right(Q),
+}
+
+impl<P: Duplicate + Drop, Q: Duplicate + Drop> Duplicate for PairAtom<P, Q> {
+    fn duplicate(&self, alloc: Global) -> Result<PairAtom<P, Q>, Memory> {
+        match self {
+            PairAtom::Left(inner) => Ok(PairAtom::Left(inner.duplicate(alloc)?)),
+            PairAtom::Right(inner) => Ok(PairAtom::Right(inner.duplicate(alloc)?)),
+        }
+    }
 }
 
 /// A value of each of two theories.
@@ -46,52 +56,48 @@ impl<A, B> Pair<A, B> {
     }
 }
 
-impl<A: Theory, B: Theory> Pair<A, B> {
-    /// Copies of the literals that speak of the left part.
-    #[tactic(auto, using(crate::proofs::Pairs::on_pairs))]
-    fn left_literals(
-        &self,
-        alloc: Global,
-        literals: &[Lit<PairAtom<A::Atom, B::Atom>>],
-    ) -> Result<Vec<Lit<A::Atom>>, Memory>
-        ensures { IfOk result (λ copies. AreCopies A.Atom.eq (left_lits literals.now) copies.items) }
-    {
-        let mut copies = Vec::new(alloc);
-        for literal in literals {
-            match &literal.atom {
-                PairAtom::Left(inner) => {
-                    let atom = self.left.copy_atom(alloc, inner)?;
-                    let sign = literal.sign;
-                    copies.push(Lit { atom, sign })?;
-                }
-                PairAtom::Right(_) => {}
+/// The literals that speak of the left part.
+#[tactic(auto, using(crate::proofs::Pairs::on_pairs))]
+fn left_literals<P: Duplicate + Drop, Q>(
+    alloc: Global,
+    literals: &[Lit<PairAtom<P, Q>>],
+) -> Result<Vec<Lit<P>>, Memory>
+    ensures { IfOk result (λ lefts. lefts.items ≡ left_lits literals.now) }
+{
+    let mut lefts = Vec::new(alloc);
+    for literal in literals {
+        match &literal.atom {
+            PairAtom::Left(inner) => {
+                let atom = inner.duplicate(alloc)?;
+                let sign = literal.sign;
+                lefts.push(Lit { atom, sign })?;
             }
+            PairAtom::Right(_) => {}
         }
-        Ok(copies)
     }
+    Ok(lefts)
+}
 
-    /// Copies of the literals that speak of the right part.
-    #[tactic(auto, using(crate::proofs::Pairs::on_pairs))]
-    fn right_literals(
-        &self,
-        alloc: Global,
-        literals: &[Lit<PairAtom<A::Atom, B::Atom>>],
-    ) -> Result<Vec<Lit<B::Atom>>, Memory>
-        ensures { IfOk result (λ copies. AreCopies B.Atom.eq (right_lits literals.now) copies.items) }
-    {
-        let mut copies = Vec::new(alloc);
-        for literal in literals {
-            match &literal.atom {
-                PairAtom::Right(inner) => {
-                    let atom = self.right.copy_atom(alloc, inner)?;
-                    let sign = literal.sign;
-                    copies.push(Lit { atom, sign })?;
-                }
-                PairAtom::Left(_) => {}
+/// The literals that speak of the right part.
+#[tactic(auto, using(crate::proofs::Pairs::on_pairs))]
+fn right_literals<P, Q: Duplicate + Drop>(
+    alloc: Global,
+    literals: &[Lit<PairAtom<P, Q>>],
+) -> Result<Vec<Lit<Q>>, Memory>
+    ensures { IfOk result (λ rights. rights.items ≡ right_lits literals.now) }
+{
+    let mut rights = Vec::new(alloc);
+    for literal in literals {
+        match &literal.atom {
+            PairAtom::Right(inner) => {
+                let atom = inner.duplicate(alloc)?;
+                let sign = literal.sign;
+                rights.push(Lit { atom, sign })?;
             }
+            PairAtom::Left(_) => {}
         }
-        Ok(copies)
     }
+    Ok(rights)
 }
 
 impl<A: Theory, B: Theory> Theory for Pair<A, B> {
@@ -147,8 +153,8 @@ impl<A: Theory, B: Theory> Theory for Pair<A, B> {
         alloc: Global,
         literals: &[Lit<PairAtom<A::Atom, B::Atom>>],
     ) -> Result<Verdict<PairValue<A::Value, B::Value>, PairChain<A::Chain, B::Chain>>, Memory> {
-        let lefts = self.left_literals(alloc, literals)?;
-        let rights = self.right_literals(alloc, literals)?;
+        let lefts = left_literals(alloc, literals)?;
+        let rights = right_literals(alloc, literals)?;
         let left = self.left.decide(alloc, &lefts)?;
         let right = self.right.decide(alloc, &rights)?;
         match left {
@@ -168,17 +174,6 @@ impl<A: Theory, B: Theory> Theory for Pair<A, B> {
                     Ok(Verdict::Wide(PairChain::Left(left)))
                 }
             },
-        }
-    }
-
-    fn copy_atom(
-        &self,
-        alloc: Global,
-        atom: &PairAtom<A::Atom, B::Atom>,
-    ) -> Result<PairAtom<A::Atom, B::Atom>, Memory> {
-        match atom {
-            PairAtom::Left(inner) => Ok(PairAtom::Left(self.left.copy_atom(alloc, inner)?)),
-            PairAtom::Right(inner) => Ok(PairAtom::Right(self.right.copy_atom(alloc, inner)?)),
         }
     }
 

@@ -7,6 +7,7 @@ ghost use Rattle.label_core.specs.Lit.{SatisfiesAll, LitsFit, atoms_of};
 ghost use Rattle.label_core.specs.Atoms.{EachHasEqual};
 ghost use Rattle.label_core.specs.Verdict.{Decides};
 
+use crate::copies::Duplicate;
 use fast_fault::Memory;
 use std::alloc::Global;
 use std::hash::Hash;
@@ -28,7 +29,7 @@ pub enum Verdict<V, W> {
 
 /// The labels of a tree type, with the atoms that speak of them.
 pub trait Theory {
-    type Atom: Eq + Hash + Drop;
+    type Atom: Eq + Hash + Duplicate + Drop;
 
     type Value: Ord + Drop;
 
@@ -72,10 +73,6 @@ pub trait Theory {
     ) -> Result<Verdict<Self::Value, Self::Chain>, Memory>
         requires { LitsFit (atom_fits self.now) literals.now }
         ensures { IfOk result (Decides label_of (has_label self.now) (keeps_label self.now) (SatisfiesAll atom_holds literals.now) (λ chain. chain_over self.now (atoms_of literals.now) chain × chain_passes self.now chain) (chain_is_far self.now)) };
-
-    /// An equal atom.
-    fn copy_atom(&self, alloc: Global, atom: &Self::Atom) -> Result<Self::Atom, Memory>
-        ensures { IfOk result (λ copy. Self.Atom.eq copy atom.now ≡ true) };
 
     /// A value of the same label.
     fn copy_value(&self, alloc: Global, value: &Self::Value) -> Result<Self::Value, Memory>

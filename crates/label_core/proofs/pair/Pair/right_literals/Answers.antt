@@ -1,9 +1,0 @@
-use Rattle.label_core.proofs.Pairs.{right_copied, right_none}
-use Rattle.label_core.proofs.pair.Pair.right_literals.Goals.{in-Right+in_ok-atom-in-Right+in_ok-push-in-Right, in-Left}
-use Rattle.label_core.proofs.pair.Pair.right_literals.Goals as goal
-
-pub loop-literal-preserved : goal.loop-literal-preserved
-loop-literal-preserved g c = elim c.match-literal.branch [
-  | in-Right+in_ok-atom-in-Right+in_ok-push-in-Right w ↦ rw (w.copies-is, w.in_ok-push-in-Right.ensures.items) (right_copied g.B.Atom.PartialEq.eq c.args.literals.now c.loop-literal.literal-index c.literal-item.result w.in-Right.inner w.in_ok-atom-in-Right.atom c.loop-literal.copies.items c.loop-literal-test.true c.literal-item.is w.in-Right.is w.in_ok-atom-in-Right.ensures c.loop-literal.invariant)
-  | in-Left w ↦ rw (w.copies-is, right_none c.args.literals.now c.loop-literal.literal-index c.literal-item.result w.in-Left.field-0 c.loop-literal-test.true c.literal-item.is w.in-Left.is) c.loop-literal.invariant
-]

@@ -1,0 +1,11 @@
+use Rattle.std.proofs.Common.{sym}
+use Rattle.label_core.proofs.Pairs.{right_taken, right_none}
+use Rattle.label_core.proofs.pair.right_literals.Goals.{in-Right+in_ok-atom-in-Right+in_ok-push-in-Right, in-Left}
+use Rattle.label_core.proofs.pair.right_literals.Goals as goal
+
+pub loop-literal-preserved : goal.loop-literal-preserved
+loop-literal-preserved g c = elim c.match-literal.branch [
+  | in-Right+in_ok-atom-in-Right+in_ok-push-in-Right w ↦
+      rw (w.rights-is, w.in_ok-push-in-Right.ensures.items, w.in_ok-atom-in-Right.ensures, c.loop-literal.invariant) (sym (right_taken c.args.literals.now c.loop-literal.literal-index c.literal-item.result w.in-Right.inner c.loop-literal-test.true c.literal-item.is w.in-Right.is))
+  | in-Left w ↦ rw (w.rights-is, c.loop-literal.invariant) (sym (right_none c.args.literals.now c.loop-literal.literal-index c.literal-item.result w.in-Left.field-0 c.loop-literal-test.true c.literal-item.is w.in-Left.is))
+]

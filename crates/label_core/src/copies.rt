@@ -1,0 +1,47 @@
+//! Copies of atoms and formulas.
+
+ghost use Rattle.std.specs.Prelude.{◌≡◌, IfOk, map};
+ghost use Rattle.label_core.specs.Formula.{plain_formula};
+
+use crate::formula::{Formula, conjunction, disjunction, negation};
+use fast_fault::Memory;
+use std::alloc::Global;
+
+/// What can be copied, with want of memory as the only fault.
+pub trait Duplicate {
+    /// The same again.
+    fn duplicate(&self, alloc: Global) -> Result<Self, Memory>
+        ensures { IfOk result (λ copy. copy ≡ self.now) };
+}
+
+impl<A: Duplicate + Drop> Formula<A> {
+    /// The same formula again.
+    #[cycle(copies)]
+    pub fn copy(&self, alloc: Global) -> Result<Formula<A>, Memory>
+        ensures { IfOk result (λ copy. plain_formula copy ≡ plain_formula self.now) }
+    {
+        match self {
+            Formula::Yes => Ok(Formula::Yes),
+            Formula::No => Ok(Formula::No),
+            Formula::Atom(atom) => Ok(Formula::Atom(atom.duplicate(alloc)?)),
+            Formula::Not(inner) => negation(alloc, inner.copy(alloc)?),
+            Formula::And(parts) => Ok(conjunction(copy_each(alloc, parts)?)),
+            Formula::Or(parts) => Ok(disjunction(copy_each(alloc, parts)?)),
+        }
+    }
+}
+
+/// The same formulas again, in order.
+#[cycle(copies)]
+fn copy_each<A: Duplicate + Drop>(
+    alloc: Global,
+    parts: &[Formula<A>],
+) -> Result<Vec<Formula<A>>, Memory>
+    ensures { IfOk result (λ copies. map plain_formula copies.items ≡ map plain_formula parts.now) }
+{
+    let mut copies = Vec::new(alloc);
+    for part in parts {
+        copies.push(part.copy(alloc)?)?;
+    }
+    Ok(copies)
+}
