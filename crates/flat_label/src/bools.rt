@@ -4,7 +4,7 @@ ghost use Rattle.std.specs.Prelude.{◌≡◌, ◌<◌};
 
 use crate::never::Never;
 use fast_fault::Memory;
-use label_core::{Lit, Theory, Verdict};
+use label_core::{Duplicate, Lit, Theory, Verdict};
 use std::alloc::Global;
 
 /// Labels of a number of truth values.
@@ -26,6 +26,12 @@ impl Bools {
 #[derive(Clone, Copy, PartialEq, Eq, Hash)]
 pub struct BoolAtom {
     pub field: u32,
+}
+
+impl Duplicate for BoolAtom {
+    fn duplicate(&self, _alloc: Global) -> Result<BoolAtom, Memory> {
+        Ok(*self)
+    }
 }
 
 impl Theory for Bools {
@@ -85,10 +91,6 @@ impl Theory for Bools {
             }
         }
         Ok(Verdict::Sat(values))
-    }
-
-    fn copy_atom(&self, _alloc: Global, atom: &BoolAtom) -> Result<BoolAtom, Memory> {
-        Ok(*atom)
     }
 
     fn copy_value(&self, _alloc: Global, value: &Vec<bool>) -> Result<Vec<bool>, Memory> {

@@ -7,7 +7,7 @@ ghost use Rattle.flat_label.specs.Sides.{IsAmong, AreAmong};
 use crate::classes::{sides_of, some_refuses, values_of};
 use crate::never::Never;
 use fast_fault::{Memory, Text};
-use label_core::{Lit, Theory, Verdict};
+use label_core::{Duplicate, Lit, Theory, Verdict};
 use std::alloc::Global;
 
 /// Labels of a number of texts.
@@ -67,6 +67,14 @@ impl TextSide {
 pub struct TextAtom {
     pub left: TextSide,
     pub right: TextSide,
+}
+
+impl Duplicate for TextAtom {
+    fn duplicate(&self, alloc: Global) -> Result<TextAtom, Memory> {
+        let left = self.left.copy(alloc)?;
+        let right = self.right.copy(alloc)?;
+        Ok(TextAtom { left, right })
+    }
 }
 
 /// Adds the side, if it is a constant.
@@ -147,12 +155,6 @@ impl Theory for Texts {
                 Ok(Verdict::Sat(values_of(alloc, &sides, &constants)?))
             }
         }
-    }
-
-    fn copy_atom(&self, alloc: Global, atom: &TextAtom) -> Result<TextAtom, Memory> {
-        let left = atom.left.copy(alloc)?;
-        let right = atom.right.copy(alloc)?;
-        Ok(TextAtom { left, right })
     }
 
     fn copy_value(&self, alloc: Global, value: &Vec<Text>) -> Result<Vec<Text>, Memory> {

@@ -1,6 +1,7 @@
 pub mod Numbered
 pub mod Filled
 pub mod Pushed
+pub mod Last
 pub mod Ready
 pub mod Fronts
 pub mod Tries

@@ -1,12 +1,18 @@
 -- Literals of which none is given twice.
-use Rattle.std.specs.Prelude.{◌≡◌, Bool, false, ◌&&◌, List, All, IsTrue}
+use Rattle.std.specs.Prelude.{◌≡◌, Bool, true, false, cond, ◌&&◌, List, [], ◌∷◌, All, IsTrue}
 use Rattle.std.specs.Bool.{beq}
+use Rattle.std.specs.List.{list_all}
 use Rattle.model_chain.specs.Each.{EachTwo}
 use Rattle.model_chain.specs.Literals.{needs_side}
 use Rattle.label_core.specs.Atoms.{has_equal, EachHasEqual}
 use Rattle.label_core.specs.declared.theory.Lit.{Lit}
 use Rattle.lin_solve.specs.declared.compare.Compare.{Compare}
 use Rattle.lin_solve.specs.Plain.{plain_literal}
+
+-- whether those that are negated equalities stand behind all others: behind one of them, each is one
+abbrev pub stand_last : List (Lit Compare) → Bool
+stand_last [] = true
+stand_last (l ∷ ls) = cond (needs_side (plain_literal l)) (list_all (λ m. needs_side (plain_literal m)) ls) (stand_last ls)
 
 module _ (E : Compare → Compare → Bool) where
   -- whether they say the same of equal comparisons

@@ -1,10 +1,11 @@
 //! Comparisons of two forms.
 
-ghost use Rattle.std.specs.Prelude.{◌≡◌, IfOk};
+ghost use Rattle.std.specs.Prelude.{◌≡◌};
 ghost use Rattle.model_chain.specs.Literals.{compare_holds};
 ghost use Rattle.lin_solve.specs.Plain.{plain_compare};
 
 use fast_fault::Memory;
+use label_core::Duplicate;
 use lin_form::Form;
 use std::alloc::Global;
 
@@ -37,11 +38,10 @@ impl Compare {
             Relation::Equal => left == right,
         }
     }
+}
 
-    /// An equal comparison.
-    pub fn copy(&self, alloc: Global) -> Result<Compare, Memory>
-        ensures { IfOk result (λ copy. copy ≡ self.now) }
-    {
+impl Duplicate for Compare {
+    fn duplicate(&self, alloc: Global) -> Result<Compare, Memory> {
         Ok(Compare {
             left: self.left.copy(alloc)?,
             relation: self.relation,

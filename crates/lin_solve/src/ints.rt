@@ -103,10 +103,6 @@ impl Theory for Ints {
         }
     }
 
-    fn copy_atom(&self, alloc: Global, atom: &Compare) -> Result<Compare, Memory> {
-        atom.copy(alloc)
-    }
-
     fn copy_value(&self, _alloc: Global, value: &Vec<i64>) -> Result<Vec<i64>, Memory> {
         Ok(value.clone()?)
     }

@@ -2,12 +2,12 @@
 
 ghost use Rattle.std.specs.Prelude.{◌≡◌, ◌↔◌, IfOk, OnOk, IsTrue};
 ghost use Rattle.std.specs.List.{list_any};
-ghost use Rattle.lin_solve.specs.Kept.{is_same, AreDifferent, AreKept, Keeps};
+ghost use Rattle.lin_solve.specs.Kept.{is_same, AreDifferent, AreKept, Keeps, stand_last};
 
 use crate::compare::Compare;
 use crate::system::needs_side;
 use fast_fault::Memory;
-use label_core::Lit;
+use label_core::{Duplicate, Lit};
 use std::alloc::Global;
 
 /// An equal literal.
@@ -15,7 +15,7 @@ pub(crate) fn copy_literal(alloc: Global, literal: &Lit<Compare>) -> Result<Lit<
     ensures { IfOk result (λ copy. copy ≡ literal.now) }
 {
     Ok(Lit {
-        atom: literal.atom.copy(alloc)?,
+        atom: literal.atom.duplicate(alloc)?,
         sign: literal.sign,
     })
 }
@@ -51,7 +51,9 @@ pub(crate) fn are_different(literals: &[Lit<Compare>]) -> bool
 }
 
 /// Whether those that are negated equalities stand behind all others.
-pub(crate) fn sided_stand_last(literals: &[Lit<Compare>]) -> bool {
+pub(crate) fn sided_stand_last(literals: &[Lit<Compare>]) -> bool
+    ensures { result ≡ stand_last literals.now }
+{
     let mut sided = false;
     for literal in literals {
         if needs_side(literal) {
