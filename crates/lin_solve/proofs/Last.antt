@@ -1,5 +1,5 @@
 -- Negated equalities behind all others.
-use Rattle.std.proofs.Common.{◌≡◌, ◌&&◌, ℕ, ◌+◌, ◌<◌, ◌≤◌, Bool, true, false, cond, List, [], ◌∷◌, length, drop, get_or, refl, ap, sym, ◌∙◌}
+use Rattle.std.proofs.Common.{◌≡◌, ◌&&◌, Bool, true, false, cond, List, [], ◌∷◌, refl, ap, sym}
 use Rattle.std.specs.List.{list_all}
 use Rattle.model_chain.specs.Literals.{needs_side}
 use Rattle.label_core.specs.declared.theory.Lit.{Lit}
