@@ -16,22 +16,14 @@ use Rattle.model_run.specs.Words.{Form, usage_line}
 use Rattle.model_run.specs.Lines.{refusal_line, checked_line}
 use Rattle.model_run.specs.Built.{unbuilt_at}
 use Rattle.model_run.specs.Scripts.{Ending, whole, unfinished, Writes}
-use Rattle.model_run.specs.Texts.{start, IsUnread, IsTheText, IsChecked, IsRefused}
+use Rattle.model_refusals.specs.Refusals.{start}
+use Rattle.model_run.specs.Texts.{IsTheText, IsChecked, IsRefused}
 use Rattle.model_run.specs.Report.{IsTextRefused, BuiltReport, ProgramReport, CheckReport, RunReport, FormReport, StatusReport, UsageReport, IsWords, IsReport, Reports, items_script}
-use Rattle.text_reader.specs.Refusals.{IsRefusal}
 use Rattle.fast_tool.specs.Taken.{IsProgramOf, HeldReport, TextAnswer}
 use Rattle.fast_tool.specs.Runs.{IsFault, EndsWith, ItemsReport}
 use Rattle.fast_tool.proofs.Runs.{appends_none}
 
 -- ---- reading and checking
-
-pub unread : (bytes : List ℕ) (code : Code) (place : Pos) → IsRefusal IsProgram bytes code place → IsRefused bytes code place
-unread bytes TooLong place r = inl r
-unread bytes NotUtf8 place r = inl r
-unread bytes Token place r = inl r
-unread bytes Nested place (tokens, of, nested) = inl (tokens, (of.short, of.encoded, of.are), nested)
-unread bytes Syntax place (tokens, shallow, wrong) = inl (tokens, (shallow.tokens_of.short, shallow.tokens_of.encoded, shallow.tokens_of.are), shallow.shallow, wrong)
-unread bytes code place r = absurd r
 
 pub is_checked : (bytes : List ℕ) (items own : List Item) → IsText IsProgram bytes items → ((other : List Item) → IsText IsProgram bytes other → other ≡ items) → own ≡ items → is_well_formed items ≡ true → IsChecked bytes own
 is_checked bytes items own is only same ok = subst (IsChecked bytes) (sym same) (record { text = record { is = is; only = only }; well_formed = ok })

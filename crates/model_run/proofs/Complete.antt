@@ -20,12 +20,12 @@ use Rattle.model_names.specs.Kinds.{Kind, language, transformation, a_tree, own_
 use Rattle.model_checks.specs.Failures.{is_empty, first_among}
 use Rattle.model_checks.specs.Programs.{failures, is_well_formed}
 use Rattle.model_meaning.specs.Meaning.{input_type}
+use Rattle.model_refusals.proofs.Once.{none_refused}
 use Rattle.model_run.specs.Words.{Form, check_form, run_form, apply_form, accepts_form, self_form, limit_of}
 use Rattle.model_run.specs.Texts.{IsRefused, IsNameRefused, IsNameOf, PlacedTree, StandsFor, StandFor, AreTreesOf, IsFileOf, IsFileRefused, trees_failures}
 use Rattle.model_run.specs.Built.{unbuilt_at}
 use Rattle.model_run.specs.Scripts.{Comes, Ending, whole, Writes, IsLine}
 use Rattle.model_run.specs.Report.{Work, items_script, trees_script, ItemsEnd, named_x, IsTextRefused, BuiltReport, ProgramReport, TreesReport, NameReport, CheckReport, RunReport, self_name, FormReport, StatusReport, IsReport, IsFree, AreHeld, IsDoableOver, IsDoable, IsDoneOrStopped}
-use Rattle.model_run.proofs.Unread.{not_unread}
 use Rattle.model_run.proofs.Forms.{one_form}
 
 -- ---- texts
@@ -35,7 +35,7 @@ none_first [] r e f = cc
 none_first (x ∷ fs) r e f = cc
 
 accepted : (bytes : List ℕ) (items : List Item) (code : Code) (place : Pos) → IsText IsProgram bytes items → is_well_formed items ≡ true → IsRefused bytes code place → ⊥
-accepted bytes items code place text well (inl unread) = not_unread IsProgram bytes items code place text unread
+accepted bytes items code place text well (inl unread) = none_refused IsProgram bytes items code place text unread
 accepted bytes items code place text well (inr (other, the, refusal)) =
     let same : items ≡ other = the.only items text in
     none_first (failures other) _ (subst (λ xs. is_well_formed xs ≡ true) same well) refusal
@@ -111,7 +111,7 @@ module _ (signature : PlainSignature) where
       same_placed q.read ts us (subst (λ fs. AreTreesOf signature fs ts) read p.are) q.are
 
   accepted_file : (bytes : List ℕ) (ts : List PlacedTree) (code : Code) (place : Pos) → IsFileOf signature bytes ts → IsFileRefused signature bytes code place → ⊥
-  accepted_file bytes ts code place p (inl unread) = not_unread IsTreeFile bytes p.read code place p.text.is unread
+  accepted_file bytes ts code place p (inl unread) = none_refused IsTreeFile bytes p.read code place p.text.is unread
   accepted_file bytes ts code place p (inr (read, the, refusal)) =
       let same : p.read ≡ read = the.only p.read p.text.is in
       let none : trees_failures signature (trees_of read) ≡ [] = subst (λ fs. trees_failures signature (trees_of fs) ≡ []) same p.sound in

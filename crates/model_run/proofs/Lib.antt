@@ -3,7 +3,6 @@ pub mod Fronts
 pub mod Shown
 pub mod Lines
 pub mod Laws
-pub mod Unread
 pub mod Forms
 pub mod Complete
 pub mod Told

@@ -1,25 +1,21 @@
 -- Why and where a text, a name or a file of trees is refused.
-use Rattle.std.specs.Prelude.{◌≡◌, ◌⊎◌, ◌≤◌, ◌<◌, ◌==◌, ℕ, suc, true, not, nat_lt, List, [], ◌∷◌, ◌++◌, Option, Some, None, length, get_or, encode_utf8_all}
+use Rattle.std.specs.Prelude.{◌≡◌, ◌⊎◌, ◌==◌, ℕ, suc, true, not, nat_lt, List, [], ◌∷◌, ◌++◌, Option, Some, None, length, get_or, encode_utf8_all}
 use Rattle.std.specs.Option.{option_and_then}
-use Rattle.std.specs.Str.{IsUtf8, chars}
 use Rattle.fast_fault.specs.declared.place.Pos.{Pos}
 use Rattle.fast_fault.specs.declared.code.Code.{Code}
-use Rattle.fast_fault.specs.declared.code.Code.TheVariants.{TooLong, NotUtf8, Token, Syntax, Nested, UnknownName, WrongKind, WrongRank, WrongSort, NumberRange, TooMany}
+use Rattle.fast_fault.specs.declared.code.Code.TheVariants.{UnknownName, WrongKind, WrongRank, WrongSort, NumberRange, TooMany}
 use Rattle.fast_fault.specs.declared.refusal.Refusal.{Refusal}
 use Rattle.model_tree.specs.Label.{Label, whole}
 use Rattle.model_tree.specs.Tree.{node, Trees, no_trees, tree, LabelTree}
 use Rattle.model_tree.specs.Kept.{is_kept_field}
 use Rattle.model_tree.specs.Signature.{PlainField, PlainSignature, names_of, ranks_of, sort_of}
 use Rattle.model_program.specs.Lexeme.{Lexeme}
-use Rattle.model_program.specs.Cuts.{AreTokens, StopsAt, place_after}
-use Rattle.model_program.specs.Texts.{IsBadUtf8At}
 use Rattle.model_grammar.specs.Syntax.{Expr, number, text, Item}
 use Rattle.model_grammar.specs.Grammar.{IsProgram}
 use Rattle.model_grammar.specs.TreeFiles.{FileTree, FileTrees, and_tree, trees_of, IsTreeFile}
 use Rattle.model_grammar.specs.TreeFiles as file
-use Rattle.model_grammar.specs.Nesting.{nested_at}
-use Rattle.model_grammar.specs.Wrong.{IsWrongAt}
 use Rattle.model_grammar.specs.Texts.{IsText}
+use Rattle.model_refusals.specs.Refusals.{IsRefusal}
 use Rattle.model_label.specs.Fields.{same_sort}
 use Rattle.model_label.specs.Meaning.{value_of}
 use Rattle.model_names.specs.Declared.{find_item}
@@ -30,23 +26,6 @@ use Rattle.model_checks.specs.Programs.{is_well_formed, refusal_of}
 use Rattle.model_meaning.specs.Outputs.{number_named, made_label}
 
 -- ---- reading
-
-abbrev pub start : Pos
-start = record { line = 1; column = 1 }
-
--- the characters are tokens
-abbrev pub HasTokens : List ℕ → List Lexeme → Type 0
-HasTokens bytes tokens = (length bytes ≤ 1048576) × IsUtf8 bytes × AreTokens (chars bytes) tokens
-
--- The bytes are no text of the form: they are too many, or no characters, or these are no tokens, or a parenthesis is nested
--- too deep, or the tokens spell nothing of the form.
-abbrev pub IsUnread : {A : Type 0} → (A → List Lexeme → Type 0) → List ℕ → Code → Pos → Type 0
-IsUnread form bytes TooLong place = (1048576 < length bytes) × (place ≡ start)
-IsUnread form bytes NotUtf8 place = (length bytes ≤ 1048576) × IsBadUtf8At bytes place
-IsUnread form bytes Token place = (length bytes ≤ 1048576) × IsUtf8 bytes × StopsAt (chars bytes) place
-IsUnread form bytes Nested place = (tokens : List Lexeme) × HasTokens bytes tokens × (nested_at tokens ≡ Some place)
-IsUnread form bytes Syntax place = (tokens : List Lexeme) × HasTokens bytes tokens × (nested_at tokens ≡ None) × IsWrongAt form tokens (place_after (chars bytes)) place
-IsUnread form bytes code place = ⊥
 
 -- the bytes are a text of the value, and of no other one
 pub record IsTheText {A : Type 0} (form : A → List Lexeme → Type 0) (bytes : List ℕ) (value : A) : Type 0 where
@@ -63,7 +42,7 @@ pub record IsChecked (bytes : List ℕ) (items : List Item) : Type 0 where
 -- the bytes are no program, or one that isn't well-formed
 abbrev pub IsRefused : List ℕ → Code → Pos → Type 0
 IsRefused bytes code place =
-    IsUnread IsProgram bytes code place
+    IsRefusal IsProgram bytes code place
     ⊎ ((items : List Item) × IsTheText IsProgram bytes items × (refusal_of items ≡ Some (record { code = code; place = place })))
 
 -- ---- a name of the command line
@@ -154,5 +133,5 @@ pub record IsFileOf (signature : PlainSignature) (bytes : List ℕ) (trees : Lis
 -- the bytes are no file of trees, or of trees of which a condition fails
 abbrev pub IsFileRefused : PlainSignature → List ℕ → Code → Pos → Type 0
 IsFileRefused signature bytes code place =
-    IsUnread IsTreeFile bytes code place
+    IsRefusal IsTreeFile bytes code place
     ⊎ ((read : List FileTree) × IsTheText IsTreeFile bytes read × (first_among None (trees_failures signature (trees_of read)) ≡ Some (record { code = code; place = place })))

@@ -16,7 +16,7 @@ use Rattle.model_grammar.specs.Texts.{IsText}
 use Rattle.model_grammar.specs.Wrong.{IsFirstWrong, place_of}
 use Rattle.fast_lex.specs.declared.Token.{Token}
 use Rattle.label_reader.specs.Results.{lexemes}
-use Rattle.text_reader.specs.Refusals.{AreShallowTokens, IsEarlyRefusal, IsRefusal}
+use Rattle.model_refusals.specs.Refusals.{AreShallowTokens, IsEarlyRefusal, IsRefusal}
 
 -- the longest front of bytes that is characters, and the place behind it
 pub bad_utf8 : (bytes : List ℕ) (n : ℕ) (place : Pos) → IsValidUpTo bytes n → place ≡ place_after (chars (take n bytes)) → IsBadUtf8At bytes place

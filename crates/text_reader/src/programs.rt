@@ -5,7 +5,7 @@ ghost use Rattle.model_grammar.specs.Syntax as plain;
 ghost use Rattle.model_grammar.specs.Grammar.{IsProgram};
 ghost use Rattle.model_grammar.specs.Texts.{IsText};
 ghost use Rattle.fast_syntax.specs.Plain.{plain_program};
-ghost use Rattle.text_reader.specs.Refusals.{IsRefusal};
+ghost use Rattle.model_refusals.specs.Refusals.{IsRefusal};
 ghost use Rattle.text_reader.specs.Answers.{IfRefused};
 
 use crate::texts::{ReadStop, place_at, refused, text_of, tokens_of};

@@ -6,7 +6,7 @@ ghost use Rattle.model_program.specs.Cuts.{place_after};
 ghost use Rattle.model_program.specs.Texts.{IsBadUtf8At};
 ghost use Rattle.model_grammar.specs.Wrong.{place_of};
 ghost use Rattle.label_reader.specs.Results.{lexemes};
-ghost use Rattle.text_reader.specs.Refusals.{IsEarlyRefusal, AreShallowTokens};
+ghost use Rattle.model_refusals.specs.Refusals.{IsEarlyRefusal, AreShallowTokens};
 ghost use Rattle.text_reader.specs.Answers.{IfRefused};
 
 use crate::nesting::nested;

@@ -3,7 +3,8 @@ use Rattle.fast_fault.specs.declared.code.Code.TheVariants.{TooLong}
 use Rattle.program_check.specs.declared.programs.Checked.{Checked}
 use Rattle.text_reader.specs.declared.texts.ReadStop.{ReadStop}
 use Rattle.text_reader.specs.Answers.{IfRefused}
-use Rattle.model_run.specs.Texts.{start, IsRefused}
+use Rattle.model_refusals.specs.Refusals.{start}
+use Rattle.model_run.specs.Texts.{IsRefused}
 use Rattle.fast_tool.proofs.Texts.{longer_refused, given_refused, refused_text}
 use Rattle.fast_tool.proofs.reading.take_checked.Goals as goal
 

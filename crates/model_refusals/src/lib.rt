@@ -1,4 +1,8 @@
-//! What holds of the refusals of every text.
+//! Why and where a text is refused: it is too long, its bytes are no characters, these are no tokens, a parenthesis is
+//! nested too deep, or the tokens are none of the form.
+//!
+//! Its promise: a text has one refusal at most, and none where it is a text of the form.
+#![tactic(auto)]
 
 ghost use Rattle.std.specs.Prelude.{◌≡◌, ℕ, List};
 ghost use Rattle.fast_fault.specs.declared.refusal.Refusal.{Refusal};
@@ -6,7 +10,7 @@ ghost use Rattle.model_grammar.specs.Syntax.{Item};
 ghost use Rattle.model_grammar.specs.Grammar.{IsProgram};
 ghost use Rattle.model_grammar.specs.TreeFiles.{FileTree, IsTreeFile};
 ghost use Rattle.model_grammar.specs.Texts.{IsText};
-ghost use Rattle.text_reader.specs.Refusals.{IsRefusal};
+ghost use Rattle.model_refusals.specs.Refusals.{IsRefusal};
 
 /// A text has one refusal at most, and none where it is a program, or a tree file.
 pub fn refused_once()

@@ -2,8 +2,8 @@ use Rattle.std.proofs.Common.{List}
 use Rattle.model_grammar.specs.Syntax.{Item}
 use Rattle.model_grammar.specs.Grammar.{IsProgram}
 use Rattle.model_grammar.specs.TreeFiles.{FileTree, IsTreeFile}
-use Rattle.text_reader.proofs.Once.{one_refusal, none_refused}
-use Rattle.text_reader.proofs.laws.refused_once.Goals as goal
+use Rattle.model_refusals.proofs.Once.{one_refusal, none_refused}
+use Rattle.model_refusals.proofs.refused_once.Goals as goal
 
 pub returns : goal.returns
 returns c = record {

@@ -18,7 +18,7 @@ use Rattle.model_grammar.specs.Nesting.{nested_at}
 use Rattle.model_grammar.specs.Texts.{IsText}
 use Rattle.model_grammar.specs.Wrong.{IsFirstWrong, IsWrongAt, place_of}
 use Rattle.model_grammar.proofs.FirstWrong.{one_first_wrong, none_wrong}
-use Rattle.text_reader.specs.Refusals.{start, AreTokensOf, AreShallowTokens, IsRefusal}
+use Rattle.model_refusals.specs.Refusals.{start, AreTokensOf, AreShallowTokens, IsRefusal}
 
 -- Characters.
 
