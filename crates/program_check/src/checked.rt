@@ -54,8 +54,8 @@ impl Checked {
         }
     }
 
-    /// The item that declares this name.
-    fn item(&self, name: &Text) -> Option<&Item>
+    /// The item that declares this name of a language, transformation, definition or tree.
+    pub fn item(&self, name: &Text) -> Option<&Item>
         requires { IsChecked self.now }
         ensures { option_map (λ item. plain_item item.now) result ≡ find_item (plain_program self.now.program) name.now }
     {
