@@ -10,7 +10,7 @@ use Rattle.model_checks.specs.Failures.{first_among}
 use Rattle.model_checks.specs.Sorts.{Scope, needs_sort}
 use Rattle.model_checks.specs.Forms.{has_field, have_field, form_of, added, with_part, form_behind, product_of, kept, remainder_of, divisor_of}
 use Rattle.model_checks.specs.Labels.{label_failures, sorted_failures, operands_failures, steps_failures, multiplied, divided}
-use Rattle.program_check.specs.Known.{joined, step_failures, step_form}
+use Rattle.program_check.specs.Known.{joined, next_failures, step_failures, step_form}
 use Rattle.program_check.specs.Notes.{Notes}
 use Rattle.program_check.proofs.Noting.{more, done}
 
@@ -34,13 +34,14 @@ sorted_done s sort all none a b empty left = done a b (operands_failures s sort 
 
 steps_split : (s : Scope) (place : Pos) (has : Bool) (before : Option Form) (m : Bool) (e : Expr) (rest : Parts)
     → steps_failures s place has before (part m e rest) ≡ step_failures s place has before m e ++ steps_failures s place (has || has_field s e) (step_form s has before m e) rest
-steps_split s place has before true e rest =
-    let last = steps_failures s place (has || has_field s e) (remainder_of before (divisor_of e)) rest in
-    ap (λ l. label_failures s e ++ l) (sym (append_assoc (needs_sort s wholes e) (divided e) last)) ∙ sym (append_assoc (label_failures s e) (needs_sort s wholes e ++ divided e) last)
-steps_split s place has before false e rest =
-    let last = steps_failures s place (has || has_field s e) (kept (product_of has before (has_field s e) (form_of s e))) rest in
-    let step = multiplied place has before (has_field s e) (form_of s e) in
-    ap (λ l. label_failures s e ++ l) (sym (append_assoc (needs_sort s wholes e) step last)) ∙ sym (append_assoc (label_failures s e) (needs_sort s wholes e ++ step) last)
+steps_split s place has before m e rest =
+    let next = next_failures s place has before m e in
+    let last = steps_failures s place (has || has_field s e) (step_form s has before m e) rest in
+    split m ∙ ap (λ l. label_failures s e ++ l) (sym (append_assoc (needs_sort s wholes e) next last)) ∙ sym (append_assoc (label_failures s e) (needs_sort s wholes e ++ next) last)
+  where
+    split : (m : Bool) → steps_failures s place has before (part m e rest) ≡ label_failures s e ++ (needs_sort s wholes e ++ (next_failures s place has before m e ++ steps_failures s place (has || has_field s e) (step_form s has before m e) rest))
+    split true = refl
+    split false = refl
 
 pub steps_more : (s : Scope) (place : Pos) (e : Expr) (m : Bool) (all rest : Parts) (has has2 : Bool) (form form2 : Option Form) (a b whole : Option Refusal) → all ≡ part m e rest → has2 ≡ (has || has_field s e) → form2 ≡ step_form s has form m e
     → Notes a b (step_failures s place has form m e) → first_among a (steps_failures s place has form all) ≡ whole → first_among b (steps_failures s place has2 form2 rest) ≡ whole

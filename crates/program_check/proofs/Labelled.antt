@@ -1,10 +1,11 @@
 -- What is noted and known of a label expression, from what is so of its parts.
 use Rattle.std.proofs.Common.{◌≡◌, Bool, true, false, List, Option, Some, None, sym, ap, ap₂, ◌∙◌, subst, append_assoc}
-use Rattle.std.specs.Prelude.{negsuc}
+use Rattle.std.specs.Prelude.{negsuc, Result, Ok, Err, IfOk}
 use Rattle.std.specs.Option.{option_map}
 use Rattle.fast_fault.specs.declared.code.Code.TheVariants.{NumberRange}
 use Rattle.fast_fault.specs.declared.place.Pos.{Pos}
 use Rattle.fast_fault.specs.declared.refusal.Refusal.{Refusal}
+use Rattle.fast_fault.specs.declared.memory.Memory.{Memory}
 use Rattle.model_tree.specs.Signature.{wholes}
 use Rattle.model_form.specs.Form.{Form}
 use Rattle.model_form.specs.Sums.{Part, sum_form, product_form}
@@ -20,7 +21,7 @@ use Rattle.model_checks.specs.Forms.{is_out_of_range, has_field, have_field, for
 use Rattle.model_checks.specs.Labels.{label_failures, sorted_failures, operands_failures, compared, multiplied, divided}
 use Rattle.program_check.specs.declared.labels.Scope.{Scope}
 use Rattle.program_check.specs.declared.labels.Known.{Known}
-use Rattle.program_check.specs.Known.{plain_scope, IsKnown, step_failures}
+use Rattle.program_check.specs.Known.{plain_scope, IsKnown, AreTruths, next_failures, step_failures}
 use Rattle.program_check.specs.Notes.{Notes}
 use Rattle.program_check.proofs.Noting.{then, same}
 
@@ -39,30 +40,22 @@ pub compare_noted : (s : model.Scope) (rel : Rel) (place : Pos) (x x1 x3 y y2 y4
 compare_noted s rel place x x1 x3 y y2 y4 a b c d p q r t one two three =
     then (same (ap (label_failures s) p) one) (then (same (ap (label_failures s) q) two) (same (ap₂ (compared s rel) r t) three))
 
-pub step_divided : (s : model.Scope) (place : Pos) (has : Bool) (form : Option Form) (m : Bool) (e : Expr) (a b c : Option Refusal) → m ≡ true → Notes a b (sorted_failures s wholes e) → Notes b c (divided e) → Notes a c (step_failures s place has form m e)
-step_divided s place has form m e a b c is one two =
-    same (append_assoc (label_failures s e) (needs_sort s wholes e) (divided e) ∙ ap (λ m. step_failures s place has form m e) (sym is)) (then one two)
+pub step_noted : (s : model.Scope) (place : Pos) (has : Bool) (form : Option Form) (m : Bool) (e : Expr) (a b c : Option Refusal) → Notes a b (sorted_failures s wholes e) → Notes b c (next_failures s place has form m e) → Notes a c (step_failures s place has form m e)
+step_noted s place has form m e a b c one two = same (append_assoc (label_failures s e) (needs_sort s wholes e) (next_failures s place has form m e)) (then one two)
 
-pub step_multiplied : (s : model.Scope) (place : Pos) (has has2 : Bool) (form form2 : Option Form) (m : Bool) (e : Expr) (a b c : Option Refusal) → m ≡ false → has2 ≡ has_field s e → form2 ≡ form_of s e
-    → Notes a b (sorted_failures s wholes e) → Notes b c (multiplied place has form has2 form2) → Notes a c (step_failures s place has form m e)
-step_multiplied s place has has2 form form2 m e a b c is has_is form_is one two =
-    same (append_assoc (label_failures s e) (needs_sort s wholes e) (multiplied place has form (has_field s e) (form_of s e)) ∙ ap (λ m. step_failures s place has form m e) (sym is))
-    (then one (same (ap₂ (multiplied place has form) has_is form_is) two))
+pub next_divided : (s : model.Scope) (place : Pos) (has : Bool) (form : Option Form) (m : Bool) (e : Expr) → m ≡ true → divided e ≡ next_failures s place has form m e
+next_divided s place has form m e is = ap (λ m. next_failures s place has form m e) (sym is)
 
--- a truth value that has a field where one of its parts has
-pub or_known : (scope : Scope) (place : Pos) (parts : Parts) (known : Known) (has : Bool) → known ≡ record { sort = Some code.Bool; has_field = has; form = None } → has ≡ have_field (plain_scope scope) parts → IsKnown scope (chain Disjunction place parts) known
-or_known scope place parts known has is has_is = record {
-  sort = ap (λ (k : Known). option_map plain_sort k.sort) is;
-  has = ap (λ (k : Known). k.has_field) is ∙ has_is;
-  form = ap (λ (k : Known). k.form) is;
-}
+pub next_multiplied : (s : model.Scope) (place : Pos) (has has2 : Bool) (form form2 : Option Form) (m : Bool) (e : Expr) → m ≡ false → has2 ≡ has_field s e → form2 ≡ form_of s e → multiplied place has form has2 form2 ≡ next_failures s place has form m e
+next_multiplied s place has has2 form form2 m e is has_is form_is = ap₂ (multiplied place has form) has_is form_is ∙ ap (λ m. next_failures s place has form m e) (sym is)
 
-pub and_known : (scope : Scope) (place : Pos) (parts : Parts) (known : Known) (has : Bool) → known ≡ record { sort = Some code.Bool; has_field = has; form = None } → has ≡ have_field (plain_scope scope) parts → IsKnown scope (chain Conjunction place parts) known
-and_known scope place parts known has is has_is = record {
-  sort = ap (λ (k : Known). option_map plain_sort k.sort) is;
-  has = ap (λ (k : Known). k.has_field) is ∙ has_is;
-  form = ap (λ (k : Known). k.form) is;
-}
+-- truth values are one, in a disjunction and in a conjunction
+pub or_known : (scope : Scope) (place : Pos) (parts : Parts) (known : Known) → AreTruths scope parts known → IsKnown scope (chain Disjunction place parts) known
+or_known scope place parts known are = record { sort = are.sort; has = are.has; form = are.form }
 
-pub known_as : (scope : Scope) (x y : Expr) (known : Known) → x ≡ y → IsKnown scope y known → IsKnown scope x known
-known_as scope x y known same_as is = subst (λ (z : Expr). IsKnown scope z known) (sym same_as) is
+pub and_known : (scope : Scope) (place : Pos) (parts : Parts) (known : Known) → AreTruths scope parts known → IsKnown scope (chain Conjunction place parts) known
+and_known scope place parts known are = record { sort = are.sort; has = are.has; form = are.form }
+
+pub if_known : (made : Result Known Memory) (scope : Scope) (parts : Parts) (x y : Expr) → ((known : Known) → AreTruths scope parts known → IsKnown scope x known) → x ≡ y → IfOk made (AreTruths scope parts) → IfOk made (IsKnown scope y)
+if_known (Ok known) scope parts x y is same are = subst (λ (z : Expr). IsKnown scope z known) same (is known are)
+if_known (Err want) scope parts x y is same are = tt

@@ -3,10 +3,10 @@ use Rattle.std.specs.Prelude.{◌≡◌, Bool, true, false, List, ◌++◌, Opti
 use Rattle.std.specs.Option.{option_map}
 use Rattle.fast_fault.specs.declared.place.Pos.{Pos}
 use Rattle.fast_fault.specs.declared.refusal.Refusal.{Refusal}
-use Rattle.model_tree.specs.Signature.{wholes}
+use Rattle.model_tree.specs.Signature.{wholes, truths}
 use Rattle.model_form.specs.Form.{Form}
 use Rattle.model_form.specs.Sums.{Part}
-use Rattle.model_grammar.specs.Syntax.{Expr}
+use Rattle.model_grammar.specs.Syntax.{Expr, Parts}
 use Rattle.lin_form.specs.declared.stop.FormStop.{FormStop}
 use Rattle.lin_form.specs.declared.stop.FormStop.TheVariants.{Range, Memory}
 use Rattle.lin_form.specs.declared.sum.Signed.{Signed}
@@ -16,7 +16,7 @@ use Rattle.fast_syntax.specs.View.{plain_field}
 use Rattle.std.specs.Global.{Vec}
 use Rattle.model_checks.specs.Sorts as model
 use Rattle.model_checks.specs.Sorts.{sort_of, needs_sort}
-use Rattle.model_checks.specs.Forms.{has_field, form_of, kept, product_of, remainder_of, divisor_of}
+use Rattle.model_checks.specs.Forms.{has_field, have_field, form_of, kept, product_of, remainder_of, divisor_of}
 use Rattle.model_checks.specs.Labels.{label_failures, multiplied, divided}
 use Rattle.program_check.specs.declared.labels.Scope.{Scope}
 use Rattle.program_check.specs.declared.labels.Known.{Known}
@@ -50,10 +50,20 @@ joined None later = None
 joined (Some parts) None = None
 joined (Some parts) (Some later) = Some (parts ++ later)
 
+-- several truth values, as all of them are together
+pub record AreTruths (scope : Scope) (parts : Parts) (known : Known) : Type 0 where
+  pub sort : option_map plain_sort known.sort ≡ Some truths
+  pub has : known.has_field ≡ have_field (plain_scope scope) parts
+  pub form : known.form ≡ None
+
+-- what fails where a product goes on, to a remainder or by a factor
+abbrev pub next_failures : model.Scope → Pos → Bool → Option Form → Bool → Expr → List Refusal
+next_failures scope place has before true e = divided e
+next_failures scope place has before false e = multiplied place has before (has_field scope e) (form_of scope e)
+
 -- a step of a product, behind what stands before it
 abbrev pub step_failures : model.Scope → Pos → Bool → Option Form → Bool → Expr → List Refusal
-step_failures scope place has before true e = label_failures scope e ++ (needs_sort scope wholes e ++ divided e)
-step_failures scope place has before false e = label_failures scope e ++ (needs_sort scope wholes e ++ multiplied place has before (has_field scope e) (form_of scope e))
+step_failures scope place has before rem e = label_failures scope e ++ (needs_sort scope wholes e ++ next_failures scope place has before rem e)
 
 abbrev pub step_form : model.Scope → Bool → Option Form → Bool → Expr → Option Form
 step_form scope has before true e = remainder_of before (divisor_of e)

@@ -16,6 +16,7 @@ use Rattle.fast_syntax.specs.declared.TypeItem.{TypeItem}
 use Rattle.fast_syntax.specs.View.{plain_type}
 use Rattle.model_checks.specs.Labels.{labels_failures}
 use Rattle.model_checks.specs.Rules.{constructor_failures, label_count_failures, fields_of}
+use Rattle.model_checks.specs.Expressions.{expected_as, needs_be, x_failures}
 use Rattle.program_check.specs.declared.expressions.Kind.{Kind}
 use Rattle.program_check.specs.declared.expressions.Kind.TheVariants.{Language, Transformation, Tree}
 use Rattle.program_check.specs.declared.expressions.Standing.{Standing}
@@ -45,6 +46,10 @@ pub record IsStanding (items : List Item) (x : X) (s : Standing) : Type 0 where
 abbrev pub only_as : Kind → Option Kind → Option (Bor TypeItem) → Option (Bor TypeItem)
 only_as kind None t = None
 only_as kind (Some found) t = cond (same_kind (plain_kind found) (plain_kind kind)) t None
+
+-- an expression, inside so many operations, that is to be of this type and this kind
+abbrev pub as_failures : List Item → List Item → ℕ → Option (List ℕ) → model_kinds.Kind → X → List Refusal
+as_failures items before around type kind x = x_failures items before around (expected_as kind type) x ++ needs_be items before type kind x
 
 -- the constructor of a literal of this type, with its labels
 abbrev pub literal_failures : Option model.TypeItem → Name → List plain.Expr → ℕ → List Refusal

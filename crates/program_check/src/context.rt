@@ -15,7 +15,7 @@ use fast_syntax::items::{Body, Item};
 
 /// The items of a program, with the numbers of those that declare a type or another name first, and how many items stand
 /// before the one that is looked at.
-#[derive(Drop)]
+#[derive(Clone, Copy)]
 pub(crate) struct Context<'p> {
     pub(crate) items: &'p [Item],
     pub(crate) types: &'p Names,

@@ -10,10 +10,10 @@ ghost use Rattle.model_names.specs.Kinds.{taken_by_one, given_by_one, taken_firs
 ghost use Rattle.fast_syntax.specs.View.{plain_name, plain_field, plain_type};
 ghost use Rattle.fast_syntax.specs.Plain.{plain_expr, plain_x, plain_item, plain_into};
 ghost use Rattle.fast_syntax.specs.Slices.{plain_children};
-ghost use Rattle.model_checks.specs.Expressions.{place_of_x, is_other_kind, is_known_later, expected_as, nested, name_failures, needs_kind, needs_type, needs_be, wanted_second, x_failures, xs_failures, whole_failures};
+ghost use Rattle.model_checks.specs.Expressions.{place_of_x, is_other_kind, is_known_later, expected_as, nested, name_failures, needs_kind, needs_type, needs_be, wanted_second, x_failures};
 ghost use Rattle.program_check.specs.Notes.{Notes};
 ghost use Rattle.program_check.specs.Contexts.{items_of, before_of, IsContext};
-ghost use Rattle.program_check.specs.Standings.{plain_kind, type_name, IsDeclared, IsStanding, only_as, input_of_two, output_of_two, literal_failures};
+ghost use Rattle.program_check.specs.Standings.{plain_kind, type_name, IsDeclared, IsStanding, only_as, as_failures, input_of_two, output_of_two, literal_failures};
 
 use crate::context::Context;
 use crate::labels::{Scope, both};
@@ -36,7 +36,7 @@ pub(crate) enum Kind {
 }
 
 /// What an expression stands for, and of which types it is.
-#[derive(Drop)]
+#[derive(Clone, Copy)]
 pub(crate) struct Standing<'p> {
     pub(crate) kind: Option<Kind>,
     pub(crate) input: Option<&'p TypeItem>,
@@ -392,12 +392,12 @@ fn check_literal(
     least: &mut Least,
     item: &Option<&TypeItem>,
     name: &Name,
+    children: &[X],
     labels: &[Expr],
-    count: usize,
 ) -> Result<(), Memory>
-    ensures { OnOk result (Notes least.old.known least.new.known (literal_failures (option_map (λ t. plain_type t.now) item.now) (plain_name name.now) (map plain_expr labels.now) count)) }
+    ensures { OnOk result (Notes least.old.known least.new.known (literal_failures (option_map (λ t. plain_type t.now) item.now) (plain_name name.now) (map plain_expr labels.now) (length children.now))) }
 {
-    check_constructor(least, item, name, count);
+    check_constructor(least, item, name, children.len());
     check_label_count(least, item, name, labels.len());
     let scope = Scope { fields: Some(&[]) };
     check_labels(alloc, least, &scope, fields_of(item), labels)
@@ -419,35 +419,27 @@ pub(crate) fn check_x<'p>(
     ensures noted { OnOk result (Notes least.old.known least.new.known (x_failures (items_of context.now) (before_of context.now) around (type_name expected.now) (plain_x x.now))) }
     ensures standing { IfOk result (IsStanding (items_of context.now) (plain_x x.now)) }
 {
-    let nothing: Option<&'p TypeItem> = None;
     match x {
         X::Named(name) => Ok(check_word(context, least, name)),
         X::One(op, place, inside) => {
             check_nested(least, around, *place);
-            let operand = check_x(alloc, context, least, deeper(around), &nothing, inside)?;
-            check_be(
-                context,
-                least,
-                &nothing,
-                taken_by_one(*op),
-                inside,
-                &operand,
-            );
+            let deep = deeper(around);
+            let kind = taken_by_one(*op);
+            let operand = check_as(alloc, context, least, deep, &None, kind, inside)?;
             Ok(of_one(context, *op, *place, inside, operand))
         }
         X::Two(op, place, first, second) => {
             check_nested(least, around, *place);
-            let left = check_x(alloc, context, least, deeper(around), &nothing, first)?;
-            check_be(context, least, &nothing, taken_first(*op), first, &left);
+            let deep = deeper(around);
+            let kind = taken_first(*op);
+            let left = check_as(alloc, context, least, deep, &None, kind, first)?;
             let wanted = wanted_second(context, *op, first, &left);
-            let expected = expected_as(taken_second(*op), &wanted);
-            let right = check_x(alloc, context, least, deeper(around), &expected, second)?;
-            check_be(context, least, &wanted, taken_second(*op), second, &right);
+            let kind = taken_second(*op);
+            let right = check_as(alloc, context, least, deep, &wanted, kind, second)?;
             Ok(of_two(context, *op, *place, first, second, left, right))
         }
         X::Literal(name, labels, children) => {
-            check_literal(alloc, least, expected, name, labels, children.len())?;
-            check_children(alloc, context, least, around, expected, children)?;
+            check_made(alloc, context, least, around, expected, name, children, labels)?;
             Ok(Standing {
                 kind: Some(Kind::Tree),
                 input: None,
@@ -457,43 +449,47 @@ pub(crate) fn check_x<'p>(
     }
 }
 
-/// The children of a literal of this type.
+/// An expression, inside so many operations, that is to be of this kind and this type.
 #[cycle(check_x)]
-fn check_children<'p>(
+pub(crate) fn check_as<'p>(
     alloc: Global,
     context: &Context<'p>,
     least: &mut Least,
     around: usize,
-    expected: &Option<&'p TypeItem>,
-    children: &[X],
-) -> Result<(), Memory>
-    requires context { IsContext context.now }
-    requires expected { IsDeclared (items_of context.now) expected.now }
-    ensures { OnOk result (Notes least.old.known least.new.known (xs_failures (items_of context.now) (before_of context.now) around (type_name expected.now) (plain_children children.now))) }
-{
-    'children: for child in children {
-        let standing = check_x(alloc, context, least, around, expected, child)?;
-        check_be(context, least, expected, Kind::Tree, child, &standing);
-    }
-    Ok(())
-}
-
-/// A whole expression of this type and this kind.
-pub(crate) fn check_whole<'p>(
-    alloc: Global,
-    context: &Context<'p>,
-    least: &mut Least,
     item: &Option<&'p TypeItem>,
     kind: Kind,
     x: &X,
 ) -> Result<Standing<'p>, Memory>
     requires context { IsContext context.now }
     requires item { IsDeclared (items_of context.now) item.now }
-    ensures noted { OnOk result (Notes least.old.known least.new.known (whole_failures (items_of context.now) (before_of context.now) (type_name item.now) (plain_kind kind) (plain_x x.now))) }
+    ensures noted { OnOk result (Notes least.old.known least.new.known (as_failures (items_of context.now) (before_of context.now) around (type_name item.now) (plain_kind kind) (plain_x x.now))) }
     ensures standing { IfOk result (IsStanding (items_of context.now) (plain_x x.now)) }
 {
     let expected = expected_as(kind, item);
-    let standing = check_x(alloc, context, least, 0, &expected, x)?;
+    let standing = check_x(alloc, context, least, around, &expected, x)?;
     check_be(context, least, item, kind, x, &standing);
     Ok(standing)
+}
+
+/// A literal of this type, and its children.
+#[cycle(check_x)]
+fn check_made<'p>(
+    alloc: Global,
+    context: &Context<'p>,
+    least: &mut Least,
+    around: usize,
+    expected: &Option<&'p TypeItem>,
+    name: &Name,
+    children: &[X],
+    labels: &[Expr],
+) -> Result<(), Memory>
+    requires context { IsContext context.now }
+    requires expected { IsDeclared (items_of context.now) expected.now }
+    ensures { OnOk result (Notes least.old.known least.new.known (x_failures (items_of context.now) (before_of context.now) around (type_name expected.now) (plain.literal (plain_name name.now) (map plain_expr labels.now) (plain_children children.now)))) }
+{
+    check_literal(alloc, least, expected, name, children, labels)?;
+    'children: for child in children {
+        check_as(alloc, context, least, around, expected, Kind::Tree, child)?;
+    }
+    Ok(())
 }

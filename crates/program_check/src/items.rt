@@ -20,7 +20,7 @@ ghost use Rattle.model_checks.specs.Types.{type_failures};
 
 use crate::context::Context;
 use crate::expressions::{
-    Kind, Standing, check_whole, check_x, declared, defined_kind, only_as, place_of,
+    Kind, Standing, check_as, check_x, declared, defined_kind, only_as, place_of,
 };
 use crate::least::Least;
 use crate::outputs::check_out_rule;
@@ -70,7 +70,7 @@ fn check_tree(
     check_name(context, least, &item.name);
     check_type_name(context, least, &item.of);
     let of = type_named(context, &item.of);
-    check_whole(alloc, context, least, &of, Kind::Tree, &item.value)?;
+    check_as(alloc, context, least, 0, &of, Kind::Tree, &item.value)?;
     Ok(())
 }
 
@@ -206,24 +206,9 @@ fn check_def(
     check_into(context, least, &item.into);
     let from = type_named(context, &item.from);
     let kind = defined_kind(&item.into);
-    let standing = check_whole(alloc, context, least, &from, kind, &item.value)?;
+    let standing = check_as(alloc, context, least, 0, &from, kind, &item.value)?;
     check_output(context, least, &item.into, &item.value, &standing);
     Ok(())
-}
-
-/// An expression that is to be of this kind, whatever its type is.
-fn check_any<'p>(
-    alloc: Global,
-    context: &Context<'p>,
-    least: &mut Least,
-    kind: Kind,
-    x: &X,
-) -> Result<Standing<'p>, Memory>
-    requires { IsContext context.now }
-    ensures noted { OnOk result (Notes least.old.known least.new.known (whole_failures (items_of context.now) (before_of context.now) None (plain_kind kind) (plain_x x.now))) }
-    ensures standing { IfOk result (IsStanding (items_of context.now) (plain_x x.now)) }
-{
-    check_whole(alloc, context, least, &None, kind, x)
 }
 
 /// The type of what is of this kind.
@@ -259,9 +244,9 @@ fn check_equal(
     requires { IsContext context.now }
     ensures { OnOk result (Notes least.old.known least.new.known (claim_failures (items_of context.now) (before_of context.now) (plain.equal (plain_x x.now) (plain_x y.now)))) }
 {
-    let left = check_any(alloc, context, least, Kind::Language, x)?;
+    let left = check_as(alloc, context, least, 0, &None, Kind::Language, x)?;
     let wanted = input_as(context, Kind::Language, x, &left);
-    check_whole(alloc, context, least, &wanted, Kind::Language, y)?;
+    check_as(alloc, context, least, 0, &wanted, Kind::Language, y)?;
     Ok(())
 }
 
@@ -276,9 +261,9 @@ fn check_member(
     requires { IsContext context.now }
     ensures { OnOk result (Notes least.old.known least.new.known (claim_failures (items_of context.now) (before_of context.now) (plain.member (plain_x x.now) (plain_x y.now)))) }
 {
-    let language = check_any(alloc, context, least, Kind::Language, y)?;
+    let language = check_as(alloc, context, least, 0, &None, Kind::Language, y)?;
     let wanted = input_as(context, Kind::Language, y, &language);
-    check_whole(alloc, context, least, &wanted, Kind::Tree, x)?;
+    check_as(alloc, context, least, 0, &wanted, Kind::Tree, x)?;
     Ok(())
 }
 
@@ -314,11 +299,11 @@ fn check_type_check(
     requires { IsContext context.now }
     ensures { OnOk result (Notes least.old.known least.new.known (claim_failures (items_of context.now) (before_of context.now) (plain.type_check (plain_x x.now) (plain_x y.now) (plain_x z.now)))) }
 {
-    let language = check_any(alloc, context, least, Kind::Language, x)?;
+    let language = check_as(alloc, context, least, 0, &None, Kind::Language, x)?;
     let input = input_as(context, Kind::Language, x, &language);
-    let standing = check_whole(alloc, context, least, &input, Kind::Transformation, y)?;
+    let standing = check_as(alloc, context, least, 0, &input, Kind::Transformation, y)?;
     let output = output_as(context, y, &standing);
-    check_whole(alloc, context, least, &output, Kind::Language, z)?;
+    check_as(alloc, context, least, 0, &output, Kind::Language, z)?;
     Ok(())
 }
 

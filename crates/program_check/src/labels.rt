@@ -18,7 +18,7 @@ ghost use Rattle.model_checks.specs.Sorts.{sort_named, find_field, own_sort, pla
 ghost use Rattle.model_checks.specs.Forms.{is_constant, is_out_of_range, kept, has_field, have_field, form_of, form_numbered, product_of, remainder_of, divisor_in, divisor_of, with_part};
 ghost use Rattle.model_checks.specs.Labels.{unknown_field, compared, label_failures, operands_failures, sorted_failures, multiplied, divided};
 ghost use Rattle.program_check.specs.Notes.{Notes};
-ghost use Rattle.program_check.specs.Known.{plain_scope, IsKnown, form_made, is_range, IsMade, plain_added, joined, step_failures, step_form};
+ghost use Rattle.program_check.specs.Known.{plain_scope, IsKnown, form_made, is_range, IsMade, AreTruths, plain_added, joined, next_failures, step_failures, step_form};
 
 use crate::least::Least;
 use crate::types::sort_named;
@@ -31,7 +31,7 @@ use model_grammar::Rel;
 use std::alloc::Global;
 
 /// The fields whose names an expression may have, where they are known.
-#[derive(Drop)]
+#[derive(Clone, Copy)]
 pub(crate) struct Scope<'p> {
     pub(crate) fields: Option<&'p [FieldItem]>,
 }
@@ -203,10 +203,12 @@ fn check_number(
     })
 }
 
-fn check_text(least: &mut Least, text: &Text, place: Pos)
-    ensures { Notes least.old.known least.new.known (fails_if (not (nat_le (length (encode_utf8_all text.now)) 4096)) code.TooMany place) }
+fn check_text(least: &mut Least, text: &Text, place: Pos) -> Known
+    ensures noted { Notes least.old.known least.new.known (fails_if (not (nat_le (length (encode_utf8_all text.now)) 4096)) code.TooMany place) }
+    ensures known { result ≡ record { sort = Some Sort.Text; has_field = false; form = None } }
 {
     least.note_if(text.as_str().len() > 4096, Code::TooMany, place);
+    Known::of_nothing(Some(Sort::Text))
 }
 
 impl Known {
@@ -450,6 +452,27 @@ fn check_remainder(
     remainder(alloc, &before.form, divisor)
 }
 
+/// A step of a product by a factor or to a remainder.
+fn check_next(
+    alloc: Global,
+    least: &mut Least,
+    scope: &Scope,
+    before: &Factor,
+    known: &Known,
+    part: &ProdPart,
+    place: Pos,
+) -> Result<Option<Form>, Memory>
+    requires { IsKnown scope.now (plain_expr part.now.part) known.now }
+    ensures noted { OnOk result (Notes least.old.known least.new.known (next_failures (plain_scope scope.now) place before.now.has_field before.now.form part.now.remainder (plain_expr part.now.part))) }
+    ensures form { IfOk result (λ made. made ≡ step_form (plain_scope scope.now) before.now.has_field before.now.form part.now.remainder (plain_expr part.now.part)) }
+{
+    if part.remainder {
+        check_remainder(alloc, least, before, &part.part)
+    } else {
+        check_factor(alloc, least, before, known, place)
+    }
+}
+
 /// Notes what fails in an expression, and tells what is known of it.
 #[cycle(check_label)]
 pub(crate) fn check_label(
@@ -464,10 +487,7 @@ pub(crate) fn check_label(
     match &e.node {
         Node::Field(name) => check_field(alloc, least, scope, name, e.place),
         Node::Num(number) => check_number(alloc, least, scope, *number, e.place),
-        Node::Str(text) => {
-            check_text(least, text, e.place);
-            Ok(Known::of_nothing(Some(Sort::Text)))
-        }
+        Node::Str(text) => Ok(check_text(least, text, e.place)),
         Node::Truth(_) => Ok(Known::of_truth(false)),
         Node::Not(inside) => check_not(alloc, least, scope, inside, e.place),
         Node::Minus(inside) => check_minus(alloc, least, scope, inside, e.place),
@@ -477,14 +497,8 @@ pub(crate) fn check_label(
             check_sides(least, scope, *rel, left, right, &of_left, &of_right);
             Ok(Known::of_truth(either(of_left.has_field, of_right.has_field)))
         }
-        Node::Or(parts) => {
-            let has_field = check_truths(alloc, least, scope, parts)?;
-            Ok(Known::of_truth(has_field))
-        }
-        Node::And(parts) => {
-            let has_field = check_truths(alloc, least, scope, parts)?;
-            Ok(Known::of_truth(has_field))
-        }
+        Node::Or(parts) => check_truths(alloc, least, scope, parts),
+        Node::And(parts) => check_truths(alloc, least, scope, parts),
         Node::Sum(parts) => check_sum(alloc, least, scope, parts, e.place),
         Node::Prod(parts) => check_product(alloc, least, scope, parts, e.place),
     }
@@ -542,23 +556,23 @@ fn check_minus(
     })
 }
 
-/// Operands that are to be truth values, and whether they have a field.
+/// Operands that are to be truth values, as all of them are together.
 #[cycle(check_label)]
 fn check_truths(
     alloc: Global,
     least: &mut Least,
     scope: &Scope,
     parts: &[Expr],
-) -> Result<bool, Memory>
+) -> Result<Known, Memory>
     ensures noted { OnOk result (Notes least.old.known least.new.known (operands_failures (plain_scope scope.now) truths (plain_operands parts.now))) }
-    ensures has { IfOk result (λ has. has ≡ have_field (plain_scope scope.now) (plain_operands parts.now)) }
+    ensures known { IfOk result (AreTruths scope.now (plain_operands parts.now)) }
 {
     let mut has_field = false;
     'parts: for part in parts {
         let known = check_sorted(alloc, least, scope, Sort::Bool, part)?;
         has_field = either(has_field, known.has_field);
     }
-    Ok(has_field)
+    Ok(Known::of_truth(has_field))
 }
 
 #[cycle(check_label)]
@@ -603,7 +617,7 @@ fn check_product(
         form: Some(Form::number(alloc, 1)?),
     };
     'parts: for part in parts {
-        before = check_step(alloc, least, scope, before, part, place)?;
+        before = check_step(alloc, least, scope, &before, part, place)?;
     }
     Ok(Known {
         sort: Some(Sort::Int),
@@ -618,20 +632,18 @@ fn check_step(
     alloc: Global,
     least: &mut Least,
     scope: &Scope,
-    before: Factor,
+    before: &Factor,
     part: &ProdPart,
     place: Pos,
 ) -> Result<Factor, Memory>
-    ensures noted { OnOk result (Notes least.old.known least.new.known (step_failures (plain_scope scope.now) place before.has_field before.form part.now.remainder (plain_expr part.now.part))) }
-    ensures has { IfOk result (λ made. made.has_field ≡ (before.has_field || has_field (plain_scope scope.now) (plain_expr part.now.part))) }
-    ensures form { IfOk result (λ made. made.form ≡ step_form (plain_scope scope.now) before.has_field before.form part.now.remainder (plain_expr part.now.part)) }
+    ensures noted { OnOk result (Notes least.old.known least.new.known (step_failures (plain_scope scope.now) place before.now.has_field before.now.form part.now.remainder (plain_expr part.now.part))) }
+    ensures has { IfOk result (λ made. made.has_field ≡ (before.now.has_field || has_field (plain_scope scope.now) (plain_expr part.now.part))) }
+    ensures form { IfOk result (λ made. made.form ≡ step_form (plain_scope scope.now) before.now.has_field before.now.form part.now.remainder (plain_expr part.now.part)) }
 {
     let known = check_sorted(alloc, least, scope, Sort::Int, &part.part)?;
-    let has_field = either(before.has_field, known.has_field);
-    if part.remainder {
-        let form = check_remainder(alloc, least, &before, &part.part)?;
-        return Ok(Factor { has_field, form });
-    }
-    let form = check_factor(alloc, least, &before, &known, place)?;
-    Ok(Factor { has_field, form })
+    let form = check_next(alloc, least, scope, before, &known, part, place)?;
+    Ok(Factor {
+        has_field: either(before.has_field, known.has_field),
+        form,
+    })
 }

@@ -88,35 +88,17 @@ fn number_name(alloc: Global, names: &mut Names, item: &Item, place: usize) -> R
     }
 }
 
-/// The number of the first item that declares each type.
-fn number_types(alloc: Global, items: &[Item]) -> Result<Names, Memory>
-    ensures { IfOk result (λ types. (name : List ℕ) → place_in types name ≡ place_by (declares_type name) (map plain_item items.now)) }
-{
-    let mut types = Names::new(alloc);
-    'items: for (place, item) in items.iter().enumerate() {
-        number_type(alloc, &mut types, item, place)?;
-    }
-    Ok(types)
-}
-
-/// The number of the first item that declares each other name.
-fn number_names(alloc: Global, items: &[Item]) -> Result<Names, Memory>
-    ensures { IfOk result (λ names. (name : List ℕ) → place_in names name ≡ place_by (declares name) (map plain_item items.now)) }
-{
-    let mut names = Names::new(alloc);
-    'items: for (place, item) in items.iter().enumerate() {
-        number_name(alloc, &mut names, item, place)?;
-    }
-    Ok(names)
-}
-
+/// The number of the first item that declares each type, and each other name.
 fn number_items(alloc: Global, items: &[Item]) -> Result<Numbers, Memory>
     ensures { IfOk result (λ numbers. AreNumbered (map plain_item items.now) numbers.types numbers.names) }
 {
-    Ok(Numbers {
-        types: number_types(alloc, items)?,
-        names: number_names(alloc, items)?,
-    })
+    let mut types = Names::new(alloc);
+    let mut names = Names::new(alloc);
+    'items: for (place, item) in items.iter().enumerate() {
+        number_type(alloc, &mut types, item, place)?;
+        number_name(alloc, &mut names, item, place)?;
+    }
+    Ok(Numbers { types, names })
 }
 
 /// There are 10,000 items at most.
@@ -160,20 +142,17 @@ fn find_refusal(alloc: Global, items: &[Item], numbers: &Numbers) -> Result<Opti
     Ok(least.known)
 }
 
-/// A well-formed program with the signatures of its types.
-fn with_signatures(alloc: Global, program: Program, numbers: Numbers) -> Result<Checked, Memory>
-    requires well_formed { is_well_formed (plain_program program) ≡ true }
-    requires numbered { AreNumbered (plain_program program) numbers.types numbers.names }
-    ensures same { IfOk result (λ checked. checked.program ≡ program) }
-    ensures checked { IfOk result IsChecked }
+/// The numbers of the items of a program that passes.
+fn numbers_of(alloc: Global, program: &Program) -> Result<Numbers, CheckStop>
+    ensures well_formed { OnOk result (is_well_formed (plain_program program.now) ≡ true) }
+    ensures numbered { IfOk result (λ numbers. AreNumbered (plain_program program.now) numbers.types numbers.names) }
+    ensures refused { IfErr result (IsStop (refusal_of (plain_program program.now))) }
 {
-    let signatures = signatures_of(alloc, &program.items)?;
-    Ok(Checked {
-        program,
-        types: numbers.types,
-        names: numbers.names,
-        signatures,
-    })
+    let numbers = number_items(alloc, &program.items)?;
+    match find_refusal(alloc, &program.items, &numbers)? {
+        Some(refusal) => Err(CheckStop::Refused(refusal)),
+        None => Ok(numbers),
+    }
 }
 
 /// Checks a program. It passes as it is where none of the conditions on programs fails; else the one that comes first in
@@ -184,9 +163,12 @@ pub fn check(alloc: Global, program: Program) -> Result<Checked, CheckStop>
     ensures checked { IfOk result IsChecked }
     ensures refused { IfErr result (IsStop (refusal_of (plain_program program))) }
 {
-    let numbers = number_items(alloc, &program.items)?;
-    match find_refusal(alloc, &program.items, &numbers)? {
-        Some(refusal) => Err(CheckStop::Refused(refusal)),
-        None => Ok(with_signatures(alloc, program, numbers)?),
-    }
+    let numbers = numbers_of(alloc, &program)?;
+    let signatures = signatures_of(alloc, &program.items)?;
+    Ok(Checked {
+        program,
+        types: numbers.types,
+        names: numbers.names,
+        signatures,
+    })
 }

@@ -59,22 +59,6 @@ fn is_rank_in_range(rank: i128) -> bool
     0 <= rank && rank <= 8
 }
 
-/// No field stands twice.
-fn check_field_names(alloc: Global, least: &mut Least, item: &TypeItem) -> Result<(), Memory>
-    ensures { OnOk result (Notes least.old.known least.new.known (repeated code.DuplicateName (map (λ f. f.name) (plain_type item.now).fields))) }
-{
-    check_repeated(alloc, least, Code::DuplicateName, &item.fields)?;
-    Ok(())
-}
-
-/// No constructor stands twice.
-fn check_ctor_names(alloc: Global, least: &mut Least, item: &TypeItem) -> Result<(), Memory>
-    ensures { OnOk result (Notes least.old.known least.new.known (repeated code.DuplicateName (map (λ c. c.name) (plain_type item.now).ctors))) }
-{
-    check_repeated(alloc, least, Code::DuplicateName, &item.ctors)?;
-    Ok(())
-}
-
 fn check_sort(least: &mut Least, field: &FieldItem)
     ensures { Notes least.old.known least.new.known (field_failures (plain_field field.now)) }
 {
@@ -115,14 +99,15 @@ fn check_field_limit(least: &mut Least, item: &TypeItem)
     }
 }
 
+/// Notes what fails in a type.
 pub(crate) fn check_type(alloc: Global, least: &mut Least, item: &TypeItem) -> Result<(), Memory>
     ensures { OnOk result (Notes least.old.known least.new.known (type_failures (plain_type item.now))) }
 {
     least.note_if(!has_leaf(item), Code::NoLeaf, item.name.place);
-    check_field_names(alloc, least, item)?;
+    check_repeated(alloc, least, Code::DuplicateName, &item.fields)?;
     check_sorts(least, item);
     check_field_limit(least, item);
-    check_ctor_names(alloc, least, item)?;
+    check_repeated(alloc, least, Code::DuplicateName, &item.ctors)?;
     check_ranks(least, item);
     Ok(())
 }

@@ -10,4 +10,4 @@ pub returns : goal.returns
 returns c =
     let items = items_of c.args.context.now in
     let before = before_of c.args.context.now in
-    then c.in_ok-left.ensures.noted (same (ap (λ n. whole_failures items before n language (plain_x c.args.y.now)) c.input_as-wanted.ensures.name) c.in_ok-check_whole.ensures.noted)
+    then c.in_ok-left.ensures.noted (same (ap (λ n. whole_failures items before n language (plain_x c.args.y.now)) c.input_as-wanted.ensures.name) c.in_ok-check_as.ensures.noted)

@@ -10,4 +10,4 @@ pub returns : goal.returns
 returns c =
     let items = items_of c.args.context.now in
     let before = before_of c.args.context.now in
-    then c.check_name.ensures (then c.check_type_name.ensures (same (ap (λ n. whole_failures items before n a_tree (plain_x c.args.item.now.value)) c.type_named-of.ensures.name) c.in_ok-check_whole.ensures.noted))
+    then c.check_name.ensures (then c.check_type_name.ensures (same (ap (λ n. whole_failures items before n a_tree (plain_x c.args.item.now.value)) c.type_named-of.ensures.name) c.in_ok-check_as.ensures.noted))

@@ -16,7 +16,7 @@ use Rattle.program_check.specs.Known.{plain_scope, plain_added, IsKnown}
 use Rattle.program_check.specs.Notes.{Notes}
 use Rattle.program_check.proofs.Noting.{then, same}
 use Rattle.program_check.proofs.Chains.{sorted_more, sorted_done, has_more, added_more, added_done, steps_more, steps_done, form_more}
-use Rattle.program_check.proofs.Labelled.{minus_noted, sum_noted, compare_noted, step_divided, step_multiplied, or_known, and_known, known_as}
+use Rattle.program_check.proofs.Labelled.{minus_noted, sum_noted, compare_noted, step_noted, or_known, and_known, if_known}
 use Rattle.program_check.proofs.labels.+check_label.Goals as goal
 
 pub check_sorted-returns-clause-noted : goal.check_sorted-returns-clause-noted
@@ -74,14 +74,9 @@ check_product-parts-preserved t c =
       form = form_more s (plain_expr x.part) x.remainder (plain_prod_parts (drop i items)) (plain_prod_parts (drop (i + 1) items)) _ _ _ _ _ split c.in_ok-before.ensures.has c.in_ok-before.ensures.form c.parts.invariant.form;
     }
 
-pub check_step-returns-then-part-clause-noted : goal.check_step-returns-then-part-clause-noted
-check_step-returns-then-part-clause-noted t c =
-    step_divided (plain_scope c.args.scope.now) c.args.place c.args.before.has_field c.args.before.form c.args.part.now.remainder (plain_expr c.args.part.now.part) _ _ _ c.if-part.true c.in_ok-known.ensures.noted c.in_ok-form.ensures.noted
-
 pub check_step-returns-clause-noted : goal.check_step-returns-clause-noted
 check_step-returns-clause-noted t c =
-    step_multiplied (plain_scope c.args.scope.now) c.args.place c.args.before.has_field c.in_ok-known.known.has_field c.args.before.form c.in_ok-known.known.form c.args.part.now.remainder (plain_expr c.args.part.now.part) _ _ _
-    c.if-part.false c.in_ok-known.ensures.known.has c.in_ok-known.ensures.known.form c.in_ok-known.ensures.noted c.in_ok-form-2.ensures.noted
+    step_noted (plain_scope c.args.scope.now) c.args.place c.args.before.now.has_field c.args.before.now.form c.args.part.now.remainder (plain_expr c.args.part.now.part) _ _ _ c.in_ok-known.ensures.noted c.in_ok-form.ensures.noted
 
 pub check_label-returns-in_ok-of_right-in-Compare-clause-noted : goal.check_label-returns-in_ok-of_right-in-Compare-clause-noted
 check_label-returns-in_ok-of_right-in-Compare-clause-noted t c =
@@ -92,31 +87,31 @@ check_label-returns-in_ok-of_right-in-Compare-clause-noted t c =
     (ap plain_expr c.deref-in-Compare.ensures) (ap plain_expr c.deref-in-Compare-2.ensures) (ap plain_expr c.deref-in-Compare-3.ensures) (ap plain_expr c.deref-in-Compare-4.ensures)
     c.in_ok-of_left-in-Compare.ensures.noted c.in_ok-of_right-in-Compare.ensures.noted c.check_sides.ensures)
 
-pub check_label-returns-in_ok-has_field-in-Or-clause-noted : goal.check_label-returns-in_ok-has_field-in-Or-clause-noted
-check_label-returns-in_ok-has_field-in-Or-clause-noted t c =
-    let s = plain_scope c.args.scope.now in
+pub check_label-returns-in-Or-clause-noted : goal.check_label-returns-in-Or-clause-noted
+check_label-returns-in-Or-clause-noted t c =
     let place = c.args.e.now.place in
-    let is = ap (λ n. plain_node n place) c.in-Or.is ∙ plain_or place c.in-Or.parts in
-    same (ap (λ xs. operands_failures s truths (plain_operands xs)) c.deref-in-Or.ensures.value ∙ sym (ap (label_failures s) is)) c.in_ok-has_field-in-Or.ensures.noted
+    let is = ap (λ xs. plain.chain Disjunction place (plain_operands xs)) c.deref-in-Or.ensures.value ∙ sym (ap (λ n. plain_node n place) c.in-Or.is ∙ plain_or place c.in-Or.parts) in
+    subst (λ (e : plain.Expr). OnOk c.check_truths.result (Notes c.args.least.now.known c.check_truths.new.least.known (label_failures (plain_scope c.args.scope.now) e))) is c.check_truths.ensures.noted
 
-pub check_label-returns-in_ok-has_field-in-Or-clause-known : goal.check_label-returns-in_ok-has_field-in-Or-clause-known
-check_label-returns-in_ok-has_field-in-Or-clause-known t c =
+pub check_label-returns-in-Or-clause-known : goal.check_label-returns-in-Or-clause-known
+check_label-returns-in-Or-clause-known t c =
     let place = c.args.e.now.place in
-    let is = ap (λ n. plain_node n place) c.in-Or.is ∙ plain_or place c.in-Or.parts ∙ ap (λ xs. plain.chain Disjunction place (plain_operands xs)) (sym c.deref-in-Or.ensures.value) in
-    known_as c.args.scope.now (plain_expr c.args.e.now) _ c.of_truth-in-Or.result is (or_known c.args.scope.now place (plain_operands c.deref-in-Or.result.now) c.of_truth-in-Or.result c.in_ok-has_field-in-Or.has_field c.of_truth-in-Or.ensures c.in_ok-has_field-in-Or.ensures.has)
+    let parts = plain_operands c.deref-in-Or.result.now in
+    let is = ap (λ xs. plain.chain Disjunction place (plain_operands xs)) c.deref-in-Or.ensures.value ∙ sym (ap (λ n. plain_node n place) c.in-Or.is ∙ plain_or place c.in-Or.parts) in
+    if_known c.check_truths.result c.args.scope.now parts (plain.chain Disjunction place parts) (plain_expr c.args.e.now) (or_known c.args.scope.now place parts) is c.check_truths.ensures.known
 
-pub check_label-returns-in_ok-has_field-in-And-clause-noted : goal.check_label-returns-in_ok-has_field-in-And-clause-noted
-check_label-returns-in_ok-has_field-in-And-clause-noted t c =
-    let s = plain_scope c.args.scope.now in
+pub check_label-returns-in-And-clause-noted : goal.check_label-returns-in-And-clause-noted
+check_label-returns-in-And-clause-noted t c =
     let place = c.args.e.now.place in
-    let is = ap (λ n. plain_node n place) c.in-And.is ∙ plain_and place c.in-And.parts in
-    same (ap (λ xs. operands_failures s truths (plain_operands xs)) c.deref-in-And.ensures.value ∙ sym (ap (label_failures s) is)) c.in_ok-has_field-in-And.ensures.noted
+    let is = ap (λ xs. plain.chain Conjunction place (plain_operands xs)) c.deref-in-And.ensures.value ∙ sym (ap (λ n. plain_node n place) c.in-And.is ∙ plain_and place c.in-And.parts) in
+    subst (λ (e : plain.Expr). OnOk c.check_truths-in-And.result (Notes c.args.least.now.known c.check_truths-in-And.new.least.known (label_failures (plain_scope c.args.scope.now) e))) is c.check_truths-in-And.ensures.noted
 
-pub check_label-returns-in_ok-has_field-in-And-clause-known : goal.check_label-returns-in_ok-has_field-in-And-clause-known
-check_label-returns-in_ok-has_field-in-And-clause-known t c =
+pub check_label-returns-in-And-clause-known : goal.check_label-returns-in-And-clause-known
+check_label-returns-in-And-clause-known t c =
     let place = c.args.e.now.place in
-    let is = ap (λ n. plain_node n place) c.in-And.is ∙ plain_and place c.in-And.parts ∙ ap (λ xs. plain.chain Conjunction place (plain_operands xs)) (sym c.deref-in-And.ensures.value) in
-    known_as c.args.scope.now (plain_expr c.args.e.now) _ c.of_truth-in-And.result is (and_known c.args.scope.now place (plain_operands c.deref-in-And.result.now) c.of_truth-in-And.result c.in_ok-has_field-in-And.has_field c.of_truth-in-And.ensures c.in_ok-has_field-in-And.ensures.has)
+    let parts = plain_operands c.deref-in-And.result.now in
+    let is = ap (λ xs. plain.chain Conjunction place (plain_operands xs)) c.deref-in-And.ensures.value ∙ sym (ap (λ n. plain_node n place) c.in-And.is ∙ plain_and place c.in-And.parts) in
+    if_known c.check_truths-in-And.result c.args.scope.now parts (plain.chain Conjunction place parts) (plain_expr c.args.e.now) (and_known c.args.scope.now place parts) is c.check_truths-in-And.ensures.known
 
 pub check_label-returns-in-Sum-clause-noted : goal.check_label-returns-in-Sum-clause-noted
 check_label-returns-in-Sum-clause-noted t c =

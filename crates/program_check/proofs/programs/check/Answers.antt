@@ -1,13 +1,11 @@
-use Rattle.std.proofs.Common.{List, map, sym, ap, ◌∙◌, subst}
-use Rattle.fast_syntax.specs.declared.items.Item.{Item}
-use Rattle.fast_syntax.specs.Plain.{plain_item, plain_program}
-use Rattle.model_checks.specs.Programs.{failures, refusal_of}
-use Rattle.model_checks.proofs.FirstOf.{none_first}
-use Rattle.program_check.specs.Contexts.{AreNumbered}
+use Rattle.std.proofs.Common.{map, ap, ◌∙◌}
+use Rattle.fast_syntax.specs.Plain.{plain_item}
+use Rattle.program_check.specs.Signed.{own_signature}
 use Rattle.program_check.proofs.programs.check.Goals as goal
 
-pub with_signatures-requires-clause-well_formed : goal.with_signatures-requires-clause-well_formed
-with_signatures-requires-clause-well_formed c = none_first (failures (plain_program c.args.program)) (ap (λ xs. refusal_of (map plain_item xs)) (sym c.deref-2.ensures.value) ∙ sym c.in_ok-refusal.ensures ∙ c.in-None.is)
-
-pub with_signatures-requires-clause-numbered : goal.with_signatures-requires-clause-numbered
-with_signatures-requires-clause-numbered c = subst (λ (xs : List Item). AreNumbered (map plain_item xs) c.in_ok-numbers.numbers.types c.in_ok-numbers.numbers.names) c.deref.ensures.value c.in_ok-numbers.ensures
+pub returns-clause-checked : goal.returns-clause-checked
+returns-clause-checked c = record {
+  well_formed = c.in_ok-numbers.ensures.well_formed;
+  numbered = c.in_ok-numbers.ensures.numbered;
+  signed = c.in_ok-signatures.ensures ∙ ap (λ xs. map own_signature (map plain_item xs)) c.deref.ensures.value;
+}

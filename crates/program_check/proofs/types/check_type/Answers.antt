@@ -1,10 +1,11 @@
-use Rattle.std.proofs.Common.{ap, sym, ◌∙◌}
+use Rattle.std.proofs.Common.{map, ap, sym, ◌∙◌}
 use Rattle.std.specs.Prelude.{not}
-use Rattle.fast_fault.specs.declared.code.Code.TheVariants.{NoLeaf}
+use Rattle.std.proofs.lemmas.Simd.{map-map}
+use Rattle.fast_fault.specs.declared.code.Code.TheVariants.{DuplicateName, NoLeaf}
 use Rattle.model_program.specs.Syntax as plain
-use Rattle.fast_syntax.specs.View.{plain_ctor}
+use Rattle.fast_syntax.specs.View.{plain_name, plain_field, plain_ctor}
 use Rattle.model_checks.specs.Failures.{fails_if}
-use Rattle.model_checks.specs.Types.{is_rank}
+use Rattle.model_checks.specs.Types.{is_rank, repeated}
 use Rattle.program_check.proofs.Mapped.{list_any_map}
 use Rattle.program_check.proofs.Noting.{then, same}
 use Rattle.program_check.proofs.types.check_type.Goals as goal
@@ -13,4 +14,6 @@ pub returns : goal.returns
 returns c =
     let item = c.args.item.now in
     let leaf = same (ap (λ b. fails_if (not b) NoLeaf item.name.place) (c.has_leaf.ensures ∙ sym (list_any_map (λ (c : plain.CtorItem). is_rank 0 c.rank) plain_ctor item.ctors.items))) c.note_if.ensures in
-    then leaf (then c.in_ok-check_field_names.ensures (then c.check_sorts.ensures (then c.check_field_limit.ensures (then c.in_ok-check_ctor_names.ensures c.check_ranks.ensures))))
+    let fields = same (ap (repeated DuplicateName) (ap (map (λ f. plain_name f.name)) c.deref.ensures.value ∙ sym (map-map (λ (f : plain.FieldItem). f.name) plain_field item.fields.items))) c.in_ok-check_repeated.ensures.noted in
+    let ctors = same (ap (repeated DuplicateName) (ap (map (λ c. plain_name c.name)) c.deref-2.ensures.value ∙ sym (map-map (λ (c : plain.CtorItem). c.name) plain_ctor item.ctors.items))) c.in_ok-check_repeated-2.ensures.noted in
+    then leaf (then fields (then c.check_sorts.ensures (then c.check_field_limit.ensures (then ctors c.check_ranks.ensures))))
