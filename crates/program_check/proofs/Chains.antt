@@ -8,8 +8,8 @@ use Rattle.model_form.specs.Sums.{Part}
 use Rattle.model_grammar.specs.Syntax.{Expr, Parts, no_parts, part}
 use Rattle.model_checks.specs.Failures.{first_among}
 use Rattle.model_checks.specs.Sorts.{Scope, needs_sort}
-use Rattle.model_checks.specs.Forms.{has_field, have_field, form_of, added, with_part, form_behind, product_of, kept, remainder_of, divisor_of}
-use Rattle.model_checks.specs.Labels.{label_failures, sorted_failures, operands_failures, steps_failures, multiplied, divided}
+use Rattle.model_checks.specs.Forms.{has_field, have_field, form_of, added, with_part, form_behind}
+use Rattle.model_checks.specs.Labels.{label_failures, sorted_failures, operands_failures, steps_failures}
 use Rattle.program_check.specs.Known.{joined, next_failures, step_failures, step_form}
 use Rattle.program_check.specs.Notes.{Notes}
 use Rattle.program_check.proofs.Noting.{more, done}

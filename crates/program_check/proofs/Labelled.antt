@@ -6,7 +6,7 @@ use Rattle.fast_fault.specs.declared.code.Code.TheVariants.{NumberRange}
 use Rattle.fast_fault.specs.declared.place.Pos.{Pos}
 use Rattle.fast_fault.specs.declared.refusal.Refusal.{Refusal}
 use Rattle.fast_fault.specs.declared.memory.Memory.{Memory}
-use Rattle.model_tree.specs.Signature.{wholes}
+use Rattle.model_tree.specs.Signature.{wholes, truths}
 use Rattle.model_form.specs.Form.{Form}
 use Rattle.model_form.specs.Sums.{Part, sum_form, product_form}
 use Rattle.model_grammar.specs.declared.Chain.TheVariants.{Disjunction, Conjunction, Sum}
@@ -17,7 +17,7 @@ use Rattle.fast_tree.specs.Signatures.{plain_sort}
 use Rattle.model_checks.specs.Failures.{fails_if}
 use Rattle.model_checks.specs.Sorts as model
 use Rattle.model_checks.specs.Sorts.{needs_sort}
-use Rattle.model_checks.specs.Forms.{is_out_of_range, has_field, have_field, form_of, added}
+use Rattle.model_checks.specs.Forms.{is_out_of_range, has_field, form_of, added}
 use Rattle.model_checks.specs.Labels.{label_failures, sorted_failures, operands_failures, compared, multiplied, divided}
 use Rattle.program_check.specs.declared.labels.Scope.{Scope}
 use Rattle.program_check.specs.declared.labels.Known.{Known}
@@ -55,6 +55,13 @@ or_known scope place parts known are = record { sort = are.sort; has = are.has; 
 
 pub and_known : (scope : Scope) (place : Pos) (parts : Parts) (known : Known) → AreTruths scope parts known → IsKnown scope (chain Conjunction place parts) known
 and_known scope place parts known are = record { sort = are.sort; has = are.has; form = are.form }
+
+pub truth_known : (scope : Scope) (e : Expr) (known : Known) (has : Bool) → known ≡ record { sort = Some code.Bool; has_field = has; form = None } → Some truths ≡ model.sort_of (plain_scope scope) e → has ≡ has_field (plain_scope scope) e → None ≡ form_of (plain_scope scope) e → IsKnown scope e known
+truth_known scope e known has is sort_is has_is form_is = record {
+  sort = ap (λ (k : Known). option_map plain_sort k.sort) is ∙ sort_is;
+  has = ap (λ (k : Known). k.has_field) is ∙ has_is;
+  form = ap (λ (k : Known). k.form) is ∙ form_is;
+}
 
 pub if_known : (made : Result Known Memory) (scope : Scope) (parts : Parts) (x y : Expr) → ((known : Known) → AreTruths scope parts known → IsKnown scope x known) → x ≡ y → IfOk made (AreTruths scope parts) → IfOk made (IsKnown scope y)
 if_known (Ok known) scope parts x y is same are = subst (λ (z : Expr). IsKnown scope z known) same (is known are)

@@ -439,7 +439,9 @@ pub(crate) fn check_x<'p>(
             Ok(of_two(context, *op, *place, first, second, left, right))
         }
         X::Literal(name, labels, children) => {
-            check_made(alloc, context, least, around, expected, name, children, labels)?;
+            check_made(
+                alloc, context, least, around, expected, name, children, labels,
+            )?;
             Ok(Standing {
                 kind: Some(Kind::Tree),
                 input: None,

@@ -1,26 +1,40 @@
 use Rattle.std.proofs.Common.{◌+◌, false, Some, drop, refl, sym, ap, ◌∙◌, subst}
-use Rattle.std.specs.Prelude.{OnOk, IfOk}
+use Rattle.std.specs.Prelude.{OnOk, IfOk, negsuc}
+use Rattle.std.specs.Option.{option_map}
 use Rattle.std.proofs.lemmas.List.{drop_all}
 use Rattle.std.proofs.Math.IntN.{pos}
 use Rattle.model_tree.specs.Signature.{wholes, truths}
-use Rattle.model_form.specs.Sums.{number_form}
+use Rattle.model_form.specs.Sums.{number_form, product_form}
 use Rattle.model_grammar.specs.declared.Chain.TheVariants.{Disjunction, Conjunction, Sum, Product}
 use Rattle.model_grammar.specs.Syntax as plain
 use Rattle.fast_syntax.specs.Plain.{plain_node, plain_expr}
 use Rattle.fast_syntax.specs.Slices.{plain_operands, plain_sum_parts, plain_prod_parts}
 use Rattle.fast_syntax.proofs.Appending.{drop_at}
 use Rattle.fast_syntax.proofs.Rows.{plain_or, plain_and, plain_sum_of, plain_product_of}
-use Rattle.model_checks.specs.Forms.{has_field}
-use Rattle.model_checks.specs.Labels.{label_failures, operands_failures}
+use Rattle.model_checks.specs.Forms.{has_field, kept}
+use Rattle.model_checks.specs.Labels.{label_failures}
 use Rattle.program_check.specs.Known.{plain_scope, plain_added, IsKnown}
 use Rattle.program_check.specs.Notes.{Notes}
 use Rattle.program_check.proofs.Noting.{then, same}
-use Rattle.program_check.proofs.Chains.{sorted_more, sorted_done, has_more, added_more, added_done, steps_more, steps_done, form_more}
-use Rattle.program_check.proofs.Labelled.{minus_noted, sum_noted, compare_noted, step_noted, or_known, and_known, if_known}
+use Rattle.program_check.proofs.Chains.{sorted_more, sorted_done, has_more, has_done, added_more, added_done, steps_more, steps_done, form_more, form_done}
+use Rattle.program_check.proofs.Labelled.{truth_known, minus_noted, sum_noted, compare_noted, step_noted, or_known, and_known, if_known}
 use Rattle.program_check.proofs.labels.+check_label.Goals as goal
 
 pub check_sorted-returns-clause-noted : goal.check_sorted-returns-clause-noted
 check_sorted-returns-clause-noted t c = then c.in_ok-known.ensures.noted c.check_sort.ensures
+
+pub check_not-returns-clause-noted : goal.check_not-returns-clause-noted
+check_not-returns-clause-noted t c = c.in_ok-known.ensures.noted
+
+pub check_not-returns-clause-known : goal.check_not-returns-clause-known
+check_not-returns-clause-known t c = truth_known c.args.scope.now (plain.negation c.args.place (plain_expr c.args.inside.now)) c.of_truth.result c.in_ok-known.known.has_field c.of_truth.ensures refl c.in_ok-known.ensures.known.has refl
+
+pub check_minus-returns-clause-known : goal.check_minus-returns-clause-known
+check_minus-returns-clause-known t c = record {
+  sort = refl;
+  has = c.in_ok-known.ensures.known.has;
+  form = c.in_ok-form.ensures.form ∙ ap (λ f. kept (option_map (product_form (negsuc 0)) f)) c.in_ok-known.ensures.known.form;
+}
 
 pub check_minus-returns-clause-noted : goal.check_minus-returns-clause-noted
 check_minus-returns-clause-noted t c =
@@ -73,6 +87,9 @@ check_product-parts-preserved t c =
       has = has_more s (plain_expr x.part) x.remainder (plain_prod_parts (drop i items)) (plain_prod_parts (drop (i + 1) items)) _ (has_field s (plain_expr x.part)) _ _ split refl c.in_ok-before.ensures.has c.parts.invariant.has;
       form = form_more s (plain_expr x.part) x.remainder (plain_prod_parts (drop i items)) (plain_prod_parts (drop (i + 1) items)) _ _ _ _ _ split c.in_ok-before.ensures.has c.in_ok-before.ensures.form c.parts.invariant.form;
     }
+
+pub check_step-returns-clause-form : goal.check_step-returns-clause-form
+check_step-returns-clause-form t c = c.in_ok-form.ensures.form
 
 pub check_step-returns-clause-noted : goal.check_step-returns-clause-noted
 check_step-returns-clause-noted t c =
@@ -136,6 +153,17 @@ check_label-returns-in-Prod-clause-known t c =
     let place = c.args.e.now.place in
     let is = ap (λ xs. plain.chain Product place (plain_prod_parts xs)) c.deref-in-Prod.ensures.value ∙ sym (ap (λ n. plain_node n place) c.in-Prod.is ∙ plain_product_of place c.in-Prod.parts) in
     subst (λ (e : plain.Expr). IfOk c.check_product.result (IsKnown c.args.scope.now e)) is c.check_product.ensures.known
+
+pub check_product-returns-clause-known : goal.check_product-returns-clause-known
+check_product-returns-clause-known t c =
+    let s = plain_scope c.args.scope.now in
+    let rest = plain_prod_parts (drop c.parts.part-index c.args.parts.now) in
+    let none = ap plain_prod_parts (drop_all c.parts.part-index c.args.parts.now c.parts-test.false) in
+    record {
+      sort = refl;
+      has = has_done s rest c.parts.before.has_field _ none c.parts.invariant.has;
+      form = form_done s rest c.parts.before.has_field c.parts.before.form _ none c.parts.invariant.form;
+    }
 
 pub check_product-returns-clause-noted : goal.check_product-returns-clause-noted
 check_product-returns-clause-noted t c =

@@ -1,5 +1,5 @@
 use Rattle.fast_syntax.specs.View.{plain_name}
-use Rattle.program_check.proofs.Repeating.{at_first, one_more}
+use Rattle.program_check.proofs.Repeating.{at_first, one_more, all_noted, all_there}
 use Rattle.program_check.proofs.named.check_repeated.Goals as goal
 
 pub all-init : goal.all-init
@@ -9,3 +9,9 @@ pub all-preserved : goal.all-preserved
 all-preserved g c =
     one_more g.N.Named.name_of c.args.code c.args.all.now c.all.place c.index-all-place.result (plain_name c.name.result.now) c.args.least.now.known c.all.least.known c.check_name.new.least.known c.all.names c.check_name.new.names
     c.all-test.true c.index-all-place.is c.name.ensures c.in_ok-check_name.ensures.noted c.in_ok-check_name.ensures.names c.all.invariant
+
+pub returns-clause-noted : goal.returns-clause-noted
+returns-clause-noted g c = all_noted g.N.Named.name_of c.args.code c.args.all.now c.all.place c.args.least.now.known c.all.least.known c.all.names c.all-test.false c.all.invariant
+
+pub returns-clause-names : goal.returns-clause-names
+returns-clause-names g c = all_there g.N.Named.name_of c.args.code c.args.all.now c.all.place c.args.least.now.known c.all.least.known c.all.names c.all-test.false c.all.invariant
