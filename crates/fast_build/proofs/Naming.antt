@@ -65,7 +65,7 @@ find_nowhere p (x ∷ xs) none = by (p x) none (find_nowhere p xs)
     by true none later = absurd (none (omega arith))
     by false none later = later (λ low. none (omega (arith, low)))
 
-pub placed : (n m k : ℕ) (b : Bool) → nat_lt n m ≡ b → cond b (Some n) None ≡ Some k → (n < m) × (n ≡ k)
+placed : (n m k : ℕ) (b : Bool) → nat_lt n m ≡ b → cond b (Some n) None ≡ Some k → (n < m) × (n ≡ k)
 placed n m k true low e = (grind (arith, nat_tests), cc)
 placed n m k false low e = absurd (cc)
 

@@ -3,7 +3,7 @@ use Rattle.std.proofs.Common.{◌≡◌, ℕ, zero, suc, ◌+◌, ◌<◌, ◌�
 use Rattle.std.specs.Prelude.{is_some}
 use Rattle.std.specs.List.{IsDistinct}
 use Rattle.std.specs.Cmp.{IsEquivalence}
-use Rattle.std.proofs.lemmas.List.{length-append, map-append, take-append-le}
+use Rattle.std.proofs.lemmas.List.{length-append, length-map, map-append, take-append-le}
 use Rattle.std.proofs.lemmas.List.Elements.{All-nil, All-cons, All-append, Contains-append_left, Contains-append_right, Contains-get_or}
 use Rattle.std.proofs.lemmas.Map.Made.{length-le_from_is_member}
 use Rattle.std.proofs.Math.Seq.{take-suc}
@@ -15,6 +15,7 @@ use Rattle.fast_build.specs.Items.{find_lang}
 use Rattle.fast_build.specs.Stands.{AllStand}
 use Rattle.fast_build.specs.Reached.{demanded_by, demanded_in, IsGrown, AreReached, AreClosed}
 use Rattle.fast_build.proofs.Reaching.{reached_of}
+use Rattle.fast_build.proofs.Declaring.{own_text, lang_declared}
 use Rattle.fast_build.proofs.Grown.{test_by_there, there_by_test}
 use Rattle.fast_build.proofs.Elements.{all_of_contained}
 
@@ -103,8 +104,8 @@ module _ (items : List Item) (name : List ℕ) where
       by_some None at = absurd (cc)
       by_some (Some l) at = (l, refl)
 
-  -- they are not more than the names that are declared
-  pub not_more : (laws : IsEquivalence same_text) (known names : List (List ℕ)) → AllStand items → is_some (find_lang items name) ≡ true → ((n : List ℕ) (l : LangItem) → find_lang items n ≡ Some l → Contains known n) → AreReached items name names → IsDistinct same_text names → length names ≤ length known
-  not_more laws known names stand at among reached apart =
-      length-le_from_is_member laws names known apart
-      (λ q h. let n = declared q stand at (all_of_contained (Reaches items name) names q reached.reached (there_by_test names q h)) in test_by_there known q (among q n.0 n.1))
+  -- they are not more than the items
+  pub not_more : (laws : IsEquivalence same_text) (names : List (List ℕ)) → AllStand items → is_some (find_lang items name) ≡ true → AreReached items name names → IsDistinct same_text names → length names ≤ length items
+  not_more laws names stand at reached apart =
+      subst (λ n. length names ≤ n) (length-map items own_text) (length-le_from_is_member laws names (map own_text items) apart
+      (λ q h. let n = declared q stand at (all_of_contained (Reaches items name) names q reached.reached (there_by_test names q h)) in test_by_there (map own_text items) q (lang_declared items q n.0 n.1)))

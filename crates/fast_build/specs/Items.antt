@@ -1,21 +1,14 @@
--- A program with what it declares.
-use Rattle.std.specs.Prelude.{◌≡◌, ℕ, true, List, Option, Some, None, map, is_some, Contains}
+-- The languages of a program.
+use Rattle.std.specs.Prelude.{ℕ, List, Option, Some, None}
 use Rattle.std.specs.Option.{option_and_then}
-use Rattle.fast_syntax.specs.Plain.{plain_item, plain_program}
+use Rattle.fast_syntax.specs.Plain.{plain_program}
 use Rattle.model_grammar.specs.Syntax.{LangItem, Body, sorts, tree, lang, trans, def, assertion, Item}
 use Rattle.model_names.specs.Declared.{find_item}
-use Rattle.fast_build.specs.declared.declared.Declared.{Declared}
+use Rattle.program_check.specs.declared.programs.Checked.{Checked}
 
-abbrev pub items_of : Declared → List Item
-items_of d = plain_program d.program.now
-
--- the names are those that these items declare, and the item at each place is the one that counts
-pub record AreDeclared (items : List Item) (names : List (List ℕ)) (those : List Item) : Type 0 where
-  pub found : map (find_item items) names ≡ map (λ i. Some i) those
-  pub all : (name : List ℕ) → is_some (find_item items name) ≡ true → Contains names name
-
-abbrev pub IsDeclared : Declared → Type 0
-IsDeclared d = AreDeclared (items_of d) d.names.keys (map (λ i. plain_item i.now) d.items.items)
+-- the items of a checked program
+abbrev pub items_of : Checked → List Item
+items_of c = plain_program c.program
 
 abbrev pub own_lang : Body → Option LangItem
 own_lang (sorts t) = None

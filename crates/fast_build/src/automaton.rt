@@ -5,19 +5,20 @@ ghost use Rattle.std.specs.List.{list_all};
 ghost use Rattle.fast_tree.specs.Signatures.{plain_signature};
 ghost use Rattle.fast_syntax.specs.Plain.{plain_lang};
 ghost use Rattle.model_meaning.specs.Types.{input_of};
+ghost use Rattle.program_check.specs.Tells.{IsChecked};
 ghost use Rattle.sta_core.specs.Machine.{plain_rule as machine_rule};
-ghost use Rattle.fast_build.specs.Items.{items_of, find_lang, IsDeclared};
+ghost use Rattle.fast_build.specs.Items.{items_of, find_lang};
 ghost use Rattle.fast_build.specs.Stands.{AllStand, GuardStands};
 ghost use Rattle.fast_build.specs.Numbers.{has_ctor};
 ghost use Rattle.fast_build.specs.Reached.{demanded_in};
 ghost use Rattle.fast_build.specs.Rules.{AreStatesFor};
 ghost use Rattle.fast_build.specs.Automaton.{IsAutomatonOf};
 
-use crate::declared::Declared;
 use crate::reached::{Reached, reach};
 use crate::rules::rules_for;
 use fast_fault::{Memory, Text};
 use fast_tree::{CtorOf, Signature};
+use program_check::Checked;
 use record_label::RowAtom;
 use sta_core::{Sta, StaRule};
 use std::alloc::Global;
@@ -54,17 +55,17 @@ fn states_for(
 /// The automaton of the language of this name, which is of trees of this type. State 0 is the language itself.
 pub fn language(
     alloc: Global,
-    declared: &Declared,
+    checked: &Checked,
     signature: &Signature,
     name: &Text,
 ) -> Result<Sta<RowAtom>, Memory>
-    requires declared { IsDeclared declared.now }
-    requires stand { AllStand (items_of declared.now) }
-    requires there { is_some (find_lang (items_of declared.now) name.now) ≡ true }
-    requires typed { input_of (items_of declared.now) name.now ≡ plain_signature signature.now }
-    ensures { IfOk result (IsAutomatonOf (items_of declared.now) name.now) }
+    requires checked { IsChecked checked.now }
+    requires stand { AllStand (items_of checked.now) }
+    requires there { is_some (find_lang (items_of checked.now) name.now) ≡ true }
+    requires typed { input_of (items_of checked.now) name.now ≡ plain_signature signature.now }
+    ensures { IfOk result (IsAutomatonOf (items_of checked.now) name.now) }
 {
-    let reached = reach(alloc, declared, name)?;
+    let reached = reach(alloc, checked, name)?;
     let ranks = ranks_of(alloc, &signature.constructors)?;
     let states = states_for(alloc, signature, &reached)?;
     Ok(Sta::new(ranks, states))

@@ -4,10 +4,10 @@
 #![tactic(auto)]
 
 mod automaton;
-mod declared;
+mod named;
 mod numbers;
 mod reached;
 mod rules;
 
 pub use automaton::language;
-pub use declared::Declared;
+pub use named::lang;

@@ -3,15 +3,17 @@
 ghost use Rattle.std.specs.Prelude.{◌≡◌, [], ◌∷◌, IfOk, OnOk, map, true, is_some};
 ghost use Rattle.fast_syntax.specs.View.{plain_demand};
 ghost use Rattle.fast_syntax.specs.Plain.{plain_rule};
-ghost use Rattle.fast_build.specs.Items.{items_of, find_lang, IsDeclared};
+ghost use Rattle.program_check.specs.Tells.{IsChecked};
+ghost use Rattle.fast_build.specs.Items.{items_of, find_lang};
 ghost use Rattle.fast_build.specs.Stands.{AllStand};
 ghost use Rattle.fast_build.specs.Reached.{demanded_by, demanded_in, IsGrown, IsReached};
 
-use crate::declared::Declared;
+use crate::named::lang;
 use fast_fault::{Memory, Text};
 use fast_syntax::Demand;
 use fast_syntax::items::{LangItem, Rule};
 use indexmap::IndexSet;
+use program_check::Checked;
 use std::alloc::Global;
 
 /// The languages that a language reaches, in the order in which they are met, itself first: their names, and at the same
@@ -53,17 +55,17 @@ fn add_languages(alloc: Global, rules: &[Rule], names: &mut IndexSet<Text>) -> R
 }
 
 /// The languages that the language of this name reaches.
-pub fn reach<'p>(alloc: Global, declared: &Declared<'p>, name: &Text) -> Result<Reached<'p>, Memory>
-    requires declared { IsDeclared declared.now }
-    requires stand { AllStand (items_of declared.now) }
-    requires there { is_some (find_lang (items_of declared.now) name.now) ≡ true }
-    ensures { IfOk result (λ reached. IsReached (items_of declared.now) name.now reached) }
+pub fn reach<'p>(alloc: Global, checked: &'p Checked, name: &Text) -> Result<Reached<'p>, Memory>
+    requires checked { IsChecked checked.now }
+    requires stand { AllStand (items_of checked.now) }
+    requires there { is_some (find_lang (items_of checked.now) name.now) ≡ true }
+    ensures { IfOk result (λ reached. IsReached (items_of checked.now) name.now reached) }
 {
     let mut names = IndexSet::new(alloc);
     add_name(alloc, name, &mut names)?;
     let mut langs = Vec::new(alloc);
     'reach: while langs.len() < names.len() {
-        let Some(lang) = declared.lang(&names.as_slice()[langs.len()]) else {
+        let Some(lang) = lang(checked, &names.as_slice()[langs.len()]) else {
             unreachable!()
         };
         add_languages(alloc, &lang.rules, &mut names)?;

@@ -1,13 +1,14 @@
--- The declarations of a program that may run.
+-- The programs that may run.
 use Rattle.std.specs.Prelude.{◌≡◌, true}
 use Rattle.std.specs.List.{list_all}
 use Rattle.model_run.specs.Built.{is_built}
-use Rattle.fast_build.specs.Items.{items_of, IsDeclared}
+use Rattle.program_check.specs.declared.programs.Checked.{Checked}
+use Rattle.program_check.specs.Tells.{IsChecked}
+use Rattle.fast_build.specs.Items.{items_of}
 use Rattle.fast_build.specs.Stands.{AllStand}
-use Rattle.fast_build.specs.declared.declared.Declared.{Declared}
 
--- its languages stand, and each item is built
-pub record MayRun (d : Declared) : Type 0 where
-  pub declared : IsDeclared d
-  pub stand : AllStand (items_of d)
-  pub built : list_all (is_built (items_of d)) (items_of d) ≡ true
+-- it is checked, its languages stand, and each item is built
+pub record MayRun (c : Checked) : Type 0 where
+  pub checked : IsChecked c
+  pub stand : AllStand (items_of c)
+  pub built : list_all (is_built (items_of c)) (items_of c) ≡ true

@@ -8,7 +8,7 @@ ghost use Rattle.fast_syntax.specs.Plain.{plain_assert, plain_claim, plain_item,
 ghost use Rattle.program_check.specs.Tells.{IsChecked};
 ghost use Rattle.model_run.specs.Built.{is_built, is_built_claim, unbuilt_at};
 ghost use Rattle.model_run.specs.Report.{Reports, RunReport, StatusReport};
-ghost use Rattle.fast_build.specs.Items.{items_of, IsDeclared};
+ghost use Rattle.fast_build.specs.Items.{items_of};
 ghost use Rattle.fast_tool.specs.Declarations.{MayRun};
 ghost use Rattle.fast_tool.specs.Decided.{IsAsserted, IsJudged};
 ghost use Rattle.fast_tool.specs.Runs.{ItemsReport, IsDone, IsStopped};
@@ -16,7 +16,7 @@ ghost use Rattle.fast_tool.specs.Runs.{ItemsReport, IsDone, IsStopped};
 use crate::built::unbuilt_at;
 use crate::refusals::{put_line, refuse, refuse_item};
 use crate::verdicts::{Judged, judge_empty};
-use fast_build::Declared;
+use fast_build::lang;
 use fast_fault::{Code, Memory, Refusal, Sink, Status};
 use fast_syntax::items::{AssertItem, Body, Claim, Item, X};
 use program_check::Checked;
@@ -29,20 +29,17 @@ const CLASS_LIMIT: u32 = 1000;
 fn judge_assertion(
     alloc: Global,
     checked: &Checked,
-    declared: &Declared,
     line: u32,
     assertion: &AssertItem,
 ) -> Result<Judged, Memory>
-    requires checked { IsChecked checked.now }
-    requires runs { MayRun declared.now }
-    requires same { items_of declared.now ≡ plain_program checked.now.program }
-    requires built { is_built_claim (items_of declared.now) (plain_claim assertion.now.claim) ≡ true }
-    ensures { IfOk result (IsAsserted (items_of declared.now) 1000 line (plain_assert assertion.now)) }
+    requires runs { MayRun checked.now }
+    requires built { is_built_claim (items_of checked.now) (plain_claim assertion.now.claim) ≡ true }
+    ensures { IfOk result (IsAsserted (items_of checked.now) 1000 line (plain_assert assertion.now)) }
 {
     let Claim::Empty(X::Named(name)) = &assertion.claim else {
         unreachable!()
     };
-    let Some(lang) = declared.lang(&name.text) else {
+    let Some(lang) = lang(checked, &name.text) else {
         unreachable!()
     };
     let Some(signature) = checked.signature(&lang.of.text) else {
@@ -50,7 +47,7 @@ fn judge_assertion(
     };
     judge_empty(
         alloc,
-        declared,
+        checked,
         signature,
         line,
         assertion.wanted,
@@ -60,22 +57,13 @@ fn judge_assertion(
 }
 
 /// What an item gives: the verdict of an assertion, and of other items nothing.
-fn judge(
-    alloc: Global,
-    checked: &Checked,
-    declared: &Declared,
-    item: &Item,
-) -> Result<Judged, Memory>
-    requires checked { IsChecked checked.now }
-    requires runs { MayRun declared.now }
-    requires same { items_of declared.now ≡ plain_program checked.now.program }
-    requires built { is_built (items_of declared.now) (plain_item item.now) ≡ true }
-    ensures { IfOk result (IsJudged (items_of declared.now) 1000 (plain_item item.now)) }
+fn judge(alloc: Global, checked: &Checked, item: &Item) -> Result<Judged, Memory>
+    requires runs { MayRun checked.now }
+    requires built { is_built (items_of checked.now) (plain_item item.now) ≡ true }
+    ensures { IfOk result (IsJudged (items_of checked.now) 1000 (plain_item item.now)) }
 {
     match &item.body {
-        Body::Assert(assertion) => {
-            judge_assertion(alloc, checked, declared, item.place.line, assertion)
-        }
+        Body::Assert(assertion) => judge_assertion(alloc, checked, item.place.line, assertion),
         Body::Sorts(_) | Body::Lang(_) => Ok(Judged::Silent),
         Body::Tree(_) | Body::Trans(_) | Body::Def(_) => unreachable!(),
     }
@@ -86,20 +74,17 @@ fn do_item<K: Sink>(
     alloc: Global,
     file: &str,
     checked: &Checked,
-    declared: &Declared,
     item: &Item,
     sink: &mut K,
 ) -> Result<bool, Status>
-    requires checked { IsChecked checked.now }
-    requires runs { MayRun declared.now }
-    requires same { items_of declared.now ≡ plain_program checked.now.program }
-    requires built { is_built (items_of declared.now) (plain_item item.now) ≡ true }
-    ensures done { IfOk result (λ fails. IsDone (items_of declared.now) (plain_item item.now) (K.written sink.old) (K.written sink.new) fails) }
-    ensures stopped { IfErr result (λ status. IsStopped file.now (items_of declared.now) 1000 (plain_item item.now) (K.written sink.old) (K.written sink.new) status) }
+    requires runs { MayRun checked.now }
+    requires built { is_built (items_of checked.now) (plain_item item.now) ≡ true }
+    ensures done { IfOk result (λ fails. IsDone (items_of checked.now) (plain_item item.now) (K.written sink.old) (K.written sink.new) fails) }
+    ensures stopped { IfErr result (λ status. IsStopped file.now (items_of checked.now) 1000 (plain_item item.now) (K.written sink.old) (K.written sink.new) status) }
     ensures later { K.faults sink.old ≤ K.faults sink.new }
     ensures rose { result ≡ Err SinkFault → Rose (K.faults sink.old) (K.faults sink.new) }
 {
-    match judge(alloc, checked, declared, item) {
+    match judge(alloc, checked, item) {
         Err(Memory) => Err(Status::Memory),
         Ok(Judged::Silent) => Ok(false),
         Ok(Judged::Says(verdict)) => match put_line(sink, &verdict.line) {
@@ -112,24 +97,16 @@ fn do_item<K: Sink>(
 
 /// Does the items in order.
 #[tactic(auto, using(crate::proofs::Runs::on_runs))]
-fn run_items<K: Sink>(
-    alloc: Global,
-    file: &str,
-    checked: &Checked,
-    declared: &Declared,
-    sink: &mut K,
-) -> Status
-    requires checked { IsChecked checked.now }
-    requires runs { MayRun declared.now }
-    requires same { items_of declared.now ≡ plain_program checked.now.program }
-    ensures report { Reports (ItemsReport file.now (items_of declared.now) 1000) result (K.written sink.old) (K.written sink.new) }
+fn run_items<K: Sink>(alloc: Global, file: &str, checked: &Checked, sink: &mut K) -> Status
+    requires { MayRun checked.now }
+    ensures report { Reports (ItemsReport file.now (items_of checked.now) 1000) result (K.written sink.old) (K.written sink.new) }
     ensures later { K.faults sink.old ≤ K.faults sink.new }
     ensures rose { result ≡ SinkFault → Rose (K.faults sink.old) (K.faults sink.new) }
     ensures sure_text { result ≢ TextFault }
 {
     let mut failed = false;
-    'items: for item in &declared.program.items {
-        match do_item(alloc, file, checked, declared, item, sink) {
+    'items: for item in &checked.program().items {
+        match do_item(alloc, file, checked, item, sink) {
             Err(fault) => return fault,
             Ok(fails) => failed |= fails,
         }
@@ -145,15 +122,11 @@ pub fn run_program<K: Sink>(alloc: Global, file: &str, checked: &Checked, sink: 
     ensures rose { result ≡ SinkFault → Rose (K.faults sink.old) (K.faults sink.new) }
     ensures sure_text { result ≢ TextFault }
 {
-    let declared = match Declared::of(alloc, checked.program()) {
-        Ok(declared) => declared,
-        Err(Memory) => return Status::Memory,
-    };
-    match unbuilt_at(&declared) {
+    match unbuilt_at(checked) {
         Some(place) => {
             let code = Code::NotYet;
             refuse(alloc, sink, file, Refusal { code, place })
         }
-        None => run_items(alloc, file, checked, &declared, sink),
+        None => run_items(alloc, file, checked, sink),
     }
 }

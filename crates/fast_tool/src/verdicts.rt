@@ -14,10 +14,11 @@ ghost use Rattle.fast_tool.specs.Declarations.{MayRun};
 ghost use Rattle.fast_tool.specs.Decided.{IsDecided, SaysOf, IsAsserted};
 
 use crate::lines::{plain_line, tree_line};
-use fast_build::{Declared, language};
+use fast_build::language;
 use fast_fault::Memory;
 use fast_syntax::Name;
 use fast_tree::{Label, Signature, Tree};
+use program_check::Checked;
 use record_label::RowLabels;
 use sta_classes::ClassStop;
 use sta_core::Lang;
@@ -48,18 +49,18 @@ pub enum Decided {
 /// What is found of the language of this name, whose trees have this type.
 fn decide(
     alloc: Global,
-    declared: &Declared,
+    checked: &Checked,
     signature: &Signature,
     name: &Name,
     limit: u32,
 ) -> Result<Decided, Memory>
-    requires runs { MayRun declared.now }
-    requires there { is_some (find_lang (items_of declared.now) name.now.text) ≡ true }
-    requires typed { input_of (items_of declared.now) name.now.text ≡ plain_signature signature.now }
+    requires runs { MayRun checked.now }
+    requires there { is_some (find_lang (items_of checked.now) name.now.text) ≡ true }
+    requires typed { input_of (items_of checked.now) name.now.text ≡ plain_signature signature.now }
     requires shallow { limit ≤ 2000 }
-    ensures { IfOk result (IsDecided (items_of declared.now) limit (plain_name name.now)) }
+    ensures { IfOk result (IsDecided (items_of checked.now) limit (plain_name name.now)) }
 {
-    let sta = language(alloc, declared, signature, &name.text)?;
+    let sta = language(alloc, checked, signature, &name.text)?;
     let theory = RowLabels::new(alloc, signature)?;
     match empty(&theory, alloc, &Lang { sta, state: 0 }, limit) {
         Ok(Found::Absent) => Ok(Decided::Empty),
@@ -117,20 +118,20 @@ pub enum Judged {
 /// The verdict of an assertion, in this line of the text, that the language of this name is empty.
 pub fn judge_empty(
     alloc: Global,
-    declared: &Declared,
+    checked: &Checked,
     signature: &Signature,
     line: u32,
     wanted: bool,
     name: &Name,
     limit: u32,
 ) -> Result<Judged, Memory>
-    requires runs { MayRun declared.now }
-    requires there { is_some (find_lang (items_of declared.now) name.now.text) ≡ true }
-    requires typed { input_of (items_of declared.now) name.now.text ≡ plain_signature signature.now }
+    requires runs { MayRun checked.now }
+    requires there { is_some (find_lang (items_of checked.now) name.now.text) ≡ true }
+    requires typed { input_of (items_of checked.now) name.now.text ≡ plain_signature signature.now }
     requires shallow { limit ≤ 2000 }
-    ensures { IfOk result (IsAsserted (items_of declared.now) limit line (record { wanted = wanted; claim = empty (named (plain_name name.now)) })) }
+    ensures { IfOk result (IsAsserted (items_of checked.now) limit line (record { wanted = wanted; claim = empty (named (plain_name name.now)) })) }
 {
-    match decide(alloc, declared, signature, name, limit)? {
+    match decide(alloc, checked, signature, name, limit)? {
         Decided::Empty => Ok(Judged::Says(true_verdict(alloc, line, wanted)?)),
         Decided::Shows(tree) => {
             let verdict = tree_verdict(alloc, line, !wanted, signature, &tree)?;

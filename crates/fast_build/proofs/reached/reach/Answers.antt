@@ -6,14 +6,13 @@ use Rattle.model_meaning.specs.Reached.{Reaches}
 use Rattle.fast_build.specs.Items.{items_of, find_lang}
 use Rattle.fast_build.specs.Reached.{IsGrown, AreClosed, demanded_in}
 use Rattle.fast_build.proofs.Standing.{rules_are}
-use Rattle.fast_build.proofs.Declaring.{lang_declared}
 use Rattle.fast_build.proofs.Rounds.{first_reached, more_reached, more_closed, more_langs, declared, not_more}
 use Rattle.fast_build.proofs.Elements.{all_of_contained}
 use Rattle.fast_build.proofs.reached.reach.Goals as goal
 
 pub reach-init : goal.reach-init
 reach-init c =
-    let items = items_of c.args.declared.now in
+    let items = items_of c.args.checked.now in
     let none = c.new-langs.ensures.items in
     let n = ap length none in
     record {
@@ -25,7 +24,7 @@ reach-init c =
 
 pub unreachable-requires : goal.unreachable-requires
 unreachable-requires c =
-    let items = items_of c.args.declared.now in
+    let items = items_of c.args.checked.now in
     let low : length c.reach.langs.items < length c.reach.names.keys = omega (arith, c.reach-test.true, c.len.ensures, c.reach.langs.ok.0, c.len-in-reach.ensures.len) in
     let k : c.len-in-reach-2.result ≡ length c.reach.langs.items = omega (arith, c.len-in-reach-2.ensures, c.reach.langs.ok.0) in
     let n = c.index-as_slice-len.result in
@@ -35,15 +34,15 @@ unreachable-requires c =
 
 pub reach-smaller : goal.reach-smaller
 reach-smaller c =
-    let items = items_of c.args.declared.now in
+    let items = items_of c.args.checked.now in
     let low : length c.reach.langs.items < length c.reach.names.keys = omega (arith, c.reach-test.true, c.len.ensures, c.reach.langs.ok.0, c.len-in-reach.ensures.len) in
-    let most = not_more items c.args.name.now nat_list_eq_equiv c.args.declared.now.names.keys c.reach.names.keys c.requires.stand c.requires.there (lang_declared c.args.declared.now c.requires.declared) c.reach.invariant.reached c.len-in-reach.ensures.unique in
+    let most = not_more items c.args.name.now nat_list_eq_equiv c.reach.names.keys c.requires.stand c.requires.there c.reach.invariant.reached c.len-in-reach.ensures.unique in
     let more : length c.push.new.self.items ≡ length c.reach.langs.items + 1 = ap length c.in_ok-push.ensures.items ∙ length-append _ _ in
     omega (arith, low, most, more)
 
 pub reach-preserved : goal.reach-preserved
 reach-preserved c =
-    let items = items_of c.args.declared.now in
+    let items = items_of c.args.checked.now in
     let low : length c.reach.langs.items < length c.reach.names.keys = omega (arith, c.reach-test.true, c.len.ensures, c.reach.langs.ok.0, c.len-in-reach.ensures.len) in
     let k : c.len-in-reach-2.result ≡ length c.reach.langs.items = omega (arith, c.len-in-reach-2.ensures, c.reach.langs.ok.0) in
     let n = c.index-as_slice-len.result in
@@ -59,7 +58,7 @@ reach-preserved c =
 
 pub returns : goal.returns
 returns c =
-    let items = items_of c.args.declared.now in
+    let items = items_of c.args.checked.now in
     let whole : take (length c.reach.langs.items) c.reach.names.keys ≡ c.reach.names.keys = take_all (length c.reach.langs.items) c.reach.names.keys (omega (arith, c.reach-test.false, c.len.ensures, c.reach.langs.ok.0, c.len-in-reach.ensures.len)) in
     record {
       reached = c.reach.invariant.reached;

@@ -1,14 +1,11 @@
-use Rattle.std.proofs.Common.{◌≡◌, Some, None, subst, ap, ◌∙◌}
+use Rattle.std.proofs.Common.{◌≡◌, Some, None, ap, ◌∙◌}
 use Rattle.std.specs.Option.{option_map}
 use Rattle.fast_syntax.specs.Plain.{plain_lang}
-use Rattle.model_names.specs.Declared.{find_type}
 use Rattle.model_meaning.specs.Types.{signature_of}
 use Rattle.fast_tool.proofs.items.judge_assertion.Goals as goal
 
 pub unreachable-requires-in_default-signature : goal.unreachable-requires-in_default-signature
 unreachable-requires-in_default-signature c =
-    let l = plain_lang c.in-Some.lang.now in
-    let stands = c.requires.runs.stand c.in-Empty-Named.name.text l c.in-Some.ensures in
-    let found = subst (λ xs. find_type xs l.of.text ≡ Some stands.type) c.requires.same stands.found in
-    let no : None ≡ Some (signature_of stands.type) = c.in_default-signature.ensures ∙ ap (option_map signature_of) found in
+    let stands = c.requires.runs.stand c.in-Empty-Named.name.text (plain_lang c.in-Some.lang.now) c.in-Some.ensures in
+    let no : None ≡ Some (signature_of stands.type) = c.in_default-signature.ensures ∙ ap (option_map signature_of) stands.found in
     absurd (cc)

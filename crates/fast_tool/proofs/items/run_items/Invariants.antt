@@ -4,4 +4,4 @@ use Rattle.fast_tool.specs.Runs.{Past}
 use Rattle.fast_tool.proofs.items.run_items.Given as goal
 
 abbrev pub invariant-items : goal.invariant-items
-invariant-items g l = Past l.file (items_of l.declared) 1000 l.item-index l.failed (g.K.Sink.written l.initial.sink) (g.K.Sink.written l.sink) × (g.K.Sink.faults l.initial.sink ≤ g.K.Sink.faults l.sink)
+invariant-items g l = Past l.file (items_of l.checked) 1000 l.item-index l.failed (g.K.Sink.written l.initial.sink) (g.K.Sink.written l.sink) × (g.K.Sink.faults l.initial.sink ≤ g.K.Sink.faults l.sink)

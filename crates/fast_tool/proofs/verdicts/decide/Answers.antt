@@ -20,7 +20,7 @@ use Rattle.fast_tool.proofs.verdicts.decide.Goals as goal
 
 pub new-requires : goal.new-requires
 new-requires c =
-    let items = items_of c.args.declared.now in
+    let items = items_of c.args.checked.now in
     let n = plain_name c.args.name.now in
     let at = lang_there items n.text c.requires.there in
     let t = plain_signature c.args.signature.now in
@@ -32,7 +32,7 @@ empty-requires c = record { fit = subst (λ s. AtomsFit (RowFits s) c.in_ok-sta.
 
 pub returns-in-Ok-Absent : goal.returns-in-Ok-Absent
 returns-in-Ok-Absent c =
-    let items = items_of c.args.declared.now in
+    let items = items_of c.args.checked.now in
     let n = plain_name c.args.name.now in
     let at = lang_there items n.text c.requires.there in
     let t = plain_signature c.args.signature.now in
@@ -41,7 +41,7 @@ returns-in-Ok-Absent c =
 
 pub returns-in-Ok-Shown : goal.returns-in-Ok-Shown
 returns-in-Ok-Shown c =
-    let items = items_of c.args.declared.now in
+    let items = items_of c.args.checked.now in
     let n = plain_name c.args.name.now in
     let at = lang_there items n.text c.requires.there in
     let t = plain_signature c.args.signature.now in
@@ -51,7 +51,7 @@ returns-in-Ok-Shown c =
 
 pub returns-in-Ok-TooBig : goal.returns-in-Ok-TooBig
 returns-in-Ok-TooBig c =
-    let items = items_of c.args.declared.now in
+    let items = items_of c.args.checked.now in
     let n = plain_name c.args.name.now in
     let at = lang_there items n.text c.requires.there in
     let t = plain_signature c.args.signature.now in
@@ -60,7 +60,7 @@ returns-in-Ok-TooBig c =
 
 pub returns-in-Err-Classes : goal.returns-in-Err-Classes
 returns-in-Err-Classes c =
-    let items = items_of c.args.declared.now in
+    let items = items_of c.args.checked.now in
     let n = plain_name c.args.name.now in
     let at = lang_there items n.text c.requires.there in
     let t = plain_signature c.args.signature.now in
@@ -69,7 +69,7 @@ returns-in-Err-Classes c =
 
 pub returns-in-Err-Wide : goal.returns-in-Err-Wide
 returns-in-Err-Wide c =
-    let items = items_of c.args.declared.now in
+    let items = items_of c.args.checked.now in
     let n = plain_name c.args.name.now in
     let at = lang_there items n.text c.requires.there in
     let t = plain_signature c.args.signature.now in

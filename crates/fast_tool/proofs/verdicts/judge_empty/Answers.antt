@@ -15,12 +15,12 @@ use Rattle.fast_tool.proofs.verdicts.judge_empty.Goals as goal
 pub tree_verdict-requires : goal.tree_verdict-requires
 tree_verdict-requires c =
     let found = rw c.in-Shows.is at c.in_ok-decide.ensures in
-    subst (λ s. HasType s (relabel label_meaning c.in-Shows.tree)) (input_type_of_name (items_of c.args.declared.now) (plain_name c.args.name.now) ∙ c.requires.typed) found.0.0
+    subst (λ s. HasType s (relabel label_meaning c.in-Shows.tree)) (input_type_of_name (items_of c.args.checked.now) (plain_name c.args.name.now) ∙ c.requires.typed) found.0.0
 
 pub returns-in_ok-verdict-in-Shows : goal.returns-in_ok-verdict-in-Shows
 returns-in_ok-verdict-in-Shows c =
     let found = rw c.in-Shows.is at c.in_ok-decide.ensures in
-    let items = items_of c.args.declared.now in
+    let items = items_of c.args.checked.now in
     let n = plain_name c.args.name.now in
     let type : plain_signature c.args.signature.now ≡ input_type items (named n) = sym (input_type_of_name items n ∙ c.requires.typed) in
     record {

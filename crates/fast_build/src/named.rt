@@ -1,0 +1,24 @@
+//! The languages of a checked program, by their names.
+
+ghost use Rattle.std.specs.Prelude.{◌≡◌, Some, None, MatchOption};
+ghost use Rattle.fast_syntax.specs.Plain.{plain_lang};
+ghost use Rattle.program_check.specs.Tells.{IsChecked};
+ghost use Rattle.fast_build.specs.Items.{items_of, find_lang};
+
+use fast_fault::Text;
+use fast_syntax::items::{Body, LangItem};
+use program_check::Checked;
+
+/// The language of this name.
+pub fn lang<'c>(checked: &'c Checked, name: &Text) -> Option<&'c LangItem>
+    requires { IsChecked checked.now }
+    ensures { MatchOption result (find_lang (items_of checked.now) name.now ≡ None) (λ l. find_lang (items_of checked.now) name.now ≡ Some (plain_lang l.now)) }
+{
+    let Some(item) = checked.item(name) else {
+        return None;
+    };
+    match &item.body {
+        Body::Lang(lang) => Some(lang),
+        _ => None,
+    }
+}
