@@ -62,9 +62,9 @@ module _ (fields : List Field) where
   -- ---- what atoms say of it
 
   module _ (entries : List Entry) (low : AreFormsLow (forms_of entries)) where
-    compare_put : (c : Compare) → row_holds (Left (put_compare entries c)) (row fields) ≡ row_holds (Left c) (made entries (row fields))
+    compare_put : (c : Compare) → row_holds (Left (put_compare (forms_of entries) c)) (row fields) ≡ row_holds (Left c) (made entries (row fields))
     compare_put c =
-        ap (compare_holds (plain_compare (put_compare entries c))) (wholes_back (wholes_in fields))
+        ap (compare_holds (plain_compare (put_compare (forms_of entries) c))) (wholes_back (wholes_in fields))
         ∙ (λ i. related (plain_relation c.relation) (subst_form-value c.left (forms_of entries) (wholes_in fields) low i) (subst_form-value c.right (forms_of entries) (wholes_in fields) low i))
         ∙ ap (compare_holds (plain_compare c)) (sym (wholes_back (wholes_in (map (made_by fields) entries)) ∙ made_wholes entries))
 

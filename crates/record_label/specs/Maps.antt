@@ -82,18 +82,23 @@ are_one (side.Constant s) (side.Constant t) = cond (bytes_eq s t) yes no
 are_one (side.Constant s) (side.Field k) = atom (Right (Right (record { left = side.Constant s; right = side.Field k })))
 are_one (side.Field k) s = atom (Right (Right (record { left = side.Field k; right = s })))
 
-module _ (entries : List Entry) where
-  -- a comparison with the entries put for the fields
-  abbrev pub put_compare : Compare → Compare
-  put_compare c = record { left = subst_form c.left (forms_of entries); relation = c.relation; right = subst_form c.right (forms_of entries) }
+-- a comparison with the forms put for its fields
+abbrev pub put_compare : List Form → Compare → Compare
+put_compare forms c = record { left = subst_form c.left forms; relation = c.relation; right = subst_form c.right forms }
 
+-- a number that is outside in it
+abbrev pub IsOutsideCompared : List Form → Compare → ℤ → Type 0
+IsOutsideCompared forms c n = IsOutsideAfter c.left forms n ⊎ IsOutsideAfter c.right forms n
+
+module _ (entries : List Entry) where
+  -- a side with the entries put for the fields
   abbrev pub put_side : TextSide → TextSide
   put_side (side.Field k) = slice_index_or (sides_in entries) k (side.Constant [])
   put_side (side.Constant t) = side.Constant t
 
   -- what an atom says with the entries put for the fields
   abbrev pub put_atom : RowAtom → Formula RowAtom
-  put_atom (Left c) = atom (Left (put_compare c))
+  put_atom (Left c) = atom (Left (put_compare (forms_of entries) c))
   put_atom (Right (Left b)) = slice_index_or (formulas_in entries) b.field no
   put_atom (Right (Right t)) = are_one (put_side t.left) (put_side t.right)
 
@@ -117,7 +122,7 @@ module _ (entries : List Entry) where
 
   -- a number that is outside once the entries are put
   abbrev pub IsOutsidePut : RowAtom → ℤ → Type 0
-  IsOutsidePut (Left c) n = IsOutsideAfter c.left (forms_of entries) n ⊎ IsOutsideAfter c.right (forms_of entries) n
+  IsOutsidePut (Left c) n = IsOutsideCompared (forms_of entries) c n
   IsOutsidePut (Right a) n = ⊥
 
   abbrev mutual

@@ -1,7 +1,6 @@
 //! The formula of a label expression.
 
 ghost use Rattle.std.specs.Prelude.{◌≡◌, ◌≤◌, [], ◌∷◌, ◌++◌, true, IfOk, MatchResult, Some, None, cond, length, map};
-ghost use Rattle.model_tree.specs.Formula as plain;
 ghost use Rattle.model_label.specs.Tests.{is_text};
 ghost use Rattle.model_guard.specs.Forms.{form_of, forms_in, forms_in_all, HasOutside};
 ghost use Rattle.model_guard.specs.Guards.{is_guard};
@@ -20,31 +19,10 @@ use fast_syntax::Rel;
 use fast_syntax::expressions::{Expr, Node};
 use fast_tree::{Signature, Sort};
 use flat_label::{BoolAtom, TextAtom, TextSide};
-use label_core::{Formula, PairAtom};
+use label_core::{Formula, PairAtom, conjunction, disjunction, negation};
 use lin_form::{Form, FormStop};
 use lin_solve::{Compare, Relation};
 use std::alloc::Global;
-
-/// Holds where the formula doesn't.
-pub(crate) fn negation(alloc: Global, formula: Formula<RowAtom>) -> Result<Formula<RowAtom>, Memory>
-    ensures { IfOk result (λ made. plain_formula made ≡ plain.negation (plain_formula formula)) }
-{
-    Ok(Formula::Not(Box::new(alloc, formula)?))
-}
-
-/// Holds where each of the formulas does.
-pub(crate) fn conjunction(formulas: Vec<Formula<RowAtom>>) -> Formula<RowAtom>
-    ensures { plain_formula result ≡ plain.all_of (plain.formulas_of (map plain_formula formulas.items)) }
-{
-    Formula::And(formulas)
-}
-
-/// Holds where one of the formulas does.
-pub(crate) fn disjunction(formulas: Vec<Formula<RowAtom>>) -> Formula<RowAtom>
-    ensures { plain_formula result ≡ plain.some_of (plain.formulas_of (map plain_formula formulas.items)) }
-{
-    Formula::Or(formulas)
-}
 
 /// The two formulas as a list.
 fn pair(

@@ -4,17 +4,15 @@ ghost use Rattle.std.specs.Prelude.{◌≡◌, IfOk, map, slice_index_or, slice_
 ghost use Rattle.std.specs.Option.{option_map};
 ghost use Rattle.model_tree.specs.Formula as plain;
 ghost use Rattle.label_core.specs.Formula.{plain_formula};
-ghost use Rattle.record_label.specs.Maps.{forms_of, formulas_in, sides_in, are_one, put_compare, put_side, put_atom, put_formula, put_entry, IsOutsidePut, IsOutsideOf, IsOutsideEntry, SomeOutside};
+ghost use Rattle.record_label.specs.Maps.{forms_of, formulas_in, sides_in, are_one, put_compare, put_side, put_atom, put_formula, put_entry, IsOutsideCompared, IsOutsidePut, IsOutsideOf, IsOutsideEntry, SomeOutside};
 ghost use Rattle.record_label.specs.PlainMaps.{plain_entry, Gives};
 ghost use Rattle.label_core.specs.declared.pair.PairAtom.{PairAtom};
 
-use crate::copies::copy_formula;
-use crate::guards::{conjunction, disjunction, negation};
 use crate::maps::{RowEntry, RowMap};
 use crate::rows::RowAtom;
 use fast_fault::{Memory, Text};
 use flat_label::{TextAtom, TextSide};
-use label_core::{Formula, PairAtom};
+use label_core::{Formula, PairAtom, conjunction, disjunction, negation};
 use lin_form::{Form, FormStop};
 use lin_solve::Compare;
 use std::alloc::Global;
@@ -69,7 +67,7 @@ fn put_truth(alloc: Global, number: u32, entries: &[RowEntry]) -> Result<Formula
     ensures { IfOk result (λ made. plain_formula made ≡ slice_index_or (formulas_in (map plain_entry entries.now)) number plain.no) }
 {
     match formula_at(entries, number) {
-        Some(formula) => copy_formula(alloc, formula),
+        Some(formula) => formula.copy(alloc),
         None => Ok(Formula::No),
     }
 }
@@ -126,17 +124,10 @@ fn put_texts(
     Ok(are_one(left, right))
 }
 
-/// A comparison with the entries put for the fields.
-fn put_compare(
-    alloc: Global,
-    compare: &Compare,
-    entries: &[RowEntry],
-    forms: &[Form],
-) -> Result<Compare, FormStop>
-    requires { forms.now ≡ forms_of (map plain_entry entries.now) }
-    ensures { Gives (λ made. made) (put_compare (map plain_entry entries.now) compare.now) (IsOutsidePut (map plain_entry entries.now) (PairAtom.Left compare.now)) result }
+/// A comparison with the forms put for its fields.
+fn put_compare(alloc: Global, compare: &Compare, forms: &[Form]) -> Result<Compare, FormStop>
+    ensures { Gives (λ made. made) (put_compare forms.now compare.now) (IsOutsideCompared forms.now compare.now) result }
 {
-    let _entries = entries;
     let left = compare.left.subst(alloc, forms)?;
     let right = compare.right.subst(alloc, forms)?;
     Ok(Compare {
@@ -158,7 +149,7 @@ pub fn put_atom(
 {
     match atom {
         PairAtom::Left(compare) => {
-            let made = put_compare(alloc, compare, entries, forms)?;
+            let made = put_compare(alloc, compare, forms)?;
             Ok(Formula::Atom(PairAtom::Left(made)))
         }
         PairAtom::Right(PairAtom::Left(truth)) => Ok(put_truth(alloc, truth.field, entries)?),

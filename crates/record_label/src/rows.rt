@@ -226,10 +226,6 @@ impl Theory for RowLabels {
         }
     }
 
-    fn copy_atom(&self, alloc: Global, atom: &RowAtom) -> Result<RowAtom, Memory> {
-        self.parts().copy_atom(alloc, atom)
-    }
-
     fn copy_value(&self, alloc: Global, value: &Label) -> Result<Label, Memory> {
         value.copy(alloc)
     }
