@@ -29,8 +29,8 @@ use Rattle.flat_label.specs.Bools.{truth_at_label}
 use Rattle.flat_label.specs.Texts.{side_text, texts_label, text_at_label, SideFits}
 use Rattle.lin_solve.specs.Wholes.{wholes_label, wholes_of}
 use Rattle.lin_solve.specs.Equal.{wholes_back}
-use Rattle.record_label.specs.Rows.{truths_in, texts_in, RowAtom, count_of}
-use Rattle.record_label.specs.Guards.{comparison_by, is_numeric, side_of, written_in, written_in_all, written_in_both, comparison_of, compared_by_forms, compared_by, agreement_of, IsGuard, IsGuardOf, IsEqualityOf, IsFormulaOf, AreFormulasOf}
+use Rattle.record_label.specs.Rows.{truths_in, texts_in, RowAtom, RowFits, count_of}
+use Rattle.record_label.specs.Guards.{comparison_by, is_numeric, side_of, written_in, written_in_all, written_in_both, comparison_of, compared_by_forms, compared_by, pair_of, agreement_of, IsGuard, IsGuardOf, IsEqualityOf, IsFormulaOf, AreFormulasOf}
 use Rattle.record_label.proofs.FieldFacts.{truth_field, text_field, number_low, truth_no_text, truth_no_whole, text_no_whole}
 use Rattle.fast_syntax.specs.Plain.{plain_expr, plain_node}
 use Rattle.fast_syntax.specs.declared.expressions.Expr.{Expr}
@@ -194,17 +194,17 @@ module _ (fields : List PlainField) where
     }
 
     -- two tests
-    tests_guard : is_guard fields a ≡ true → is_guard fields b ≡ true → (f g f' g' : Formula RowAtom) → IsGuardOf fields a f → IsGuardOf fields b g → IsGuardOf fields a f' → IsGuardOf fields b g'
-        → IsEqualityOf fields a b (some_of (formula (all_of (formula f (formula g no_formulas))) (formula (negation (some_of (formula f' (formula g' no_formulas)))) no_formulas)))
-    tests_guard left right f g f' g' of_a of_b of_a' of_b' = record {
-      holds = λ values sorts.
-          (λ i. (of_a.holds values sorts i && (of_b.holds values sorts i && true)) || (not (of_a'.holds values sorts i || (of_b'.holds values sorts i || false)) || false))
-          ∙ agree (is_true fields values a) (is_true fields values b)
-          ∙ (λ i. same_value (sym (truth_of_sort (value_of fields values a) (guard_sort fields values a sorts left)) i) (sym (truth_of_sort (value_of fields values b) (guard_sort fields values b sorts right)) i));
-      atoms = subst (λ t. EveryAtom (Contains (cond t (Right (Right (record { left = side_of fields a; right = side_of fields b })) ∷ []) (written_in fields a ++ written_in fields b))) (some_of (formula (all_of (formula f (formula g no_formulas))) (formula (negation (some_of (formula f' (formula g' no_formulas)))) no_formulas)))) (sym (guard_no_text a left))
-          ((more_left (written_in fields a) (written_in fields b) f of_a.atoms, (more_right (written_in fields a) (written_in fields b) g of_b.atoms, tt)), ((more_left (written_in fields a) (written_in fields b) f' of_a'.atoms, (more_right (written_in fields a) (written_in fields b) g' of_b'.atoms, tt)), tt));
-      fit = ((of_a.fit, (of_b.fit, tt)), ((of_a'.fit, (of_b'.fit, tt)), tt));
-    }
+    tests_guard : is_guard fields a ≡ true → is_guard fields b ≡ true → (f g : Formula RowAtom) → IsGuardOf fields a f → IsGuardOf fields b g → IsEqualityOf fields a b (agreement_of f g)
+    tests_guard left right f g of_a of_b =
+        let atoms : EveryAtomOfAll (Contains (written_in fields a ++ written_in fields b)) (pair_of f g) = (more_left (written_in fields a) (written_in fields b) f of_a.atoms, (more_right (written_in fields a) (written_in fields b) g of_b.atoms, tt)) in
+        let fit : EveryAtomOfAll (RowFits (map (λ x. x.sort) fields)) (pair_of f g) = (of_a.fit, (of_b.fit, tt)) in record {
+          holds = λ values sorts.
+              (λ i. (of_a.holds values sorts i && (of_b.holds values sorts i && true)) || (not (of_a.holds values sorts i || (of_b.holds values sorts i || false)) || false))
+              ∙ agree (is_true fields values a) (is_true fields values b)
+              ∙ (λ i. same_value (sym (truth_of_sort (value_of fields values a) (guard_sort fields values a sorts left)) i) (sym (truth_of_sort (value_of fields values b) (guard_sort fields values b sorts right)) i));
+          atoms = subst (λ t. EveryAtom (Contains (cond t (Right (Right (record { left = side_of fields a; right = side_of fields b })) ∷ []) (written_in fields a ++ written_in fields b))) (agreement_of f g)) (sym (guard_no_text a left)) (atoms, (atoms, tt));
+          fit = (fit, (fit, tt));
+        }
 
     found_if : (x y : Bool) (z : TextAtom) (found : TextAtom) → cond {A = Option TextAtom} (x && y) (Some z) None ≡ Some found → (x ≡ true) × (y ≡ true) × (z ≡ found)
     found_if true true z found e = (refl, refl, cc)
@@ -246,12 +246,11 @@ module _ (fields : List PlainField) where
     text_comparison p rel found other e guard = compared_guard p rel (atom (Right (Right found))) other (comparable rel other guard).0 (comparison_guard found e)
 
     -- a comparison of two guards
-    pub guard_comparison : (p : Pos) (rel : Rel) (f g f' g' : Formula RowAtom) → is_numeric fields a ≡ false → None ≡ comparison_of fields a b → IsFormulaOf fields a f → IsFormulaOf fields b g → IsFormulaOf fields a f' → IsFormulaOf fields b g'
-        → IsFormulaOf fields (syntax.compare p rel a b) (compared_by rel (agreement_of (f ∷ g ∷ []) (f' ∷ g' ∷ [])))
-    guard_comparison p rel f g f' g' other none of_a of_b of_a' of_b' guard =
+    pub guard_comparison : (p : Pos) (rel : Rel) (f g : Formula RowAtom) → is_numeric fields a ≡ false → None ≡ comparison_of fields a b → IsFormulaOf fields a f → IsFormulaOf fields b g → IsFormulaOf fields (syntax.compare p rel a b) (compared_by rel (agreement_of f g))
+    guard_comparison p rel f g other none of_a of_b guard =
         let asks = comparable rel other guard in
         let guards = missed_if (is_guard fields a) (is_guard fields b) (is_text fields a) (is_text fields b) (record { left = side_of fields a; right = side_of fields b }) asks.1 (sym none) in
-        compared_guard p rel (agreement_of (f ∷ g ∷ []) (f' ∷ g' ∷ [])) other asks.0 (tests_guard guards.0 guards.1 f g f' g' (of_a guards.0) (of_b guards.1) (of_a' guards.0) (of_b' guards.1))
+        compared_guard p rel (agreement_of f g) other asks.0 (tests_guard guards.0 guards.1 f g (of_a guards.0) (of_b guards.1))
 
     -- a comparison of two whole numbers
     number_guard : length fields ≤ 8 → (p : Pos) (rel : Rel) → is_numeric fields a ≡ true → is_whole fields a ≡ true → is_whole fields b ≡ true → IsGuardOf fields (syntax.compare p rel a b) (compared_by_forms rel (form_of fields a) (form_of fields b))

@@ -2,7 +2,7 @@
 use Rattle.std.specs.Prelude.{◌≡◌, Bool, true, false, ◌&&◌, cond, List, [], ◌∷◌, ◌++◌, map, Contains, Option, Some, None}
 use Rattle.model_tree.specs.Label.{Field, row}
 use Rattle.model_tree.specs.Signature.{PlainField, sort_of, wholes, truths, texts}
-use Rattle.model_tree.specs.Formula.{Formula, atom, negation, all_of, some_of, formula, no_formulas, formulas_of, formula_holds, EveryAtom}
+use Rattle.model_tree.specs.Formula.{Formula, Formulas, atom, negation, all_of, some_of, formula, no_formulas, formula_holds, EveryAtom}
 use Rattle.model_grammar.specs.declared.Rel.{Rel}
 use Rattle.model_grammar.specs.declared.Rel.TheVariants.{Equal, NotEqual, Less, AtMost, Greater, AtLeast}
 use Rattle.model_grammar.specs.declared.Chain.TheVariants.{Disjunction, Conjunction, Sum, Product}
@@ -80,9 +80,12 @@ comparison_of fields a b = cond (is_text fields a && is_text fields b) (Some (re
 abbrev pub written_in_both : List PlainField → Expr → Expr → List RowAtom
 written_in_both fields a b = cond (is_text fields a) (Right (Right (record { left = side_of fields a; right = side_of fields b })) ∷ []) (written_in fields a ++ written_in fields b)
 
+abbrev pub pair_of : Formula RowAtom → Formula RowAtom → Formulas RowAtom
+pair_of f g = formula f (formula g no_formulas)
+
 -- both hold, or neither does
-abbrev pub agreement_of : List (Formula RowAtom) → List (Formula RowAtom) → Formula RowAtom
-agreement_of both either = some_of (formula (all_of (formulas_of both)) (formula (negation (some_of (formulas_of either))) no_formulas))
+abbrev pub agreement_of : Formula RowAtom → Formula RowAtom → Formula RowAtom
+agreement_of f g = some_of (pair_of (all_of (pair_of f g)) (negation (some_of (pair_of f g))))
 
 -- what a comparison asks for, by the formula that says that its two sides are the same
 abbrev pub compared_by : Rel → Formula RowAtom → Formula RowAtom

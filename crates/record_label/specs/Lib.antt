@@ -6,3 +6,4 @@ pub mod Parts
 pub mod Maps
 pub mod PlainMaps
 pub mod MapLaws
+pub mod Derived

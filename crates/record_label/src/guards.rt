@@ -1,6 +1,7 @@
 //! The formula of a label expression.
 
-ghost use Rattle.std.specs.Prelude.{◌≡◌, ◌≤◌, [], ◌∷◌, ◌++◌, true, IfOk, MatchResult, Some, None, cond, length, map};
+ghost use Rattle.std.specs.Prelude.{◌≡◌, ◌≤◌, ◌++◌, true, IfOk, MatchResult, Some, None, cond, length, map};
+ghost use Rattle.model_tree.specs.Formula as plain;
 ghost use Rattle.model_label.specs.Tests.{is_text};
 ghost use Rattle.model_guard.specs.Forms.{form_of, forms_in, forms_in_all, HasOutside};
 ghost use Rattle.model_guard.specs.Guards.{is_guard};
@@ -8,7 +9,7 @@ ghost use Rattle.lin_form.specs.Stops.{StopsAt};
 ghost use Rattle.label_core.specs.Formula.{plain_formula};
 ghost use Rattle.fast_tree.specs.Signatures.{plain_signature};
 ghost use Rattle.fast_syntax.specs.Plain.{plain_expr};
-ghost use Rattle.record_label.specs.Guards.{IsGuardOf, IsFormulaOf, AreFormulasOf, agreement_of, compared_by, compared_by_forms, comparison_of, is_numeric, side_of};
+ghost use Rattle.record_label.specs.Guards.{IsGuardOf, IsFormulaOf, AreFormulasOf, pair_of, agreement_of, compared_by, compared_by_forms, comparison_of, is_numeric, side_of};
 ghost use Rattle.record_label.specs.Parts.{unmarked};
 
 use crate::forms::form_of;
@@ -23,20 +24,6 @@ use label_core::{Formula, PairAtom, conjunction, disjunction, negation};
 use lin_form::{Form, FormStop};
 use lin_solve::{Compare, Relation};
 use std::alloc::Global;
-
-/// The two formulas as a list.
-fn pair(
-    alloc: Global,
-    first: Formula<RowAtom>,
-    second: Formula<RowAtom>,
-) -> Result<Vec<Formula<RowAtom>>, Memory>
-    ensures { IfOk result (λ both. both.items ≡ first ∷ second ∷ []) }
-{
-    let mut both = Vec::new(alloc);
-    both.push(first)?;
-    both.push(second)?;
-    Ok(both)
-}
 
 /// The side that the expression is, if it is a text.
 pub(crate) fn side(
@@ -77,16 +64,30 @@ fn comparison(
     Ok(None)
 }
 
+/// Neither holds.
+fn neither(
+    alloc: Global,
+    first: &Formula<RowAtom>,
+    second: &Formula<RowAtom>,
+) -> Result<Formula<RowAtom>, Memory>
+    ensures { IfOk result (λ made. plain_formula made ≡ plain.negation (plain.some_of (pair_of (plain_formula first.now) (plain_formula second.now)))) }
+{
+    let first = first.copy(alloc)?;
+    let second = second.copy(alloc)?;
+    negation(alloc, disjunction(vec![in alloc; first, second]?))
+}
+
 /// Both hold, or neither does.
 fn agreement(
     alloc: Global,
-    both: Vec<Formula<RowAtom>>,
-    either: Vec<Formula<RowAtom>>,
+    first: Formula<RowAtom>,
+    second: Formula<RowAtom>,
 ) -> Result<Formula<RowAtom>, Memory>
-    ensures { IfOk result (λ made. plain_formula made ≡ agreement_of (map plain_formula both.items) (map plain_formula either.items)) }
+    ensures { IfOk result (λ made. plain_formula made ≡ agreement_of (plain_formula first) (plain_formula second)) }
 {
-    let neither = negation(alloc, disjunction(either))?;
-    Ok(disjunction(pair(alloc, conjunction(both), neither)?))
+    let neither = neither(alloc, &first, &second)?;
+    let both = conjunction(vec![in alloc; first, second]?);
+    Ok(disjunction(vec![in alloc; both, neither]?))
 }
 
 /// What the comparison asks for, where the formula says that the two sides are the same.
@@ -180,10 +181,8 @@ fn formula_of(
                 return Ok(compared(alloc, *rel, Formula::Atom(atom))?);
             }
             let first = formula_of(alloc, left, signature)?;
-            let both = pair(alloc, first, formula_of(alloc, right, signature)?)?;
-            let first = formula_of(alloc, left, signature)?;
-            let either = pair(alloc, first, formula_of(alloc, right, signature)?)?;
-            Ok(compared(alloc, *rel, agreement(alloc, both, either)?)?)
+            let second = formula_of(alloc, right, signature)?;
+            Ok(compared(alloc, *rel, agreement(alloc, first, second)?)?)
         }
         _ => Ok(Formula::No),
     }

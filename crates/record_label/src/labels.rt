@@ -5,7 +5,6 @@ use crate::puts::{forms_of, put_atom};
 use crate::rows::{RowAtom, RowLabels};
 use fast_fault::Memory;
 use fast_tree::Label;
-use flat_label::TextSide;
 use label_core::{Applied, Labels, Put, PutMap, Theory};
 use lin_form::FormStop;
 use std::alloc::Global;
@@ -13,12 +12,12 @@ use std::alloc::Global;
 impl Labels for RowLabels {
     type Map = RowMap;
 
-    ghost use Rattle.std.specs.Prelude.{◌≡◌, refl, map, Contains};
+    ghost use Rattle.std.specs.Prelude.{◌≡◌, map, Contains};
     ghost use Rattle.label_core.specs.Formula.{atoms_in};
     ghost use Rattle.record_label.specs.Maps.{made, sort_by, EntriesFit, put_atom, IsOutsidePut, IsOutsideEntry, SomeOutside};
     ghost use Rattle.record_label.specs.PlainMaps.{plain_entry};
     ghost use Rattle.record_label.specs.MapLaws.{made_labels, equal_made, equal_maps_fit, equal_maps_make};
-    ghost use Rattle.record_label.specs.contracts.rows.RowLabelsTheory.TheImpl.Laws.{equal_atoms-law, equal_atoms_fit-law};
+    ghost use Rattle.record_label.specs.Derived.{same_atoms, same_sides, sides_derived, entries_derived, equal_rows, equal_rows_fit};
 
     ghost make = { λ m. made (map plain_entry m.entries.items) };
 
@@ -34,11 +33,11 @@ impl Labels for RowLabels {
 
     ghost made_labels = { λ t into m l fits makes has. made_labels into (map plain_entry m.entries.items) l makes };
 
-    ghost equal_maps = { λ m n l. equal_made ⟦<RowAtom as PartialEq>⟧.eq ⟦<TextSide as PartialEq>⟧.eq (record { fields = λ _ _. refl; field_constant = λ _ _. refl; constant_field = λ _ _. refl; constants = λ _ _. refl }) ⟦<RowEntry as PartialEq>⟧.eq (record { numbers = λ _ _. refl; formulas = λ _ _. refl; sides = λ _ _. refl; number_truth = λ _ _. refl; number_text = λ _ _. refl; truth_number = λ _ _. refl; truth_text = λ _ _. refl; text_number = λ _ _. refl; text_truth = λ _ _. refl }) equal_atoms-law m.entries.items n.entries.items l };
+    ghost equal_maps = { λ m n l. equal_made same_atoms same_sides sides_derived ⟦<RowEntry as PartialEq>⟧.eq entries_derived equal_rows m.entries.items n.entries.items l };
 
-    ghost equal_maps_fit = { λ t m n. equal_maps_fit ⟦<RowAtom as PartialEq>⟧.eq ⟦<TextSide as PartialEq>⟧.eq (record { fields = λ _ _. refl; field_constant = λ _ _. refl; constant_field = λ _ _. refl; constants = λ _ _. refl }) ⟦<RowEntry as PartialEq>⟧.eq (record { numbers = λ _ _. refl; formulas = λ _ _. refl; sides = λ _ _. refl; number_truth = λ _ _. refl; number_text = λ _ _. refl; truth_number = λ _ _. refl; truth_text = λ _ _. refl; text_number = λ _ _. refl; text_truth = λ _ _. refl }) t (equal_atoms_fit-law t) m.entries.items n.entries.items };
+    ghost equal_maps_fit = { λ t m n. equal_maps_fit same_atoms same_sides sides_derived ⟦<RowEntry as PartialEq>⟧.eq entries_derived t (equal_rows_fit t) m.entries.items n.entries.items };
 
-    ghost equal_maps_make = { λ t m n. equal_maps_make ⟦<RowAtom as PartialEq>⟧.eq ⟦<TextSide as PartialEq>⟧.eq (record { fields = λ _ _. refl; field_constant = λ _ _. refl; constant_field = λ _ _. refl; constants = λ _ _. refl }) ⟦<RowEntry as PartialEq>⟧.eq (record { numbers = λ _ _. refl; formulas = λ _ _. refl; sides = λ _ _. refl; number_truth = λ _ _. refl; number_text = λ _ _. refl; truth_number = λ _ _. refl; truth_text = λ _ _. refl; text_number = λ _ _. refl; text_truth = λ _ _. refl }) t m.entries.items n.entries.items };
+    ghost equal_maps_make = { λ t m n. equal_maps_make same_atoms same_sides sides_derived ⟦<RowEntry as PartialEq>⟧.eq entries_derived t m.entries.items n.entries.items };
 
     fn copy_map(&self, alloc: Global, map: &RowMap) -> Result<RowMap, Memory> {
         map.copy(alloc)

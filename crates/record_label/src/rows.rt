@@ -18,7 +18,7 @@ use fast_fault::Memory;
 use fast_tree::{Label, Signature, Sort, Value};
 use flat_label::{BoolAtom, Bools, Never, TextAtom, TextSide, Texts};
 use label_core::{Lit, Pair, PairAtom, PairChain, Theory, Verdict};
-use lin_solve::{Chain, Compare, Ints, Relation};
+use lin_solve::{Chain, Compare, Ints};
 use std::alloc::Global;
 use std::marker::Model;
 
@@ -157,22 +157,19 @@ impl Theory for RowLabels {
 
     type Chain = Chain;
 
-    ghost use Rattle.std.specs.Prelude.{◌≡◌, ◌<◌, refl};
-    ghost use Rattle.model_tree.specs.Signature.{wholes, truths, texts, HasSorts};
+    ghost use Rattle.std.specs.Prelude.{◌≡◌, refl};
+    ghost use Rattle.model_tree.specs.Signature.{HasSorts};
     ghost use Rattle.fast_tree.specs.Entries.{label_meaning};
     ghost use Rattle.label_core.specs.Atoms.{EachHasEqual};
     ghost use Rattle.label_core.specs.Lit.{atoms_of};
-    ghost use Rattle.label_core.specs.Pair.{lefts, lefts_have_equal, equal_pair_atoms, equal_pair_atoms_fit};
-    ghost use Rattle.flat_label.specs.Bools.{truth_at, equal_fields, equal_fields_fit};
-    ghost use Rattle.flat_label.specs.Texts.{are_one_text, SidesFit, equal_atoms_hold, equal_atoms_fit};
+    ghost use Rattle.label_core.specs.Pair.{lefts};
     ghost use Rattle.model_chain.specs.Each.{EachTwo};
     ghost use Rattle.model_chain.specs.Chains.{Passes, IsFar};
     ghost use Rattle.lin_solve.specs.Plain.{plain_literals};
     ghost use Rattle.lin_solve.specs.Shown.{plain_chain};
-    ghost use Rattle.lin_solve.specs.Wholes.{compare_at, CompareFits};
-    ghost use Rattle.lin_solve.specs.Equal.{equal_hold, equal_fit, among_grows, compare_laws};
-    ghost use Rattle.record_label.specs.Rows.{count_of, flat_holds, row_holds, FlatFits, RowFits, KeepsSorts, parts_of};
+    ghost use Rattle.record_label.specs.Rows.{row_holds, RowFits, KeepsSorts};
     ghost use Rattle.record_label.specs.Equal.{equal_labels};
+    ghost use Rattle.record_label.specs.Derived.{equal_rows, equal_rows_fit, among_more};
 
     ghost label_of = { label_meaning };
 
@@ -190,15 +187,15 @@ impl Theory for RowLabels {
 
     ghost chain_is_far = { λ t c. IsFar (plain_chain c) };
 
-    ghost equal_atoms = { λ a b l. equal_pair_atoms ⟦<Compare as PartialEq>⟧.eq ⟦<PairAtom<BoolAtom, TextAtom> as PartialEq>⟧.eq ⟦<PairAtom<Compare, PairAtom<BoolAtom, TextAtom>> as PartialEq>⟧.eq (record { left_left = λ _ _. refl; left_right = λ _ _. refl; right_left = λ _ _. refl; right_right = λ _ _. refl }) compare_at flat_holds (equal_hold ⟦<Relation as PartialEq>⟧.eq (record { less = refl; at_most = refl; equal = refl; less_at_most = refl; less_equal = refl; at_most_less = refl; at_most_equal = refl; equal_less = refl; equal_at_most = refl }) ⟦<Compare as PartialEq>⟧.eq (record { parts = λ _ _. refl })) (equal_pair_atoms ⟦<BoolAtom as PartialEq>⟧.eq ⟦<TextAtom as PartialEq>⟧.eq ⟦<PairAtom<BoolAtom, TextAtom> as PartialEq>⟧.eq (record { left_left = λ _ _. refl; left_right = λ _ _. refl; right_left = λ _ _. refl; right_right = λ _ _. refl }) (λ c. truth_at c.field) are_one_text (λ c d. equal_fields c.field d.field) (equal_atoms_hold ⟦<TextSide as PartialEq>⟧.eq (record { fields = λ _ _. refl; field_constant = λ _ _. refl; constant_field = λ _ _. refl; constants = λ _ _. refl }))) a b (parts_of l) };
+    ghost equal_atoms = { equal_rows };
 
-    ghost equal_atoms_fit = { λ t. equal_pair_atoms_fit ⟦<Compare as PartialEq>⟧.eq ⟦<PairAtom<BoolAtom, TextAtom> as PartialEq>⟧.eq ⟦<PairAtom<Compare, PairAtom<BoolAtom, TextAtom>> as PartialEq>⟧.eq (record { left_left = λ _ _. refl; left_right = λ _ _. refl; right_left = λ _ _. refl; right_right = λ _ _. refl }) (CompareFits (count_of wholes t)) (FlatFits t) (equal_fit ⟦<Relation as PartialEq>⟧.eq (record { less = refl; at_most = refl; equal = refl; less_at_most = refl; less_equal = refl; at_most_less = refl; at_most_equal = refl; equal_less = refl; equal_at_most = refl }) ⟦<Compare as PartialEq>⟧.eq (record { parts = λ _ _. refl }) (count_of wholes t)) (equal_pair_atoms_fit ⟦<BoolAtom as PartialEq>⟧.eq ⟦<TextAtom as PartialEq>⟧.eq ⟦<PairAtom<BoolAtom, TextAtom> as PartialEq>⟧.eq (record { left_left = λ _ _. refl; left_right = λ _ _. refl; right_left = λ _ _. refl; right_right = λ _ _. refl }) (λ c. c.field < count_of truths t) (SidesFit (count_of texts t)) (λ c d. equal_fields_fit c.field d.field (count_of truths t)) (equal_atoms_fit ⟦<TextSide as PartialEq>⟧.eq (record { fields = λ _ _. refl; field_constant = λ _ _. refl; constant_field = λ _ _. refl; constants = λ _ _. refl }) (count_of texts t))) };
+    ghost equal_atoms_fit = { equal_rows_fit };
 
     ghost equal_values = { equal_labels ⟦<Value as Ord>⟧.cmp (record { numbers = λ _ _. refl; truths = λ _ _. refl; texts = λ _ _. refl; number_truth = λ _ _. refl; number_text = λ _ _. refl; truth_number = λ _ _. refl; truth_text = λ _ _. refl; text_number = λ _ _. refl; text_truth = λ _ _. refl }) };
 
     ghost keeps_labels = { λ t l kept. kept.0 };
 
-    ghost chain_grows = { λ t atoms more c each over. (among_grows ⟦<Compare as PartialEq>⟧.eq (compare_laws ⟦<Relation as PartialEq>⟧.eq (record { less = refl; at_most = refl; equal = refl; less_at_most = refl; less_equal = refl; at_most_less = refl; at_most_equal = refl; equal_less = refl; equal_at_most = refl }) ⟦<Compare as PartialEq>⟧.eq (record { parts = λ _ _. refl })) (atoms_of c.literals.items) (lefts atoms) (lefts more) (lefts_have_equal ⟦<Compare as PartialEq>⟧.eq ⟦<PairAtom<BoolAtom, TextAtom> as PartialEq>⟧.eq ⟦<PairAtom<Compare, PairAtom<BoolAtom, TextAtom>> as PartialEq>⟧.eq (record { left_left = λ _ _. refl; left_right = λ _ _. refl; right_left = λ _ _. refl; right_right = λ _ _. refl }) atoms more each) over.0, over.1) };
+    ghost chain_grows = { λ t atoms more c each over. (among_more (atoms_of c.literals.items) atoms more each over.0, over.1) };
 
     fn holds(&self, atom: &RowAtom, value: &Label) -> bool {
         match atom {

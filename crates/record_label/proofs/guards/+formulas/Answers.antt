@@ -83,11 +83,11 @@ formula_of-returns-in_ok-compared-in-Compare-2 t c =
     let b = plain_expr c.in-Compare.right.value in
     let other : is_numeric fields a ≡ false = sym (rw c.deref-in-Compare.ensures at c.is_numeric.ensures) ∙ c.if-is_numeric.false in
     let none : None ≡ comparison_of fields a b = sym c.in_default-2.is ∙ (rw (c.deref-in-Compare-2.ensures, c.deref-in-Compare-3.ensures) at (c.in_ok-atom-in-Compare.ensures {u = tt})) in
-    let made : plain_formula c.in_ok-compared-in-Compare-2.field-0 ≡ compared_by rel (agreement_of (plain_formula c.in_ok-first-in-Compare.first ∷ plain_formula c.in_ok-formula_of-in-Compare.field-0 ∷ []) (plain_formula c.in_ok-first-in-Compare-2.first ∷ plain_formula c.in_ok-formula_of-in-Compare-2.field-0 ∷ [])) =
-    c.in_ok-compared-in-Compare-2.ensures {u = tt} ∙ ap (compared_by rel) (c.in_ok-agreement-in-Compare.ensures {u = tt} ∙ (λ i. agreement_of (map plain_formula (c.in_ok-both-in-Compare.ensures {u = tt} i)) (map plain_formula (c.in_ok-either-in-Compare.ensures {u = tt} i)))) in
+    let f = plain_formula c.in_ok-first-in-Compare.first in
+    let g = plain_formula c.in_ok-second-in-Compare.second in
+    let made : plain_formula c.in_ok-compared-in-Compare-2.field-0 ≡ compared_by rel (agreement_of f g) = c.in_ok-compared-in-Compare-2.ensures {u = tt} ∙ ap (compared_by rel) (c.in_ok-agreement-in-Compare.ensures {u = tt}) in
     rw c.in-Compare.is (subst (IsFormulaOf fields (plain_node (Compare rel c.in-Compare.left c.in-Compare.right) place)) (sym made)
-    (guard_comparison fields a b place rel (plain_formula c.in_ok-first-in-Compare.first) (plain_formula c.in_ok-formula_of-in-Compare.field-0) (plain_formula c.in_ok-first-in-Compare-2.first) (plain_formula c.in_ok-formula_of-in-Compare-2.field-0) other none
-    (rw c.deref-in-Compare-4.ensures at (c.in_ok-first-in-Compare.ensures {u = tt})) (rw c.deref-in-Compare-5.ensures at (c.in_ok-formula_of-in-Compare.ensures {u = tt})) (rw c.deref-in-Compare-6.ensures at (c.in_ok-first-in-Compare-2.ensures {u = tt})) (rw c.deref-in-Compare-7.ensures at (c.in_ok-formula_of-in-Compare-2.ensures {u = tt}))))
+    (guard_comparison fields a b place rel f g other none (rw c.deref-in-Compare-4.ensures at (c.in_ok-first-in-Compare.ensures {u = tt})) (rw c.deref-in-Compare-5.ensures at (c.in_ok-second-in-Compare.ensures {u = tt}))))
 
 pub formula_of-returns-in_err-first-in-Compare : goal.formula_of-returns-in_err-first-in-Compare
 formula_of-returns-in_err-first-in-Compare t c =
@@ -97,29 +97,13 @@ formula_of-returns-in_err-first-in-Compare t c =
     let p = err_from_is_err_and c.from_residual-in_err-first-in-Compare.result c.from_residual-in_err-first-in-Compare.ensures.1 in
     rw (p.1, p.2, c.in-Compare.is) (stops_weaker (HasOutside (forms_in fields a)) (HasOutside (forms_in fields a ++ forms_in fields b)) c.in_err-first-in-Compare.field-0.0 (outside_left (forms_in fields a) (forms_in fields b)) (rw c.deref-in-Compare-4.ensures at (c.in_err-first-in-Compare.ensures {u = tt})))
 
-pub formula_of-returns-in_err-formula_of-in-Compare : goal.formula_of-returns-in_err-formula_of-in-Compare
-formula_of-returns-in_err-formula_of-in-Compare t c =
+pub formula_of-returns-in_err-second-in-Compare : goal.formula_of-returns-in_err-second-in-Compare
+formula_of-returns-in_err-second-in-Compare t c =
     let fields = (plain_signature c.args.signature.now).fields in
     let a = plain_expr c.in-Compare.left.value in
     let b = plain_expr c.in-Compare.right.value in
-    let p = err_from_is_err_and c.from_residual-in_err-formula_of-in-Compare.result c.from_residual-in_err-formula_of-in-Compare.ensures.1 in
-    rw (p.1, p.2, c.in-Compare.is) (stops_weaker (HasOutside (forms_in fields b)) (HasOutside (forms_in fields a ++ forms_in fields b)) c.in_err-formula_of-in-Compare.field-0.0 (outside_right (forms_in fields a) (forms_in fields b)) (rw c.deref-in-Compare-5.ensures at (c.in_err-formula_of-in-Compare.ensures {u = tt})))
-
-pub formula_of-returns-in_err-first-in-Compare-2 : goal.formula_of-returns-in_err-first-in-Compare-2
-formula_of-returns-in_err-first-in-Compare-2 t c =
-    let fields = (plain_signature c.args.signature.now).fields in
-    let a = plain_expr c.in-Compare.left.value in
-    let b = plain_expr c.in-Compare.right.value in
-    let p = err_from_is_err_and c.from_residual-in_err-first-in-Compare-2.result c.from_residual-in_err-first-in-Compare-2.ensures.1 in
-    rw (p.1, p.2, c.in-Compare.is) (stops_weaker (HasOutside (forms_in fields a)) (HasOutside (forms_in fields a ++ forms_in fields b)) c.in_err-first-in-Compare-2.field-0.0 (outside_left (forms_in fields a) (forms_in fields b)) (rw c.deref-in-Compare-6.ensures at (c.in_err-first-in-Compare-2.ensures {u = tt})))
-
-pub formula_of-returns-in_err-formula_of-in-Compare-2 : goal.formula_of-returns-in_err-formula_of-in-Compare-2
-formula_of-returns-in_err-formula_of-in-Compare-2 t c =
-    let fields = (plain_signature c.args.signature.now).fields in
-    let a = plain_expr c.in-Compare.left.value in
-    let b = plain_expr c.in-Compare.right.value in
-    let p = err_from_is_err_and c.from_residual-in_err-formula_of-in-Compare-2.result c.from_residual-in_err-formula_of-in-Compare-2.ensures.1 in
-    rw (p.1, p.2, c.in-Compare.is) (stops_weaker (HasOutside (forms_in fields b)) (HasOutside (forms_in fields a ++ forms_in fields b)) c.in_err-formula_of-in-Compare-2.field-0.0 (outside_right (forms_in fields a) (forms_in fields b)) (rw c.deref-in-Compare-7.ensures at (c.in_err-formula_of-in-Compare-2.ensures {u = tt})))
+    let p = err_from_is_err_and c.from_residual-in_err-second-in-Compare.result c.from_residual-in_err-second-in-Compare.ensures.1 in
+    rw (p.1, p.2, c.in-Compare.is) (stops_weaker (HasOutside (forms_in fields b)) (HasOutside (forms_in fields a ++ forms_in fields b)) c.in_err-second-in-Compare.field-0.0 (outside_right (forms_in fields a) (forms_in fields b)) (rw c.deref-in-Compare-5.ensures at (c.in_err-second-in-Compare.ensures {u = tt})))
 
 pub formulas_of-returns-in_err-formula_of : goal.formulas_of-returns-in_err-formula_of
 formulas_of-returns-in_err-formula_of t c =
