@@ -1,22 +1,36 @@
-//! Conjunctions over labels of several fields, and maps of them. The answers were found by hand.
+//! Conjunctions over labels of several fields, guards, and maps of labels. The answers were found by hand.
 
-ghost use Rattle.std.specs.Prelude.{IsTrue};
+ghost use Rattle.std.specs.Prelude.{◌≡◌, ◌<◌, ◌≤◌, [], ◌∷◌, true, IsTrue, IfOk, length, map};
+ghost use Rattle.model_tree.specs.Signature.{wholes, truths, texts};
+ghost use Rattle.model_tree.specs.Signature as model;
+ghost use Rattle.model_guard.specs.Guards.{is_guard};
+ghost use Rattle.fast_tree.specs.Entries.{label_meaning};
+ghost use Rattle.fast_tree.specs.Signatures.{plain_signature, plain_sort};
+ghost use Rattle.fast_syntax.specs.Plain.{plain_expr};
 ghost use Rattle.label_core.specs.Lit.{LitsFit};
-ghost use Rattle.record_label.specs.Rows.{RowFits};
+ghost use Rattle.record_label.specs.Rows.{RowFits, KeepsSorts};
+ghost use Rattle.record_label.specs.Maps.{EntriesFit, is_of_sort, sort_by};
+ghost use Rattle.record_label.specs.PlainMaps.{plain_entry};
 
+use crate::lookups::has_field;
 use crate::puts::{forms_of, put_atom};
-use crate::{RowAtom, RowEntry, RowLabels, RowMap};
-use fast_fault::{Memory, Text};
-use fast_tree::{FieldOf, Signature, Sort};
+use crate::{RowAtom, RowEntry, RowLabels, RowMap, guard_of, map_of};
+use fast_fault::{Memory, Pos, Text};
+use fast_syntax::Rel;
+use fast_syntax::expressions::{Expr, Node};
+use fast_tree::{FieldOf, Label, Signature, Sort, Value};
 use flat_label::{BoolAtom, TextAtom, TextSide};
-use label_core::{Formula, Lit, PairAtom, Theory, Verdict};
+use label_core::{Applied, Formula, Labels, Lit, PairAtom, Put, PutMap, Theory, Verdict};
 use lin_form::{Form, FormStop, Signed};
 use lin_solve::{Compare, Relation};
 use std::alloc::Global;
 use std::test::Fail;
 
-/// A type with a truth value, then the whole numbers x and y.
-fn signature(alloc: Global) -> Result<Signature, Memory> {
+/// A type with a truth value b, a whole number x, a text t and a whole number y.
+fn signature(alloc: Global) -> Result<Signature, Memory>
+    ensures few { IfOk result (λ made. length made.fields.items ≤ 8) }
+    ensures sorts { IfOk result (λ made. model.sorts_of (plain_signature made) ≡ truths ∷ wholes ∷ texts ∷ wholes ∷ []) }
+{
     let mut fields = Vec::new(alloc);
     fields.push(FieldOf {
         name: Text::of(alloc, "b")?,
@@ -25,6 +39,10 @@ fn signature(alloc: Global) -> Result<Signature, Memory> {
     fields.push(FieldOf {
         name: Text::of(alloc, "x")?,
         sort: Sort::Int,
+    })?;
+    fields.push(FieldOf {
+        name: Text::of(alloc, "t")?,
+        sort: Sort::Text,
     })?;
     fields.push(FieldOf {
         name: Text::of(alloc, "y")?,
@@ -84,20 +102,61 @@ fn all_fit(theory: &RowLabels, literals: &[Lit<RowAtom>]) -> bool
     literals.iter().all(|literal| theory.fits(&literal.atom))
 }
 
-/// What is decided: that there is a label, that there is none, or the width that is passed.
+/// What is decided: a label, which satisfies the literals, that there is none, or a chain that is far, or is not.
 #[derive(Clone, Copy, Debug, PartialEq, Eq)]
-enum Outcome {
+enum Answer {
     Label,
+    Other,
     Nothing,
-    Passed(u32),
+    Far,
+    Wide,
     Unfit,
+}
+
+/// Whether each literal has its sign at the value.
+fn all_hold<T: Theory>(theory: &T, literals: &[Lit<T::Atom>], value: &T::Value) -> bool
+    requires literals { LitsFit (T.atom_fits theory.now) literals.now }
+    requires value { T.keeps_label theory.now (T.label_of value.now) }
+{
+    for literal in literals {
+        if theory.holds(&literal.atom, value) != literal.sign {
+            return false;
+        }
+    }
+    true
+}
+
+/// What is decided, whatever the theory.
+fn outcome<T: Theory>(
+    alloc: Global,
+    theory: &T,
+    literals: &[Lit<T::Atom>],
+) -> Result<Answer, Memory>
+    requires { LitsFit (T.atom_fits theory.now) literals.now }
+{
+    match theory.decide(alloc, literals)? {
+        Verdict::Sat(value) => {
+            let copy = theory.copy_value(alloc, &value)?;
+            if copy == value && all_hold(theory, literals, &value) {
+                return Ok(Answer::Label);
+            }
+            Ok(Answer::Other)
+        }
+        Verdict::Unsat => Ok(Answer::Nothing),
+        Verdict::Wide(chain) => {
+            if theory.far(&chain) {
+                return Ok(Answer::Far);
+            }
+            Ok(Answer::Wide)
+        }
+    }
 }
 
 fn told(
     alloc: Global,
     theory: &RowLabels,
     rows: &[(Side, Relation, Side)],
-) -> Result<Outcome, FormStop> {
+) -> Result<Answer, FormStop> {
     let mut literals = Vec::new(alloc);
     let field = BoolAtom { field: 0 };
     literals.push(Lit {
@@ -116,13 +175,9 @@ fn told(
         })?;
     }
     if !all_fit(theory, &literals) {
-        return Ok(Outcome::Unfit);
+        return Ok(Answer::Unfit);
     }
-    match theory.decide(alloc, &literals)? {
-        Verdict::Sat(_label) => Ok(Outcome::Label),
-        Verdict::Unsat => Ok(Outcome::Nothing),
-        Verdict::Wide(chain) => Ok(Outcome::Passed(chain.bits)),
-    }
+    Ok(outcome(alloc, theory, &literals)?)
 }
 
 const MOST: i64 = 9223372036854775807;
@@ -132,14 +187,14 @@ fn decides_labels_with_whole_numbers(rt: HostRuntime) -> Result<(), Fail> {
     use Relation::{Equal, Less};
     use Side::{Constant, Line, Remainder};
     let alloc = rt.alloc();
-    let cases: &[(&str, &[(Side, Relation, Side)], Outcome)] = &[
+    let cases: &[(&str, &[(Side, Relation, Side)], Answer)] = &[
         (
             "x % 3 = 2 and x = -7",
             &[
                 (Remainder(0, 3), Equal, Constant(2)),
                 (Line(0, 1, 0), Equal, Constant(-7)),
             ],
-            Outcome::Label,
+            Answer::Label,
         ),
         (
             "x % 3 = 1 and x = -7",
@@ -147,17 +202,17 @@ fn decides_labels_with_whole_numbers(rt: HostRuntime) -> Result<(), Fail> {
                 (Remainder(0, 3), Equal, Constant(1)),
                 (Line(0, 1, 0), Equal, Constant(-7)),
             ],
-            Outcome::Nothing,
+            Answer::Nothing,
         ),
         (
             "2x = 2y + 1",
             &[(Line(0, 2, 0), Equal, Line(1, 2, 1))],
-            Outcome::Nothing,
+            Answer::Nothing,
         ),
         (
             "x > 2^63 - 1",
             &[(Constant(MOST), Less, Line(0, 1, 0))],
-            Outcome::Passed(64),
+            Answer::Far,
         ),
         (
             "x > 2^63 - 1 and x < 0",
@@ -165,16 +220,15 @@ fn decides_labels_with_whole_numbers(rt: HostRuntime) -> Result<(), Fail> {
                 (Constant(MOST), Less, Line(0, 1, 0)),
                 (Line(0, 1, 0), Less, Constant(0)),
             ],
-            Outcome::Nothing,
+            Answer::Nothing,
         ),
         (
             "a third whole number",
             &[(Line(0, 1, 2), Equal, Constant(0))],
-            Outcome::Unfit,
+            Answer::Unfit,
         ),
     ];
     let signature = signature(alloc)?;
-    assert!(rt; signature.fields.len() <= 8);
     let theory = RowLabels::new(alloc, &signature)?;
     for case in cases {
         assert_eq!(rt; told(alloc, &theory, case.1)?, case.2, "{}", case.0);
@@ -291,5 +345,171 @@ fn puts_truths_and_texts(rt: HostRuntime) -> Result<(), Fail> {
         let said = decided(alloc, case.0, case.1)?;
         assert_eq!(rt; said, (Some(case.2), true), "{} = {}", case.0, case.1);
     }
+    Ok(())
+}
+
+/// The label of these values.
+fn label(alloc: Global, b: bool, x: i64, t: &str, y: i64) -> Result<Label, Memory>
+    ensures { IfOk result (λ made. KeepsSorts (truths ∷ wholes ∷ texts ∷ wholes ∷ []) (label_meaning made)) }
+{
+    let mut values = Vec::new(alloc);
+    values.push(Value::Bool(b))?;
+    values.push(Value::Int(x))?;
+    values.push(Value::Text(Text::of(alloc, t)?))?;
+    values.push(Value::Int(y))?;
+    Ok(Label::new(values))
+}
+
+/// That one whole number is less than another one.
+fn less(alloc: Global, left: u32, right: u32) -> Result<RowAtom, Memory>
+    requires left { left < 2 }
+    requires right { right < 2 }
+    ensures { IfOk result (RowFits (truths ∷ wholes ∷ texts ∷ wholes ∷ [])) }
+{
+    Ok(PairAtom::Left(Compare {
+        left: Form::field(alloc, left)?,
+        relation: Relation::Less,
+        right: Form::field(alloc, right)?,
+    }))
+}
+
+/// The map to x < y, two whole numbers and the same text.
+fn exchange(alloc: Global, left: u32, right: u32) -> Result<RowMap, Memory>
+    requires left { left < 2 }
+    requires right { right < 2 }
+    ensures fit { IfOk result (λ made. EntriesFit (truths ∷ wholes ∷ texts ∷ wholes ∷ []) (map plain_entry made.entries.items)) }
+    ensures sorts { IfOk result (λ made. map sort_by (map plain_entry made.entries.items) ≡ truths ∷ wholes ∷ texts ∷ wholes ∷ []) }
+{
+    let mut entries = Vec::new(alloc);
+    entries.push(RowEntry::Truth(Formula::Atom(less(alloc, right, left)?)))?;
+    entries.push(RowEntry::Number(Form::field(alloc, left)?))?;
+    entries.push(RowEntry::Text(TextSide::Field(0)))?;
+    entries.push(RowEntry::Number(Form::field(alloc, right)?))?;
+    Ok(RowMap { entries })
+}
+
+/// A map's copy, through the bound alone.
+fn copied<L: Labels>(alloc: Global, labels: &L, map: &L::Map) -> Result<bool, Memory> {
+    Ok(labels.copy_map(alloc, map)? == *map)
+}
+
+/// Whether the map makes this of the value.
+fn applied<L: Labels>(
+    alloc: Global,
+    labels: &L,
+    map: &L::Map,
+    value: &L::Value,
+    expected: &L::Value,
+) -> Result<bool, Memory>
+    requires fits { L.map_fits labels.now map.now }
+    requires value { L.keeps_label labels.now (L.label_of value.now) }
+{
+    match labels.apply(alloc, map, value)? {
+        Applied::Value(made) => Ok(made == *expected),
+        Applied::Range(_) => Ok(false),
+    }
+}
+
+/// Whether this is what the atom says of the labels that the map into the same labels makes.
+fn substituted<L: Labels>(
+    alloc: Global,
+    labels: &L,
+    map: &L::Map,
+    atom: &L::Atom,
+    expected: &L::Atom,
+) -> Result<bool, Memory>
+    requires fits { L.map_fits labels.now map.now }
+    requires makes { L.map_makes labels.now map.now }
+    requires atom { L.atom_fits labels.now atom.now }
+{
+    match labels.subst(alloc, map, atom)? {
+        Put::Formula(Formula::Atom(made)) => Ok(made == *expected),
+        _ => Ok(false),
+    }
+}
+
+/// Whether this is the map into the same labels after itself.
+fn repeated<L: Labels>(
+    alloc: Global,
+    labels: &L,
+    map: &L::Map,
+    expected: &L::Map,
+) -> Result<bool, Memory>
+    requires fits { L.map_fits labels.now map.now }
+    requires makes { L.map_makes labels.now map.now }
+{
+    match labels.chain_maps(alloc, map, map)? {
+        PutMap::Map(made) => Ok(made == *expected),
+        PutMap::Range(_) => Ok(false),
+    }
+}
+
+#[test]
+fn maps_through_the_bound(rt: HostRuntime) -> Result<(), Fail> {
+    let alloc = rt.alloc();
+    let theory = RowLabels::new(alloc, &signature(alloc)?)?;
+    let map = exchange(alloc, 1, 0)?;
+    assert!(rt; copied(alloc, &theory, &map)?);
+    let value = label(alloc, true, 5, "a", -2)?;
+    let expected = label(alloc, false, -2, "a", 5)?;
+    assert!(rt; applied(alloc, &theory, &map, &value, &expected)?);
+    let atom = less(alloc, 0, 1)?;
+    let expected = less(alloc, 1, 0)?;
+    assert!(rt; substituted(alloc, &theory, &map, &atom, &expected)?);
+    let expected = exchange(alloc, 0, 1)?;
+    assert!(rt; repeated(alloc, &theory, &map, &expected)?);
+    Ok(())
+}
+
+/// The field with this name, if it is of this sort.
+fn named(alloc: Global, name: &str, sort: Sort, signature: &Signature) -> Result<Expr, FormStop>
+    ensures { IfOk result (λ made. is_of_sort (plain_signature signature.now).fields (plain_sort sort) (plain_expr made) ≡ true) }
+{
+    let name = Text::of(alloc, name)?;
+    if !has_field(signature, sort, &name) {
+        return Err(FormStop::Memory);
+    }
+    Ok(Expr {
+        place: Pos { line: 1, column: 1 },
+        node: Node::Field(name),
+    })
+}
+
+/// That one whole number is greater than another one.
+fn greater(alloc: Global, left: &str, right: &str, signature: &Signature) -> Result<Expr, FormStop>
+    ensures { IfOk result (λ made. is_guard (plain_signature signature.now).fields (plain_expr made) ≡ true) }
+{
+    let left = named(alloc, left, Sort::Int, signature)?;
+    let right = named(alloc, right, Sort::Int, signature)?;
+    Ok(Expr {
+        place: left.place,
+        node: Node::Compare(
+            Rel::Greater,
+            Box::new(alloc, left)?,
+            Box::new(alloc, right)?,
+        ),
+    })
+}
+
+/// The map to y > x, y, t and x.
+fn written(alloc: Global, signature: &Signature) -> Result<RowMap, FormStop>
+    requires few { length signature.now.fields.items ≤ 8 }
+    requires sorts { model.sorts_of (plain_signature signature.now) ≡ truths ∷ wholes ∷ texts ∷ wholes ∷ [] }
+{
+    let mut labels = Vec::new(alloc);
+    labels.push(greater(alloc, "y", "x", signature)?)?;
+    labels.push(named(alloc, "y", Sort::Int, signature)?)?;
+    labels.push(named(alloc, "t", Sort::Text, signature)?)?;
+    labels.push(named(alloc, "x", Sort::Int, signature)?)?;
+    map_of(alloc, &labels, signature, signature)
+}
+
+#[test]
+fn reads_guards_and_maps(rt: HostRuntime) -> Result<(), Fail> {
+    let alloc = rt.alloc();
+    let signature = signature(alloc)?;
+    let guard = guard_of(alloc, &greater(alloc, "x", "y", &signature)?, &signature)?;
+    assert!(rt; guard == Formula::Atom(less(alloc, 1, 0)?));
+    assert!(rt; written(alloc, &signature)? == exchange(alloc, 1, 0)?);
     Ok(())
 }
