@@ -1,11 +1,11 @@
 //! Conjunctions over labels of several fields, guards, and maps of labels. The answers were found by hand.
 
-ghost use Rattle.std.specs.Prelude.{◌≡◌, ◌<◌, ◌≤◌, [], ◌∷◌, true, IsTrue, IfOk, length, map};
+ghost use Rattle.std.specs.Prelude.{◌≡◌, ◌+◌, ◌++◌, ◌<◌, ◌≤◌, [], ◌∷◌, true, IsTrue, IfOk, length, map};
 ghost use Rattle.model_tree.specs.Signature.{wholes, truths, texts};
 ghost use Rattle.model_tree.specs.Signature as model;
 ghost use Rattle.model_guard.specs.Guards.{is_guard};
 ghost use Rattle.fast_tree.specs.Entries.{label_meaning};
-ghost use Rattle.fast_tree.specs.Signatures.{plain_signature, plain_sort};
+ghost use Rattle.fast_tree.specs.Signatures.{plain_field, plain_signature, plain_sort};
 ghost use Rattle.fast_syntax.specs.Plain.{plain_expr};
 ghost use Rattle.label_core.specs.Lit.{LitsFit};
 ghost use Rattle.record_label.specs.Rows.{RowFits, KeepsSorts};
@@ -26,28 +26,26 @@ use lin_solve::{Compare, Relation};
 use std::alloc::Global;
 use std::test::Fail;
 
+/// Adds a field.
+fn declare(alloc: Global, fields: &mut Vec<FieldOf>, name: &str, sort: Sort) -> Result<(), Memory>
+    ensures count { IfOk result (λ _. length fields.new.items ≡ length fields.old.items + 1) }
+    ensures sorts { IfOk result (λ _. map (λ f. f.sort) (map plain_field fields.new.items) ≡ map (λ f. f.sort) (map plain_field fields.old.items) ++ plain_sort sort ∷ []) }
+{
+    let name = Text::of(alloc, name)?;
+    fields.push(FieldOf { name, sort })?;
+    Ok(())
+}
+
 /// A type with a truth value b, a whole number x, a text t and a whole number y.
 fn signature(alloc: Global) -> Result<Signature, Memory>
     ensures few { IfOk result (λ made. length made.fields.items ≤ 8) }
     ensures sorts { IfOk result (λ made. model.sorts_of (plain_signature made) ≡ truths ∷ wholes ∷ texts ∷ wholes ∷ []) }
 {
     let mut fields = Vec::new(alloc);
-    fields.push(FieldOf {
-        name: Text::of(alloc, "b")?,
-        sort: Sort::Bool,
-    })?;
-    fields.push(FieldOf {
-        name: Text::of(alloc, "x")?,
-        sort: Sort::Int,
-    })?;
-    fields.push(FieldOf {
-        name: Text::of(alloc, "t")?,
-        sort: Sort::Text,
-    })?;
-    fields.push(FieldOf {
-        name: Text::of(alloc, "y")?,
-        sort: Sort::Int,
-    })?;
+    declare(alloc, &mut fields, "b", Sort::Bool)?;
+    declare(alloc, &mut fields, "x", Sort::Int)?;
+    declare(alloc, &mut fields, "t", Sort::Text)?;
+    declare(alloc, &mut fields, "y", Sort::Int)?;
     Ok(Signature {
         name: Text::of(alloc, "N")?,
         fields,
@@ -63,22 +61,16 @@ enum Side {
     Remainder(u32, u32),
 }
 
-/// A constant and so many times a field.
+/// A constant and so many times a field, or the constant alone where there is no such field.
 fn line(alloc: Global, constant: i64, by: i64, field: u32) -> Result<Form, FormStop> {
-    let mut parts = Vec::new(alloc);
-    parts.push(Signed {
-        minus: false,
-        form: Form::number(alloc, constant as i128)?,
-    })?;
-    if field < 8 {
-        parts.push(Signed {
-            minus: false,
-            form: Form::field(alloc, field)?.scaled(alloc, by as i128)?,
-        })?;
+    let form = Form::number(alloc, constant as i128)?;
+    if field >= 8 {
+        return Ok(form);
     }
-    if parts.len() > 1048576 {
-        return Err(FormStop::Memory);
-    }
+    let minus = false;
+    let constant = Signed { minus, form };
+    let form = Form::field(alloc, field)?.scaled(alloc, by as i128)?;
+    let parts = vec![in alloc; constant, Signed { minus, form }]?;
     Form::of_sum(alloc, &parts)
 }
 
@@ -103,7 +95,7 @@ fn all_fit(theory: &RowLabels, literals: &[Lit<RowAtom>]) -> bool
 }
 
 /// What is decided: a label, which satisfies the literals, that there is none, or a chain that is far, or is not.
-#[derive(Clone, Copy, Debug, PartialEq, Eq)]
+#[derive(Clone, Copy, PartialEq, Eq)]
 enum Answer {
     Label,
     Other,
@@ -152,28 +144,39 @@ fn outcome<T: Theory>(
     }
 }
 
+/// A comparison that is to hold.
+fn literal(alloc: Global, row: &(Side, Relation, Side)) -> Result<Lit<RowAtom>, FormStop> {
+    let left = form(alloc, row.0)?;
+    let right = form(alloc, row.2)?;
+    let relation = row.1;
+    let compare = Compare {
+        left,
+        relation,
+        right,
+    };
+    Ok(Lit {
+        atom: PairAtom::Left(compare),
+        sign: true,
+    })
+}
+
+/// The literals, beside one that the truth value is false.
+fn literals(alloc: Global, rows: &[(Side, Relation, Side)]) -> Result<Vec<Lit<RowAtom>>, FormStop> {
+    let field = BoolAtom { field: 0 };
+    let atom = PairAtom::Right(PairAtom::Left(field));
+    let mut literals = vec![in alloc; Lit { atom, sign: false }]?;
+    for row in rows {
+        literals.push(literal(alloc, row)?)?;
+    }
+    Ok(literals)
+}
+
 fn told(
     alloc: Global,
     theory: &RowLabels,
     rows: &[(Side, Relation, Side)],
 ) -> Result<Answer, FormStop> {
-    let mut literals = Vec::new(alloc);
-    let field = BoolAtom { field: 0 };
-    literals.push(Lit {
-        atom: PairAtom::Right(PairAtom::Left(field)),
-        sign: false,
-    })?;
-    for row in rows {
-        let compare = Compare {
-            left: form(alloc, row.0)?,
-            relation: row.1,
-            right: form(alloc, row.2)?,
-        };
-        literals.push(Lit {
-            atom: PairAtom::Left(compare),
-            sign: true,
-        })?;
-    }
+    let literals = literals(alloc, rows)?;
     if !all_fit(theory, &literals) {
         return Ok(Answer::Unfit);
     }
@@ -231,7 +234,7 @@ fn decides_labels_with_whole_numbers(rt: HostRuntime) -> Result<(), Fail> {
     let signature = signature(alloc)?;
     let theory = RowLabels::new(alloc, &signature)?;
     for case in cases {
-        assert_eq!(rt; told(alloc, &theory, case.1)?, case.2, "{}", case.0);
+        assert!(rt; told(alloc, &theory, case.1)? == case.2, "{}", case.0);
     }
     Ok(())
 }
@@ -246,7 +249,7 @@ fn numbers(alloc: Global, sides: &[Side]) -> Result<RowMap, FormStop> {
 }
 
 /// What comes of a map after another one: the map that was expected, another one, or a number outside its range.
-#[derive(Clone, Copy, Debug, PartialEq, Eq)]
+#[derive(Clone, Copy, PartialEq, Eq)]
 enum Chained {
     Expected,
     Other,
@@ -259,18 +262,19 @@ fn chain(
     second: &[Side],
     expected: &[Side],
 ) -> Result<Chained, FormStop> {
-    let first = numbers(alloc, first)?.copy(alloc)?;
-    let expected = numbers(alloc, expected)?;
+    let first = numbers(alloc, first)?;
     match numbers(alloc, second)?.after(alloc, &first) {
-        Ok(map) => {
-            if map == expected {
-                return Ok(Chained::Expected);
-            }
-            Ok(Chained::Other)
-        }
+        Ok(map) => compared(alloc, &map, expected),
         Err(FormStop::Range(number)) => Ok(Chained::Outside(number)),
         Err(FormStop::Memory) => Err(FormStop::Memory),
     }
+}
+
+fn compared(alloc: Global, map: &RowMap, expected: &[Side]) -> Result<Chained, FormStop> {
+    if *map == numbers(alloc, expected)? {
+        return Ok(Chained::Expected);
+    }
+    Ok(Chained::Other)
 }
 
 #[test]
@@ -308,33 +312,45 @@ fn chains_maps(rt: HostRuntime) -> Result<(), Fail> {
         ),
     ];
     for case in cases {
-        assert_eq!(rt; chain(alloc, case.1, case.2, case.3)?, case.4, "{}", case.0);
+        assert!(rt;
+            chain(alloc, case.1, case.2, case.3)? == case.4,
+            "{}",
+            case.0
+        );
     }
     Ok(())
 }
 
-/// What is said of a text that is put, and of a truth value that is denied.
-fn decided(alloc: Global, left: &str, right: &str) -> Result<(Option<bool>, bool), FormStop> {
-    let mut entries = Vec::new(alloc);
-    let side = TextSide::Constant(Text::of(alloc, left)?);
-    entries.push(RowEntry::Text(side))?;
+/// Entries of a text and of a truth value that is denied.
+fn entries(alloc: Global, text: &str) -> Result<Vec<RowEntry>, Memory> {
+    let side = TextSide::Constant(Text::of(alloc, text)?);
+    let text = RowEntry::Text(side);
     let denied = Formula::Not(Box::new(alloc, Formula::Yes)?);
-    entries.push(RowEntry::Truth(denied))?;
-    let forms = forms_of(alloc, &entries)?;
-    let field = BoolAtom { field: 0 };
-    let truth = PairAtom::Right(PairAtom::Left(field));
+    Ok(vec![in alloc; text, RowEntry::Truth(denied)]?)
+}
+
+/// What is said of the text that is put: that it is this one.
+fn said(alloc: Global, entries: &[RowEntry], text: &str) -> Result<Option<bool>, FormStop> {
+    let forms = forms_of(alloc, entries)?;
     let texts = TextAtom {
         left: TextSide::Field(0),
-        right: TextSide::Constant(Text::of(alloc, right)?),
+        right: TextSide::Constant(Text::of(alloc, text)?),
     };
     let texts = PairAtom::Right(PairAtom::Right(texts));
-    let same = match put_atom(alloc, &texts, &entries, &forms)? {
-        Formula::Yes => Some(true),
-        Formula::No => Some(false),
-        _ => None,
-    };
-    let denies = matches!(put_atom(alloc, &truth, &entries, &forms)?, Formula::Not(_));
-    Ok((same, denies))
+    match put_atom(alloc, &texts, entries, &forms)? {
+        Formula::Yes => Ok(Some(true)),
+        Formula::No => Ok(Some(false)),
+        _ => Ok(None),
+    }
+}
+
+/// Whether the truth value that is put is denied.
+fn denies(alloc: Global, entries: &[RowEntry]) -> Result<bool, FormStop> {
+    let forms = forms_of(alloc, entries)?;
+    let field = BoolAtom { field: 0 };
+    let truth = PairAtom::Right(PairAtom::Left(field));
+    let made = put_atom(alloc, &truth, entries, &forms)?;
+    Ok(matches!(made, Formula::Not(_)))
 }
 
 #[test]
@@ -342,8 +358,10 @@ fn puts_truths_and_texts(rt: HostRuntime) -> Result<(), Fail> {
     let alloc = rt.alloc();
     let cases: &[(&str, &str, bool)] = &[("a", "a", true), ("a", "b", false), ("", "", true)];
     for case in cases {
-        let said = decided(alloc, case.0, case.1)?;
-        assert_eq!(rt; said, (Some(case.2), true), "{} = {}", case.0, case.1);
+        let entries = entries(alloc, case.0)?;
+        let said = said(alloc, &entries, case.1)?;
+        assert!(rt; said == Some(case.2), "{} = {}", case.0, case.1);
+        assert!(rt; denies(alloc, &entries)?);
     }
     Ok(())
 }
@@ -388,7 +406,7 @@ fn exchange(alloc: Global, left: u32, right: u32) -> Result<RowMap, Memory>
     Ok(RowMap { entries })
 }
 
-/// A map's copy, through the bound alone.
+/// Whether a map's copy is equal to it.
 fn copied<L: Labels>(alloc: Global, labels: &L, map: &L::Map) -> Result<bool, Memory> {
     Ok(labels.copy_map(alloc, map)? == *map)
 }
@@ -444,20 +462,37 @@ fn repeated<L: Labels>(
     }
 }
 
+/// Whether the map makes what it should of a label.
+fn makes(alloc: Global, theory: &RowLabels, once: &RowMap) -> Result<bool, Memory>
+    requires sorts { theory.now ≡ truths ∷ wholes ∷ texts ∷ wholes ∷ [] }
+    requires fits { EntriesFit theory.now (map plain_entry once.now.entries.items) }
+{
+    let value = label(alloc, true, 5, "a", -2)?;
+    let expected = label(alloc, false, -2, "a", 5)?;
+    applied(alloc, theory, once, &value, &expected)
+}
+
+/// Whether x < y becomes y < x.
+fn exchanges(alloc: Global, theory: &RowLabels, once: &RowMap) -> Result<bool, Memory>
+    requires sorts { theory.now ≡ truths ∷ wholes ∷ texts ∷ wholes ∷ [] }
+    requires fits { EntriesFit theory.now (map plain_entry once.now.entries.items) }
+    requires makes { map sort_by (map plain_entry once.now.entries.items) ≡ theory.now }
+{
+    let atom = less(alloc, 0, 1)?;
+    let expected = less(alloc, 1, 0)?;
+    substituted(alloc, theory, once, &atom, &expected)
+}
+
 #[test]
 fn maps_through_the_bound(rt: HostRuntime) -> Result<(), Fail> {
     let alloc = rt.alloc();
     let theory = RowLabels::new(alloc, &signature(alloc)?)?;
-    let map = exchange(alloc, 1, 0)?;
-    assert!(rt; copied(alloc, &theory, &map)?);
-    let value = label(alloc, true, 5, "a", -2)?;
-    let expected = label(alloc, false, -2, "a", 5)?;
-    assert!(rt; applied(alloc, &theory, &map, &value, &expected)?);
-    let atom = less(alloc, 0, 1)?;
-    let expected = less(alloc, 1, 0)?;
-    assert!(rt; substituted(alloc, &theory, &map, &atom, &expected)?);
-    let expected = exchange(alloc, 0, 1)?;
-    assert!(rt; repeated(alloc, &theory, &map, &expected)?);
+    let once = exchange(alloc, 1, 0)?;
+    assert!(rt; copied(alloc, &theory, &once)?);
+    assert!(rt; makes(alloc, &theory, &once)?);
+    assert!(rt; exchanges(alloc, &theory, &once)?);
+    let twice = exchange(alloc, 0, 1)?;
+    assert!(rt; repeated(alloc, &theory, &once, &twice)?);
     Ok(())
 }
 
@@ -504,12 +539,21 @@ fn written(alloc: Global, signature: &Signature) -> Result<RowMap, FormStop>
     map_of(alloc, &labels, signature, signature)
 }
 
+/// Whether the guard x > y is y < x.
+fn reads_guard(alloc: Global, signature: &Signature) -> Result<bool, FormStop>
+    requires { length signature.now.fields.items ≤ 8 }
+{
+    let written = greater(alloc, "x", "y", signature)?;
+    let guard = guard_of(alloc, &written, signature)?;
+    Ok(guard == Formula::Atom(less(alloc, 1, 0)?))
+}
+
 #[test]
 fn reads_guards_and_maps(rt: HostRuntime) -> Result<(), Fail> {
     let alloc = rt.alloc();
     let signature = signature(alloc)?;
-    let guard = guard_of(alloc, &greater(alloc, "x", "y", &signature)?, &signature)?;
-    assert!(rt; guard == Formula::Atom(less(alloc, 1, 0)?));
-    assert!(rt; written(alloc, &signature)? == exchange(alloc, 1, 0)?);
+    assert!(rt; reads_guard(alloc, &signature)?);
+    let map = written(alloc, &signature)?;
+    assert!(rt; map == exchange(alloc, 1, 0)?);
     Ok(())
 }
