@@ -329,19 +329,25 @@ fn entries(alloc: Global, text: &str) -> Result<Vec<RowEntry>, Memory> {
     Ok(vec![in alloc; text, RowEntry::Truth(denied)]?)
 }
 
-/// What is said of the text that is put: that it is this one.
-fn said(alloc: Global, entries: &[RowEntry], text: &str) -> Result<Option<bool>, FormStop> {
+/// That the text that is put is this one.
+fn put_text(alloc: Global, entries: &[RowEntry], text: &str) -> Result<Formula<RowAtom>, FormStop> {
     let forms = forms_of(alloc, entries)?;
-    let texts = TextAtom {
-        left: TextSide::Field(0),
-        right: TextSide::Constant(Text::of(alloc, text)?),
-    };
-    let texts = PairAtom::Right(PairAtom::Right(texts));
-    match put_atom(alloc, &texts, entries, &forms)? {
-        Formula::Yes => Ok(Some(true)),
-        Formula::No => Ok(Some(false)),
-        _ => Ok(None),
+    let left = TextSide::Field(0);
+    let right = TextSide::Constant(Text::of(alloc, text)?);
+    let texts = PairAtom::Right(PairAtom::Right(TextAtom { left, right }));
+    put_atom(alloc, &texts, entries, &forms)
+}
+
+/// What is said of the text that is put, where it is decided.
+fn said(alloc: Global, entries: &[RowEntry], text: &str) -> Result<Option<bool>, FormStop> {
+    let made = put_text(alloc, entries, text)?;
+    if matches!(made, Formula::Yes) {
+        return Ok(Some(true));
     }
+    if matches!(made, Formula::No) {
+        return Ok(Some(false));
+    }
+    Ok(None)
 }
 
 /// Whether the truth value that is put is denied.
