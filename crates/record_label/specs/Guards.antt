@@ -80,6 +80,7 @@ comparison_of fields a b = cond (is_text fields a && is_text fields b) (Some (re
 abbrev pub written_in_both : List PlainField → Expr → Expr → List RowAtom
 written_in_both fields a b = cond (is_text fields a) (Right (Right (record { left = side_of fields a; right = side_of fields b })) ∷ []) (written_in fields a ++ written_in fields b)
 
+-- two formulas as the parts of one
 abbrev pub pair_of : Formula RowAtom → Formula RowAtom → Formulas RowAtom
 pair_of f g = formula f (formula g no_formulas)
 
