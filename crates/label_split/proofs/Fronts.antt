@@ -1,7 +1,8 @@
 -- How far the literals of a search have come.
-use Rattle.std.proofs.Common.{◌≡◌, Bool, true, false, ◌||◌, ◌⊎◌, inl, inr, IsSome, IsTrue, List, [], ◌∷◌, ◌++◌, length, get_or, All, ℕ, zero, suc, ◌<◌, ◌≤◌, refl, sym, ap, ap₂, ◌∙◌, subst, arith}
+use Rattle.std.proofs.Common.{◌≡◌, Bool, true, false, ◌||◌, ◌⊎◌, inl, inr, IsSome, IsTrue, List, [], ◌∷◌, ◌++◌, length, length-append, take, get_or, All, ℕ, zero, suc, ◌<◌, ◌≤◌, refl, sym, ap, ap₂, ◌∙◌, subst, arith}
 use Rattle.std.specs.Cmp.{IsEquivalence}
-use Rattle.std.proofs.lemmas.List.Elements.{All-nil, All-cons, All-append, All-map}
+use Rattle.std.proofs.lemmas.List.{length-map, length-take, map-append, take_all, take_more}
+use Rattle.std.proofs.lemmas.List.Elements.{All-nil, All-cons, All-append, All-take}
 use Rattle.model_tree.specs.Label.{Label}
 use Rattle.label_core.specs.Atoms.{has_equal, EachHasEqual}
 use Rattle.label_core.specs.Lit.{SatisfiesAll, LitsFit, atoms_of}
@@ -26,24 +27,30 @@ same_default [] i d e l = absurd (omega arith)
 same_default (x ∷ xs) zero d e l = refl
 same_default (x ∷ xs) (suc i) d e l = same_default xs i d e (omega arith)
 
+module _ {A : Type 0} where
+  -- a copy of the element at a place
+  pub copied_from : (xs : List A) (n m : ℕ) (x y : A) → x ≡ y → y ≡ get_or xs m y → m ≡ n → x ≡ get_or xs n x
+  copied_from xs n m x y e is same = e ∙ is ∙ ap₂ (λ i d. get_or xs i d) same (sym e)
+
+  pub front_push : (atoms : List A) (xs : List (Lit A)) (x : Lit A) → IsFront atoms xs → length xs < length atoms → x.atom ≡ get_or atoms (length xs) x.atom → IsFront atoms (xs ++ x ∷ [])
+  front_push atoms xs x front low is =
+      map-append (λ y. y.atom) xs (x ∷ []) ∙ ap₂ (λ bs b. bs ++ b ∷ []) front is ∙ sym (take_more atoms (length xs) x.atom low) ∙ ap (λ n. take n atoms) (sym (length-append xs (x ∷ [])))
+
+  pub front_length : (atoms : List A) (xs : List (Lit A)) → IsFront atoms xs → length xs ≤ length atoms
+  front_length atoms xs front = omega (arith, simp length-map at (ap length front), length-take (length xs) atoms)
+
+  front_full : (atoms : List A) (xs : List (Lit A)) → IsFront atoms xs → length xs ≡ length atoms → atoms_of xs ≡ atoms
+  front_full atoms xs front full = front ∙ take_all (length xs) atoms (omega arith)
+
+  -- what holds of each atom holds of those of the literals
+  front_all : (F : A → Type 0) (atoms : List A) (xs : List (Lit A)) → IsFront atoms xs → All F atoms → All F (atoms_of xs)
+  front_all F atoms xs front h = subst (All F) (sym front) (All-take F (length xs) atoms h)
+
+  of_mapped : (F : A → Type 0) (xs : List (Lit A)) → All F (atoms_of xs) → All (λ x. F x.atom) xs
+  of_mapped F [] h = All-nil (λ x. F x.atom)
+  of_mapped F (x ∷ xs) h = All-cons (λ x. F x.atom) x xs (h 0 x.atom (omega arith)) (of_mapped F xs (λ k d l. h (suc k) d (omega (arith, l))))
+
 module _ {A : Type 0} (eq : A → A → Bool) where
-  pub front_push : (atoms : List A) (xs : List (Lit A)) (x : Lit A) (d : A) → IsFront eq atoms xs → length xs < length atoms → eq x.atom (get_or atoms (length xs) d) ≡ true → IsFront eq atoms (xs ++ x ∷ [])
-  front_push [] [] x d f l e = absurd (omega arith)
-  front_push [] (y ∷ ys) x d f l e = absurd f
-  front_push (a ∷ atoms) [] x d f l e = (e, tt)
-  front_push (a ∷ atoms) (y ∷ ys) x d f l e = (f.0, front_push atoms ys x d f.1 (omega arith) e)
-
-  pub front_length : (atoms : List A) (xs : List (Lit A)) → IsFront eq atoms xs → length xs ≤ length atoms
-  front_length atoms [] f = omega arith
-  front_length [] (x ∷ xs) f = absurd f
-  front_length (a ∷ atoms) (x ∷ xs) f = omega (arith, front_length atoms xs f.1)
-
-  -- what holds of each atom that has an equal one holds of those of the literals
-  front_all : (F : A → Type 0) (atoms : List A) (xs : List (Lit A)) → IsFront eq atoms xs → ((a : A) → IsTrue (has_equal eq atoms a) → F a) → All (λ x. F x.atom) xs
-  front_all F atoms [] f h = All-nil (λ x. F x.atom)
-  front_all F [] (x ∷ xs) f h = absurd f
-  front_all F (a ∷ atoms) (x ∷ xs) f h = All-cons (λ x. F x.atom) x xs (h x.atom (or_left (eq x.atom a) (has_equal eq atoms x.atom) f.0)) (front_all F atoms xs f.1 (λ b e. h b (or_right (eq b a) (has_equal eq atoms b) e)))
-
   fits_by : (F : A → Type 0) → ((a b : A) → eq a b ≡ true → F b → F a) → (b : A) (bs : List A) (a : A) (s : Bool) → eq a b ≡ s → F b → (IsTrue (has_equal eq bs a) → F a) → IsTrue (s || has_equal eq bs a) → F a
   fits_by F same b bs a true e f rest h = same a b e f
   fits_by F same b bs a false e f rest h = rest h
@@ -52,29 +59,22 @@ module _ {A : Type 0} (eq : A → A → Bool) where
   equal_fits F same [] h a e = cc
   equal_fits F same (b ∷ bs) h a e = fits_by F same b bs a (eq a b) refl (h 0 b (omega arith)) (equal_fits F same bs (λ k d l. h (suc k) d (omega (arith, l))) a) e
 
-module _ {A : Type 0} (eq : A → A → Bool) (laws : IsEquivalence eq) where
-  front_full : (atoms : List A) (xs : List (Lit A)) → IsFront eq atoms xs → length xs ≡ length atoms → (a : A) → has_equal eq atoms a ≡ has_equal eq (atoms_of xs) a
-  front_full [] [] f l a = refl
-  front_full [] (x ∷ xs) f l a = absurd f
-  front_full (b ∷ atoms) [] f l a = absurd (omega arith)
-  front_full (b ∷ atoms) (x ∷ xs) f l a = ap₂ (λ s t. s || t) (laws.symm a b ∙ sym (laws.congr x.atom b a f.0) ∙ laws.symm x.atom a) (front_full atoms xs f.1 (omega arith) a)
+  own_equal : IsEquivalence eq → (bs : List A) → EachHasEqual eq bs bs
+  own_equal laws [] = All-nil (λ a. IsTrue (has_equal eq [] a))
+  own_equal laws (b ∷ bs) = All-cons (λ a. IsTrue (has_equal eq (b ∷ bs) a)) b bs (or_left (eq b b) (has_equal eq bs b) (laws.refl b)) (λ k d l. or_right (eq (get_or bs k d) b) (has_equal eq bs (get_or bs k d)) (own_equal laws bs k d l))
 
-  own_equal : (bs : List A) → EachHasEqual eq bs bs
-  own_equal [] = All-nil (λ a. IsTrue (has_equal eq [] a))
-  own_equal (b ∷ bs) = All-cons (λ a. IsTrue (has_equal eq (b ∷ bs) a)) b bs (or_left (eq b b) (has_equal eq bs b) (laws.refl b)) (λ k d l. or_right (eq (get_or bs k d) b) (has_equal eq bs (get_or bs k d)) (own_equal bs k d l))
-
-module _ {A : Type 0} (eq : A → A → Bool) (laws : IsEquivalence eq) (F : A → Type 0) (atoms : List A) (formulas : List (Formula A)) (signs : List Bool) (goal : IsGoal eq F atoms formulas signs) (xs : List (Lit A)) (front : IsFront eq atoms xs) where
-  -- the literals fit, and are over atoms of the formulas
-  pub literals_fit : ((a b : A) → eq a b ≡ true → F a → F b) → LitsFit F xs
-  literals_fit same = front_all eq F atoms xs front (λ a e. equal_fits eq F (λ b c s. same c b (laws.symm c b ∙ s)) (atoms_in_each formulas) (all_atoms_of_each F formulas goal.fit) a (subst IsTrue (goal.are_atoms a) e))
-
+module _ {A : Type 0} (eq : A → A → Bool) (laws : IsEquivalence eq) (F : A → Type 0) (atoms : List A) (formulas : List (Formula A)) (signs : List Bool) (goal : IsGoal eq F atoms formulas signs) (xs : List (Lit A)) (front : IsFront atoms xs) where
+  -- the literals are over atoms of the formulas, and fit
   pub literals_among : EachHasEqual eq (atoms_of xs) (atoms_in_each formulas)
-  literals_among = All-map (λ a. IsTrue (has_equal eq (atoms_in_each formulas) a)) (λ x. x.atom) xs (front_all eq (λ a. IsTrue (has_equal eq (atoms_in_each formulas) a)) atoms xs front (λ a e. subst IsTrue (goal.are_atoms a) e))
+  literals_among = front_all (λ a. IsTrue (has_equal eq (atoms_in_each formulas) a)) atoms xs front (λ k d l. subst IsTrue (goal.are_atoms (get_or atoms k d)) (own_equal eq laws atoms k d l))
+
+  pub literals_fit : ((a b : A) → eq a b ≡ true → F a → F b) → LitsFit F xs
+  literals_fit same = of_mapped F xs (λ k d l. equal_fits eq F (λ b c s. same c b (laws.symm c b ∙ s)) (atoms_in_each formulas) (all_atoms_of_each F formulas goal.fit) (get_or (atoms_of xs) k d) (literals_among k d l))
 
   -- once each atom has a literal, all is known
   pub full_knows : length xs ≡ length atoms → FormulasFit (λ a. IsSome (literal_sign eq xs a)) formulas
   full_knows full = every_atom_of_each (λ a. IsSome (literal_sign eq xs a)) formulas
-      (λ k d b. let a = get_or (atoms_in_each formulas) k d in literals_know eq laws.symm xs a (subst IsTrue (sym (goal.are_atoms a) ∙ front_full eq laws atoms xs front full a) (own_equal eq laws (atoms_in_each formulas) k d b)))
+      (λ k d b. let a = get_or (atoms_in_each formulas) k d in literals_know eq laws.symm xs a (subst IsTrue (sym (goal.are_atoms a) ∙ ap (λ bs. has_equal eq bs a) (sym (front_full atoms xs front full))) (own_equal eq laws (atoms_in_each formulas) k d b)))
 
 module _ {A : Type 0} (eq : A → A → Bool) (holds : A → Label → Bool) (equal : (a b : A) (l : Label) → eq a b ≡ true → holds a l ≡ holds b l) (formulas : List (Formula A)) (signs : List Bool) (xs : List (Lit A)) where
   pub contradicted_none : contradicts_some (literal_sign eq xs) formulas signs ≡ true → (l : Label) → ¬ Meets holds xs formulas signs l
@@ -91,15 +91,15 @@ module _ {A : Type 0} (holds : A → Label → Bool) where
       let rest = unpush ys x l (λ k d b. s (suc k) d (omega (arith, b))) in
       (All-cons (λ z. holds z.atom l ≡ z.sign) y ys (s 0 y (omega arith)) rest.0, rest.1)
 
-module _ {A : Type 0} (eq : A → A → Bool) (holds : A → Label → Bool) (equal : (a b : A) (l : Label) → eq a b ≡ true → holds a l ≡ holds b l) (formulas : List (Formula A)) (signs : List Bool) (atoms : List A) (xs : List (Lit A)) (b c : A) (s : Bool) (low : length xs < length atoms) (is : b ≡ get_or atoms (length xs) b) (copied : eq c b ≡ true) where
+module _ {A : Type 0} (holds : A → Label → Bool) (formulas : List (Formula A)) (signs : List Bool) (atoms : List A) (xs : List (Lit A)) (a : A) (s : Bool) (low : length xs < length atoms) (is : a ≡ get_or atoms (length xs) a) where
   -- the next literal says that the next atom has its sign
-  pub next_of_literal : (l : Label) → Meets holds (xs ++ record { atom = c; sign = s } ∷ []) formulas signs l → Meets holds xs formulas signs l × NextIs holds atoms (length xs) s l
+  pub next_of_literal : (l : Label) → Meets holds (xs ++ record { atom = a; sign = s } ∷ []) formulas signs l → Meets holds xs formulas signs l × NextIs holds atoms (length xs) s l
   next_of_literal l m =
-      let parts = unpush holds xs (record { atom = c; sign = s }) l m.0 in
-      ((parts.0, m.1), λ d. ap (λ a. holds a l) (same_default atoms (length xs) d b low ∙ sym is) ∙ sym (equal c b l copied) ∙ parts.1)
+      let parts = unpush holds xs (record { atom = a; sign = s }) l m.0 in
+      ((parts.0, m.1), λ d. ap (λ b. holds b l) (same_default atoms (length xs) d a low ∙ sym is) ∙ parts.1)
 
-  pub literal_of_next : (l : Label) → Meets holds xs formulas signs l × NextIs holds atoms (length xs) s l → Meets holds (xs ++ record { atom = c; sign = s } ∷ []) formulas signs l
-  literal_of_next l m = (All-append (λ x. holds x.atom l ≡ x.sign) xs (record { atom = c; sign = s } ∷ []) m.0.0 (All-cons (λ x. holds x.atom l ≡ x.sign) (record { atom = c; sign = s }) [] (equal c b l copied ∙ ap (λ a. holds a l) is ∙ m.1 b) (All-nil (λ x. holds x.atom l ≡ x.sign))), m.0.1)
+  pub literal_of_next : (l : Label) → Meets holds xs formulas signs l × NextIs holds atoms (length xs) s l → Meets holds (xs ++ record { atom = a; sign = s } ∷ []) formulas signs l
+  literal_of_next l m = (All-append (λ x. holds x.atom l ≡ x.sign) xs (record { atom = a; sign = s } ∷ []) m.0.0 (All-cons (λ x. holds x.atom l ≡ x.sign) (record { atom = a; sign = s }) [] (ap (λ b. holds b l) is ∙ m.1 a) (All-nil (λ x. holds x.atom l ≡ x.sign))), m.0.1)
 
 module _ {A : Type 0} (holds : A → Label → Bool) where
   one_of : (a : A) (l : Label) (s : Bool) → holds a l ≡ s → (holds a l ≡ true) ⊎ (holds a l ≡ false)

@@ -1,8 +1,8 @@
 -- What a search for a label has to meet, and how far it has come.
-use Rattle.std.specs.Prelude.{◌≡◌, ℕ, Bool, true, List, [], ◌∷◌, length, get_or, ⊤}
+use Rattle.std.specs.Prelude.{◌≡◌, ℕ, Bool, List, length, get_or, take}
 use Rattle.model_tree.specs.Label.{Label}
 use Rattle.label_core.specs.Atoms.{has_equal}
-use Rattle.label_core.specs.Lit.{SatisfiesAll}
+use Rattle.label_core.specs.Lit.{SatisfiesAll, atoms_of}
 use Rattle.label_core.specs.declared.formula.Formula.{Formula}
 use Rattle.label_core.specs.declared.theory.Lit.{Lit}
 use Rattle.label_split.specs.Signs.{atoms_in_each, FormulasFit, signs_at}
@@ -15,10 +15,8 @@ module _ {A : Type 0} where
     pub are_atoms : (a : A) → has_equal eq atoms a ≡ has_equal eq (atoms_in_each formulas) a
 
   -- the literals are over the first of the atoms, in order
-  abbrev pub IsFront : (A → A → Bool) → List A → List (Lit A) → Type 0
-  IsFront eq atoms [] = ⊤
-  IsFront eq [] (x ∷ xs) = ⊥
-  IsFront eq (a ∷ atoms) (x ∷ xs) = (eq x.atom a ≡ true) × IsFront eq atoms xs
+  abbrev pub IsFront : List A → List (Lit A) → Type 0
+  IsFront atoms literals = atoms_of literals ≡ take (length literals) atoms
 
   -- the label satisfies the literals, and the formulas have their signs there
   abbrev pub Meets : (A → Label → Bool) → List (Lit A) → List (Formula A) → List Bool → Label → Type 0

@@ -6,49 +6,48 @@ ghost use Rattle.label_core.specs.Formula.{plain_formula, atoms_in};
 
 use fast_fault::Memory;
 use indexmap::IndexSet;
-use label_core::{Formula, Theory};
+use label_core::{Duplicate, Formula};
 use std::alloc::Global;
+use std::hash::Hash;
 
 /// Adds a copy of the atom, unless an equal one is there.
 #[tactic(auto, using(crate::proofs::SameAtoms::on_atoms))]
-fn add_atom<T: Theory>(
-    theory: &T,
+fn add_atom<A: Eq + Hash + Duplicate + Drop>(
     alloc: Global,
-    atom: &T::Atom,
-    atoms: &mut IndexSet<T::Atom>,
+    atom: &A,
+    atoms: &mut IndexSet<A>,
 ) -> Result<(), Memory>
-    ensures { OnOk result ((a : T.Atom) → has_equal T.Atom.eq atoms.new.keys a ≡ (has_equal T.Atom.eq atoms.old.keys a || T.Atom.eq a atom.now)) }
+    ensures { OnOk result ((a : A) → has_equal A.eq atoms.new.keys a ≡ (has_equal A.eq atoms.old.keys a || A.eq a atom.now)) }
 {
     if !atoms.contains(atom) {
-        atoms.insert(theory.copy_atom(alloc, atom)?)?;
+        atoms.insert(atom.duplicate(alloc)?)?;
     }
     Ok(())
 }
 
 /// Adds copies of the formula's atoms that are not there yet.
 #[tactic(auto, using(crate::proofs::SameAtoms::on_atoms))]
-pub fn add_atoms<T: Theory>(
-    theory: &T,
+pub fn add_atoms<A: Eq + Hash + Duplicate + Drop>(
     alloc: Global,
-    formula: &Formula<T::Atom>,
-    atoms: &mut IndexSet<T::Atom>,
+    formula: &Formula<A>,
+    atoms: &mut IndexSet<A>,
 ) -> Result<(), Memory>
-    ensures { OnOk result ((a : T.Atom) → has_equal T.Atom.eq atoms.new.keys a ≡ (has_equal T.Atom.eq atoms.old.keys a || has_equal T.Atom.eq (atoms_in (plain_formula formula.now)) a)) }
+    ensures { OnOk result ((a : A) → has_equal A.eq atoms.new.keys a ≡ (has_equal A.eq atoms.old.keys a || has_equal A.eq (atoms_in (plain_formula formula.now)) a)) }
 {
     match formula {
         Formula::Yes => Ok(()),
         Formula::No => Ok(()),
-        Formula::Atom(atom) => add_atom(theory, alloc, atom, atoms),
-        Formula::Not(inner) => add_atoms(theory, alloc, inner, atoms),
+        Formula::Atom(atom) => add_atom(alloc, atom, atoms),
+        Formula::Not(inner) => add_atoms(alloc, inner, atoms),
         Formula::And(parts) => {
             'every: for part in parts {
-                add_atoms(theory, alloc, part, atoms)?;
+                add_atoms(alloc, part, atoms)?;
             }
             Ok(())
         }
         Formula::Or(parts) => {
             'some: for part in parts {
-                add_atoms(theory, alloc, part, atoms)?;
+                add_atoms(alloc, part, atoms)?;
             }
             Ok(())
         }

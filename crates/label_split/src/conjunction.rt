@@ -11,21 +11,21 @@ use crate::atoms::add_atoms;
 use crate::search::search;
 use fast_fault::Memory;
 use indexmap::IndexSet;
-use label_core::{Formula, Theory, Verdict};
+use label_core::{Duplicate, Formula, Theory, Verdict};
 use std::alloc::Global;
+use std::hash::Hash;
 
 /// Copies of the different atoms of the formulas.
 #[tactic(auto, using(crate::proofs::SameAtoms::on_atoms))]
-fn atoms_of_each<T: Theory>(
-    theory: &T,
+fn atoms_of_each<A: Eq + Hash + Duplicate + Drop>(
     alloc: Global,
-    formulas: &[Formula<T::Atom>],
-) -> Result<IndexSet<T::Atom>, Memory>
-    ensures { IfOk result (λ atoms. (a : T.Atom) → has_equal T.Atom.eq atoms.keys a ≡ has_equal T.Atom.eq (atoms_in_each formulas.now) a) }
+    formulas: &[Formula<A>],
+) -> Result<IndexSet<A>, Memory>
+    ensures { IfOk result (λ atoms. (a : A) → has_equal A.eq atoms.keys a ≡ has_equal A.eq (atoms_in_each formulas.now) a) }
 {
     let mut atoms = IndexSet::new(alloc);
     for formula in formulas {
-        add_atoms(theory, alloc, formula, &mut atoms)?;
+        add_atoms(alloc, formula, &mut atoms)?;
     }
     Ok(atoms)
 }
@@ -39,7 +39,7 @@ pub fn find<T: Theory>(
     requires fit { FormulasFit (T.atom_fits theory.now) formulas.now }
     ensures { IfOk result (Decides T.label_of (T.has_label theory.now) (T.keeps_label theory.now) (λ l. All (λ f. IsTrue (formula_holds (λ a. T.atom_holds a l) (plain_formula f))) formulas.now) (λ chain. T.chain_over theory.now (atoms_in_each formulas.now) chain × T.chain_passes theory.now chain) (T.chain_is_far theory.now)) }
 {
-    let atoms = atoms_of_each(theory, alloc, formulas)?;
+    let atoms = atoms_of_each(alloc, formulas)?;
     let signs = vec![in alloc; true; formulas.len()]?;
     let mut literals = Vec::new(alloc);
     search(

@@ -180,7 +180,7 @@ pub fn split<T: Theory>(
         if rows.len() > most as usize {
             return Err(SplitStop::TooMany);
         }
-        add_atoms(theory, alloc, &formulas[i], &mut atoms)?;
+        add_atoms(alloc, &formulas[i], &mut atoms)?;
         rows = refine(theory, alloc, atoms.as_slice(), &formulas[..i + 1], rows)?;
     }
     if rows.len() <= most as usize {

@@ -7,7 +7,7 @@ ghost use Rattle.label_split.specs.Search.{IsGoal, IsFront, Meets, NextIs};
 
 use crate::known::contradicted;
 use fast_fault::Memory;
-use label_core::{Formula, Lit, Theory, Verdict};
+use label_core::{Duplicate, Formula, Lit, Theory, Verdict};
 use std::alloc::Global;
 
 /// Whether the formulas have these signs at the value's label.
@@ -41,7 +41,7 @@ fn settled<T: Theory>(
     literals: &[Lit<T::Atom>],
 ) -> Result<Option<Verdict<T::Value, T::Chain>>, Memory>
     requires goal { IsGoal T.Atom.eq (T.atom_fits theory.now) atoms.now formulas.now signs.now }
-    requires front { IsFront T.Atom.eq atoms.now literals.now }
+    requires front { IsFront atoms.now literals.now }
     ensures settled { IfOk result (λ found. IfSome found (Decides T.label_of (T.has_label theory.now) (T.keeps_label theory.now) (Meets T.atom_holds literals.now formulas.now signs.now) (λ chain. T.chain_over theory.now (atoms_in_each formulas.now) chain × T.chain_passes theory.now chain) (T.chain_is_far theory.now))) }
     ensures open { IfOk result (λ found. IfNone found (length literals.now < length atoms.now)) }
 {
@@ -75,7 +75,7 @@ pub fn search<T: Theory>(
     literals: &mut Vec<Lit<T::Atom>>,
 ) -> Result<Verdict<T::Value, T::Chain>, Memory>
     requires goal { IsGoal T.Atom.eq (T.atom_fits theory.now) atoms.now formulas.now signs.now }
-    requires front { IsFront T.Atom.eq atoms.now literals.old.items }
+    requires front { IsFront atoms.now literals.old.items }
     ensures found { IfOk result (Decides T.label_of (T.has_label theory.now) (T.keeps_label theory.now) (Meets T.atom_holds literals.old.items formulas.now signs.now) (λ chain. T.chain_over theory.now (atoms_in_each formulas.now) chain × T.chain_passes theory.now chain) (T.chain_is_far theory.now)) }
     ensures kept { OnOk result (literals.new.items ≡ literals.old.items) }
 {
@@ -112,12 +112,12 @@ fn with_sign<T: Theory>(
     sign: bool,
 ) -> Result<Verdict<T::Value, T::Chain>, Memory>
     requires goal { IsGoal T.Atom.eq (T.atom_fits theory.now) atoms.now formulas.now signs.now }
-    requires front { IsFront T.Atom.eq atoms.now literals.old.items }
+    requires front { IsFront atoms.now literals.old.items }
     requires open { length literals.old.items < length atoms.now }
     ensures found { IfOk result (Decides T.label_of (T.has_label theory.now) (T.keeps_label theory.now) (λ l. Meets T.atom_holds literals.old.items formulas.now signs.now l × NextIs T.atom_holds atoms.now (length literals.old.items) sign l) (λ chain. T.chain_over theory.now (atoms_in_each formulas.now) chain × T.chain_passes theory.now chain) (T.chain_is_far theory.now)) }
     ensures kept { OnOk result (literals.new.items ≡ literals.old.items) }
 {
-    let atom = theory.copy_atom(alloc, &atoms[literals.len()])?;
+    let atom = atoms[literals.len()].duplicate(alloc)?;
     literals.push(Lit { atom, sign })?;
     let found = search(theory, alloc, atoms, formulas, signs, literals)?;
     literals.pop();

@@ -1,9 +1,9 @@
-use Rattle.std.proofs.Common.{◌≡◌, ◌<◌, ◌++◌, ◌∷◌, [], true, false, length, get_or, length-append, ap, subst, ◌∙◌, arith}
+use Rattle.std.proofs.Common.{◌≡◌, ◌<◌, ◌++◌, ◌∷◌, [], true, false, length, length-append, ap, arith}
 use Rattle.label_core.specs.Verdict.{Decides}
 use Rattle.label_core.specs.declared.theory.Verdict.TheVariants.{Wide}
 use Rattle.label_split.specs.Search.{Meets, NextIs}
 use Rattle.label_split.specs.Signs.{atoms_in_each}
-use Rattle.label_split.proofs.Fronts.{front_push, meets_either, next_of_literal, literal_of_next}
+use Rattle.label_split.proofs.Fronts.{copied_from, front_push, meets_either, next_of_literal, literal_of_next}
 use Rattle.label_split.proofs.Verdicts.{decides_as, ok_as, second_decides, first_decides, second_is_wide}
 use Rattle.label_split.proofs.search.+search.Goals as goal
 
@@ -32,7 +32,8 @@ search-returns-in-Unsat-2-clause-found g t c =
 pub with_sign-search-requires : goal.with_sign-search-requires
 with_sign-search-requires g t c κs within =
     let pushed = c.in_ok-push.ensures.items in
-    let n : c.len.result ≡ length c.args.literals.now.items = cc (c.len.ensures, c.args.literals.now.ok.0) in (
+    let n : c.len.result ≡ length c.args.literals.now.items = cc (c.len.ensures, c.args.literals.now.ok.0) in
+    let next = copied_from c.args.atoms.now (length c.args.literals.now.items) c.len.result c.in_ok-atom.atom c.index-atoms-len.result c.in_ok-atom.ensures c.index-atoms-len.is n in (
       omega (arith, simp length-append at (ap length pushed), c.requires.open),
       (
         within.0,
@@ -42,11 +43,7 @@ with_sign-search-requires g t c κs within =
             within.1.1.0,
             (
               within.1.1.1,
-              (
-                c.requires.goal,
-                rw pushed (front_push g.T.Atom.PartialEq.eq c.args.atoms.now c.args.literals.now.items (record { atom = c.in_ok-atom.atom; sign = c.args.sign }) c.index-atoms-len.result c.requires.front c.requires.open
-                    (subst (λ m. g.T.Atom.PartialEq.eq c.in_ok-atom.atom (get_or c.args.atoms.now m c.index-atoms-len.result) ≡ true) n (subst (λ a. g.T.Atom.PartialEq.eq c.in_ok-atom.atom a ≡ true) c.index-atoms-len.is c.in_ok-atom.ensures))),
-              ),
+              (c.requires.goal, rw pushed (front_push c.args.atoms.now c.args.literals.now.items (record { atom = c.in_ok-atom.atom; sign = c.args.sign }) c.requires.front c.requires.open next)),
             ),
           ),
         ),
@@ -56,9 +53,9 @@ with_sign-search-requires g t c κs within =
 pub with_sign-returns-clause-found : goal.with_sign-returns-clause-found
 with_sign-returns-clause-found g t c =
     let n : c.len.result ≡ length c.args.literals.now.items = cc (c.len.ensures, c.args.literals.now.ok.0) in
-    let is : c.index-atoms-len.result ≡ get_or c.args.atoms.now (length c.args.literals.now.items) c.index-atoms-len.result = c.index-atoms-len.is ∙ ap (λ m. get_or c.args.atoms.now m c.index-atoms-len.result) n in
+    let next = copied_from c.args.atoms.now (length c.args.literals.now.items) c.len.result c.in_ok-atom.atom c.index-atoms-len.result c.in_ok-atom.ensures c.index-atoms-len.is n in
     decides_as g.T.Theory.label_of (g.T.Theory.has_label c.args.theory.now) (g.T.Theory.keeps_label c.args.theory.now) (g.met.T.Theory.keeps_labels c.args.theory.now)
     (Meets g.T.Theory.atom_holds (c.args.literals.now.items ++ record { atom = c.in_ok-atom.atom; sign = c.args.sign } ∷ []) c.args.formulas.now c.args.signs.now) (λ l. Meets g.T.Theory.atom_holds c.args.literals.now.items c.args.formulas.now c.args.signs.now l × NextIs g.T.Theory.atom_holds c.args.atoms.now (length c.args.literals.now.items) c.args.sign l) (λ w. g.T.Theory.chain_over c.args.theory.now (atoms_in_each c.args.formulas.now) w × g.T.Theory.chain_passes c.args.theory.now w) (λ w. g.T.Theory.chain_over c.args.theory.now (atoms_in_each c.args.formulas.now) w × g.T.Theory.chain_passes c.args.theory.now w) (g.T.Theory.chain_is_far c.args.theory.now)
-    (next_of_literal g.T.Atom.PartialEq.eq g.T.Theory.atom_holds g.met.T.Theory.equal_atoms c.args.formulas.now c.args.signs.now c.args.atoms.now c.args.literals.now.items c.index-atoms-len.result c.in_ok-atom.atom c.args.sign c.requires.open is c.in_ok-atom.ensures)
-    (λ l h. literal_of_next g.T.Atom.PartialEq.eq g.T.Theory.atom_holds g.met.T.Theory.equal_atoms c.args.formulas.now c.args.signs.now c.args.atoms.now c.args.literals.now.items c.index-atoms-len.result c.in_ok-atom.atom c.args.sign c.requires.open is c.in_ok-atom.ensures l)
+    (next_of_literal g.T.Theory.atom_holds c.args.formulas.now c.args.signs.now c.args.atoms.now c.args.literals.now.items c.in_ok-atom.atom c.args.sign c.requires.open next)
+    (λ l h. literal_of_next g.T.Theory.atom_holds c.args.formulas.now c.args.signs.now c.args.atoms.now c.args.literals.now.items c.in_ok-atom.atom c.args.sign c.requires.open next l)
     (λ w over. over) c.in_ok-found.found (rw c.in_ok-push.ensures.items at c.in_ok-found.ensures.found)

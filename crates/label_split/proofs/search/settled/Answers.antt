@@ -24,7 +24,7 @@ returns-then-literals-atoms-clause-settled g c =
     c.in_ok-found.found c.in_ok-found.ensures
 
 pub returns-in-Wide-clause-open : goal.returns-in-Wide-clause-open
-returns-in-Wide-clause-open g c = omega (arith, front_length g.T.Atom.PartialEq.eq c.args.atoms.now c.args.literals.now c.requires.front)
+returns-in-Wide-clause-open g c = omega (arith, front_length c.args.atoms.now c.args.literals.now c.requires.front)
 
 pub returns-clause-open : goal.returns-clause-open
-returns-clause-open g c = omega (arith, front_length g.T.Atom.PartialEq.eq c.args.atoms.now c.args.literals.now c.requires.front)
+returns-clause-open g c = omega (arith, front_length c.args.atoms.now c.args.literals.now c.requires.front)
