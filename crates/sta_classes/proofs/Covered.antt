@@ -1,6 +1,7 @@
 -- Facts on the rows of signs of guards.
-use Rattle.std.proofs.Common.{ℕ, suc, ◌≡◌, ◌<◌, ◌+◌, ◌==◌, Bool, true, false, cond, All, Vec, get_or, ◌++◌, arith, List, [], ◌∷◌, map, filter, length, refl, sym, ap, ap₂, subst, ◌∙◌, eq-eqb, length-append}
-use Rattle.std.proofs.lemmas.List.Elements.{All-nil, All-cons, All-append, All-contains}
+use Rattle.std.proofs.Common.{ℕ, ◌≡◌, ◌<◌, ◌+◌, ◌==◌, Bool, true, false, cond, All, Vec, get_or, ◌++◌, arith, List, [], ◌∷◌, map, filter, length, refl, sym, ap, ap₂, subst, ◌∙◌, eq-eqb, length-append}
+use Rattle.std.specs.Cmp.{IsEquivalence}
+use Rattle.std.proofs.lemmas.List.Elements.{All-contains}
 use Rattle.std.proofs.lemmas.Simd.{map-map}
 use Rattle.model_tree.specs.Label.{Label}
 use Rattle.model_tree.specs.Formula.{Formula, formula_holds, EveryAtom}
@@ -16,23 +17,15 @@ use Rattle.label_split.specs.declared.rows.SignRow.{SignRow}
 use Rattle.sta_core.specs.Machine.{PlainRule}
 use Rattle.sta_core.specs.Sta.{rule_meaning}
 use Rattle.sta_core.proofs.Meaning.{All_from_map}
-use Rattle.model_sta.specs.Pairwise.{Pairwise}
-use Rattle.sta_classes.specs.Copies.{IsCopy, meaning_of}
+use Rattle.sta_classes.specs.Rules.{meaning_of}
 use Rattle.sta_classes.specs.Guards.{state_guards, guards_of, all_guards, atoms_of_all, truths, GuardsFit, AreSplit}
 use Rattle.sta_classes.specs.Rows.{lists_of}
-use Rattle.sta_classes.proofs.Rows.{lists_push, contains_map}
-use Rattle.sta_classes.proofs.Copied.{among_more, guards_within, copies_among, copies_truths, copies_fit}
+use Rattle.sta_classes.proofs.Rows.{lists_push, contains_map, each_all}
+use Rattle.sta_classes.proofs.Kept.{each_split, each_of, each_fits}
+use Rattle.sta_classes.proofs.Atoms.{constructor_among}
 
 cons_eq : {X : Type 0} (x y : X) (xs ys : List X) → x ∷ xs ≡ y ∷ ys → (x ≡ y) × (xs ≡ ys)
 cons_eq x y xs ys e = (cc, cc)
-
-each_split : {X : Type 0} (P : X → Type 0) (xs ys : List X) → Each P (xs ++ ys) → Each P xs × Each P ys
-each_split P [] ys a = (tt, a)
-each_split P (x ∷ xs) ys a = let (b, c) = each_split P xs ys a.1 in ((a.0, b), c)
-
-each_join : {X : Type 0} (P : X → Type 0) (xs ys : List X) → Each P xs → Each P ys → Each P (xs ++ ys)
-each_join P [] ys a b = b
-each_join P (x ∷ xs) ys a b = (a.0, each_join P xs ys a.1 b)
 
 module _ {A : Type 0} (holds : A → Label → Bool) (c : ℕ) (l m : Label) where
   -- the guard has one truth value at both labels
@@ -65,52 +58,26 @@ module _ {A : Type 0} (holds : A → Label → Bool) (c : ℕ) (l m : Label) whe
       let (a, b) = each_split Same (state_guards c rs) (guards_of c rules) h in
       (state_agrees rs a, all_agree rules b)
 
-  kept_same : (b : Bool) (r : PlainRule A) (rs : List (PlainRule A)) → Same r.guard → Each Same (map (λ x. x.guard) rs) → Each Same (map (λ x. x.guard) (cond b (r ∷ rs) rs))
-  kept_same true r rs g h = (g, h)
-  kept_same false r rs g h = h
-
-  state_same : (rs : List (PlainRule A)) → Each Same (map (λ r. r.guard) rs) → Each Same (state_guards c rs)
-  state_same [] h = tt
-  state_same (r ∷ rs) h = kept_same (r.constructor == c) r (filter (λ x. x.constructor == c) rs) h.0 (state_same rs h.1)
-
-  guards_same : (rules : List (List (PlainRule A))) → Each Same (all_guards rules) → Each Same (guards_of c rules)
-  guards_same [] h = tt
-  guards_same (rs ∷ rules) h =
-      let (a, b) = each_split Same (map (λ r. r.guard) rs) (all_guards rules) h in
-      each_join Same (state_guards c rs) (guards_of c rules) (state_same rs a) (guards_same rules b)
-
   -- one row of signs of all guards is one of a constructor's
   truths_within : (rules : List (List (PlainRule A))) → truths holds (all_guards rules) l ≡ truths holds (all_guards rules) m → truths holds (guards_of c rules) l ≡ truths holds (guards_of c rules) m
-  truths_within rules e = truths_same (guards_of c rules) (guards_same rules (same_truths (all_guards rules) e))
+  truths_within rules e = truths_same (guards_of c rules) (each_of Same c rules (same_truths (all_guards rules) e))
 
-module _ {A : Type 0} (F : A → Type 0) (c : ℕ) where
-  kept_fit : (b : Bool) (r : PlainRule A) (rs : List (PlainRule A)) → EveryAtom F r.guard → All (EveryAtom F) (map (λ x. x.guard) rs) → All (EveryAtom F) (map (λ x. x.guard) (cond b (r ∷ rs) rs))
-  kept_fit true r rs g h = All-cons (EveryAtom F) r.guard (map (λ x. x.guard) rs) g h
-  kept_fit false r rs g h = h
+module _ {A : Type 0} (formulas : List (code.Formula A)) (c : ℕ) (rules : List (List (PlainRule A))) (same : map plain_formula formulas ≡ guards_of c rules) where
+  pub formulas_fit : (F : A → Type 0) → GuardsFit F rules → FormulasFit F formulas
+  formulas_fit F h = All_from_map (EveryAtom F) plain_formula formulas (subst (All (EveryAtom F)) (sym same) (each_all (EveryAtom F) (guards_of c rules) (each_of (EveryAtom F) c rules (each_fits F rules h))))
 
-  state_fit : (rs : List (PlainRule A)) → All (λ r. EveryAtom F r.guard) rs → All (EveryAtom F) (state_guards c rs)
-  state_fit [] h = All-nil (EveryAtom F)
-  state_fit (r ∷ rs) h = kept_fit (r.constructor == c) r (filter (λ x. x.constructor == c) rs) (h 0 r (omega arith)) (state_fit rs (λ k d l. h (suc k) d (omega (arith, l))))
+  pub atoms_among : (eq : A → A → Bool) → IsEquivalence eq → EachHasEqual eq (atoms_in_each formulas) (atoms_of_all (all_guards rules))
+  atoms_among eq laws = subst (λ gs. EachHasEqual eq (atoms_of_all gs) (atoms_of_all (all_guards rules))) (sym same) (constructor_among eq laws c rules)
 
-  pub guards_fit : (rules : List (List (PlainRule A))) → GuardsFit F rules → All (EveryAtom F) (guards_of c rules)
-  guards_fit [] h = All-nil (EveryAtom F)
-  guards_fit (rs ∷ rules) h = All-append (EveryAtom F) (state_guards c rs) (guards_of c rules) (state_fit rs (h 0 rs (omega arith))) (guards_fit rules (λ k d l. h (suc k) d (omega (arith, l))))
+  module _ (holds : A → Label → Bool) where
+    signs_are : (l : Label) → signs_at holds formulas l ≡ truths holds (guards_of c rules) l
+    signs_are l = sym (map-map (λ g. formula_holds (λ a. holds a l) g) plain_formula formulas) ∙ ap (λ gs. truths holds gs l) same
 
-module _ {A : Type 0} (holds : A → Label → Bool) (eq : A → A → Bool) (formulas : List (code.Formula A)) (c : ℕ) (rules : List (List (PlainRule A))) (copies : Pairwise (IsCopy holds eq) (map plain_formula formulas) (guards_of c rules)) where
-  signs_are : (l : Label) → signs_at holds formulas l ≡ truths holds (guards_of c rules) l
-  signs_are l = sym (map-map (λ g. formula_holds (λ a. holds a l) g) plain_formula formulas) ∙ copies_truths holds eq (map plain_formula formulas) (guards_of c rules) l copies
+    pub split_of_guards : {V : Type 0} (label_of : V → Label) (has keeps : Label → Type 0) (rows : List (SignRow V)) → SplitsInto label_of has keeps (signs_at holds formulas) rows → SplitsInto label_of has keeps (truths holds (guards_of c rules)) rows
+    split_of_guards label_of has keeps rows h = subst (λ s. SplitsInto label_of has keeps s rows) (λ i l. signs_are l i) h
 
-  pub formulas_fit : (F : A → Type 0) → ((a b : A) → eq a b ≡ true → F b → F a) → GuardsFit F rules → FormulasFit F formulas
-  formulas_fit F same h = All_from_map (EveryAtom F) plain_formula formulas (copies_fit F eq same holds (map plain_formula formulas) (guards_of c rules) copies (guards_fit F c rules h))
-
-  pub split_of_guards : {V : Type 0} (label_of : V → Label) (has keeps : Label → Type 0) (rows : List (SignRow V)) → SplitsInto label_of has keeps (signs_at holds formulas) rows → SplitsInto label_of has keeps (truths holds (guards_of c rules)) rows
-  split_of_guards label_of has keeps rows h = subst (λ s. SplitsInto label_of has keeps s rows) (λ i l. signs_are l i) h
-
-  pub atoms_of_guards : EachHasEqual eq (atoms_in_each formulas) (atoms_of_all (all_guards rules))
-  atoms_of_guards = among_more eq (atoms_in_each formulas) (atoms_of_all (guards_of c rules)) (atoms_of_all (all_guards rules)) (guards_within eq c rules) (copies_among holds eq (map plain_formula formulas) (guards_of c rules) copies)
-
-  pub unkept_of_guards : (has keeps : Label → Type 0) → HasUnkeptRow has keeps (signs_at holds formulas) → HasUnkeptRow has keeps (truths holds (all_guards rules))
-  unkept_of_guards has keeps (l, here, none) = (l, here, λ m kept same. none m kept (signs_are m ∙ truths_within holds c m l rules same ∙ sym (signs_are l)))
+    pub unkept_of_guards : (has keeps : Label → Type 0) → HasUnkeptRow has keeps (signs_at holds formulas) → HasUnkeptRow has keeps (truths holds (all_guards rules))
+    unkept_of_guards has keeps (l, here, none) = (l, here, λ m kept alike. none m kept (signs_are m ∙ truths_within holds c m l rules alike ∙ sym (signs_are l)))
 
 module _ {A V : Type 0} (label_of : V → Label) (has keeps : Label → Type 0) (holds : A → Label → Bool) (rules : List (List (PlainRule A))) where
   pub no_lists : (all : List (List (SignRow V))) → all ≡ [] → AreSplit label_of has keeps holds 0 rules all

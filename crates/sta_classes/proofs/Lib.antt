@@ -1,5 +1,6 @@
 pub mod Rows
-pub mod Copied
+pub mod Kept
+pub mod Atoms
 pub mod Covered
 pub mod Grown
 pub mod Dropped

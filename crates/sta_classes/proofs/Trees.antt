@@ -14,7 +14,7 @@ use Rattle.sta_core.specs.Machine.{Machine, PlainRule}
 use Rattle.sta_core.specs.Sta.{automaton_of, rule_meaning}
 use Rattle.model_sta.specs.Pairwise.{Pairwise}
 use Rattle.sta_classes.specs.Plain.{PlainTable, class_row, IsBuilt}
-use Rattle.sta_classes.specs.Copies.{meaning_of}
+use Rattle.sta_classes.specs.Rules.{meaning_of}
 use Rattle.sta_classes.specs.Rows.{plain_class, found_of, class_rows, class_rows_at}
 use Rattle.sta_classes.specs.declared.class.Class.{Class}
 use Rattle.model_sta.proofs.Pairs.{pairwise_append}

@@ -1,4 +1,5 @@
-pub mod Copies
+pub mod Rules
+pub mod RowFormula
 pub mod Guards
 pub mod Rows
 pub mod Grow

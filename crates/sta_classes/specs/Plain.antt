@@ -1,14 +1,12 @@
 -- A table as contracts see it: plain data.
-use Rattle.std.specs.Prelude.{ℕ, ◌≡◌, Bool, List, map, get_or, []}
+use Rattle.std.specs.Prelude.{ℕ, Bool, List, map, get_or, []}
 use Rattle.std.specs.Coded.{Coded, code_by, coded×, coded_ℕ, coded_bool, coded_list}
 use Rattle.std.proofs.Common.{refl}
 use Rattle.model_tree.specs.Label.{Label}
 use Rattle.model_sta.specs.Sets.{Row}
 use Rattle.model_sta.specs.Least.{Found, relabel_found, rows_of, AreClasses}
-use Rattle.label_core.specs.Atoms.{EachHasEqual}
 use Rattle.sta_core.specs.Machine.{Machine, coded_machine}
 use Rattle.sta_core.specs.Sta.{automaton_of}
-use Rattle.sta_classes.specs.Guards.{all_guards, atoms_of_all}
 
 -- an automaton, and the classes that its trees have
 pub record PlainTable (A V : Type 0) : Type 0 where
@@ -29,9 +27,3 @@ coded_table {A} {V} a v = code_by (Machine A × List (Found V)) (coded× (coded_
 -- the classes are those of the automaton, with its least trees
 abbrev pub IsBuilt : {A V : Type 0} → ℕ → (V → Label) → (A → Label → Bool) → (Label → Type 0) → (Label → Type 0) → PlainTable A V → Type 0
 IsBuilt cap label_of holds has keeps t = AreClasses cap t.machine.ranks has keeps (automaton_of holds t.machine) (map (relabel_found label_of) t.found)
-
--- the same automaton over labels, whose guards have only atoms that have equal ones in the original
-pub record IsSameMachine {A : Type 0} (holds : A → Label → Bool) (eq : A → A → Bool) (copy original : Machine A) : Type 0 where
-  pub ranks : copy.ranks ≡ original.ranks
-  pub meaning : automaton_of holds copy ≡ automaton_of holds original
-  pub among : EachHasEqual eq (atoms_of_all (all_guards copy.rules)) (atoms_of_all (all_guards original.rules))

@@ -7,7 +7,7 @@ ghost use Rattle.model_sta.specs.Least.{cost};
 ghost use Rattle.model_tree.specs.Formula.{EveryAtom};
 ghost use Rattle.sta_core.specs.Machine.{plain_rule};
 ghost use Rattle.sta_core.specs.Sta.{rule_meaning};
-ghost use Rattle.sta_classes.specs.Copies.{plain_rules, meaning_of};
+ghost use Rattle.sta_classes.specs.Rules.{plain_rules, meaning_of};
 ghost use Rattle.sta_classes.specs.Guards.{GuardsFit};
 ghost use Rattle.sta_classes.specs.Rows.{class_rows, class_rows_at, class_counts_at};
 

@@ -1,53 +1,15 @@
-//! Copies of formulas and rules.
+//! Copies of rules.
 
 ghost use Rattle.std.specs.Prelude.{◌≡◌, map, IfOk};
-ghost use Rattle.label_core.specs.Formula.{plain_formula};
 ghost use Rattle.sta_core.specs.Machine.{plain_rule};
-ghost use Rattle.model_sta.specs.Pairwise.{Pairwise};
-ghost use Rattle.sta_classes.specs.Copies.{IsCopy, IsRuleCopy, AreRuleCopies, plain_rules};
+ghost use Rattle.sta_classes.specs.Rules.{plain_rules};
 
 use fast_fault::Memory;
-use label_core::{Formula, Theory};
+use label_core::Duplicate;
 use sta_core::StaRule;
 use std::alloc::Global;
 
-/// A copy of the formula.
-pub fn copy_formula<T: Theory>(
-    theory: &T,
-    alloc: Global,
-    formula: &Formula<T::Atom>,
-) -> Result<Formula<T::Atom>, Memory>
-    ensures { IfOk result (λ copy. IsCopy T.atom_holds T.Atom.eq (plain_formula copy) (plain_formula formula.now)) }
-{
-    match formula {
-        Formula::Yes => Ok(Formula::Yes),
-        Formula::No => Ok(Formula::No),
-        Formula::Atom(atom) => {
-            let atom = theory.copy_atom(alloc, atom)?;
-            Ok(Formula::Atom(atom))
-        }
-        Formula::Not(inner) => {
-            let inner = copy_formula(theory, alloc, inner)?;
-            Ok(Formula::Not(Box::new(alloc, inner)?))
-        }
-        Formula::And(parts) => {
-            let mut copies = Vec::new(alloc);
-            'every: for part in parts {
-                copies.push(copy_formula(theory, alloc, part)?)?;
-            }
-            Ok(Formula::And(copies))
-        }
-        Formula::Or(parts) => {
-            let mut copies = Vec::new(alloc);
-            'some: for part in parts {
-                copies.push(copy_formula(theory, alloc, part)?)?;
-            }
-            Ok(Formula::Or(copies))
-        }
-    }
-}
-
-/// A copy of what is demanded of each child.
+/// The same demands again.
 fn copy_demands(alloc: Global, demands: &[Vec<u64>]) -> Result<Vec<Vec<u64>>, Memory>
     ensures { IfOk result (λ copies. map (λ d. d.items) copies.items ≡ map (λ d. d.items) demands.now) }
 {
@@ -58,39 +20,44 @@ fn copy_demands(alloc: Global, demands: &[Vec<u64>]) -> Result<Vec<Vec<u64>>, Me
     Ok(copies)
 }
 
-/// Copies of a state's rules.
-fn copy_state<T: Theory>(
-    theory: &T,
+/// The same rule again.
+fn copy_rule<A: Duplicate + Drop>(alloc: Global, rule: &StaRule<A>) -> Result<StaRule<A>, Memory>
+    ensures { IfOk result (λ copy. plain_rule copy ≡ plain_rule rule.now) }
+{
+    let guard = rule.guard.copy(alloc)?;
+    let demands = copy_demands(alloc, &rule.demands)?;
+    let constructor = rule.constructor;
+    Ok(StaRule {
+        constructor,
+        guard,
+        demands,
+    })
+}
+
+/// The same rules again, in order.
+fn copy_state<A: Duplicate + Drop>(
     alloc: Global,
-    rules: &[StaRule<T::Atom>],
-) -> Result<Vec<StaRule<T::Atom>>, Memory>
-    ensures { IfOk result (λ copies. Pairwise (IsRuleCopy T.atom_holds T.Atom.eq) (map plain_rule copies.items) (map plain_rule rules.now)) }
+    rules: &[StaRule<A>],
+) -> Result<Vec<StaRule<A>>, Memory>
+    ensures { IfOk result (λ copies. map plain_rule copies.items ≡ map plain_rule rules.now) }
 {
     let mut copies = Vec::new(alloc);
     for rule in rules {
-        let guard = copy_formula(theory, alloc, &rule.guard)?;
-        let demands = copy_demands(alloc, &rule.demands)?;
-        let constructor = rule.constructor;
-        copies.push(StaRule {
-            constructor,
-            guard,
-            demands,
-        })?;
+        copies.push(copy_rule(alloc, rule)?)?;
     }
     Ok(copies)
 }
 
-/// Copies of each state's rules.
-pub fn copy_rules<T: Theory>(
-    theory: &T,
+/// The same rules of each state again.
+pub fn copy_rules<A: Duplicate + Drop>(
     alloc: Global,
-    rules: &[Vec<StaRule<T::Atom>>],
-) -> Result<Vec<Vec<StaRule<T::Atom>>>, Memory>
-    ensures { IfOk result (λ copies. AreRuleCopies T.atom_holds T.Atom.eq (plain_rules copies.items) (plain_rules rules.now)) }
+    rules: &[Vec<StaRule<A>>],
+) -> Result<Vec<Vec<StaRule<A>>>, Memory>
+    ensures { IfOk result (λ copies. plain_rules copies.items ≡ plain_rules rules.now) }
 {
     let mut copies = Vec::new(alloc);
     for those in rules {
-        copies.push(copy_state(theory, alloc, those)?)?;
+        copies.push(copy_state(alloc, those)?)?;
     }
     Ok(copies)
 }

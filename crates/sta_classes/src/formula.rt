@@ -1,21 +1,17 @@
 //! The formula of the labels over which children of given classes have a given set.
 
-ghost use Rattle.std.specs.Prelude.{◌≡◌, ◌<◌, ◌==◌, ◌&&◌, ◌↔◌, IsTrue, length, map, cond, IfOk, All};
-ghost use Rattle.model_tree.specs.Label.{Label};
-ghost use Rattle.model_tree.specs.Formula.{formula_holds, negation};
-ghost use Rattle.model_sta.specs.Sets.{rows_meet, step};
-ghost use Rattle.label_core.specs.Atoms.{EachHasEqual};
-ghost use Rattle.label_core.specs.Formula.{plain_formula, atoms_in};
+ghost use Rattle.std.specs.Prelude.{◌≡◌, ◌<◌, ◌==◌, ◌&&◌, length, map, IfOk, All};
+ghost use Rattle.model_sta.specs.Sets.{rows_meet};
+ghost use Rattle.label_core.specs.Formula.{plain_formula};
 ghost use Rattle.sta_core.specs.Machine.{plain_rule};
-ghost use Rattle.model_sta.specs.Pairwise.{Pairwise};
-ghost use Rattle.sta_classes.specs.Copies.{IsCopy, plain_rules, meaning_of};
-ghost use Rattle.sta_classes.specs.Guards.{firing_guards, all_guards, atoms_of_all};
+ghost use Rattle.sta_classes.specs.Guards.{firing_guards};
+ghost use Rattle.sta_classes.specs.RowFormula.{signed, some_fires, row_formula};
 ghost use Rattle.sta_classes.specs.Rows.{class_rows_at};
+ghost use Rattle.sta_classes.specs.Rules.{plain_rules};
 
 use crate::class::{Class, demands_met};
-use crate::copies::copy_formula;
 use fast_fault::Memory;
-use label_core::{Formula, Theory};
+use label_core::{Duplicate, Formula, conjunction, disjunction, negation};
 use sta_core::StaRule;
 use std::alloc::Global;
 
@@ -32,22 +28,21 @@ fn lets_fire<A, V>(
     rule.constructor == constructor && demands_met(found, children, &rule.demands)
 }
 
-/// Copies of the guards of the rules that such children let fire.
-fn firing<T: Theory>(
-    theory: &T,
+/// The guards of the rules that such children let fire.
+fn firing<A: Duplicate + Drop, V>(
     alloc: Global,
-    rules: &[StaRule<T::Atom>],
+    rules: &[StaRule<A>],
     constructor: u32,
-    found: &[Class<T::Value>],
+    found: &[Class<V>],
     children: &[usize],
-) -> Result<Vec<Formula<T::Atom>>, Memory>
+) -> Result<Vec<Formula<A>>, Memory>
     requires children { All (λ k. k < length found.now) children.now }
-    ensures { IfOk result (λ guards. Pairwise (IsCopy T.atom_holds T.Atom.eq) (map plain_formula guards.items) (firing_guards constructor (class_rows_at found.now children.now) (map plain_rule rules.now))) }
+    ensures { IfOk result (λ guards. map plain_formula guards.items ≡ firing_guards constructor (class_rows_at found.now children.now) (map plain_rule rules.now)) }
 {
     let mut guards = Vec::new(alloc);
     for rule in rules {
         if lets_fire(rule, constructor, found, children) {
-            guards.push(copy_formula(theory, alloc, &rule.guard)?)?;
+            guards.push(rule.guard.copy(alloc)?)?;
         }
     }
     Ok(guards)
@@ -55,35 +50,49 @@ fn firing<T: Theory>(
 
 /// The formula, or its denial.
 fn signed<A: Drop>(alloc: Global, formula: Formula<A>, sign: bool) -> Result<Formula<A>, Memory>
-    ensures { IfOk result (λ made. plain_formula made ≡ cond sign (plain_formula formula) (negation (plain_formula formula))) }
+    ensures { IfOk result (λ made. plain_formula made ≡ signed sign (plain_formula formula)) }
 {
     if sign {
         return Ok(formula);
     }
-    Ok(Formula::Not(Box::new(alloc, formula)?))
+    negation(alloc, formula)
+}
+
+/// Holds of the labels over which such children have the state, or of those over which they don't.
+fn state_formula<A: Duplicate + Drop, V>(
+    alloc: Global,
+    rules: &[StaRule<A>],
+    constructor: u32,
+    found: &[Class<V>],
+    children: &[usize],
+    sign: bool,
+) -> Result<Formula<A>, Memory>
+    requires children { All (λ k. k < length found.now) children.now }
+    ensures { IfOk result (λ formula. plain_formula formula ≡ signed sign (some_fires constructor (class_rows_at found.now children.now) (map plain_rule rules.now))) }
+{
+    let guards = firing(alloc, rules, constructor, found, children)?;
+    signed(alloc, disjunction(guards), sign)
 }
 
 /// Holds of exactly the labels over which such children have the row.
-pub fn row_formula<T: Theory>(
-    theory: &T,
+pub fn row_formula<A: Duplicate + Drop, V>(
     alloc: Global,
-    rules: &[Vec<StaRule<T::Atom>>],
+    rules: &[Vec<StaRule<A>>],
     constructor: u32,
-    found: &[Class<T::Value>],
+    found: &[Class<V>],
     children: &[usize],
     row: &[bool],
-) -> Result<Formula<T::Atom>, Memory>
+) -> Result<Formula<A>, Memory>
     requires children { All (λ k. k < length found.now) children.now }
     requires row { length row.now ≡ length rules.now }
-    ensures holds { IfOk result (λ formula. (l : Label) → IsTrue (formula_holds (λ a. T.atom_holds a l) (plain_formula formula)) ↔ (step (meaning_of T.atom_holds (plain_rules rules.now)) constructor l (class_rows_at found.now children.now) ≡ row.now)) }
-    ensures atoms { IfOk result (λ formula. EachHasEqual T.Atom.eq (atoms_in (plain_formula formula)) (atoms_of_all (all_guards (plain_rules rules.now)))) }
+    ensures { IfOk result (λ formula. plain_formula formula ≡ row_formula constructor (class_rows_at found.now children.now) (plain_rules rules.now) row.now) }
 {
     let mut parts = Vec::new(alloc);
     for i in 0..rules.len() {
-        let guards = firing(theory, alloc, &rules[i], constructor, found, children)?;
-        parts.push(signed(alloc, Formula::Or(guards), row[i])?)?;
+        let part = state_formula(alloc, &rules[i], constructor, found, children, row[i])?;
+        parts.push(part)?;
     }
-    Ok(Formula::And(parts))
+    Ok(conjunction(parts))
 }
 
 /// The numbers as places.

@@ -1,53 +1,49 @@
 //! The rows of signs of the guards of each constructor.
 
-ghost use Rattle.std.specs.Prelude.{◌≤◌, length, map, IfOk, IfErr, OnOk};
+ghost use Rattle.std.specs.Prelude.{◌≡◌, ◌++◌, map, IfOk, IfErr, OnOk};
 ghost use Rattle.label_core.specs.Formula.{plain_formula};
 ghost use Rattle.sta_core.specs.Machine.{plain_rule};
-ghost use Rattle.model_sta.specs.Pairwise.{Pairwise};
-ghost use Rattle.sta_classes.specs.Copies.{IsCopy, AddsCopies, plain_rules};
 ghost use Rattle.label_split.specs.Split.{SplitsInto};
 ghost use Rattle.sta_classes.specs.Guards.{state_guards, guards_of, all_guards, atoms_of_all, truths, GuardsFit, AreSplit};
 ghost use Rattle.sta_classes.specs.Rows.{lists_of};
+ghost use Rattle.sta_classes.specs.Rules.{plain_rules};
 ghost use Rattle.sta_classes.specs.Stop.{ClassStopsFor};
 
-use crate::copies::copy_formula;
 use crate::stop::ClassStop;
 use fast_fault::Memory;
-use label_core::{Formula, Theory};
+use label_core::{Duplicate, Formula, Theory};
 use label_split::{SignRow, SplitStop, split};
 use sta_core::StaRule;
 use std::alloc::Global;
 
-/// Adds copies of the guards of one state's rules.
-fn add_guards<T: Theory>(
-    theory: &T,
+/// Adds the guards of one state's rules.
+fn add_guards<A: Duplicate + Drop>(
     alloc: Global,
-    rules: &[StaRule<T::Atom>],
+    rules: &[StaRule<A>],
     constructor: u32,
-    guards: &mut Vec<Formula<T::Atom>>,
+    guards: &mut Vec<Formula<A>>,
 ) -> Result<(), Memory>
-    ensures { OnOk result (AddsCopies T.atom_holds T.Atom.eq guards.old.items guards.new.items (state_guards constructor (map plain_rule rules.now))) }
+    ensures { OnOk result (map plain_formula guards.new.items ≡ map plain_formula guards.old.items ++ state_guards constructor (map plain_rule rules.now)) }
 {
     for rule in rules {
         if rule.constructor == constructor {
-            guards.push(copy_formula(theory, alloc, &rule.guard)?)?;
+            guards.push(rule.guard.copy(alloc)?)?;
         }
     }
     Ok(())
 }
 
-/// Copies of the guards of the constructor's rules.
-fn guards_at<T: Theory>(
-    theory: &T,
+/// The guards of the constructor's rules.
+fn guards_at<A: Duplicate + Drop>(
     alloc: Global,
-    rules: &[Vec<StaRule<T::Atom>>],
+    rules: &[Vec<StaRule<A>>],
     constructor: u32,
-) -> Result<Vec<Formula<T::Atom>>, Memory>
-    ensures { IfOk result (λ guards. Pairwise (IsCopy T.atom_holds T.Atom.eq) (map plain_formula guards.items) (guards_of constructor (plain_rules rules.now))) }
+) -> Result<Vec<Formula<A>>, Memory>
+    ensures { IfOk result (λ guards. map plain_formula guards.items ≡ guards_of constructor (plain_rules rules.now)) }
 {
     let mut guards = Vec::new(alloc);
     for those in rules {
-        add_guards(theory, alloc, those, constructor, &mut guards)?;
+        add_guards(alloc, those, constructor, &mut guards)?;
     }
     Ok(guards)
 }
@@ -63,7 +59,7 @@ fn split_at<T: Theory>(
     ensures rows { IfOk result (λ rows. SplitsInto T.label_of (T.has_label theory.now) (T.keeps_label theory.now) (truths T.atom_holds (guards_of constructor (plain_rules rules.now))) rows.items) }
     ensures stop { IfErr result (ClassStopsFor ⊥ (T.has_label theory.now) (T.keeps_label theory.now) (truths T.atom_holds (all_guards (plain_rules rules.now))) (λ chain. T.chain_over theory.now (atoms_of_all (all_guards (plain_rules rules.now))) chain × T.chain_passes theory.now chain) (T.chain_is_far theory.now)) }
 {
-    let guards = guards_at(theory, alloc, rules, constructor)?;
+    let guards = guards_at(alloc, rules, constructor)?;
     match split(theory, alloc, &guards, u32::MAX) {
         Ok(rows) => Ok(rows),
         Err(SplitStop::Wide(chain)) => Err(ClassStop::Wide(chain)),

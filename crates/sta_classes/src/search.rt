@@ -7,7 +7,7 @@
 ghost use Rattle.std.specs.Prelude.{◌≡◌, ◌≤◌, ◌<◌, ◌+◌, ◌^◌, ◌==◌, ◌||◌, false, length, IfOk, IfErr, OnOk, All};
 ghost use Rattle.model_sta.specs.Reached.{IsComplete, HasMoreSets};
 ghost use Rattle.model_sta.specs.Least.{rows_of, AreClasses};
-ghost use Rattle.sta_classes.specs.Copies.{plain_rules, meaning_of};
+ghost use Rattle.sta_classes.specs.Rules.{plain_rules, meaning_of};
 ghost use Rattle.sta_classes.specs.Guards.{GuardsFit, AreSplit};
 ghost use Rattle.sta_classes.specs.Rows.{found_of, founds, lists_of};
 ghost use Rattle.sta_classes.specs.Grow.{Grown, candidate, Over, From, AnyOf};

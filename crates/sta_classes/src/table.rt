@@ -11,7 +11,7 @@ ghost use Rattle.model_sta.specs.Reached.{IsTable, HasMoreSets};
 ghost use Rattle.model_sta.specs.Least.{rows_of, counts_of, rows_at, relabel_found, AreMade, IsWitness, HasNoTreeBelow, IsLeastTree};
 ghost use Rattle.sta_core.specs.Sta.{automaton_of, AtomsFit};
 ghost use Rattle.sta_classes.specs.Guards.{all_guards, atoms_of_all, truths};
-ghost use Rattle.sta_classes.specs.Plain.{class_row, IsBuilt, IsSameMachine};
+ghost use Rattle.sta_classes.specs.Plain.{class_row, IsBuilt};
 ghost use Rattle.sta_classes.specs.Stop.{ClassStopsFor};
 
 use crate::class::{CAP, Class, row_has};
@@ -22,7 +22,7 @@ use crate::search::search;
 use crate::stop::ClassStop;
 use fast_fault::Memory;
 use fast_tree::Tree;
-use label_core::{Formula, Theory};
+use label_core::{Duplicate, Formula, Theory};
 use sta_core::{Sta, StaRule};
 use std::alloc::Global;
 use std::marker::Model;
@@ -115,7 +115,9 @@ impl<A, V: Drop> Table<A, V> {
         let tree = self.build(theory, alloc, class as usize)?;
         Ok(Some(tree))
     }
+}
 
+impl<A: Duplicate + Drop, V> Table<A, V> {
     /// A formula that holds of exactly the labels over which children of these classes make a tree of the class.
     pub fn guard<T: Theory<Atom = A, Value = V>>(
         &self,
@@ -134,7 +136,6 @@ impl<A, V: Drop> Table<A, V> {
         let children = places(alloc, children)?;
         let row = &self.classes[class as usize].row;
         let formula = row_formula(
-            theory,
             alloc,
             &self.rules,
             constructor,
@@ -157,7 +158,7 @@ pub fn classes<T: Theory>(
     ensures table { IfOk result (λ t. IsTable sta.now.ranks (T.has_label theory.now) (T.keeps_label theory.now) (automaton_of T.atom_holds sta.now) (rows_of t.found)) }
     ensures few { IfOk result (λ t. length t.found ≤ most) }
     ensures built { IfOk result (λ t. IsBuilt CAP T.label_of T.atom_holds (T.has_label theory.now) (T.keeps_label theory.now) t) }
-    ensures machine { IfOk result (λ t. IsSameMachine T.atom_holds T.Atom.eq t.machine sta.now) }
+    ensures machine { IfOk result (λ t. t.machine ≡ sta.now) }
     ensures stop { IfErr result (ClassStopsFor (HasMoreSets sta.now.ranks (T.keeps_label theory.now) (automaton_of T.atom_holds sta.now) most) (T.has_label theory.now) (T.keeps_label theory.now) (truths T.atom_holds (all_guards sta.now.rules)) (λ chain. T.chain_over theory.now (atoms_of_all (all_guards sta.now.rules)) chain × T.chain_passes theory.now chain) (T.chain_is_far theory.now)) }
 {
     let ranks = sta.ranks();
@@ -169,7 +170,7 @@ pub fn classes<T: Theory>(
     let lists = splits(theory, alloc, rules, ranks.len() as u32)?;
     let classes = search(theory, alloc, ranks, rules, &lists, most)?;
     let ranks = Vec::from_slice(alloc, ranks)?;
-    let rules = copy_rules(theory, alloc, rules)?;
+    let rules = copy_rules(alloc, rules)?;
     Ok(Table {
         ranks,
         rules,

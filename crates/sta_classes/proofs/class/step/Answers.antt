@@ -5,7 +5,7 @@ use Rattle.sta_core.specs.Machine.{plain_rule}
 use Rattle.sta_core.specs.Sta.{rule_meaning}
 use Rattle.sta_classes.specs.Rows.{class_rows_at}
 use Rattle.sta_classes.proofs.Rows.{stepped, map_more}
-use Rattle.sta_classes.proofs.Copied.{fit_at}
+use Rattle.sta_classes.proofs.Kept.{fit_at}
 use Rattle.sta_classes.proofs.class.step.Goals as goal
 
 pub any_fires-requires-clause-fit : goal.any_fires-requires-clause-fit

@@ -1,6 +1,6 @@
-use Rattle.std.proofs.Common.{take}
-use Rattle.sta_classes.specs.Copies.{AreRuleCopies, plain_rules}
+use Rattle.std.proofs.Common.{◌≡◌, take}
+use Rattle.sta_classes.specs.Rules.{plain_rules}
 use Rattle.sta_classes.proofs.copies.copy_rules.Given as goal
 
 abbrev pub invariant-loop-those : goal.invariant-loop-those
-invariant-loop-those g l = AreRuleCopies g.T.Theory.atom_holds g.T.Atom.PartialEq.eq (plain_rules l.copies.items) (plain_rules (take l.those-index l.rules))
+invariant-loop-those g l = plain_rules l.copies.items ≡ plain_rules (take l.those-index l.rules)

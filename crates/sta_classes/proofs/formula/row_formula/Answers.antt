@@ -1,22 +1,25 @@
-use Rattle.std.proofs.Common.{arith, ap, map, get_or, false, length, ◌<◌}
+use Rattle.std.proofs.Common.{arith, ap, ap₂, sym, map, get_or, false, length, ◌<◌, ◌≤◌, ◌∙◌, ◌++◌, ◌∷◌, [], take_all}
+use Rattle.std.proofs.lemmas.List.{map-append}
+use Rattle.model_tree.specs.Formula.{all_of, formulas_of}
+use Rattle.label_core.specs.Formula.{plain_formula}
 use Rattle.sta_core.specs.Machine.{plain_rule}
 use Rattle.model_sta.proofs.Reached.{same_default}
+use Rattle.sta_classes.specs.RowFormula.{signed, some_fires, state_formulas}
+use Rattle.sta_classes.specs.Rules.{plain_rules}
 use Rattle.sta_classes.specs.Rows.{class_rows_at}
-use Rattle.sta_classes.proofs.Fired.{parts_more, parts_done, atoms_more, atoms_done}
+use Rattle.sta_classes.proofs.Fired.{formulas_taken}
 use Rattle.sta_classes.proofs.formula.row_formula.Goals as goal
 
 pub loop-i-preserved : goal.loop-i-preserved
 loop-i-preserved g c =
     let low : c.loop-i.i < length c.args.row.now = omega (arith, c.loop-i-test.true, c.requires.row) in
-    record {
-      holds = parts_more g.T.Theory.atom_holds g.T.Atom.PartialEq.eq c.args.constructor (class_rows_at c.args.found.now c.args.children.now) (λ those. map plain_rule those.items) c.loop-i.parts.items c.push.new.self.items c.args.rules.now c.loop-i.i c.index-rules-i.result c.args.row.now
-          c.in_ok-signed.field-0 c.in_ok-guards.guards (map plain_rule c.deref.result.now) (get_or c.args.row.now c.loop-i.i false) c.loop-i-test.true c.index-rules-i.is c.requires.row (same_default c.args.row.now c.loop-i.i false _ low) (ap (map plain_rule) c.deref.ensures.value) c.in_ok-push.ensures.items c.in_ok-signed.ensures c.in_ok-guards.ensures c.loop-i.invariant.holds;
-      atoms = atoms_more g.T.Theory.atom_holds g.T.Atom.PartialEq.eq c.args.constructor (class_rows_at c.args.found.now c.args.children.now) (λ those. map plain_rule those.items) c.loop-i.parts.items c.push.new.self.items c.args.rules.now c.loop-i.i c.index-rules-i.result
-          c.in_ok-signed.field-0 c.in_ok-guards.guards (map plain_rule c.deref.result.now) (get_or c.args.row.now c.loop-i.i false) c.loop-i-test.true c.index-rules-i.is (ap (map plain_rule) c.deref.ensures.value) c.in_ok-push.ensures.items c.in_ok-signed.ensures c.in_ok-guards.ensures c.loop-i.invariant.atoms;
-    }
+    let qs = class_rows_at c.args.found.now c.args.children.now in
+    ap (map plain_formula) c.in_ok-push.ensures.items ∙ map-append plain_formula c.loop-i.parts.items (c.in_ok-part.part ∷ [])
+    ∙ ap₂ (λ fs f. fs ++ f ∷ []) c.loop-i.invariant (c.in_ok-part.ensures ∙ ap (λ rs. signed (get_or c.args.row.now c.loop-i.i false) (some_fires c.args.constructor qs (map plain_rule rs))) c.deref.ensures.value)
+    ∙ sym (formulas_taken c.args.constructor qs (λ those. map plain_rule those.items) c.args.rules.now c.args.row.now c.loop-i.i c.index-rules-i.result (get_or c.args.row.now c.loop-i.i false) c.loop-i-test.true c.requires.row c.index-rules-i.is (same_default c.args.row.now c.loop-i.i false _ low))
 
-pub returns-clause-holds : goal.returns-clause-holds
-returns-clause-holds g c = parts_done g.T.Theory.atom_holds g.T.Atom.PartialEq.eq c.args.constructor (class_rows_at c.args.found.now c.args.children.now) (λ those. map plain_rule those.items) c.loop-i.parts c.args.rules.now c.loop-i.i c.args.row.now c.loop-i-test.false c.requires.row c.loop-i.invariant.holds
-
-pub returns-clause-atoms : goal.returns-clause-atoms
-returns-clause-atoms g c = atoms_done g.T.Theory.atom_holds g.T.Atom.PartialEq.eq c.args.constructor (class_rows_at c.args.found.now c.args.children.now) (λ those. map plain_rule those.items) c.loop-i.parts c.args.rules.now c.loop-i.i c.loop-i-test.false c.loop-i.invariant.atoms
+pub returns : goal.returns
+returns g c =
+    let high : length c.args.row.now ≤ c.loop-i.i = omega (arith, c.loop-i-test.false, c.requires.row) in
+    c.conjunction.ensures
+    ∙ ap (λ fs. all_of (formulas_of fs)) (c.loop-i.invariant ∙ ap₂ (λ rs bs. state_formulas c.args.constructor (class_rows_at c.args.found.now c.args.children.now) (plain_rules rs) bs) (take_all c.loop-i.i c.args.rules.now c.loop-i-test.false) (take_all c.loop-i.i c.args.row.now high))

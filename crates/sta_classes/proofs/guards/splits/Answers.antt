@@ -1,4 +1,4 @@
-use Rattle.sta_classes.specs.Copies.{plain_rules}
+use Rattle.sta_classes.specs.Rules.{plain_rules}
 use Rattle.sta_classes.proofs.Covered.{lists_more}
 use Rattle.sta_classes.proofs.guards.splits.Goals as goal
 

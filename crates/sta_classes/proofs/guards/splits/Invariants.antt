@@ -1,5 +1,5 @@
 use Rattle.sta_classes.specs.Guards.{AreSplit}
-use Rattle.sta_classes.specs.Copies.{plain_rules}
+use Rattle.sta_classes.specs.Rules.{plain_rules}
 use Rattle.sta_classes.specs.Rows.{lists_of}
 use Rattle.sta_classes.proofs.guards.splits.Given as goal
 

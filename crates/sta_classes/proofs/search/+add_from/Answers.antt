@@ -1,7 +1,7 @@
 use Rattle.std.proofs.Common.{◌≡◌, ◌++◌, ◌∷◌, ◌-◌, ◌+◌, ◌<◌, ◌==◌, ◌||◌, [], length, refl, sym, ap, ◌∙◌, subst, subst₂, arith, All}
 use Rattle.std.proofs.lemmas.List.{length-map}
 use Rattle.std.proofs.lemmas.List.Elements.{All-push}
-use Rattle.sta_classes.specs.Copies.{plain_rules, meaning_of}
+use Rattle.sta_classes.specs.Rules.{plain_rules, meaning_of}
 use Rattle.sta_classes.specs.Rows.{found_of, founds}
 use Rattle.sta_classes.specs.Grow.{Grown, From}
 use Rattle.sta_classes.specs.declared.class.TheConstants.{CAP}

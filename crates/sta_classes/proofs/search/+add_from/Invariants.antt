@@ -1,5 +1,5 @@
 use Rattle.std.proofs.Common.{◌≡◌, ◌-◌}
-use Rattle.sta_classes.specs.Copies.{plain_rules, meaning_of}
+use Rattle.sta_classes.specs.Rules.{plain_rules, meaning_of}
 use Rattle.sta_classes.specs.Rows.{founds}
 use Rattle.sta_classes.specs.Grow.{Grown, FromBelow}
 use Rattle.sta_classes.specs.declared.class.TheConstants.{CAP}

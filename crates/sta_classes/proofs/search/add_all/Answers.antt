@@ -1,7 +1,7 @@
 use Rattle.std.proofs.Common.{arith, [], ◌≡◌, ◌<◌, sym, subst, get_or, length, All}
 use Rattle.std.proofs.lemmas.List.{length-map}
 use Rattle.model_sta.proofs.Reached.{same_default}
-use Rattle.sta_classes.specs.Copies.{plain_rules, meaning_of}
+use Rattle.sta_classes.specs.Rules.{plain_rules, meaning_of}
 use Rattle.sta_classes.specs.Rows.{founds, lists_of}
 use Rattle.sta_classes.specs.Grow.{Grown, From, AnyOf}
 use Rattle.sta_classes.specs.declared.class.TheConstants.{CAP}

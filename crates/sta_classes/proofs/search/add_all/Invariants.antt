@@ -1,4 +1,4 @@
-use Rattle.sta_classes.specs.Copies.{plain_rules, meaning_of}
+use Rattle.sta_classes.specs.Rules.{plain_rules, meaning_of}
 use Rattle.sta_classes.specs.Rows.{founds, lists_of}
 use Rattle.sta_classes.specs.Grow.{Grown, AnyOf}
 use Rattle.sta_classes.specs.declared.class.TheConstants.{CAP}

@@ -1,5 +1,5 @@
 use Rattle.std.proofs.Common.{arith, ap, sym, subst, ◌∙◌, refl, Contains}
-use Rattle.sta_classes.specs.Copies.{plain_rules, meaning_of}
+use Rattle.sta_classes.specs.Rules.{plain_rules, meaning_of}
 use Rattle.sta_classes.specs.Rows.{found_of, founds, class_rows}
 use Rattle.sta_classes.specs.declared.class.TheConstants.{CAP}
 use Rattle.sta_classes.proofs.Rows.{rows_are, founds_push, not_known}

@@ -1,5 +1,5 @@
 use Rattle.std.proofs.Common.{take}
-use Rattle.sta_classes.specs.Copies.{plain_rules, meaning_of}
+use Rattle.sta_classes.specs.Rules.{plain_rules, meaning_of}
 use Rattle.sta_classes.specs.Rows.{founds}
 use Rattle.sta_classes.specs.Grow.{Grown, Over}
 use Rattle.sta_classes.specs.declared.class.TheConstants.{CAP}

@@ -1,7 +1,7 @@
 use Rattle.std.proofs.Common.{◌∙◌, [], refl, ap, sym, map, get_or}
 use Rattle.model_sta.specs.Sets.{step}
 use Rattle.model_sta.specs.Least.{cost}
-use Rattle.sta_classes.specs.Copies.{plain_rules, meaning_of}
+use Rattle.sta_classes.specs.Rules.{plain_rules, meaning_of}
 use Rattle.sta_classes.specs.declared.class.TheConstants.{CAP}
 use Rattle.sta_classes.proofs.Rows.{rows_are, counts_are}
 use Rattle.sta_classes.proofs.Grown.{same_found}

@@ -1,5 +1,5 @@
 use Rattle.std.proofs.Common.{◌≡◌, ◌+◌, true, length, arith, subst, ap, ◌∙◌, length-append}
-use Rattle.sta_classes.specs.Copies.{plain_rules, meaning_of}
+use Rattle.sta_classes.specs.Rules.{plain_rules, meaning_of}
 use Rattle.sta_classes.specs.Rows.{founds, lists_of}
 use Rattle.sta_classes.specs.Grow.{Grown, AnyOf}
 use Rattle.sta_classes.specs.declared.class.TheConstants.{CAP}

@@ -1,6 +1,6 @@
 use Rattle.std.proofs.Common.{◌≤◌, ◌-◌, length}
 use Rattle.model_sta.specs.Least.{AreClasses}
-use Rattle.sta_classes.specs.Copies.{plain_rules, meaning_of}
+use Rattle.sta_classes.specs.Rules.{plain_rules, meaning_of}
 use Rattle.sta_classes.specs.Rows.{founds, lists_of}
 use Rattle.sta_classes.specs.Next.{AreOpen}
 use Rattle.sta_classes.specs.declared.class.TheConstants.{CAP}
