@@ -17,7 +17,7 @@ returns-in-None-clause-found g c =
     let found = map (relabel_found g.T.Theory.label_of) t.found in
     let sta = c.args.lang.now.sta in
     none_of sta.ranks has keeps (g.met.T.Theory.keeps_labels c.args.theory.now) (automaton_of g.T.Theory.atom_holds sta) found
-    (subst₂ (λ r m. AreClasses CAP r has keeps m found) is.machine.ranks is.machine.meaning is.built)
+    (subst (λ m. AreClasses CAP m.ranks has keeps (automaton_of g.T.Theory.atom_holds m) found) is.machine is.built)
     (subst (IsComplete sta.ranks has (automaton_of g.T.Theory.atom_holds sta)) (sym (rows_same g.T.Theory.label_of t.found)) is.table.complete) c.args.lang.now.state
     (subst₂ (λ rs ns. HasNoClass rs ns c.args.lang.now.state) (sym (rows_same g.T.Theory.label_of t.found)) (sym (counts_same g.T.Theory.label_of t.found)) c.in-None.ensures)
 
@@ -30,9 +30,9 @@ returns-in-Some-2-clause-found g c =
     let found = map (relabel_found g.T.Theory.label_of) t.found in
     let sta = c.args.lang.now.sta in
     let shown = rw c.in-Some-2.is at c.in_ok-tree-in-Some.ensures in
-    let moved = subst₂ (λ r m. IsLeastTree CAP r has keeps m (length t.found) (get_or (rows_of t.found) c.in-Some.class []) (relabel g.T.Theory.label_of c.in-Some-2.tree)) is.machine.ranks is.machine.meaning shown in
+    let moved = subst (λ m. IsLeastTree CAP m.ranks has keeps (automaton_of g.T.Theory.atom_holds m) (length t.found) (get_or (rows_of t.found) c.in-Some.class []) (relabel g.T.Theory.label_of c.in-Some-2.tree)) is.machine shown in
     shown_of sta.ranks has keeps (g.met.T.Theory.keeps_labels c.args.theory.now) (automaton_of g.T.Theory.atom_holds sta) found
-    (subst₂ (λ r m. AreClasses CAP r has keeps m found) is.machine.ranks is.machine.meaning is.built)
+    (subst (λ m. AreClasses CAP m.ranks has keeps (automaton_of g.T.Theory.atom_holds m) found) is.machine is.built)
     (subst (IsComplete sta.ranks has (automaton_of g.T.Theory.atom_holds sta)) (sym (rows_same g.T.Theory.label_of t.found)) is.table.complete) c.args.lang.now.state c.in-Some.class
     (subst₂ (λ rs ns. IsLeastClass rs ns c.args.lang.now.state c.in-Some.class) (sym (rows_same g.T.Theory.label_of t.found)) (sym (counts_same g.T.Theory.label_of t.found)) c.in-Some.ensures)
     (length t.found) c.args.most (relabel g.T.Theory.label_of c.in-Some-2.tree) is.few
@@ -47,9 +47,9 @@ returns-clause-found g c =
     let found = map (relabel_found g.T.Theory.label_of) t.found in
     let sta = c.args.lang.now.sta in
     let none = rw c.in-None-2.is at c.in_ok-tree-in-Some.ensures in
-    let moved = subst₂ (λ r m. HasNoTreeBelow CAP r has m (get_or (rows_of t.found) c.in-Some.class [])) is.machine.ranks is.machine.meaning none in
+    let moved = subst (λ m. HasNoTreeBelow CAP m.ranks has (automaton_of g.T.Theory.atom_holds m) (get_or (rows_of t.found) c.in-Some.class [])) is.machine none in
     big_of sta.ranks has keeps (g.met.T.Theory.keeps_labels c.args.theory.now) (automaton_of g.T.Theory.atom_holds sta) found
-    (subst₂ (λ r m. AreClasses CAP r has keeps m found) is.machine.ranks is.machine.meaning is.built)
+    (subst (λ m. AreClasses CAP m.ranks has keeps (automaton_of g.T.Theory.atom_holds m) found) is.machine is.built)
     (subst (IsComplete sta.ranks has (automaton_of g.T.Theory.atom_holds sta)) (sym (rows_same g.T.Theory.label_of t.found)) is.table.complete) c.args.lang.now.state c.in-Some.class
     (subst₂ (λ rs ns. IsLeastClass rs ns c.args.lang.now.state c.in-Some.class) (sym (rows_same g.T.Theory.label_of t.found)) (sym (counts_same g.T.Theory.label_of t.found)) c.in-Some.ensures)
     (subst (λ rs. HasNoTreeBelow CAP sta.ranks has (automaton_of g.T.Theory.atom_holds sta) (get_or rs c.in-Some.class [])) (sym (rows_same g.T.Theory.label_of t.found)) moved)
