@@ -1,6 +1,8 @@
-use Rattle.std.proofs.Common.{◌≡◌, ◌++◌, ◌∷◌, ◌-◌, ◌+◌, ◌<◌, ◌==◌, ◌||◌, [], length, refl, sym, ap, ◌∙◌, subst, subst₂, arith, All}
+use Rattle.std.proofs.Common.{ℕ, List, ◌≡◌, ◌++◌, ◌∷◌, ◌-◌, ◌+◌, ◌<◌, ◌==◌, ◌||◌, [], length, refl, sym, ap, ◌∙◌, subst, subst₂, arith, All}
 use Rattle.std.proofs.lemmas.List.{length-map}
 use Rattle.std.proofs.lemmas.List.Elements.{All-push}
+use Rattle.model_tree.specs.Label.{Label}
+use Rattle.model_sta.specs.Least.{Found}
 use Rattle.sta_classes.specs.Rules.{plain_rules, meaning_of}
 use Rattle.sta_classes.specs.Rows.{found_of, founds}
 use Rattle.sta_classes.specs.Grow.{Grown, From}
@@ -12,15 +14,15 @@ use Rattle.sta_classes.proofs.search.+add_from.Goals as goal
 pub returns-in_ok-add_over-clause-grown : goal.returns-in_ok-add_over-clause-grown
 returns-in_ok-add_over-clause-grown g t c =
     from_over CAP (meaning_of g.T.Theory.atom_holds (plain_rules c.args.rules.now)) (founds g.T.Theory.label_of c.args.found.now) (λ r. g.T.Theory.label_of r.value) c.args.constructor
-    c.args.children.now.items c.args.left c.args.free c.args.values.now _ _ c.deref.result.now (omega arith) c.if-free.true c.deref.ensures.value c.in_ok-add_over.ensures
+    c.args.children.now.items c.args.left c.args.free c.args.values.now (founds g.T.Theory.label_of c.args.pending.now.items) (founds g.T.Theory.label_of c.add_over.new.pending.items) c.deref.result.now (omega arith) c.if-free.true c.deref.ensures.value c.in_ok-add_over.ensures
 
 pub each-init : goal.each-init
 each-init g t c =
     let n : length (founds g.T.Theory.label_of c.args.found.now) ≡ length c.args.found.now = length-map c.args.found.now (found_of g.T.Theory.label_of) in (
-      refl,
+      refl {A = List ℕ} {a = c.args.children.now.items},
       from_first CAP (meaning_of g.T.Theory.atom_holds (plain_rules c.args.rules.now)) (founds g.T.Theory.label_of c.args.found.now) (λ r. g.T.Theory.label_of r.value) c.args.constructor
-          c.args.children.now.items c.args.left c.args.free c.args.values.now _ _ c.first_child-k.result
-          (λ h. let (not_free, one, last) = c.first_child-k.ensures.needless h in (not_free, one, last ∙ sym n)) refl,
+          c.args.children.now.items c.args.left c.args.free c.args.values.now (founds g.T.Theory.label_of c.args.pending.now.items) (founds g.T.Theory.label_of c.args.pending.now.items) c.first_child-k.result
+          (λ h. let (not_free, one, last) = c.first_child-k.ensures.needless h in (not_free, one, last ∙ sym n)) (refl {A = List (Found Label)} {a = founds g.T.Theory.label_of c.args.pending.now.items}),
     )
 
 pub add_from-requires : goal.add_from-requires
@@ -64,4 +66,4 @@ pub returns-clause-grown : goal.returns-clause-grown
 returns-clause-grown g t c =
     let n : length (founds g.T.Theory.label_of c.args.found.now) ≡ length c.args.found.now = length-map c.args.found.now (found_of g.T.Theory.label_of) in
     from_each CAP (meaning_of g.T.Theory.atom_holds (plain_rules c.args.rules.now)) (founds g.T.Theory.label_of c.args.found.now) (λ r. g.T.Theory.label_of r.value) c.args.constructor
-    c.args.children.now.items c.args.left c.args.free c.args.values.now _ _ c.each.k (λ z. absurd (omega arith)) (omega (arith, n)) (omega (arith, n, c.each.auto.k-end)) c.each.invariant.1
+    c.args.children.now.items c.args.left c.args.free c.args.values.now (founds g.T.Theory.label_of c.args.pending.now.items) (founds g.T.Theory.label_of c.each.pending.items) c.each.k (λ z. absurd (omega arith)) (omega (arith, n)) (omega (arith, n, c.each.auto.k-end)) c.each.invariant.1

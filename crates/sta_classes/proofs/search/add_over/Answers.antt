@@ -1,4 +1,6 @@
-use Rattle.std.proofs.Common.{arith, ap, sym, subst, ◌∙◌, refl, Contains}
+use Rattle.std.proofs.Common.{arith, ap, sym, subst, ◌∙◌, refl, Contains, List}
+use Rattle.model_tree.specs.Label.{Label}
+use Rattle.model_sta.specs.Least.{Found}
 use Rattle.sta_classes.specs.Rules.{plain_rules, meaning_of}
 use Rattle.sta_classes.specs.Rows.{found_of, founds, class_rows}
 use Rattle.sta_classes.specs.declared.class.TheConstants.{CAP}
@@ -10,7 +12,7 @@ use Rattle.sta_classes.proofs.search.add_over.Goals.{then-not-is_known+in_ok-pus
 pub loop-sign_row-init : goal.loop-sign_row-init
 loop-sign_row-init g c =
     over_start CAP (meaning_of g.T.Theory.atom_holds (plain_rules c.args.rules.now)) (founds g.T.Theory.label_of c.args.found.now) (λ r. g.T.Theory.label_of r.value) c.args.constructor c.args.children.now
-    (founds g.T.Theory.label_of c.args.pending.now.items) (founds g.T.Theory.label_of c.args.pending.now.items) c.args.values.now refl
+    (founds g.T.Theory.label_of c.args.pending.now.items) (founds g.T.Theory.label_of c.args.pending.now.items) c.args.values.now (refl {A = List (Found Label)} {a = founds g.T.Theory.label_of c.args.pending.now.items})
 
 pub loop-sign_row-preserved : goal.loop-sign_row-preserved
 loop-sign_row-preserved g c =
@@ -30,4 +32,4 @@ loop-sign_row-preserved g c =
 pub returns : goal.returns
 returns g c =
     over_all CAP (meaning_of g.T.Theory.atom_holds (plain_rules c.args.rules.now)) (founds g.T.Theory.label_of c.args.found.now) (λ r. g.T.Theory.label_of r.value) c.args.constructor c.args.children.now
-    _ _ c.args.values.now c.loop-sign_row.sign_row-index (omega arith) c.loop-sign_row.invariant
+    (founds g.T.Theory.label_of c.args.pending.now.items) (founds g.T.Theory.label_of c.loop-sign_row.pending.items) c.args.values.now c.loop-sign_row.sign_row-index (omega arith) c.loop-sign_row.invariant
