@@ -80,9 +80,6 @@ module _ {A : Type 0} (formulas : List (code.Formula A)) (c : ℕ) (rules : List
     unkept_of_guards has keeps (l, here, none) = (l, here, λ m kept alike. none m kept (signs_are m ∙ truths_within holds c m l rules alike ∙ sym (signs_are l)))
 
 module _ {A V : Type 0} (label_of : V → Label) (has keeps : Label → Type 0) (holds : A → Label → Bool) (rules : List (List (PlainRule A))) where
-  pub no_lists : (all : List (List (SignRow V))) → all ≡ [] → AreSplit label_of has keeps holds 0 rules all
-  no_lists all e = record { one_each = ap length e; each = λ c low. let n : length all ≡ 0 = ap length e in absurd (omega arith) }
-
   more_lists : (n : ℕ) (old : List (List (SignRow V))) (rows : List (SignRow V)) → AreSplit label_of has keeps holds n rules old → SplitsInto label_of has keeps (truths holds (guards_of n rules)) rows → AreSplit label_of has keeps holds (n + 1) rules (old ++ rows ∷ [])
   more_lists n old rows h made =
       let l : length (old ++ rows ∷ []) ≡ length old + 1 = length-append old (rows ∷ []) in

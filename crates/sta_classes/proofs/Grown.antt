@@ -123,15 +123,6 @@ module _ {L X : Type 0} (cap : ℕ) (rules : List (List (Rule L))) (found : List
       (λ p w. ([], (All-nil (λ k. k < length found), sym z), inl f, subst (λ l. Over cap rules found label c l xs p) (e ∙ sym (append-nil ks)) w))
       (λ p w. let (js, are, some, over) = w in subst (λ l. Over cap rules found label c l xs p) (ap (λ l. ks ++ l) (none_left js (are.1 ∙ z)) ∙ append-nil ks ∙ sym e) over)
 
-  pub from_nothing : left ≡ 0 → free ≡ false → b ≡ a → Grown a b (From cap rules found label c ks left free xs)
-  from_nothing z f e =
-      subst (λ l. Grown a l (From cap rules found label c ks left free xs)) (sym e)
-      (grown_none a (From cap rules found label c ks left free xs) (λ p w. let (js, are, some, over) = w in
-      elim some [
-        | inl t ↦ true≢false (sym t ∙ f)
-        | inr there ↦ nowhere (length found - 1) (subst (λ l. Contains l (length found - 1)) (none_left js (are.1 ∙ z)) there)
-      ]))
-
   -- the first further children, which need not be tried
   pub from_first : (first : ℕ) → (0 < first → (free ≡ false) × (left ≡ 1) × (first + 1 ≡ length found)) → b ≡ a → Grown a b (FromBelow cap rules found label first c ks (left - 1) free xs)
   from_first first needless e =

@@ -111,9 +111,6 @@ known_more f xs i x row q r low at is d e h there =
 pub none_known : {X : Type 0} (f : X → Row) (xs : List X) (i : ℕ) (row : Row) → length xs ≤ i → ¬ Contains (map f (take i xs)) row → ¬ Contains (map f xs) row
 none_known f xs i row high h there = h (subst (λ z. Contains (map f z) row) (sym (take_all i xs high)) there)
 
-pub is_there : {X : Type 0} (f : X → Row) (xs : List X) (i : ℕ) (x : X) (row q : Row) (r : Bool) → i < length xs → x ≡ get_or xs i x → q ≡ f x → Decides r (q ≡ row) → r ≡ true → Contains (map f xs) row
-is_there f xs i x row q r low at is d e = subst (Contains (map f xs)) (sym is ∙ d.0 e) (contains_map f xs x (i, low, sym at))
-
 -- one more of a list that a loop goes over
 pub map_more : {X Y : Type 0} (f : X → Y) (xs : List X) (i : ℕ) (x : X) (old new : List Y) (y : Y) → i < length xs → x ≡ get_or xs i x → new ≡ old ++ y ∷ [] → y ≡ f x → old ≡ map f (take i xs) → new ≡ map f (take (i + 1) xs)
 map_more f xs i x old new y low at is e h =

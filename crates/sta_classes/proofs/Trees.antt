@@ -40,11 +40,6 @@ module _ {V : Type 0} (label : V → Label) (cap : ℕ) (ranks : List ℕ) (D : 
       → IsMade cap ranks D rules (plain_founds label found) k (found_of label x) × (get_or (rows_of (plain_founds label found)) k [] ≡ x.row.items) × (get_or (counts_of (plain_founds label found)) k 0 ≡ x.nodes)
   own k x l at h = own_at label (IsMade cap ranks D rules (plain_founds label found)) found k x l at h
 
-  pub kids_more : (k : ℕ) (js : List ℕ) (i : ℕ) (before after : List (Tree Label)) (t : Tree Label) → i < length js → after ≡ before ++ t ∷ [] → get_or js i 0 < k → IsWitness cap ranks D rules (plain_founds label found) (get_or js i 0) t
-      → Pairwise (λ i u. (i < k) × IsWitness cap ranks D rules (plain_founds label found) i u) (take i js) before → Pairwise (λ i u. (i < k) × IsWitness cap ranks D rules (plain_founds label found) i u) (take (i + 1) js) after
-  kids_more k js i before after t l e low w h =
-      subst₂ (Pairwise (λ i u. (i < k) × IsWitness cap ranks D rules (plain_founds label found) i u)) (sym (take_more js i 0 l)) (sym e) (pairwise_append (λ n u. (n < k) × IsWitness cap ranks D rules (plain_founds label found) n u) (take i js) (get_or js i 0 ∷ []) before (t ∷ []) h ((low, w), tt))
-
   kids_of : (k : ℕ) (js : List ℕ) (ts : List (Tree Label)) → Pairwise (λ i u. (i < k) × IsWitness cap ranks D rules (plain_founds label found) i u) js ts → AreKids cap ranks D rules (plain_founds label found) k js (trees_of ts)
   kids_of k [] [] h = no_kids cap ranks D rules (plain_founds label found) k
   kids_of k [] (t ∷ ts) h = absurd h
