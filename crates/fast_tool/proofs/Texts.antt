@@ -1,10 +1,9 @@
 -- What was read and taken, and what that makes of the report.
-use Rattle.std.proofs.Common.{ℕ, ◌≡◌, ◌<◌, List, [], ◌++◌, Option, Some, None, IfSome, length, ap, sym, subst, inl, inr, refl, true}
+use Rattle.std.proofs.Common.{ℕ, ◌≡◌, ◌<◌, List, [], ◌++◌, Option, Some, None, IfSome, length, sym, subst, inl, inr, refl, true}
 use Rattle.fast_fault.specs.Taken.{IsGiven}
-use Rattle.fast_fault.specs.Written.{Appends, AppendsPrefix}
 use Rattle.fast_fault.specs.declared.place.Pos.{Pos}
 use Rattle.fast_fault.specs.declared.code.Code.{Code}
-use Rattle.fast_fault.specs.declared.code.Code.TheVariants.{TooLong, NotUtf8, Token, Nested, Syntax, NotYet}
+use Rattle.fast_fault.specs.declared.code.Code.TheVariants.{TooLong, NotYet}
 use Rattle.fast_fault.specs.declared.refusal.Refusal.{Refusal}
 use Rattle.fast_fault.specs.declared.status.Status.{Status}
 use Rattle.fast_fault.specs.declared.status.Status.TheVariants.{Hold, Fails, Words, TextRefused, RunRefused, TextFault, SinkFault, Memory}
@@ -17,8 +16,8 @@ use Rattle.model_run.specs.Lines.{refusal_line, checked_line}
 use Rattle.model_run.specs.Built.{unbuilt_at}
 use Rattle.model_run.specs.Scripts.{Ending, whole, unfinished, Writes}
 use Rattle.model_refusals.specs.Refusals.{start}
-use Rattle.model_run.specs.Texts.{IsTheText, IsChecked, IsRefused}
-use Rattle.model_run.specs.Report.{IsTextRefused, BuiltReport, ProgramReport, CheckReport, RunReport, FormReport, StatusReport, UsageReport, IsWords, IsReport, Reports, items_script}
+use Rattle.model_run.specs.Texts.{IsChecked, IsRefused}
+use Rattle.model_run.specs.Report.{IsTextRefused, CheckReport, RunReport, FormReport, StatusReport, UsageReport, IsWords, IsReport, Reports, items_script}
 use Rattle.fast_tool.specs.Taken.{IsProgramOf, HeldReport, TextAnswer}
 use Rattle.fast_tool.specs.Runs.{IsFault, EndsWith, ItemsReport}
 use Rattle.fast_tool.proofs.Runs.{appends_none}

@@ -14,5 +14,5 @@ run_items-requires g c =
       built = all_built items (sym c.in-None.ensures);
     }
 
-pub returns-clause-report : goal.returns-clause-report
-returns-clause-report g c = built_report c.args.file.now 1000 (plain_program c.args.checked.now.program) c.run_items.result _ _ (sym c.in-None.ensures) c.run_items.ensures.report
+pub returns-in-None-clause-report : goal.returns-in-None-clause-report
+returns-in-None-clause-report g c = built_report c.args.file.now 1000 (plain_program c.args.checked.now.program) c.run_items.result _ _ (sym c.in-None.ensures) c.run_items.ensures.report
