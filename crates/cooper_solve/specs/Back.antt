@@ -1,6 +1,6 @@
 -- The value of one more variable.
-use Rattle.std.specs.Prelude.{ℕ, ℤ, ◌*ℤ◌, ◌≡◌, ◌<◌, ◌≤◌, ◌⊎◌, [], ◌∷◌, ◌++◌, FitsSigned}
-use Rattle.std.specs.Int.{w64}
+use Rattle.std.specs.Prelude.{ℕ, ℤ, ◌*ℤ◌, ◌≡◌, ◌<◌, ◌≤◌, ◌⊎◌, [], ◌∷◌, ◌++◌}
+use Rattle.model_tree.specs.Range.{IsLabelNumber}
 use Rattle.math_cooper.specs.System.{Form, form_value}
 use Rattle.cooper_solve.specs.declared.found.Put.{Put}
 use Rattle.cooper_solve.specs.declared.found.Solution.{Solution}
@@ -11,7 +11,7 @@ use Rattle.cooper_solve.specs.declared.found.Found.TheVariants.{Solved, Far, Wid
 abbrev pub IsBack : Solution → Put → Form → ℤ → ℕ → Found → Type 0
 IsBack s p g c i (Solved t) =
     (t.puts.items ≡ s.puts.items ++ p ∷ [])
-    × (((8 ≤ i) × (t.values.items ≡ s.values.items)) ⊎ ((i < 8) × ((x : ℤ) × FitsSigned w64 x × (c *ℤ x ≡ form_value g s.values.items) × (t.values.items ≡ s.values.items ++ x ∷ []))))
-IsBack s p g c i (Far ps) = (ps.items ≡ s.puts.items ++ p ∷ []) × (i < 8) × ((x : ℤ) → FitsSigned w64 x → c *ℤ x ≡ form_value g s.values.items → ⊥)
+    × (((8 ≤ i) × (t.values.items ≡ s.values.items)) ⊎ ((i < 8) × ((x : ℤ) × IsLabelNumber x × (c *ℤ x ≡ form_value g s.values.items) × (t.values.items ≡ s.values.items ++ x ∷ []))))
+IsBack s p g c i (Far ps) = (ps.items ≡ s.puts.items ++ p ∷ []) × (i < 8) × ((x : ℤ) → IsLabelNumber x → c *ℤ x ≡ form_value g s.values.items → ⊥)
 IsBack s p g c i (Wide ps) = ⊥
 IsBack s p g c i Unsat = ⊥

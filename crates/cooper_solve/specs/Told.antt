@@ -1,6 +1,6 @@
 -- What the search tells: a solution, one that is far off, puts that lead to a number that is too wide, or that there is none.
-use Rattle.std.specs.Prelude.{ℕ, ℤ, pos, ◌*ℤ◌, ◌<ℤ◌, ◌≡◌, ◌<◌, ◌+◌, ◌⊎◌, List, [], ◌∷◌, ◌++◌, map, reverse, take, slice_index_or, unsigned_abs, FitsSigned}
-use Rattle.std.specs.Int.{w64}
+use Rattle.std.specs.Prelude.{ℕ, ℤ, pos, ◌*ℤ◌, ◌<ℤ◌, ◌≡◌, ◌<◌, ◌+◌, ◌⊎◌, List, [], ◌∷◌, ◌++◌, map, reverse, take, slice_index_or, unsigned_abs}
+use Rattle.model_tree.specs.Range.{IsLabelNumber}
 use Rattle.std.specs.List.{All, Contains}
 use Rattle.math_cooper.specs.System.{Condition, Form, form_value, put_all, unit_all, divides_condition, IsSolvable}
 use Rattle.math_cooper.specs.Puts as plain
@@ -20,7 +20,7 @@ puts_of ps = reverse (map put_of ps)
 
 -- the value of one of the eight fields is outside 64 bits
 abbrev pub IsOutside : List ℤ → Type 0
-IsOutside values = (k : ℕ) × (k < 8) × (FitsSigned w64 (slice_index_or values k (pos 0)) → ⊥)
+IsOutside values = (k : ℕ) × (k < 8) × (IsLabelNumber (slice_index_or values k (pos 0)) → ⊥)
 
 -- the puts lead to a solution, whose first eight values are these, and no number of theirs is too wide
 pub record IsSolved (n : ℕ) (S : List Condition) (ps : List plain.Put) (us : List ℤ) : Type 0 where

@@ -6,7 +6,7 @@ ghost use Rattle.cooper_solve.specs.Back.{IsBack};
 
 use crate::put::Linear;
 use exact_quotient::exact_quotient;
-use fast_fault::Memory;
+use fast_fault::{LabelInt, Memory};
 use std::alloc::Global;
 
 /// A put of a step: the variable, the number of the condition whose bound is taken, and the offset from it. Where no
@@ -21,7 +21,7 @@ pub struct Put {
 /// The values of the first eight variables, and the puts that lead to them, the first put last.
 #[derive(Drop)]
 pub struct Solution {
-    pub values: Vec<i64>,
+    pub values: Vec<LabelInt>,
     pub puts: Vec<Put>,
 }
 
@@ -73,7 +73,7 @@ pub(crate) fn go_back(
         return Ok(Found::Far(all));
     };
     let mut more = values;
-    more.push(value as i64)?;
+    more.push(value as LabelInt)?;
     Ok(Found::Solved(Solution {
         values: more,
         puts: all,

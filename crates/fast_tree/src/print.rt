@@ -1,15 +1,17 @@
 //! The printed text of trees.
 
-ghost use Rattle.std.specs.Prelude.{◌≡◌, ◌++◌, ◌<◌, IfOk, encode_utf8_all};
+ghost use Rattle.std.specs.Prelude.{◌≡◌, ◌++◌, ◌<◌, IfOk, encode_utf8_all, true};
 ghost use Rattle.std.specs.Fmt.{signed_decimal};
+ghost use Rattle.std.specs.Str.{all_scalars};
 ghost use Rattle.model_tree.specs.Tree.{relabel, relabel_all, trees_of};
+ghost use Rattle.model_tree.specs.Scalars.{has_scalars, have_scalars, is_of_scalars, label_has_scalars};
 ghost use Rattle.model_tree.specs.Signature.{HasType, EachHasType, names_of};
 ghost use Rattle.model_tree.specs.Printed.{printed_tree, printed_children, printed_label, printed_field, printed_text, escaped, numbered};
 ghost use Rattle.fast_tree.specs.Entries.{field_of, label_meaning};
 ghost use Rattle.fast_tree.specs.Signatures.{plain_signature};
 
 use crate::{Label, Signature, Tree, Value};
-use fast_fault::{Memory, Text};
+use fast_fault::{LabelInt, Memory, Text};
 use std::alloc::Global;
 
 /// The text of a tree, as reports show it.
@@ -19,7 +21,8 @@ pub fn print_tree(
     signature: &Signature,
 ) -> Result<Vec<u8>, Memory>
     requires { HasType (plain_signature signature.now) (relabel label_meaning tree.now) }
-    ensures { IfOk result (λ text. text.items ≡ encode_utf8_all (printed_tree (names_of (plain_signature signature.now)) (relabel label_meaning tree.now))) }
+    ensures text { IfOk result (λ text. text.items ≡ encode_utf8_all (printed_tree (names_of (plain_signature signature.now)) (relabel label_meaning tree.now))) }
+    ensures scalars { IfOk result (λ _. has_scalars (relabel label_meaning tree.now) ≡ true) }
 {
     let mut text = Vec::new(alloc);
     append_tree(alloc, &mut text, tree, signature)?;
@@ -34,7 +37,8 @@ fn append_tree(
     signature: &Signature,
 ) -> Result<(), Memory>
     requires { HasType (plain_signature signature.now) (relabel label_meaning tree.now) }
-    ensures { IfOk result (λ _. out.new.items ≡ out.old.items ++ encode_utf8_all (printed_tree (names_of (plain_signature signature.now)) (relabel label_meaning tree.now))) }
+    ensures text { IfOk result (λ _. out.new.items ≡ out.old.items ++ encode_utf8_all (printed_tree (names_of (plain_signature signature.now)) (relabel label_meaning tree.now))) }
+    ensures scalars { IfOk result (λ _. has_scalars (relabel label_meaning tree.now) ≡ true) }
 {
     out.push(b'(')?;
     let constructor = &signature.constructors[tree.constructor() as usize];
@@ -55,7 +59,8 @@ fn append_children(
     signature: &Signature,
 ) -> Result<(), Memory>
     requires { EachHasType (plain_signature signature.now) (relabel_all label_meaning (trees_of children.now)) }
-    ensures { IfOk result (λ _. out.new.items ≡ out.old.items ++ encode_utf8_all (printed_children (names_of (plain_signature signature.now)) (relabel_all label_meaning (trees_of children.now)))) }
+    ensures text { IfOk result (λ _. out.new.items ≡ out.old.items ++ encode_utf8_all (printed_children (names_of (plain_signature signature.now)) (relabel_all label_meaning (trees_of children.now)))) }
+    ensures scalars { IfOk result (λ _. have_scalars (relabel_all label_meaning (trees_of children.now)) ≡ true) }
 {
     for child in children {
         out.push(b' ')?;
@@ -65,7 +70,8 @@ fn append_children(
 }
 
 fn append_label(alloc: Global, out: &mut Vec<u8>, label: &Label) -> Result<(), Memory>
-    ensures { IfOk result (λ _. out.new.items ≡ out.old.items ++ encode_utf8_all (printed_label (label_meaning label.now))) }
+    ensures text { IfOk result (λ _. out.new.items ≡ out.old.items ++ encode_utf8_all (printed_label (label_meaning label.now))) }
+    ensures scalars { IfOk result (λ _. label_has_scalars (label_meaning label.now) ≡ true) }
 {
     if let Some((first, later)) = label.values().split_first() {
         append_value(alloc, out, first)?;
@@ -78,7 +84,8 @@ fn append_label(alloc: Global, out: &mut Vec<u8>, label: &Label) -> Result<(), M
 }
 
 fn append_value(alloc: Global, out: &mut Vec<u8>, value: &Value) -> Result<(), Memory>
-    ensures { IfOk result (λ _. out.new.items ≡ out.old.items ++ encode_utf8_all (printed_field (field_of value.now))) }
+    ensures text { IfOk result (λ _. out.new.items ≡ out.old.items ++ encode_utf8_all (printed_field (field_of value.now))) }
+    ensures scalars { IfOk result (λ _. is_of_scalars (field_of value.now) ≡ true) }
 {
     match value {
         Value::Int(number) => append_number(alloc, out, *number)?,
@@ -90,7 +97,7 @@ fn append_value(alloc: Global, out: &mut Vec<u8>, value: &Value) -> Result<(), M
 }
 
 #[tactic(auto, using(crate::proofs::Printing::on_characters))]
-fn append_number(alloc: Global, out: &mut Vec<u8>, number: i64) -> Result<(), Memory>
+fn append_number(alloc: Global, out: &mut Vec<u8>, number: LabelInt) -> Result<(), Memory>
     ensures { IfOk result (λ _. out.new.items ≡ out.old.items ++ encode_utf8_all (signed_decimal number)) }
 {
     let digits = format!(in alloc; "{number}")?;
@@ -99,7 +106,8 @@ fn append_number(alloc: Global, out: &mut Vec<u8>, number: i64) -> Result<(), Me
 }
 
 fn append_text(alloc: Global, out: &mut Vec<u8>, text: &Text) -> Result<(), Memory>
-    ensures { IfOk result (λ _. out.new.items ≡ out.old.items ++ encode_utf8_all (printed_text text.now)) }
+    ensures text { IfOk result (λ _. out.new.items ≡ out.old.items ++ encode_utf8_all (printed_text text.now)) }
+    ensures scalars { IfOk result (λ _. all_scalars text.now ≡ true) }
 {
     out.push(b'"')?;
     for character in text.as_str().chars() {

@@ -6,7 +6,7 @@ use Rattle.std.specs.Ordering.{int_eq}
 use Rattle.model_form.specs.Form.{Form, Remainders, no_remainders, remainder, Term}
 use Rattle.model_form.specs.Sums.{scaled_fields, scaled_remainders, fields_from, without_zeros}
 use Rattle.model_form.specs.Ranges.{IsOfFields, IsOfRemainders, IsCoefficient, AreFields, AreRemainders, IsApart, AreApart}
-use Rattle.model_form.specs.Gathered.{AreLikes}
+use Rattle.lin_form.specs.Within.{AreLikes}
 use Rattle.lin_form.specs.declared.form.FieldTerm.{FieldTerm}
 use Rattle.lin_form.specs.declared.form.RemTerm.{RemTerm}
 use Rattle.lin_form.specs.Terms.{plain_fields, plain_remainders}

@@ -8,7 +8,8 @@ use Rattle.lin_form.proofs.Evaluating.{fits_64, fits_128, small_product}
 use Rattle.std.specs.Ordering.{int_eq}
 use Rattle.model_form.specs.Form.{Remainders, remainder, Term}
 use Rattle.model_form.specs.Sums.{scaled_fields, scaled_remainders, fields_from, without_zeros}
-use Rattle.model_form.specs.Ranges.{IsOfFields, IsOfRemainders, IsCoefficient, IsConstant}
+use Rattle.model_tree.specs.Range.{IsLabelNumber}
+use Rattle.model_form.specs.Ranges.{IsOfFields, IsOfRemainders, IsCoefficient}
 use Rattle.lin_form.specs.declared.form.FieldTerm.{FieldTerm}
 use Rattle.lin_form.specs.declared.form.RemTerm.{RemTerm}
 use Rattle.lin_form.specs.declared.sum.Like.{Like}
@@ -113,7 +114,7 @@ pub held_range : (n y : ℤ) → y ≡ n → IsCoefficient n → IsCoefficient (
 held_range n y e h = subst IsCoefficient (sym (held_number n y e h)) h
 
 -- a product of a constant and a coefficient, as the code computes it
-pub held_product : (by a : ℤ) → IsConstant by → IsCoefficient a → to_z w128 (of_z w128 (to_z w128 (of_z w128 by) *ℤ to_z w128 (of_z w128 (to_z w64 (of_z w64 a))))) ≡ by *ℤ a
+pub held_product : (by a : ℤ) → IsLabelNumber by → IsCoefficient a → to_z w128 (of_z w128 (to_z w128 (of_z w128 by) *ℤ to_z w128 (of_z w128 (to_z w64 (of_z w64 a))))) ≡ by *ℤ a
 held_product by a h g =
     let x : unsigned_abs by ≤ 2 ^ 63 = omega (arith, ints) in
     let y : unsigned_abs a ≤ 2 ^ 31 = (let l : unsigned_abs a < 2 ^ 31 = g in omega arith) in

@@ -8,8 +8,8 @@ use Rattle.std.proofs.lemmas.Int.{to_z-of_z}
 use Rattle.model_form.specs.Form.{Form, remainder}
 use Rattle.model_form.specs.Sums.{add_like, is_like}
 use Rattle.model_form.specs.Ranges.{IsCoefficient, AreApart}
-use Rattle.model_form.specs.Gathered.{IsWithin, AreLikes}
-use Rattle.model_form.proofs.Gathering.{sum_within}
+use Rattle.lin_form.specs.Within.{IsWithin, AreLikes}
+use Rattle.lin_form.proofs.Gathering.{sum_within}
 use Rattle.lin_form.specs.declared.form.FieldTerm.{FieldTerm}
 use Rattle.lin_form.specs.declared.form.RemTerm.{RemTerm}
 use Rattle.lin_form.specs.declared.sum.Like.{Like}

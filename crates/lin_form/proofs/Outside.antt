@@ -13,7 +13,8 @@ use Rattle.lin_form.specs.Terms.{plain_fields, plain_remainders}
 use Rattle.lin_form.specs.Gathered.{plain_parts}
 use Rattle.model_form.specs.Form.{constant_of, Form, form, Remainders, no_remainders, remainder, Term}
 use Rattle.model_form.specs.Sums.{Sum, add_form, sign, remainder_form, product_form, number_form, scaled_fields, scaled_remainders}
-use Rattle.model_form.specs.Ranges.{IsConstant, IsCoefficient, IsOfFields, IsOfRemainders, IsOutside, IsForm, AreFields, AreRemainders}
+use Rattle.model_tree.specs.Range.{IsLabelNumber}
+use Rattle.model_form.specs.Ranges.{IsCoefficient, IsOfFields, IsOfRemainders, IsOutside, IsForm, AreFields, AreRemainders}
 use Rattle.model_form.proofs.Values.{int_eq-out}
 use Rattle.lin_form.proofs.Evaluating.{small_product, small_sum, fits_128}
 
@@ -28,11 +29,11 @@ remainders_range (remainder a f k rs) h n (inl e) = subst IsCoefficient (sym e) 
 remainders_range (remainder a f k rs) h n (inr i) = remainders_range rs h.4 n i
 
 pub none_outside : (f : Form) → IsForm f → (n : ℤ) → IsOutside f n → ⊥
-none_outside (form c ts rs) h n (inl o) = o.1 (subst IsConstant (sym o.0) h.0)
+none_outside (form c ts rs) h n (inl o) = o.1 (subst IsLabelNumber (sym o.0) h.0)
 none_outside (form c ts rs) h n (inr o) = o.1 (elim o.0 as (λ _. IsCoefficient n) [ inl i ↦ fields_range 0 ts h.1 n i | inr i ↦ remainders_range rs h.2 n i ])
 
 -- a product of two constants, as the code computes it
-pub held_constant : (by a : ℤ) → IsConstant by → IsConstant a → to_z w128 (of_z w128 (to_z w128 (of_z w128 by) *ℤ to_z w128 (of_z w128 a))) ≡ by *ℤ a
+pub held_constant : (by a : ℤ) → IsLabelNumber by → IsLabelNumber a → to_z w128 (of_z w128 (to_z w128 (of_z w128 by) *ℤ to_z w128 (of_z w128 a))) ≡ by *ℤ a
 held_constant by a h g =
     let x : unsigned_abs by ≤ 2 ^ 63 = omega (arith, ints) in
     let y : unsigned_abs a ≤ 2 ^ 63 = omega (arith, ints) in
@@ -61,7 +62,7 @@ pub record HasConstant (s by a : ℤ) : Type 0 where
   pub fits : FitsSigned w128 (to_z w128 (of_z w128 s) +ℤ to_z w128 (of_z w128 (to_z w128 (of_z w128 by) *ℤ to_z w128 (of_z w128 a))))
   pub is : to_z w128 (of_z w128 (to_z w128 (of_z w128 s) +ℤ to_z w128 (of_z w128 (to_z w128 (of_z w128 by) *ℤ to_z w128 (of_z w128 a))))) ≡ s +ℤ (by *ℤ a)
 
-pub has_constant : (s by a : ℤ) → unsigned_abs s ≤ 2 ^ 126 → unsigned_abs by ≤ 2 ^ 31 → IsConstant a → HasConstant s by a
+pub has_constant : (s by a : ℤ) → unsigned_abs s ≤ 2 ^ 126 → unsigned_abs by ≤ 2 ^ 31 → IsLabelNumber a → HasConstant s by a
 has_constant s by a h b g =
     let y : unsigned_abs a ≤ 2 ^ 63 = omega (arith, ints) in
     let p = small_product by a (2 ^ 31) (2 ^ 63) (2 ^ 94) b y (lit≤ tt) in

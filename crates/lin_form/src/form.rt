@@ -3,7 +3,8 @@
 ghost use Rattle.std.specs.Prelude.{◌≡◌, ℤ, ◌<◌, map, IfOk};
 ghost use Rattle.model_form.specs.Form.{constant_of, fields_of, remainders_of};
 ghost use Rattle.model_form.specs.Sums.{number_form, field_form};
-ghost use Rattle.model_form.specs.Ranges.{IsConstant, IsForm};
+ghost use Rattle.model_tree.specs.Range.{IsLabelNumber};
+ghost use Rattle.model_form.specs.Ranges.{IsForm};
 ghost use Rattle.lin_form.specs.Terms.{plain_fields, plain_remainders};
 
 use fast_fault::Memory;
@@ -61,7 +62,7 @@ impl Model for Form {
 impl Form {
     /// The form of a number.
     pub fn number(alloc: Global, value: i128) -> Result<Form, Memory>
-        requires { IsConstant value }
+        requires { IsLabelNumber value }
         ensures { IfOk result (λ form. form ≡ number_form value) }
     {
         Ok(Form {

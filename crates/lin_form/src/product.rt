@@ -2,7 +2,8 @@
 
 ghost use Rattle.std.specs.Prelude.{◌≡◌, ◌≢◌, ◌<◌, ◌≤◌, ℤ, pos, MatchResult};
 ghost use Rattle.model_form.specs.Sums.{product_form, remainder_form, scaled_fields, scaled_remainders};
-ghost use Rattle.model_form.specs.Ranges.{IsConstant, IsCoefficient, IsForm, IsOutside, IsOfFields, IsOfRemainders, AreFields, AreRemainders};
+ghost use Rattle.model_tree.specs.Range.{IsLabelNumber};
+ghost use Rattle.model_form.specs.Ranges.{IsCoefficient, IsForm, IsOutside, IsOfFields, IsOfRemainders, AreFields, AreRemainders};
 ghost use Rattle.lin_form.specs.Terms.{plain_fields, plain_remainders};
 ghost use Rattle.lin_form.specs.Stops.{StopsAt};
 
@@ -14,7 +15,7 @@ use wide_num::rem;
 impl Form {
     /// The form times a number.
     pub fn scaled(&self, alloc: Global, by: i128) -> Result<Form, FormStop>
-        requires { IsConstant by }
+        requires { IsLabelNumber by }
         ensures form { MatchResult result (λ form. form ≡ product_form by self.now) (λ stop. StopsAt (IsOutside (product_form by self.now)) stop) }
         ensures in_range { MatchResult result (λ form. (n : ℤ) → IsOutside form n → ⊥) (λ _. Unit {0}) }
     {
@@ -56,7 +57,7 @@ impl Form {
 }
 
 fn scaled_fields(alloc: Global, by: i128, terms: &[FieldTerm]) -> Result<Vec<FieldTerm>, FormStop>
-    requires by { IsConstant by }
+    requires by { IsLabelNumber by }
     requires terms { AreFields 0 (plain_fields terms.now) }
     requires some { by ≢ pos 0 }
     ensures { MatchResult result (λ made. (plain_fields made.items ≡ scaled_fields by (plain_fields terms.now)) × AreFields 0 (plain_fields made.items)) (λ stop. StopsAt (λ n. IsOfFields n (scaled_fields by (plain_fields terms.now)) × (IsCoefficient n → ⊥)) stop) }
@@ -72,7 +73,7 @@ fn scaled_fields(alloc: Global, by: i128, terms: &[FieldTerm]) -> Result<Vec<Fie
 }
 
 fn scaled_remainders(alloc: Global, by: i128, terms: &[RemTerm]) -> Result<Vec<RemTerm>, FormStop>
-    requires by { IsConstant by }
+    requires by { IsLabelNumber by }
     requires terms { AreRemainders (plain_remainders terms.now) }
     requires some { by ≢ pos 0 }
     ensures { MatchResult result (λ made. (plain_remainders made.items ≡ scaled_remainders by (plain_remainders terms.now)) × AreRemainders (plain_remainders made.items)) (λ stop. StopsAt (λ n. IsOfRemainders n (scaled_remainders by (plain_remainders terms.now)) × (IsCoefficient n → ⊥)) stop) }

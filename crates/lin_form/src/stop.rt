@@ -1,7 +1,8 @@
 //! Why no form is given.
 
 ghost use Rattle.std.specs.Prelude.{◌≡◌, MatchResult};
-ghost use Rattle.model_form.specs.Ranges.{IsCoefficient, IsConstant};
+ghost use Rattle.model_tree.specs.Range.{IsLabelNumber};
+ghost use Rattle.model_form.specs.Ranges.{IsCoefficient};
 ghost use Rattle.lin_form.specs.Stops.{StopsAt};
 
 use fast_fault::Memory as Want;
@@ -60,7 +61,7 @@ pub(crate) fn coefficient(number: i128) -> Result<i64, FormStop>
 
 /// The number as a constant.
 pub(crate) fn constant(number: i128) -> Result<i128, FormStop>
-    ensures { MatchResult result (λ c. (c ≡ number) × IsConstant number) (λ e. (e ≡ FormStop.Range number) × (IsConstant number → ⊥)) }
+    ensures { MatchResult result (λ c. (c ≡ number) × IsLabelNumber number) (λ e. (e ≡ FormStop.Range number) × (IsLabelNumber number → ⊥)) }
 {
     if number >= i64::MIN as i128 && number <= i64::MAX as i128 {
         Ok(number)

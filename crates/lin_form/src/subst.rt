@@ -3,7 +3,7 @@
 ghost use Rattle.std.specs.Prelude.{◌≡◌, ℤ, ◌≤◌, ◌^◌, MatchResult, OnOk, unsigned_abs};
 ghost use Rattle.model_form.specs.Sums.{subst_form, put_fields};
 ghost use Rattle.model_form.specs.Ranges.{IsOutsideAfter, AreFields};
-ghost use Rattle.model_form.specs.Gathered.{IsGathered};
+ghost use Rattle.lin_form.specs.Within.{IsGathered};
 ghost use Rattle.lin_form.specs.Terms.{plain_fields};
 ghost use Rattle.lin_form.specs.Gathered.{plain_sum};
 ghost use Rattle.lin_form.specs.Stops.{StopsAt};

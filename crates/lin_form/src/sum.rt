@@ -4,8 +4,9 @@ ghost use Rattle.std.specs.Prelude.{◌≡◌, ℕ, ℤ, pos, ◌+◌, ◌<◌, 
 ghost use Rattle.std.specs.Int.{w128};
 ghost use Rattle.model_form.specs.Form.{constant_of};
 ghost use Rattle.model_form.specs.Sums.{add_fields, add_like, add_remainders, add_form, is_like, fields_from, without_zeros, form_of, sum_form, started, sign};
-ghost use Rattle.model_form.specs.Ranges.{IsConstant, IsCoefficient, IsForm, IsOutside, IsOfFields, IsOfRemainders, AreFields, AreRemainders, AreApart};
-ghost use Rattle.model_form.specs.Gathered.{AreTotals, AreLikes, IsGathered, LikesBefore, IsWithin};
+ghost use Rattle.model_tree.specs.Range.{IsLabelNumber};
+ghost use Rattle.model_form.specs.Ranges.{IsCoefficient, IsForm, IsOutside, IsOfFields, IsOfRemainders, AreFields, AreRemainders, AreApart};
+ghost use Rattle.lin_form.specs.Within.{AreTotals, AreLikes, IsGathered, LikesBefore, IsWithin};
 ghost use Rattle.lin_form.specs.Terms.{plain_fields, plain_remainders};
 ghost use Rattle.lin_form.specs.Gathered.{plain_likes, plain_sum, plain_parts, found_or};
 ghost use Rattle.lin_form.specs.Stops.{StopsAt};

@@ -6,11 +6,12 @@ ghost use Rattle.model_form.specs.Ranges.{AreFields, IsCoefficient};
 ghost use Rattle.lin_form.specs.Terms.{plain_fields};
 
 use crate::{FieldTerm, Form};
+use fast_fault::LabelInt;
 use wide_num::rem;
 
 impl Form {
     /// The value at these values of the fields, by the fields' numbers. A field past the list counts as 0.
-    pub fn eval(&self, values: &[i64]) -> i128
+    pub fn eval(&self, values: &[LabelInt]) -> i128
         ensures { result ≡ value self.now values.now }
     {
         let mut sum = self.constant + fields_value(&self.fields, values);
@@ -22,13 +23,13 @@ impl Form {
     }
 }
 
-fn value_at(values: &[i64], field: u32) -> i64
+fn value_at(values: &[LabelInt], field: u32) -> LabelInt
     ensures { result ≡ slice_index_or values.now field (pos 0) }
 {
     values.get(field as usize).copied().unwrap_or(0)
 }
 
-fn field_value(coefficient: i64, value: i64) -> i128
+fn field_value(coefficient: i64, value: LabelInt) -> i128
     requires { IsCoefficient coefficient }
     ensures value { result ≡ coefficient *ℤ value }
     ensures small { unsigned_abs result ≤ 2 ^ 94 }
@@ -46,7 +47,7 @@ fn remainder_value(coefficient: i64, inner: i128, divisor: u32) -> i128
     coefficient as i128 * rem(inner, divisor as i128)
 }
 
-fn fields_value(terms: &[FieldTerm], values: &[i64]) -> i128
+fn fields_value(terms: &[FieldTerm], values: &[LabelInt]) -> i128
     requires { AreFields 0 (plain_fields terms.now) }
     ensures value { result ≡ terms_value (plain_fields terms.now) values.now }
     ensures small { unsigned_abs result ≤ 2 ^ 97 }

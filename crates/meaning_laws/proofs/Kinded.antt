@@ -12,14 +12,14 @@ use Rattle.model_grammar.specs.Syntax.{X, named, one, two, literal, Body, sorts,
 use Rattle.model_names.specs.Declared.{own_name, declares, find_item}
 use Rattle.model_names.specs.Kinds.{Kind, language, transformation, a_tree, same_kind, if_kind, taken_by_one, taken_first, taken_second, own_kind, own_type, own_output, defined_kind, declared_type, kind_of, type_of, output_of}
 use Rattle.model_checks.specs.Failures.{is_empty}
-use Rattle.model_checks.specs.Expressions.{nested, is_other_kind, needs_kind, needs_type, needs_be, expected_as, wanted_second, x_failures, place_of_x}
+use Rattle.model_checks.specs.Expressions.{nesting_failures, is_other_kind, needs_kind, needs_type, needs_be, expected_as, wanted_second, x_failures, place_of_x}
 use Rattle.model_checks.specs.Rules.{type_name_failures}
 use Rattle.model_checks.specs.Programs.{name_again, body_failures, into_failures}
 use Rattle.model_checks.specs.Sound.{IsSound, StandsIn}
 use Rattle.model_checks.proofs.Soundness.{empty_first, empty_second, passed, not_false, found_passes}
 use Rattle.model_checks.proofs.SoundParts.{has_type, declared_as}
 use Rattle.model_checks.proofs.SoundWhole.{finds}
-use Rattle.meaning_laws.proofs.Defined.{has_name, by_known}
+use Rattle.meaning_laws.proofs.Known.{has_name, by_known}
 
 one_kind : (a b : Kind) → same_kind a b ≡ true → a ≡ b
 one_kind language language e = refl
@@ -150,7 +150,7 @@ module _ (items : List Item) where
     one_operand : (before : List Item) (around : ℕ) (expected : Option (List ℕ)) (op : Op1) (place : Pos) (x : X) → is_empty (x_failures items before around expected (one op place x)) ≡ true → IsKinded x → IsOperand (taken_by_one op) x
     one_operand before around expected op place x e k =
         kind_needed before (taken_by_one op) None x k (empty_second (x_failures items before (suc around) None x) (needs_be items before None (taken_by_one op) x)
-        (empty_second (nested around place) (x_failures items before (suc around) None x ++ needs_be items before None (taken_by_one op) x) e))
+        (empty_second (nesting_failures around place) (x_failures items before (suc around) None x ++ needs_be items before None (taken_by_one op) x) e))
 
     by_one : (op : Op1) (place : Pos) (x : X) → IsOperand (taken_by_one op) x → IsKinded (one op place x)
     by_one Complement place x (kind, typed) = record { kind = language; is = refl; typed = (typed.0, through language (kind_of items x) (type_of items x) kind ∙ typed.1, refl) }
@@ -184,7 +184,7 @@ module _ (items : List Item) where
     pub kinded : (before : List Item) (around : ℕ) (expected : Option (List ℕ)) (x : X) → is_empty (x_failures items before around expected x) ≡ true → IsKinded x
     kinded before around expected (named n) e = let f = by_known items whole before n (find_item items n.text) refl e in name_kinded n f.item f.item.body f.found refl
     kinded before around expected (one op place x) e =
-        let inner = empty_second (nested around place) (x_failures items before (suc around) None x ++ needs_be items before None (taken_by_one op) x) e in
+        let inner = empty_second (nesting_failures around place) (x_failures items before (suc around) None x ++ needs_be items before None (taken_by_one op) x) e in
         let k = kinded before (suc around) None x (empty_first (x_failures items before (suc around) None x) (needs_be items before None (taken_by_one op) x) inner) in
         by_one op place x (one_operand before around expected op place x e k)
     kinded before around expected (two op place x y) e =
@@ -192,7 +192,7 @@ module _ (items : List Item) where
         let bx = needs_be items before None (taken_first op) x in
         let fy = x_failures items before (suc around) (expected_as (taken_second op) (wanted_second items before op x)) y in
         let by = needs_be items before (wanted_second items before op x) (taken_second op) y in
-        let inner = empty_second (nested around place) (fx ++ (bx ++ (fy ++ by))) e in
+        let inner = empty_second (nesting_failures around place) (fx ++ (bx ++ (fy ++ by))) e in
         let rest = empty_second fx (bx ++ (fy ++ by)) inner in
         let last = empty_second bx (fy ++ by) rest in
         let kx = kinded before (suc around) None x (empty_first fx (bx ++ (fy ++ by)) inner) in

@@ -1,7 +1,10 @@
+pub mod SoundGuards
 pub mod Sorted
 pub mod Rules
-pub mod Defined
+pub mod Known
 pub mod Kinded
-pub mod Closing
-pub mod Fitting
 pub mod Reaching
+pub mod Valued
+pub mod Deep
+pub mod Fitting
+pub mod Whole

@@ -1,8 +1,8 @@
 -- What names reach in a well-formed program: languages on the type, and transformations between the types.
-use Rattle.std.proofs.Common.{◌≡◌, ◌⊎◌, inl, inr, ℕ, true, List, [], ◌++◌, Some, None, Contains, length, sym, ap, ◌∙◌, subst}
+use Rattle.std.proofs.Common.{◌≡◌, ◌⊎◌, inl, inr, ℕ, true, List, [], ◌++◌, Option, Some, None, Contains, length, refl, sym, ap, ◌∙◌, subst}
 use Rattle.std.specs.Option.{option_map_or, option_and_then}
 use Rattle.model_program.specs.Syntax.{Name, Demand}
-use Rattle.model_grammar.specs.Syntax.{X, Out, child, call, node, Outs, no_out, and_out, Rule, OutRule, Item}
+use Rattle.model_grammar.specs.Syntax.{X, Out, child, call, node, Outs, no_out, and_out, Rule, OutRule, Body, sorts, tree, lang, trans, def, assertion, Item}
 use Rattle.model_names.specs.Declared.{find_item, rules_of, out_rules_of, own_rules, own_out_rules}
 use Rattle.model_checks.specs.Failures.{is_empty}
 use Rattle.model_checks.specs.Rules.{transformation_failures, variable_failures, constructor_failures, label_count_failures, count_outs, type_at, scope_of, fields_of, out_failures, outs_failures}
@@ -10,19 +10,20 @@ use Rattle.model_checks.specs.Labels.{labels_failures}
 use Rattle.model_checks.specs.Sound.{IsSound, IsSoundDemand}
 use Rattle.model_checks.proofs.Soundness.{empty_first, empty_second}
 use Rattle.model_checks.proofs.SoundWhole.{finds, sound}
-use Rattle.model_meaning.specs.Reached.{Reaches, itself, by_demand, by_lookahead, by_call, by_definition, IsCalledIn, IsCalledInOne, own_value, definition_of}
+use Rattle.model_meaning.specs.Reached.{Reaches, itself, by_demand, by_lookahead, by_call, IsCalledIn, IsCalledInOne, own_value, definition_of}
+use Rattle.model_meaning.specs.Laws.{DemandNoDefinition}
 use Rattle.model_meaning.proofs.Members.{none_of}
 use Rattle.meaning_laws.specs.Reaching.{IsLangOn, IsTransFrom, ReachedByLangs, ReachedByTrans}
 use Rattle.meaning_laws.proofs.Rules.{call_between, from_of, into_of}
 
 module _ (items : List Item) (whole : IsSound items) where
-  rules_there : (m : List ℕ) (item : Item) → find_item items m ≡ Some item → rules_of items m ≡ own_rules item.body
+  pub rules_there : (m : List ℕ) (item : Item) → find_item items m ≡ Some item → rules_of items m ≡ own_rules item.body
   rules_there m item found = ap (λ o. option_map_or (λ i. own_rules i.body) o []) found
 
-  outs_there : (m : List ℕ) (item : Item) → find_item items m ≡ Some item → out_rules_of items m ≡ own_out_rules item.body
+  pub outs_there : (m : List ℕ) (item : Item) → find_item items m ≡ Some item → out_rules_of items m ≡ own_out_rules item.body
   outs_there m item found = ap (λ o. option_map_or (λ i. own_out_rules i.body) o []) found
 
-  value_there : (m : List ℕ) (item : Item) → find_item items m ≡ Some item → definition_of items m ≡ own_value item.body
+  pub value_there : (m : List ℕ) (item : Item) → find_item items m ≡ Some item → definition_of items m ≡ own_value item.body
   value_there m item found = ap (option_and_then (λ i. own_value i.body)) found
 
   -- a language has no terms and no expression, and a transformation no rules of its own and no expression
@@ -32,10 +33,10 @@ module _ (items : List Item) (whole : IsSound items) where
   trans_no_rules : (m from into : List ℕ) (r : Rule) → IsTransFrom items m from into → Contains (rules_of items m) r → ⊥
   trans_no_rules m from into r t at = none_of r (subst (λ rs. Contains rs r) (rules_there m t.item t.found ∙ ap own_rules t.is) at)
 
-  lang_no_value : (m type : List ℕ) (x : X) → IsLangOn items m type → definition_of items m ≡ Some x → ⊥
+  pub lang_no_value : (m type : List ℕ) (x : X) → IsLangOn items m type → definition_of items m ≡ Some x → ⊥
   lang_no_value m type x l e = let bad : None ≡ Some x = sym (value_there m l.item l.found ∙ ap own_value l.is) ∙ e in cc
 
-  trans_no_value : (m from into : List ℕ) (x : X) → IsTransFrom items m from into → definition_of items m ≡ Some x → ⊥
+  pub trans_no_value : (m from into : List ℕ) (x : X) → IsTransFrom items m from into → definition_of items m ≡ Some x → ⊥
   trans_no_value m from into x t e = let bad : None ≡ Some x = sym (value_there m t.item t.found ∙ ap own_value t.is) ∙ e in cc
 
   -- what is demanded in a rule for trees of a type is a language on it
@@ -48,12 +49,11 @@ module _ (items : List Item) (whole : IsSound items) where
       let own : Contains l.own.rules r = subst (λ rs. Contains rs r) (rules_there m l.item l.found ∙ ap own_rules l.is) at in
       demanded type s.type.name.text r.vars d (s.named ∙ l.on) ((s.rules r own).given d given)
 
-  reached_by_lang : (n type m : List ℕ) → IsLangOn items n type → Reaches items n m → IsLangOn items m type
+  pub reached_by_lang : (n type m : List ℕ) → IsLangOn items n type → Reaches items n m → IsLangOn items m type
   reached_by_lang n type m l itself = l
   reached_by_lang n type m l (by_demand other r d reach at given) = by_lang other type r d (reached_by_lang n type other l reach) at given
   reached_by_lang n type m l (by_lookahead other r d reach at given) = absurd (lang_no_outs other type r (reached_by_lang n type other l reach) at)
   reached_by_lang n type m l (by_call other r q reach at calls) = absurd (lang_no_outs other type r (reached_by_lang n type other l reach) at)
-  reached_by_lang n type m l (by_definition other x k reach is named) = absurd (lang_no_value other type x (reached_by_lang n type other l reach) is)
 
   -- ---- transformations
 
@@ -92,7 +92,7 @@ module _ (items : List Item) (whole : IsSound items) where
       r.out q (s.outs r own) calls in
       record { item = there.item; own = there.own; found = there.found; is = there.is; begins = there.begins ∙ t.begins; ends = there.ends ∙ t.ends }
 
-  reached_by_trans : (n from into m : List ℕ) → IsTransFrom items n from into → Reaches items n m → IsLangOn items m from ⊎ IsTransFrom items m from into
+  pub reached_by_trans : (n from into m : List ℕ) → IsTransFrom items n from into → Reaches items n m → IsLangOn items m from ⊎ IsTransFrom items m from into
   reached_by_trans n from into m t itself = inr t
   reached_by_trans n from into m t (by_demand other r d reach at given) = elim (reached_by_trans n from into other t reach) [
     | inl l ↦ inl (by_lang other from r d l at given)
@@ -106,10 +106,30 @@ module _ (items : List Item) (whole : IsSound items) where
     | inl l ↦ absurd (lang_no_outs other from r l at)
     | inr own ↦ inr (by_term other from into r q own at calls)
   ]
-  reached_by_trans n from into m t (by_definition other x k reach is named) = elim (reached_by_trans n from into other t reach) [
-    | inl l ↦ absurd (lang_no_value other from x l is)
-    | inr own ↦ absurd (trans_no_value other from into x own is)
-  ]
+
+  -- ---- no rule demands a definition
+
+  pub lang_undefined : (n type : List ℕ) → IsLangOn items n type → definition_of items n ≡ None
+  lang_undefined n type l = value_there n l.item l.found ∙ ap own_value l.is
+
+  pub trans_undefined : (n from into : List ℕ) → IsTransFrom items n from into → definition_of items n ≡ None
+  trans_undefined n from into t = value_there n t.item t.found ∙ ap own_value t.is
+
+  demanded_by_body : (n : List ℕ) (item : Item) (body : Body) (r : Rule) (d : Demand) → find_item items n ≡ Some item → item.body ≡ body → Contains (own_rules body) r → Contains (rules_of items n) r → Contains r.given d → definition_of items d.language.text ≡ None
+  demanded_by_body n item (sorts t) r d found is at there given = absurd (none_of r at)
+  demanded_by_body n item (tree t) r d found is at there given = absurd (none_of r at)
+  demanded_by_body n item (lang l) r d found is at there given =
+      lang_undefined d.language.text l.of.text (by_lang n l.of.text r d (record { item = item; own = l; found = found; is = is; on = refl }) there given)
+  demanded_by_body n item (trans t) r d found is at there given = absurd (none_of r at)
+  demanded_by_body n item (def e) r d found is at there given = absurd (none_of r at)
+  demanded_by_body n item (assertion a) r d found is at there given = absurd (none_of r at)
+
+  demanded_by_found : (n : List ℕ) (o : Option Item) (r : Rule) (d : Demand) → find_item items n ≡ o → Contains (option_map_or (λ item. own_rules item.body) o []) r → Contains (rules_of items n) r → Contains r.given d → definition_of items d.language.text ≡ None
+  demanded_by_found n None r d found at there given = absurd (none_of r at)
+  demanded_by_found n (Some item) r d found at there given = demanded_by_body n item item.body r d found refl at there given
+
+  pub demand_languages : DemandNoDefinition items
+  demand_languages = record { in_languages = λ n r d at given. demanded_by_found n (find_item items n) r d refl at at given }
 
 pub by_langs : ReachedByLangs
 by_langs items well n type m l reach = reached_by_lang items (sound items well) n type m l reach

@@ -8,21 +8,22 @@ use Rattle.model_tree.specs.Label.{row, pair}
 use Rattle.model_tree.specs.Signature.{PlainConstructor}
 use Rattle.model_program.specs.Syntax.{Name, CtorItem, TypeItem}
 use Rattle.model_grammar.specs.Syntax.{Expr, Out, child, call, node, Outs, no_out, and_out, OutRule, TransItem, Body, sorts, tree, lang, trans, def, assertion, Item}
-use Rattle.model_names.specs.Declared.{same_text, find_type, find_item, own_out_rules}
+use Rattle.model_names.specs.Declared.{same_text, find_type, find_item, own_out_rules, out_rules_of}
 use Rattle.model_names.specs.Kinds.{declared_type, own_type, own_output}
 use Rattle.model_checks.specs.Failures.{is_empty, failure, fails_if}
 use Rattle.model_checks.specs.Labels.{labels_failures}
 use Rattle.model_checks.specs.Types.{is_rank}
 use Rattle.model_checks.specs.Rules.{differ, find_ctor, type_at, own_trans, constructor_failures, label_count_failures, transformation_failures, out_failures, outs_failures, variable_failures, count_outs, scope_of, fields_of}
-use Rattle.model_checks.specs.Programs.{is_well_formed}
 use Rattle.model_checks.specs.Sound.{IsSoundType, IsSound, StandsIn}
 use Rattle.model_checks.proofs.Soundness.{empty_first, empty_second, passed, needed, not_false, same_from_test}
 use Rattle.model_checks.proofs.SoundParts.{some_fails, has_ctor}
-use Rattle.model_checks.proofs.SoundWhole.{finds, sound}
+use Rattle.model_checks.proofs.SoundWhole.{finds}
 use Rattle.model_meaning.specs.Types.{rank_of, signature_of, signature_at, no_signature, input_of, output_of}
 use Rattle.model_meaning.specs.Outputs.{number_named}
-use Rattle.model_meaning.specs.Laws.{count, MakeSorts, IsTermTyped, AreTermsTyped, AreRulesTyped}
+use Rattle.model_meaning.specs.Laws.{part_count, MakeSorts, IsTermTyped, AreTermsTyped}
+use Rattle.model_meaning.specs.Laws as laws
 use Rattle.model_meaning.proofs.Members.{none_of}
+use Rattle.model_meaning.proofs.Named.{trans_kind}
 use Rattle.meaning_laws.proofs.Sorted.{labels_have}
 
 -- ---- constructors
@@ -56,7 +57,7 @@ has_rank : (n : ℕ) (r : ℤ) → is_rank n r ≡ true → n ≡ rank_of r
 has_rank n (pos k) e = let same : (k == n) ≡ true = e in grind (arith, nat_tests)
 has_rank n (negsuc k) e = absurd (cc)
 
-same_count : (outs : Outs) → count_outs outs ≡ count outs
+same_count : (outs : Outs) → count_outs outs ≡ part_count outs
 same_count no_out = refl
 same_count (and_out out outs) = ap (λ n. suc n) (same_count outs)
 
@@ -166,14 +167,16 @@ module _ (items : List Item) (whole : IsSound items) where
       ∙ ap (λ body. option_map_or (signature_at items) (own_output body) no_signature) is
 
   module _ (from into : Name) (vars : List Name) (f : IsType from) (t : IsType into) where
-    call_typed : (q : Name) → is_empty (transformation_failures items from into q) ≡ true → (input_of items q.text ≡ signature_at items from) × (output_of items q.text ≡ signature_at items into)
+    call_typed : (q : Name) → is_empty (transformation_failures items from into q) ≡ true → laws.IsBetween items (signature_of f.type) (signature_of t.type) q
     call_typed q e =
         let called = by_item q from into (find_item items q.text) refl e in
         let stands = (finds items).item q.text called.item called.found in
-        let two = neither (differ (declared_type items called.own.from) (declared_type items from)) (differ (declared_type items called.own.into) (declared_type items into)) called.same in (
-          input_there q.text called.item called.own called.found called.is ∙ one_signature called.own.from from (from_of called.item called.own stands called.is) f two.0,
-          output_there q.text called.item called.own called.found called.is ∙ one_signature called.own.into into (into_of called.item called.own stands called.is) t two.1,
-        )
+        let two = neither (differ (declared_type items called.own.from) (declared_type items from)) (differ (declared_type items called.own.into) (declared_type items into)) called.same in
+        record {
+          kind = trans_kind items q called.item called.own called.found called.is;
+          begins = input_there q.text called.item called.own called.found called.is ∙ (one_signature called.own.from from (from_of called.item called.own stands called.is) f two.0 ∙ signature from f);
+          ends = output_there q.text called.item called.own called.found called.is ∙ (one_signature called.own.into into (into_of called.item called.own stands called.is) t two.1 ∙ signature into t);
+        }
 
     make_sorts : (labels : List Expr) → (length t.type.fields == length labels) ≡ true → is_empty (labels_failures (Some f.type.fields) t.type.fields labels) ≡ true → MakeSorts items (signature_of f.type) (signature_of t.type) labels
     make_sorts labels many fine (row values) has =
@@ -185,9 +188,7 @@ module _ (items : List Item) (whole : IsSound items) where
       term_typed (child y) e =
           let same = passed (differ (declared_type items from) (declared_type items into)) WrongType y.place (empty_second (variable_failures vars y) (fails_if (differ (declared_type items from) (declared_type items into)) WrongType y.place) e) in
           sym (signature from f) ∙ (one_signature from into f t same ∙ signature into t)
-      term_typed (call q y) e =
-          let typed = call_typed q (empty_first (transformation_failures items from into q) (variable_failures vars y) e) in
-          (typed.0 ∙ signature from f, typed.1 ∙ signature into t)
+      term_typed (call q y) e = call_typed q (empty_first (transformation_failures items from into q) (variable_failures vars y) e)
       term_typed (node name labels outs) e =
           let a = constructor_failures (type_at items into) name (count_outs outs) in
           let b = label_count_failures (type_at items into) name (length labels) in
@@ -230,5 +231,5 @@ module _ (items : List Item) (whole : IsSound items) where
   of_found q None r found at = absurd (none_of r at)
   of_found q (Some item) r found at = of_body q item item.body r found refl at
 
-pub rules_typed : (items : List Item) → is_well_formed items ≡ true → AreRulesTyped items
-rules_typed items well q r at = of_found items (sound items well) q (find_item items q) r refl at
+pub terms_typed_of : (items : List Item) (whole : IsSound items) (q : List ℕ) (r : OutRule) → Contains (out_rules_of items q) r → IsTermTyped items (input_of items q) (output_of items q) r.out
+terms_typed_of items whole q r at = of_found items whole q (find_item items q) r refl at

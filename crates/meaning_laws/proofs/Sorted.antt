@@ -1,13 +1,14 @@
 -- Labels of well-formed terms have the sorts of the fields.
-use Rattle.std.proofs.Common.{◌≡◌, ℕ, suc, Bool, true, false, cond, List, [], ◌∷◌, map, length, Option, Some, None, is_some, refl, sym, ap, ◌∙◌, arith, ◌++◌}
-use Rattle.std.specs.Prelude.{codes, ◌==◌, ◌&&◌}
+use Rattle.std.proofs.Common.{◌≡◌, ℕ, suc, Bool, true, false, cond, List, [], ◌∷◌, map, length, Option, Some, is_some, refl, sym, ap, ◌∙◌, arith, ◌++◌}
+use Rattle.std.specs.Prelude.{◌==◌, ◌&&◌}
 use Rattle.std.proofs.lemmas.Bool.Decides.{nat_tests}
 use Rattle.std.specs.List.{list_all}
-use Rattle.std.specs.Option.{option_and_then}
+use Rattle.std.specs.Option.{option_map_or, option_and_then}
 use Rattle.model_tree.specs.Label.{Field}
-use Rattle.model_tree.specs.Signature.{Sort, wholes, truths, texts, PlainField, HasSorts}
+use Rattle.model_tree.specs.Signature.{Sort, wholes, truths, texts, PlainField, have_sorts}
+use Rattle.model_tree.proofs.Sorts.{own_sorts, have_these_sorts}
 use Rattle.model_tree.specs.Signature as model
-use Rattle.model_program.specs.Syntax.{Name, FieldItem}
+use Rattle.model_program.specs.Syntax.{FieldItem}
 use Rattle.model_grammar.specs.declared.Chain.TheVariants.{Disjunction, Conjunction, Sum, Product}
 use Rattle.model_grammar.specs.Syntax.{Expr, field, number, text, truth, negation, compare, minus, chain}
 use Rattle.model_label.specs.Fields.{same_sort, value_at}
@@ -15,25 +16,19 @@ use Rattle.model_label.specs.Meaning.{value_of}
 use Rattle.model_label.proofs.Sorted.{one_sort}
 use Rattle.model_names.specs.Declared.{same_text}
 use Rattle.model_checks.specs.Failures.{is_empty}
-use Rattle.model_checks.specs.Sorts.{find_field, sort_named, sort_of, is_other_sort, differ_in_sort}
+use Rattle.model_names.specs.Sorts.{sort_named, own_sort}
+use Rattle.model_checks.specs.Sorts.{find_field, sort_of, is_other_sort, differ_in_sort}
 use Rattle.model_checks.specs.Labels.{label_failures, needs_sort_of, labels_failures}
 use Rattle.model_checks.proofs.Soundness.{empty_first, empty_second, passed, not_false, is_there}
 use Rattle.model_checks.proofs.SoundParts.{known_sort}
-use Rattle.model_meaning.specs.Types.{values_of}
-use Rattle.model_meaning.specs.Types as types
 
+-- the fields as the type's signature has them
 abbrev pub plain : List FieldItem → List PlainField
-plain fields = map (λ f. record { name = f.name.text; sort = types.sort_named f.sort }) fields
+plain fields = map (λ f. record { name = f.name.text; sort = own_sort f }) fields
 
--- the sort of a name is the same in both
-same_named : (sort : Name) (s : Sort) → sort_named sort.text ≡ Some s → types.sort_named sort ≡ s
-same_named sort s e = by (same_text sort.text (codes "Int")) (same_text sort.text (codes "Bool")) (same_text sort.text (codes "String")) e
-  where
-    by : (i b t : Bool) → cond i (Some wholes) (cond b (Some truths) (cond t (Some texts) None)) ≡ Some s → cond i wholes (cond b truths texts) ≡ s
-    by true b t e = cc
-    by false true t e = cc
-    by false false true e = cc
-    by false false false e = absurd (cc)
+-- the sort of a known name is that of the field
+same_named : (f : FieldItem) (s : Sort) → sort_named f.sort.text ≡ Some s → own_sort f ≡ s
+same_named f s e = ap (λ o. option_map_or (λ sort. sort) o texts) e
 
 -- a field has a value of its sort
 field_has : (fields : List FieldItem) (values : List Field) (name : List ℕ) (s : Sort) → map model.sort_of values ≡ map (λ f. f.sort) (plain fields) → option_and_then (λ f. sort_named f.sort.text) (find_field fields name) ≡ Some s
@@ -46,7 +41,7 @@ field_has (f ∷ fields) (value ∷ values) name s sorts e =
     by : (b : Bool) → option_and_then (λ f. sort_named f.sort.text) (cond b (Some f) (find_field fields name)) ≡ Some s
         → (option_and_then (λ f. sort_named f.sort.text) (find_field fields name) ≡ Some s → model.sort_of (value_at (plain fields) values name) ≡ s)
         → model.sort_of (cond b value (value_at (plain fields) values name)) ≡ s
-    by true own later = let first : model.sort_of value ≡ types.sort_named f.sort = cc in first ∙ same_named f.sort s own
+    by true own later = let first : model.sort_of value ≡ own_sort f = cc in first ∙ same_named f s own
     by false own later = later own
 
 -- an expression of a sort has values of that sort
@@ -82,13 +77,13 @@ same_sort_of : (s : Sort) (o : Option Sort) (found : Sort) → o ≡ Some found 
 same_sort_of s o found e other = one_sort found s (not_false (same_sort found s) (ap (is_other_sort s) (sym e) ∙ other))
 
 -- as many labels as fields, of which none fails and each is of its field's sort, have values of the sorts
-pub labels_have : (fields into : List FieldItem) (labels : List Expr) (values : List Field) → list_all (λ f. is_some (sort_named f.sort.text)) fields ≡ true → list_all (λ f. is_some (sort_named f.sort.text)) into ≡ true
+labels_own : (fields into : List FieldItem) (labels : List Expr) (values : List Field) → list_all (λ f. is_some (sort_named f.sort.text)) fields ≡ true → list_all (λ f. is_some (sort_named f.sort.text)) into ≡ true
     → map model.sort_of values ≡ map (λ f. f.sort) (plain fields) → (length into == length labels) ≡ true → is_empty (labels_failures (Some fields) into labels) ≡ true
     → map model.sort_of (map (value_of (plain fields) values) labels) ≡ map (λ f. f.sort) (plain into)
-labels_have fields [] [] values known named sorts many fine = refl
-labels_have fields [] (e ∷ labels) values known named sorts many fine = absurd (none_is_some (length labels) many)
-labels_have fields (f ∷ into) [] values known named sorts many fine = absurd (some_is_none (length into) many)
-labels_have fields (f ∷ into) (e ∷ labels) values known named sorts many fine =
+labels_own fields [] [] values known named sorts many fine = refl
+labels_own fields [] (e ∷ labels) values known named sorts many fine = absurd (none_is_some (length labels) many)
+labels_own fields (f ∷ into) [] values known named sorts many fine = absurd (some_is_none (length into) many)
+labels_own fields (f ∷ into) (e ∷ labels) values known named sorts many fine =
     let two = both_true (is_some (sort_named f.sort.text)) (list_all (λ g. is_some (sort_named g.sort.text)) into) named in
     let own = is_there (sort_named f.sort.text) two.0 in
     let rest = needs_sort_of (Some fields) f e ++ labels_failures (Some fields) into labels in
@@ -98,6 +93,13 @@ labels_have fields (f ∷ into) (e ∷ labels) values known named sorts many fin
     let needed = passed (differ_in_sort (sort_named f.sort.text) (sort_of (Some fields) e)) _ _ (empty_first (needs_sort_of (Some fields) f e) (labels_failures (Some fields) into labels) behind) in
     let same = same_sort_of own.0 (sort_of (Some fields) e) has.0 has.1 (ap (λ o. differ_in_sort o (sort_of (Some fields) e)) (sym own.1) ∙ needed) in
     let value = value_has fields values e own.0 sorts (has.1 ∙ ap (λ s. Some s) same) in
-    let first = value ∙ sym (same_named f.sort own.0 own.1) in
-    let later = labels_have fields into labels values known two.1 sorts (suc_equal (length into) (length labels) many) (empty_second (needs_sort_of (Some fields) f e) (labels_failures (Some fields) into labels) behind) in
+    let first = value ∙ sym (same_named f own.0 own.1) in
+    let later = labels_own fields into labels values known two.1 sorts (suc_equal (length into) (length labels) many) (empty_second (needs_sort_of (Some fields) f e) (labels_failures (Some fields) into labels) behind) in
     λ i. first i ∷ later i
+
+pub labels_have : (fields into : List FieldItem) (labels : List Expr) (values : List Field) → list_all (λ f. is_some (sort_named f.sort.text)) fields ≡ true → list_all (λ f. is_some (sort_named f.sort.text)) into ≡ true
+    → have_sorts (map (λ f. f.sort) (plain fields)) values ≡ true → (length into == length labels) ≡ true → is_empty (labels_failures (Some fields) into labels) ≡ true
+    → have_sorts (map (λ f. f.sort) (plain into)) (map (value_of (plain fields) values) labels) ≡ true
+labels_have fields into labels values known named has many fine =
+    have_these_sorts (map (λ f. f.sort) (plain into)) (map (value_of (plain fields) values) labels)
+    (labels_own fields into labels values known named (own_sorts (map (λ f. f.sort) (plain fields)) values has) many fine)

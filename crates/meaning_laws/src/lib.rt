@@ -1,25 +1,15 @@
 //! Laws alone: what the meaning of a well-formed program has.
 //!
-//! Its promise is that the definitions of meaning fit those of well-formed programs: outputs of typed trees are typed,
-//! and the name of a definition means what its expression does.
+//! Its promise is that a reader of the meaning needs no more than these laws: names mean what their rules or their
+//! expressions do, operations are those of sets, and outputs of typed trees are typed. No crate above unfolds the meaning.
 #![tactic(auto)]
 
 ghost use Rattle.meaning_laws.specs.Reaching.{ReachedByLangs, ReachedByTrans};
-ghost use Rattle.meaning_laws.specs.Laws.{ClosedKeepKinds, DefinitionsStandForExpressions, OutputsAreTyped};
+ghost use Rattle.meaning_laws.specs.Laws.{ProgramsHaveMeaning};
 
-/// In a well-formed program the outputs of typed trees are typed.
-pub fn outputs_are_typed()
-    ensures { OutputsAreTyped }
-{}
-
-/// In a well-formed program the name of a definition stands for its expression.
-pub fn definitions_stand_for_expressions()
-    ensures { DefinitionsStandForExpressions }
-{}
-
-/// In a well-formed program closed expressions have the kinds and types of the written ones.
-pub fn closed_keep_kinds()
-    ensures { ClosedKeepKinds }
+/// In a well-formed program names mean what their rules or their expressions do.
+pub fn programs_have_meaning()
+    ensures { ProgramsHaveMeaning }
 {}
 
 /// In a well-formed program a language reaches languages on its type, and a transformation besides transformations between its types.

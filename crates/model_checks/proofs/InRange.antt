@@ -4,14 +4,15 @@ use Rattle.std.proofs.Math.IntN.{ℤ, pos, negsuc}
 use Rattle.std.proofs.lemmas.Int.{ints}
 use Rattle.std.proofs.lemmas.Bool.Decides.{nat_tests}
 use Rattle.model_form.specs.Form.{Form, form, Term, Remainders, no_remainders, remainder}
-use Rattle.model_form.specs.Ranges.{IsConstant, IsCoefficient, IsOfFields, IsOfRemainders, IsOutside}
-use Rattle.model_checks.specs.Forms.{is_constant, is_coefficient, are_coefficients, are_multiples, is_in_range}
+use Rattle.model_tree.specs.Range.{is_label_number, IsLabelNumber}
+use Rattle.model_form.specs.Ranges.{IsCoefficient, IsOfFields, IsOfRemainders, IsOutside}
+use Rattle.model_checks.specs.Forms.{is_coefficient, are_coefficients, are_multiples, is_in_range}
 
-constant_out : (z : ℤ) → is_constant z ≡ true → IsConstant z
+constant_out : (z : ℤ) → is_label_number z ≡ true → IsLabelNumber z
 constant_out (pos n) e = let low : n < 2 ^ 63 = grind (arith, nat_tests) in omega (arith, ints)
 constant_out (negsuc n) e = let low : n < 2 ^ 63 = grind (arith, nat_tests) in omega (arith, ints)
 
-pub constant_in : (z : ℤ) → IsConstant z → is_constant z ≡ true
+pub constant_in : (z : ℤ) → IsLabelNumber z → is_label_number z ≡ true
 constant_in (pos n) h = let low : n < 2 ^ 63 = omega (arith, ints) in grind (arith, nat_tests)
 constant_in (negsuc n) h = let low : n < 2 ^ 63 = omega (arith, ints) in grind (arith, nat_tests)
 
@@ -39,8 +40,8 @@ is_true : (b : Bool) → (b ≡ false → ⊥) → b ≡ true
 is_true true n = refl
 is_true false n = absurd (n refl)
 
-no_constant : (z n : ℤ) → n ≡ z → (IsConstant n → ⊥) → is_constant z ≡ false
-no_constant z n e out = is_false (is_constant z) (λ t. out (subst IsConstant (sym e) (constant_out z t)))
+no_constant : (z n : ℤ) → n ≡ z → (IsLabelNumber n → ⊥) → is_label_number z ≡ false
+no_constant z n e out = is_false (is_label_number z) (λ t. out (subst IsLabelNumber (sym e) (constant_out z t)))
 
 no_coefficient : (z n : ℤ) → n ≡ z → (IsCoefficient n → ⊥) → is_coefficient z ≡ false
 no_coefficient z n e out = is_false (is_coefficient z) (λ t. out (subst IsCoefficient (sym e) (coefficient_out z t)))
@@ -56,8 +57,8 @@ remainders_out (remainder a f k rs) n (inl e) out = first_false (is_coefficient 
 remainders_out (remainder a f k rs) n (inr i) out = second_false (is_coefficient a) (are_multiples rs) (remainders_out rs n i out)
 
 pub is_outside : (f : Form) (n : ℤ) → IsOutside f n → is_in_range f ≡ false
-is_outside (form c ts rs) n (inl o) = first_false (is_constant c) (are_coefficients ts && are_multiples rs) (no_constant c n o.0 o.1)
-is_outside (form c ts rs) n (inr o) = second_false (is_constant c) (are_coefficients ts && are_multiples rs) (elim o.0 as (λ _. (are_coefficients ts && are_multiples rs) ≡ false) [
+is_outside (form c ts rs) n (inl o) = first_false (is_label_number c) (are_coefficients ts && are_multiples rs) (no_constant c n o.0 o.1)
+is_outside (form c ts rs) n (inr o) = second_false (is_label_number c) (are_coefficients ts && are_multiples rs) (elim o.0 as (λ _. (are_coefficients ts && are_multiples rs) ≡ false) [
   | inl i ↦ first_false (are_coefficients ts) (are_multiples rs) (fields_out ts n i o.1)
   | inr i ↦ second_false (are_coefficients ts) (are_multiples rs) (remainders_out rs n i o.1)
 ])
@@ -78,6 +79,6 @@ all_remainders (remainder a f k rs) none =
 
 pub is_within : (f : Form) → ((n : ℤ) → IsOutside f n → ⊥) → is_in_range f ≡ true
 is_within (form c ts rs) none =
-    both_true (is_constant c) (are_coefficients ts && are_multiples rs)
-    (is_true (is_constant c) (λ e. none c (inl (refl, λ h. (let no : true ≡ false = sym (constant_in c h) ∙ e in absurd (cc))))))
+    both_true (is_label_number c) (are_coefficients ts && are_multiples rs)
+    (is_true (is_label_number c) (λ e. none c (inl (refl, λ h. (let no : true ≡ false = sym (constant_in c h) ∙ e in absurd (cc))))))
     (both_true (are_coefficients ts) (are_multiples rs) (all_fields ts (λ n i out. none n (inr (inl i, out)))) (all_remainders rs (λ n i out. none n (inr (inr i, out)))))

@@ -16,7 +16,8 @@ use Rattle.model_grammar.specs.Syntax.{Expr, field, number, text, truth, negatio
 use Rattle.model_names.specs.Declared.{same_text, types_of, find_type, find_item}
 use Rattle.model_names.specs.Kinds.{declared_type}
 use Rattle.model_checks.specs.Failures.{failure, fails_if, is_empty}
-use Rattle.model_checks.specs.Sorts.{sort_named, find_field, field_sort, sort_of, place_of, is_other_sort, needs_sort}
+use Rattle.model_names.specs.Sorts.{sort_named}
+use Rattle.model_checks.specs.Sorts.{find_field, field_sort, sort_of, place_of, is_other_sort, needs_sort}
 use Rattle.model_checks.specs.Labels.{label_failures, sorted_failures}
 use Rattle.model_checks.specs.Types.{is_among, is_rank, is_rank_in_range, repeated, field_failures, ctor_failures, field_limit, type_failures}
 use Rattle.model_checks.specs.Rules.{differ, find_ctor, constructor_failures, variable_failures, guard_failures, scope_of, own_lang, rule_limit, type_at, type_name_failures, language_failures, demand_failures, rule_failures, out_failures, out_rule_failures}

@@ -45,8 +45,8 @@ expected_as transformation type = None
 expected_as a_tree type = type
 
 -- a 65th operation, inside so many others
-abbrev pub nested : ℕ → Pos → List Refusal
-nested around place = fails_if (nat_le 64 around) TooMany place
+abbrev pub nesting_failures : ℕ → Pos → List Refusal
+nesting_failures around place = fails_if (nat_le 64 around) TooMany place
 
 -- the items of a program, and those before the one that the expression stands in
 module _ (items before : List Item) where
@@ -95,8 +95,8 @@ module _ (items before : List Item) where
   abbrev mutual
     pub x_failures : ℕ → Option (List ℕ) → X → List Refusal
     x_failures around expected (named name) = name_failures name
-    x_failures around expected (one op place x) = nested around place ++ (x_failures (suc around) None x ++ needs_be None (taken_by_one op) x)
-    x_failures around expected (two op place x y) = nested around place
+    x_failures around expected (one op place x) = nesting_failures around place ++ (x_failures (suc around) None x ++ needs_be None (taken_by_one op) x)
+    x_failures around expected (two op place x y) = nesting_failures around place
         ++ (x_failures (suc around) None x ++ (needs_be None (taken_first op) x
         ++ (x_failures (suc around) (expected_as (taken_second op) (wanted_second op x)) y ++ needs_be (wanted_second op x) (taken_second op) y)))
     x_failures around expected (literal name labels xs) =

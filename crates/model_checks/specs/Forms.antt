@@ -2,6 +2,7 @@
 -- and each remainder by a number from 1 to 4096, and with every number in its range.
 use Rattle.std.specs.Prelude.{ℕ, ℤ, pos, negsuc, ◌^◌, Bool, true, false, ◌&&◌, ◌||◌, List, [], ◌∷◌, Option, Some, None, cond, is_some, nat_lt, nat_le, unsigned_abs, not}
 use Rattle.std.specs.Option.{option_and_then, option_map}
+use Rattle.model_tree.specs.Range.{is_label_number}
 use Rattle.model_tree.specs.Signature.{wholes}
 use Rattle.model_grammar.specs.declared.Chain.TheVariants.{Disjunction, Conjunction, Sum, Product}
 use Rattle.model_grammar.specs.Syntax.{Expr, field, number, text, truth, negation, compare, minus, chain, Parts, no_parts, part}
@@ -11,11 +12,6 @@ use Rattle.model_form.specs.Sums.{Part, number_form, field_form, sum_form, produ
 use Rattle.model_checks.specs.Sorts.{Scope, find_field, field_sort, plain_fields}
 
 -- ---- ranges
-
--- from -2^63 to 2^63 - 1
-abbrev pub is_constant : ℤ → Bool
-is_constant (pos n) = nat_lt n (2 ^ 63)
-is_constant (negsuc n) = nat_lt n (2 ^ 63)
 
 -- from -(2^31 - 1) to 2^31 - 1
 abbrev pub is_coefficient : ℤ → Bool
@@ -31,7 +27,7 @@ are_multiples (remainder a f k rs) = is_coefficient a && are_multiples rs
 
 -- the constant and each coefficient are in range
 abbrev pub is_in_range : Form → Bool
-is_in_range (form c ts rs) = is_constant c && (are_coefficients ts && are_multiples rs)
+is_in_range (form c ts rs) = is_label_number c && (are_coefficients ts && are_multiples rs)
 
 -- the form, where it is in range
 abbrev pub kept : Option Form → Option Form
@@ -119,26 +115,26 @@ with_part subtracted (Some f) (Some parts) = Some (record { minus = subtracted; 
 module _ (scope : Scope) where
   -- Each form is made of forms that are in range. A product is taken from the left, from 1 on.
   abbrev mutual
-    pub form_of : Expr → Option Form
-    form_of (field place name) = form_of_field scope name
-    form_of (number place n) = kept (Some (number_form n))
-    form_of (text place t) = None
-    form_of (truth place b) = None
-    form_of (negation place e) = None
-    form_of (compare place rel a b) = None
-    form_of (minus place e) = kept (option_map (product_form (negsuc 0)) (form_of e))
-    form_of (chain Disjunction place parts) = None
-    form_of (chain Conjunction place parts) = None
-    form_of (chain Sum place parts) = kept (option_map sum_form (added parts))
-    form_of (chain Product place parts) = form_behind false (Some (number_form (pos 1))) parts
+    pub form_in_range : Expr → Option Form
+    form_in_range (field place name) = form_of_field scope name
+    form_in_range (number place n) = kept (Some (number_form n))
+    form_in_range (text place t) = None
+    form_in_range (truth place b) = None
+    form_in_range (negation place e) = None
+    form_in_range (compare place rel a b) = None
+    form_in_range (minus place e) = kept (option_map (product_form (negsuc 0)) (form_in_range e))
+    form_in_range (chain Disjunction place parts) = None
+    form_in_range (chain Conjunction place parts) = None
+    form_in_range (chain Sum place parts) = kept (option_map sum_form (added parts))
+    form_in_range (chain Product place parts) = form_behind false (Some (number_form (pos 1))) parts
 
     -- the parts of a sum
     pub added : Parts → Option (List Part)
     added no_parts = Some []
-    added (part subtracted e parts) = with_part subtracted (form_of e) (added parts)
+    added (part subtracted e parts) = with_part subtracted (form_in_range e) (added parts)
 
     -- a product, behind what stands before these parts
     pub form_behind : Bool → Option Form → Parts → Option Form
     form_behind has before no_parts = before
     form_behind has before (part true e parts) = form_behind (has || has_field scope e) (remainder_of before (divisor_of e)) parts
-    form_behind has before (part false e parts) = form_behind (has || has_field scope e) (kept (product_of has before (has_field scope e) (form_of e))) parts
+    form_behind has before (part false e parts) = form_behind (has || has_field scope e) (kept (product_of has before (has_field scope e) (form_in_range e))) parts

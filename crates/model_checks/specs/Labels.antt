@@ -13,8 +13,10 @@ use Rattle.model_grammar.specs.Syntax.{Expr, field, number, text, truth, negatio
 use Rattle.model_form.specs.Form.{Form}
 use Rattle.model_form.specs.Sums.{number_form, sum_form, product_form}
 use Rattle.model_checks.specs.Failures.{fails_if}
-use Rattle.model_checks.specs.Sorts.{Scope, sort_named, find_field, sort_of, place_of, differ_in_sort, needs_sort}
-use Rattle.model_checks.specs.Forms.{is_constant, kept, is_out_of_range, divisor_of, has_field, form_of, added, product_of, remainder_of}
+use Rattle.model_names.specs.Sorts.{sort_named}
+use Rattle.model_checks.specs.Sorts.{Scope, find_field, sort_of, place_of, differ_in_sort, needs_sort}
+use Rattle.model_tree.specs.Range.{is_label_number}
+use Rattle.model_checks.specs.Forms.{kept, is_out_of_range, divisor_of, has_field, form_in_range, added, product_of, remainder_of}
 
 -- a name that is no field
 abbrev pub unknown_field : Scope → List ℕ → Pos → List Refusal
@@ -42,12 +44,12 @@ module _ (scope : Scope) where
   abbrev mutual
     pub label_failures : Expr → List Refusal
     label_failures (field place name) = unknown_field scope name place
-    label_failures (number place n) = fails_if (not (is_constant n)) NumberRange place
+    label_failures (number place n) = fails_if (not (is_label_number n)) NumberRange place
     label_failures (text place t) = fails_if (not (nat_le (length (encode_utf8_all t)) 4096)) TooMany place
     label_failures (truth place b) = []
     label_failures (negation place e) = label_failures e ++ needs_sort scope truths e
     label_failures (compare place rel a b) = label_failures a ++ (label_failures b ++ compared scope rel a b)
-    label_failures (minus place e) = label_failures e ++ (needs_sort scope wholes e ++ fails_if (is_out_of_range (option_map (product_form (negsuc 0)) (form_of scope e))) NumberRange place)
+    label_failures (minus place e) = label_failures e ++ (needs_sort scope wholes e ++ fails_if (is_out_of_range (option_map (product_form (negsuc 0)) (form_in_range scope e))) NumberRange place)
     label_failures (chain Disjunction place parts) = operands_failures truths parts
     label_failures (chain Conjunction place parts) = operands_failures truths parts
     label_failures (chain Sum place parts) = operands_failures wholes parts ++ fails_if (is_out_of_range (option_map sum_form (added scope parts))) NumberRange place
@@ -63,8 +65,8 @@ module _ (scope : Scope) where
     steps_failures place has before no_parts = []
     steps_failures place has before (part true e parts) = label_failures e ++ (needs_sort scope wholes e ++ (divided e
         ++ steps_failures place (has || has_field scope e) (remainder_of before (divisor_of e)) parts))
-    steps_failures place has before (part false e parts) = label_failures e ++ (needs_sort scope wholes e ++ (multiplied place has before (has_field scope e) (form_of scope e)
-        ++ steps_failures place (has || has_field scope e) (kept (product_of has before (has_field scope e) (form_of scope e))) parts))
+    steps_failures place has before (part false e parts) = label_failures e ++ (needs_sort scope wholes e ++ (multiplied place has before (has_field scope e) (form_in_range scope e)
+        ++ steps_failures place (has || has_field scope e) (kept (product_of has before (has_field scope e) (form_in_range scope e))) parts))
 
   -- an expression that is to be of this sort
   abbrev pub sorted_failures : Sort → Expr → List Refusal

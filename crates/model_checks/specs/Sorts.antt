@@ -1,6 +1,6 @@
 -- The sorts of label expressions.
-use Rattle.std.specs.Prelude.{ℕ, Bool, false, List, Option, Some, None, find, map, cond, codes, not}
-use Rattle.std.specs.Option.{option_and_then, option_map_or}
+use Rattle.std.specs.Prelude.{ℕ, Bool, false, List, Option, Some, None, find, map, not}
+use Rattle.std.specs.Option.{option_and_then}
 use Rattle.fast_fault.specs.declared.code.Code.TheVariants.{WrongSort}
 use Rattle.fast_fault.specs.declared.place.Pos.{Pos}
 use Rattle.fast_fault.specs.declared.refusal.Refusal.{Refusal}
@@ -10,14 +10,8 @@ use Rattle.model_grammar.specs.declared.Chain.TheVariants.{Disjunction, Conjunct
 use Rattle.model_grammar.specs.Syntax.{Expr, field, number, text, truth, negation, compare, minus, chain}
 use Rattle.model_label.specs.Fields.{same_sort}
 use Rattle.model_names.specs.Declared.{same_text}
+use Rattle.model_names.specs.Sorts.{sort_named, own_sort}
 use Rattle.model_checks.specs.Failures.{fails_if}
-
--- the sort of this name
-abbrev pub sort_named : List ℕ → Option Sort
-sort_named name =
-    cond (same_text name (codes "Int")) (Some wholes) (
-    cond (same_text name (codes "Bool")) (Some truths) (
-    cond (same_text name (codes "String")) (Some texts) None))
 
 -- The fields whose names an expression may have, where the type is declared whose labels it speaks of.
 abbrev pub Scope : Type 0
@@ -29,10 +23,6 @@ find_field fields name = find (λ f. same_text f.name.text name) fields
 -- the sort of the field of this name
 abbrev pub field_sort : Scope → List ℕ → Option Sort
 field_sort scope name = option_and_then (λ f. sort_named f.sort.text) (option_and_then (λ fields. find_field fields name) scope)
-
--- the sort of a field; one of an unknown sort counts as a text
-abbrev pub own_sort : FieldItem → Sort
-own_sort f = option_map_or (λ sort. sort) (sort_named f.sort.text) texts
 
 abbrev pub plain_fields : List FieldItem → List PlainField
 plain_fields fields = map (λ f. record { name = f.name.text; sort = own_sort f }) fields

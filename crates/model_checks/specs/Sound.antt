@@ -6,7 +6,8 @@ use Rattle.model_program.specs.Syntax.{Name, FieldItem, CtorItem, TypeItem, Dema
 use Rattle.model_grammar.specs.Syntax.{Expr, Rule, OutRule, LangItem, TransItem, sorts, lang, trans, Item}
 use Rattle.model_names.specs.Declared.{same_text, find_type, own_name, find_item}
 use Rattle.model_checks.specs.Failures.{is_empty}
-use Rattle.model_checks.specs.Sorts.{sort_named, sort_of}
+use Rattle.model_names.specs.Sorts.{sort_named}
+use Rattle.model_checks.specs.Sorts.{sort_of}
 use Rattle.model_checks.specs.Labels.{label_failures}
 use Rattle.model_checks.specs.Types.{is_among, is_rank, is_rank_in_range}
 use Rattle.model_checks.specs.Rules.{find_ctor, out_failures}

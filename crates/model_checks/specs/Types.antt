@@ -8,7 +8,7 @@ use Rattle.fast_fault.specs.declared.refusal.Refusal.{Refusal}
 use Rattle.model_program.specs.Syntax.{Name, FieldItem, CtorItem, TypeItem}
 use Rattle.model_names.specs.Declared.{same_text}
 use Rattle.model_checks.specs.Failures.{failure, fails_if}
-use Rattle.model_checks.specs.Sorts.{sort_named}
+use Rattle.model_names.specs.Sorts.{sort_named}
 
 -- whether one of the names is this text
 abbrev pub is_among : List Name → List ℕ → Bool

@@ -3,5 +3,4 @@ pub mod Written
 pub mod Sorted
 pub mod Equals
 pub mod Values
-pub mod Gathering
 pub mod Over

@@ -5,5 +5,4 @@ pub mod Sums
 pub mod Ranges
 pub mod Meaning
 pub mod Laws
-pub mod Gathered
 pub mod Over

@@ -1,12 +1,8 @@
--- The ranges of constants and coefficients, and what is so of each form that a program has.
-use Rattle.std.specs.Prelude.{◌≡◌, ◌≢◌, ℕ, suc, ℤ, pos, ◌<◌, ◌≤◌, ◌^◌, ◌⊎◌, unsigned_abs, FitsSigned, false, List, [], ◌∷◌}
-use Rattle.std.specs.Int.{w64}
+-- The range of coefficients, and what is so of each form that a program has.
+use Rattle.std.specs.Prelude.{◌≡◌, ◌≢◌, ℕ, suc, ℤ, pos, ◌<◌, ◌≤◌, ◌^◌, ◌⊎◌, unsigned_abs, false, List, [], ◌∷◌}
+use Rattle.model_tree.specs.Range.{IsLabelNumber}
 use Rattle.model_form.specs.Form.{Form, form, Remainders, no_remainders, remainder, Term}
 use Rattle.model_form.specs.Sums.{is_like, subst_form}
-
--- from -2^63 to 2^63 - 1
-abbrev pub IsConstant : ℤ → Type 0
-IsConstant z = FitsSigned w64 z
 
 -- from -(2^31 - 1) to 2^31 - 1
 abbrev pub IsCoefficient : ℤ → Type 0
@@ -24,7 +20,7 @@ IsOfRemainders n (remainder a f k rs) = (n ≡ a) ⊎ IsOfRemainders n rs
 
 -- the constant or a coefficient of the form, and outside its range
 abbrev pub IsOutside : Form → ℤ → Type 0
-IsOutside (form c ts rs) n = ((n ≡ c) × (IsConstant n → ⊥)) ⊎ ((IsOfFields n ts ⊎ IsOfRemainders n rs) × (IsCoefficient n → ⊥))
+IsOutside (form c ts rs) n = ((n ≡ c) × (IsLabelNumber n → ⊥)) ⊎ ((IsOfFields n ts ⊎ IsOfRemainders n rs) × (IsCoefficient n → ⊥))
 
 -- outside in the form after putting forms for fields, or in that of an inner form, which is built first
 abbrev mutual
@@ -58,4 +54,4 @@ AreRemainders (remainder a f k rs) = (a ≢ pos 0) × IsCoefficient a × (0 < k)
 
 -- the constant is in range, like terms are merged, and no coefficient is 0
 abbrev pub IsForm : Form → Type 0
-IsForm (form c ts rs) = IsConstant c × AreFields 0 ts × AreRemainders rs × AreApart rs
+IsForm (form c ts rs) = IsLabelNumber c × AreFields 0 ts × AreRemainders rs × AreApart rs

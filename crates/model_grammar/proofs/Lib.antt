@@ -2,6 +2,7 @@ pub mod Levels
 pub mod FirstWrong
 pub mod Infix
 pub mod Standing
+pub mod Laid
 pub mod Written
 pub mod Tokens
 pub mod Constants

@@ -12,7 +12,7 @@ use Rattle.model_grammar.specs.Syntax.{Item, Claim, Body, sorts, tree, lang, tra
 use Rattle.model_grammar.specs.Grammar.{IsProgram}
 use Rattle.model_grammar.specs.Printed.{lines, printed_program}
 use Rattle.model_grammar.specs.Nesting.{nested_at}
-use Rattle.model_grammar.specs.Layout.{AreLaid}
+use Rattle.model_grammar.proofs.Laid.{AreLaid}
 use Rattle.model_grammar.specs.ReadsBack.{SpellsAgain}
 use Rattle.model_grammar.proofs.WrittenItems.{program_written}
 

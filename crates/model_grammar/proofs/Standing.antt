@@ -11,7 +11,7 @@ use Rattle.model_program.proofs.Runs.{run_longest, same_run}
 use Rattle.model_program.proofs.QuoteLaws.{same_quoted}
 use Rattle.model_program.proofs.Families.{longest_alone, same_family, family, Words}
 use Rattle.model_program.proofs.Unique.{halves_of, same_hyphenated, name_all}
-use Rattle.model_grammar.specs.Layout.{is_parting, IsParted}
+use Rattle.model_grammar.proofs.Laid.{is_parting, IsParted}
 
 parts_names : (c : ℕ) → is_parting c ≡ true → in_name c ≡ false
 parts_names c is = grind (arith, nat_tests)

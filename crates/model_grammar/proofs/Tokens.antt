@@ -14,7 +14,7 @@ use Rattle.model_program.specs.Syntax as names
 use Rattle.model_program.specs.TokenTexts.{IsTextOf}
 use Rattle.model_grammar.specs.Places.{nowhere, bare_name}
 use Rattle.model_grammar.specs.Printed.{kind_of, token, name, piece, bracketed}
-use Rattle.model_grammar.specs.Layout.{IsParted, AreLaid}
+use Rattle.model_grammar.proofs.Laid.{IsParted, AreLaid}
 use Rattle.model_grammar.proofs.Standing.{name_longest, hyphenated_longest, sign_longest, parted_alone, NoSecond}
 use Rattle.model_grammar.proofs.Written.{Again, Written, anything, lexemes_after-append, laid-append}
 

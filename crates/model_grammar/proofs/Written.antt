@@ -5,7 +5,7 @@ use Rattle.model_program.specs.Pieces.{IsLongest, word_of}
 use Rattle.model_program.specs.Cuts.{Piece, texts_of, lexeme_at, lexemes_after}
 use Rattle.model_program.proofs.Forms.{◌⊗◌}
 use Rattle.model_grammar.specs.Printed.{blank}
-use Rattle.model_grammar.specs.Layout.{IsParted, AreLaid}
+use Rattle.model_grammar.proofs.Laid.{IsParted, AreLaid}
 use Rattle.model_grammar.proofs.Standing.{blank_longest}
 
 pub texts_of-append : (a b : List Piece) → texts_of (a ++ b) ≡ texts_of a ++ texts_of b

@@ -28,7 +28,7 @@ use Rattle.model_grammar.specs.Places.{nowhere, bare, bare_parts}
 use Rattle.model_grammar.specs.Operators.{rel_word, is_marking, chain_word, IsSignOf, IsMany}
 use Rattle.model_grammar.specs.Expressions.{IsExpr, disjunction, conjunction, negated, not_negated, compared, not_compared, sum, product, negative_number, minus_of, no_minus, field_name, constant_number, constant_text, constant_true, constant_false, brackets, many_before, remainder_before, compared_before, AreMore, no_more, one_more, ArePrims, no_prims, prims, operand, parts_of, chain_of, negative}
 use Rattle.model_grammar.specs.Printed.{piece, blank, token, bracketed, own_level, chain_level, fits, at_level, behind_minus, expression, further}
-use Rattle.model_grammar.specs.Layout.{IsParted}
+use Rattle.model_grammar.proofs.Laid.{IsParted}
 use Rattle.model_grammar.proofs.Standing.{name_longest, digits_longest, text_longest, blank_longest, NoSecond}
 use Rattle.model_grammar.proofs.Levels.{chained, loosen, primary, loosest}
 use Rattle.model_grammar.proofs.Written.{Again, Written, Touches, lexemes_after-append, laid-append}

@@ -22,7 +22,7 @@ use Rattle.model_grammar.specs.Terms.{IsX, IsOut}
 use Rattle.model_grammar.specs.Expressions.{IsE}
 use Rattle.model_grammar.specs.Grammar.{IsGuard, IsRule, IsOutRule, InBraces, IsTreeItem, IsLangItem, IsTransItem, IsInto, IsDefItem, IsB, IsA, IsBody, IsItem, IsProgram}
 use Rattle.model_grammar.specs.Printed.{blank, line_end, token, name, whole, bracketed, with_commas, in_braces, rules_of, term, demand, guarded, demands, rule, out_rule, field_of, ctor_of, type_item, tree_item, lang_item, trans_item, into_of, def_item, claim, item, lines}
-use Rattle.model_grammar.specs.Layout.{IsParted}
+use Rattle.model_grammar.proofs.Laid.{IsParted}
 use Rattle.model_grammar.proofs.Standing.{digits_longest, blank_longest}
 use Rattle.model_grammar.proofs.Written.{Written, AllWritten, Touches, both, joined, spaced, apart, as_written, nothing_written}
 use Rattle.model_grammar.proofs.Tokens.{alike, sign_written, at_written, square_written, round_written, name_written, token_at, token_written, IsSpelled}

@@ -9,7 +9,7 @@ use Rattle.model_program.specs.TokenTexts.{HaveTexts}
 use Rattle.model_program.proofs.Forms.{◌⊗◌}
 use Rattle.model_grammar.specs.Terms.{IsLater, Row}
 use Rattle.model_grammar.specs.Printed.{behind_commas, with_commas, behind_blanks, behind_bars}
-use Rattle.model_grammar.specs.Layout.{IsParted}
+use Rattle.model_grammar.proofs.Laid.{IsParted}
 use Rattle.model_grammar.proofs.Written.{Written, AllWritten, Touches, joined, spaced, as_written, nothing_written}
 use Rattle.model_grammar.proofs.Tokens.{sign_written}
 use Rattle.model_grammar.proofs.WrittenExpressions.{texts_front, texts_back}

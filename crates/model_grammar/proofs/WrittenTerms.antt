@@ -22,7 +22,7 @@ use Rattle.model_grammar.specs.Expressions.{IsE}
 use Rattle.model_grammar.specs.Terms.{Row, AreLabels, IsX, name, on_one, on_two, new, AreXs, no_more, one_more, IsOut, unchanged, called, made, AreOuts, no_outs, outs_on}
 use Rattle.model_grammar.specs.Printed.{piece, blank, token, bracketed, with_commas, expression, labels_of, term, terms, output, outputs}
 use Rattle.model_grammar.specs.Printed as printed
-use Rattle.model_grammar.specs.Layout.{IsParted}
+use Rattle.model_grammar.proofs.Laid.{IsParted}
 use Rattle.model_grammar.proofs.Written.{Again, Written, Touches, joined, spaced, apart, as_written, nothing_written}
 use Rattle.model_grammar.proofs.Tokens.{sign_written, at_written, square_written, name_written, bracket_tokens, bracket_laid, token_at, IsSpelled}
 use Rattle.model_grammar.proofs.WrittenExpressions.{texts_front, texts_back, expression_written}

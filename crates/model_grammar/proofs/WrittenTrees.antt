@@ -27,7 +27,7 @@ use Rattle.model_grammar.specs.Expressions.{negative}
 use Rattle.model_grammar.specs.Terms.{Row}
 use Rattle.model_grammar.specs.TreeFiles.{FileTree, node, FileTrees, no_trees, and_tree, IsConstant, a_number, a_negative, a_text, a_true, a_false, AreConstants, IsTree, a_tree, AreTrees, no_more, one_more}
 use Rattle.model_grammar.specs.Printed.{piece, blank, token, bracketed, behind_commas, with_commas, expression, labels_of}
-use Rattle.model_grammar.specs.Layout.{IsParted}
+use Rattle.model_grammar.proofs.Laid.{IsParted}
 use Rattle.model_grammar.specs.PrintedTrees.{bare_file, bare_files, constant_of, file_tree, file_trees, HasNames, EachHasNames, AreNames, ReadsAsTree}
 use Rattle.model_grammar.proofs.Standing.{digits_longest, text_longest, NoSecond}
 use Rattle.model_grammar.proofs.Written.{Again, Written, AllWritten, Touches, texts_of-append, joined as one_behind, spaced, apart, as_written, nothing_written}

@@ -10,6 +10,5 @@ pub mod Nesting
 pub mod Examples
 pub mod Texts
 pub mod Printed
-pub mod Layout
 pub mod ReadsBack
 pub mod PrintedTrees

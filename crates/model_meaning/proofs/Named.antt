@@ -2,16 +2,13 @@
 use Rattle.std.proofs.Common.{◌≡◌, ℕ, Bool, true, false, cond, List, [], ◌∷◌, Option, Some, None, find, refl, sym, ap, ◌∙◌}
 use Rattle.std.specs.Option.{option_map, option_map_or, option_and_then}
 use Rattle.std.proofs.lemmas.Slice.Eq.{bytes_eq-Decides}
-use Rattle.model_tree.specs.Tree.{LabelTree}
-use Rattle.model_tree.specs.Signature.{HasType}
 use Rattle.model_program.specs.Syntax.{Name, TypeItem}
-use Rattle.model_grammar.specs.Syntax.{named, LangItem, lang, Item}
+use Rattle.model_grammar.specs.Syntax.{named, LangItem, lang, TransItem, trans, Item}
 use Rattle.model_names.specs.Declared.{same_text, types_of, find_type, find_item}
-use Rattle.model_names.specs.Kinds.{language, own_kind, own_type, own_output, declared_type, kind_of}
+use Rattle.model_names.specs.Kinds.{language, transformation, own_kind, own_type, own_output, declared_type, kind_of}
 use Rattle.model_meaning.specs.Types.{signature_of, no_signature, signature_at, input_of, output_of}
-use Rattle.model_meaning.specs.Closed.{is_def, is_defined, closed, behind}
-use Rattle.model_meaning.specs.Languages.{is_in}
-use Rattle.model_meaning.specs.Meaning.{IsInLanguage, IsTreeOf, input_type, output_type, signature_named}
+use Rattle.model_meaning.specs.Reached.{own_value, definition_of}
+use Rattle.model_meaning.specs.Meaning.{input_type, output_type, signature_named}
 
 -- a type that is found by a name has that name
 found_name : (name : List ℕ) (ts : List TypeItem) (t : TypeItem) → find (λ u. same_text u.name.text name) ts ≡ Some t → t.name.text ≡ name
@@ -39,23 +36,18 @@ module _ (items : List Item) where
   pub output_type_of_name : (n : Name) → output_type items (named n) ≡ output_of items n.text
   output_type_of_name n = by_name (option_and_then (λ item. own_output item.body) (find_item items n.text))
 
-  -- a name of a `lang`: the item that it finds is one
+  -- the name of a `lang` is a language, and no definition
   module _ (n : Name) (item : Item) (l : LangItem) (found : find_item items n.text ≡ Some item) (is : item.body ≡ lang l) where
     pub lang_kind : kind_of items (named n) ≡ Some language
     lang_kind = ap (option_and_then (λ i. own_kind i.body)) found ∙ ap own_kind is
 
-    not_defined : is_defined items n ≡ false
-    not_defined = ap (λ o. option_map_or (λ i. is_def i.body) o false) found ∙ ap is_def is
+    pub lang_undefined : definition_of items n.text ≡ None
+    lang_undefined = ap (option_and_then (λ i. own_value i.body)) found ∙ ap own_value is
 
-    -- it stands for itself
-    pub lang_closed : closed items (named n) ≡ named n
-    lang_closed = ap (λ b. cond b (behind items named n) (named n)) not_defined
+  -- that of a `trans` is a transformation, and no definition
+  module _ (n : Name) (item : Item) (t : TransItem) (found : find_item items n.text ≡ Some item) (is : item.body ≡ trans t) where
+    pub trans_kind : kind_of items (named n) ≡ Some transformation
+    trans_kind = ap (option_and_then (λ i. own_kind i.body)) found ∙ ap own_kind is
 
-    pub lang_inside : (t : LabelTree) → IsInLanguage items (named n) t → is_in items t n.text ≡ true
-    lang_inside t inside = let e = lang_closed in rw e at inside
-
-    pub inside_lang : (t : LabelTree) → is_in items t n.text ≡ true → IsInLanguage items (named n) t
-    inside_lang t inside = let e = lang_closed in rw e inside
-
-    pub lang_tree : (t : LabelTree) → HasType (input_of items n.text) t → is_in items t n.text ≡ true → IsTreeOf items (named n) t
-    lang_tree t typed inside = let e = input_type_of_name n in record { typed = rw e typed; inside = inside_lang t inside }
+    pub trans_undefined : definition_of items n.text ≡ None
+    trans_undefined = ap (option_and_then (λ i. own_value i.body)) found ∙ ap own_value is

@@ -1,4 +1,4 @@
--- Which trees are in the languages that a program names.
+-- Rules of languages, and a test for the languages of a program in whose rules no definition is demanded.
 use Rattle.std.specs.Prelude.{ℕ, Bool, true, not, ◌&&◌, ◌||◌, List, [], ◌∷◌, Option, get_or}
 use Rattle.std.specs.List.{list_any, list_all}
 use Rattle.std.specs.Option.{option_map_or}
@@ -21,18 +21,17 @@ heads signature r c l = same_text (get_or (names_of signature) c []) r.ctor.text
 
 module _ (items : List Item) where
   abbrev mutual
-    -- Some rule of the language has the tree's constructor, its guard holds of the label, and the children are in what
-    -- it demands of them.
+    -- whether some rule of the name has the tree's constructor, its guard holds of the label, and the children are in what
+    -- it demands of them
     pub is_in : LabelTree → List ℕ → Bool
     is_in (node c l ts) name = list_any (λ r. heads (input_of items name) r c l && are_in ts r.vars r.given) (rules_of items name)
 
-    -- Each child is in every language that is demanded of its variable.
+    -- whether each child is in every language that is demanded of its variable
     pub are_in : Trees Label → List Name → List Demand → Bool
     are_in no_trees vars given = true
     are_in (tree t ts) [] given = true
     are_in (tree t ts) (v ∷ vars) given = list_all (λ d. not (same_text d.child.text v.text) || is_in t d.language.text) given && are_in ts vars given
 
-  -- A rule applies to a tree of this type where it has its constructor, its guard holds of the label, and the children are
-  -- in what it demands of them.
+  -- whether a rule applies to a tree of this type
   abbrev pub applies : PlainSignature → Rule → LabelTree → Bool
   applies signature r (node c l ts) = heads signature r c l && are_in ts r.vars r.given

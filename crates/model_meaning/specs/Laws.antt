@@ -1,21 +1,22 @@
 -- What is so of meanings, whatever the program.
-use Rattle.std.specs.Prelude.{◌≡◌, ◌⊎◌, ◌↔◌, ℕ, suc, List, Some, get_or, false, true, ◌++◌, ◌∷◌}
-use Rattle.std.specs.List.{Contains, list_any}
+use Rattle.std.specs.Prelude.{◌≡◌, ◌⊎◌, ◌↔◌, ◌≤◌, ◌<◌, ℕ, zero, suc, List, [], ◌∷◌, Option, Some, None, cond, get_or, length, true}
+use Rattle.std.specs.List.{Contains}
 use Rattle.fast_fault.specs.declared.place.Pos.{Pos}
 use Rattle.model_tree.specs.Label.{Label}
-use Rattle.model_tree.specs.Tree.{LabelTree}
+use Rattle.model_tree.specs.Tree.{LabelTree, Trees, no_trees, tree}
+use Rattle.model_tree.specs.Tree as trees
 use Rattle.model_tree.specs.Signature.{PlainSignature, sorts_of, ranks_of, names_of, HasSorts, HasType}
+use Rattle.model_program.specs.Syntax.{Name, Demand}
 use Rattle.model_grammar.specs.declared.Op1.TheVariants.{Complement, Minimize, Domain}
 use Rattle.model_grammar.specs.declared.Op2.TheVariants.{Intersect, Union, Difference, PreImage, Compose, Restrict, RestrictOut}
-use Rattle.model_grammar.specs.Syntax.{Expr, Out, child, call, node, Outs, no_out, and_out, OutRule, X, named, one, two, Claim, Item, equal, empty, type_check, DefItem, def}
-use Rattle.model_program.specs.Syntax.{Name}
-use Rattle.model_names.specs.Declared.{out_rules_of}
+use Rattle.model_grammar.specs.Syntax.{Expr, Out, child, call, node, Outs, no_out, and_out, Rule, OutRule, X, named, one, two, Claim, Item, equal, empty, type_check}
+use Rattle.model_names.specs.Declared.{same_text, rules_of, out_rules_of}
 use Rattle.model_names.specs.Kinds.{transformation, kind_of}
 use Rattle.model_meaning.specs.Types.{input_of, output_of}
-use Rattle.model_meaning.specs.Outputs.{number_named, made_label, HasOutput}
-use Rattle.model_meaning.specs.Meaning.{Relates, IsInLanguage, IsRelated, input_type, output_type}
-use Rattle.model_meaning.specs.Closed.{defines, is_defined, closed}
-use Rattle.model_meaning.specs.Reached.{IsNamedIn}
+use Rattle.model_meaning.specs.Languages.{heads, is_in, applies}
+use Rattle.model_meaning.specs.Outputs.{number_named, made_label, Use, unchanged, output_by, IsInstance}
+use Rattle.model_meaning.specs.Reached.{IsNamedIn, definition_of, Opens}
+use Rattle.model_meaning.specs.Meaning.{IsOf, Relates, followed, IsInLanguage, IsRelated, HasOutput, Applies, input_type, output_type}
 use Rattle.model_meaning.specs.Truth.{IsTrue, Shows}
 
 -- Operations on languages are those on sets of trees. The domain is the pre-image of every language that has all trees. A
@@ -45,59 +46,115 @@ pub record AreTrueWhereNotShown : Type 0 where
   pub empty_ones : (items : List Item) (x : X) → ((t : LabelTree) → ¬ (Shows items (empty x) t)) → IsTrue items (empty x)
   pub type_checks : (items : List Item) (x f y : X) → IsDecided items y → ((t : LabelTree) → ¬ (Shows items (type_check x f y) t)) → IsTrue items (type_check x f y)
 
+-- ---- names
+
+module _ (items : List Item) where
+  -- each child is in every language that is demanded of its variable
+  abbrev pub AreDemanded : Trees Label → List Name → List Demand → Type 0
+  AreDemanded no_trees vars given = Unit {0}
+  AreDemanded (tree t ts) [] given = Unit {0}
+  AreDemanded (tree t ts) (v ∷ vars) given = ((d : Demand) → Contains given d → same_text d.child.text v.text ≡ true → IsInLanguage items (named d.language) t) × AreDemanded ts vars given
+
+  -- the child that the first variable with this name stands for
+  abbrev pub child_named : List ℕ → List Name → Trees Label → Option LabelTree
+  child_named y vars no_trees = None
+  child_named y [] (tree t ts) = None
+  child_named y (v ∷ vars) (tree t ts) = cond (same_text v.text y) (Some t) (child_named y vars ts)
+
+  -- what a use of a tree may be
+  abbrev pub IsUse : Use → LabelTree → LabelTree → Type 0
+  IsUse unchanged t u = u ≡ t
+  IsUse (output_by q) t u = HasOutput items q t u
+
+  -- Names that are no definitions mean what their rules say.
+  pub record AreByRules : Type 0 where
+    pub applies : (signature : PlainSignature) (r : Rule) (c : ℕ) (l : Label) (ts : Trees Label) → Applies items signature r (trees.node c l ts) ↔ ((heads signature r c l ≡ true) × AreDemanded ts r.vars r.given)
+    pub by_rules : (n : Name) → definition_of items n.text ≡ None → (t : LabelTree) → IsInLanguage items (named n) t ↔ ((r : Rule) × Contains (rules_of items n.text) r × Applies items (input_of items n.text) r t)
+    pub by_output_rules : (n : Name) → definition_of items n.text ≡ None → (c : ℕ) (l : Label) (ts : Trees Label) (u : LabelTree)
+        → IsRelated items (named n) (trees.node c l ts) u
+        ↔ ((r : OutRule) × Contains (out_rules_of items n.text) r × Applies items (input_of items n.text) r.rule (trees.node c l ts)
+        × IsInstance (input_of items n.text) (output_of items n.text) (λ how y v. (t : LabelTree) × (child_named y r.rule.vars ts ≡ Some t) × IsUse how t v) l r.out u)
+
+-- Where no rule demands a definition, the tests tell what is in a language, and where a rule applies.
+pub record DemandNoDefinition (items : List Item) : Type 0 where
+  pub in_languages : (n : List ℕ) (r : Rule) (d : Demand) → Contains (rules_of items n) r → Contains r.given d → definition_of items d.language.text ≡ None
+
+pub record TestsAgree (items : List Item) : Type 0 where
+  pub is_in : (n : Name) → definition_of items n.text ≡ None → (t : LabelTree) → IsInLanguage items (named n) t ↔ is_in items t n.text ≡ true
+  pub applies : (signature : PlainSignature) (r : Rule) → ((d : Demand) → Contains r.given d → definition_of items d.language.text ≡ None) → (t : LabelTree) → Applies items signature r t ↔ applies items signature r t ≡ true
+
+abbrev pub TestsAgreeWithMeaning : Type 0
+TestsAgreeWithMeaning = (items : List Item) → DemandNoDefinition items → TestsAgree items
+
 -- ---- definitions
 
--- An item is the definition of a name that no later item defines, by an expression in which each name is that of an earlier definition or of none.
-pub record IsDefinedAt (items before : List Item) (item : Item) (after : List Item) (d : DefItem) : Type 0 where
-  pub split : items ≡ before ++ item ∷ after
-  pub is : item.body ≡ def d
-  pub found : is_defined items d.name ≡ true
-  pub once : list_any (λ other. defines d.name other.body) after ≡ false
-  pub earlier : (m : Name) → IsNamedIn d.value m.text → (list_any (λ other. defines m other.body) (item ∷ after) ≡ false) × (is_defined items m ≡ list_any (λ other. defines m other.body) before)
+-- the definitions on which the expression depends are inside each other no more than so deep
+abbrev pub IsNoDeeper : List Item → ℕ → X → Type 0
+IsNoDeeper items zero x = (n : List ℕ) (y : X) → IsNamedIn x n → Opens items n y → ⊥
+IsNoDeeper items (suc k) x = (n : List ℕ) (y : X) → IsNamedIn x n → Opens items n y → IsNoDeeper items k y
 
--- the name of a definition stands for what its expression does
+-- what it means is the same however much deeper definitions are followed
+pub record IsSettled (items : List Item) (k : ℕ) (x : X) : Type 0 where
+  pub language : (m n : ℕ) → k ≤ m → k ≤ n → (t : LabelTree) → IsOf items (followed items m) x t → IsOf items (followed items n) x t
+  pub relation : (m n : ℕ) → k ≤ m → k ≤ n → (t u : LabelTree) → Relates items (followed items m) x t u → Relates items (followed items n) x t u
+
+abbrev pub MeaningsSettle : Type 0
+MeaningsSettle = (items : List Item) (k : ℕ) (x : X) → IsNoDeeper items k x → IsSettled items k x
+
+-- the name means what the expression does
+pub record StandsFor (items : List Item) (n : Name) (x : X) : Type 0 where
+  pub language : (t : LabelTree) → IsInLanguage items (named n) t ↔ IsInLanguage items x t
+  pub relation : (t u : LabelTree) → IsRelated items (named n) t u ↔ IsRelated items x t u
+
+-- The name of a definition whose expression doesn't depend on itself stands for the expression.
 abbrev pub DefinitionsStandForExpressions : Type 0
-DefinitionsStandForExpressions =
-    (items before : List Item) (item : Item) (after : List Item) (d : DefItem) → IsDefinedAt items before item after d
-    → (n : Name) → n.text ≡ d.name.text → closed items (named n) ≡ closed items d.value
+DefinitionsStandForExpressions = (items : List Item) (n : Name) (x : X) (k : ℕ) → definition_of items n.text ≡ Some x → IsNoDeeper items k x → k < length items → StandsFor items n x
 
 -- ---- typed outputs
 
-abbrev pub count : Outs → ℕ
-count no_out = 0
-count (and_out out outs) = suc (count outs)
+abbrev pub part_count : Outs → ℕ
+part_count no_out = 0
+part_count (and_out out outs) = suc (part_count outs)
+
+-- the name of a transformation between these types
+pub record IsBetween (items : List Item) (from into : PlainSignature) (n : Name) : Type 0 where
+  pub kind : kind_of items (named n) ≡ Some transformation
+  pub begins : input_of items n.text ≡ from
+  pub ends : output_of items n.text ≡ into
 
 module _ (items : List Item) (from into : PlainSignature) where
   -- expressions make labels of the second type of labels of the first
   abbrev pub MakeSorts : List Expr → Type 0
-  MakeSorts labels = (l : Label) → HasSorts (sorts_of from) l → HasSorts (sorts_of into) (made_label from.fields labels l)
+  MakeSorts labels = (l : Label) → HasSorts (sorts_of from) l → HasSorts (sorts_of into) (made_label from.fields into.fields labels l)
 
   abbrev mutual
     -- A term of a rule from trees of one type to trees of another: a child is given unchanged where they are one type, a
     -- called transformation has the same types, and a constructor has as many parts as its rank is, and labels of the right sorts.
     pub IsTermTyped : Out → Type 0
     IsTermTyped (child y) = from ≡ into
-    IsTermTyped (call q y) = (input_of items q.text ≡ from) × (output_of items q.text ≡ into)
+    IsTermTyped (call q y) = IsBetween items from into q
     IsTermTyped (node name labels outs) =
-        MakeSorts labels × ((c : ℕ) → number_named (names_of into) name.text ≡ Some c → count outs ≡ get_or (ranks_of into) c 0) × AreTermsTyped outs
+        MakeSorts labels × ((c : ℕ) → number_named (names_of into) name.text ≡ Some c → part_count outs ≡ get_or (ranks_of into) c 0) × AreTermsTyped outs
 
     pub AreTermsTyped : Outs → Type 0
     AreTermsTyped no_out = Unit {0}
     AreTermsTyped (and_out out outs) = IsTermTyped out × AreTermsTyped outs
 
-abbrev pub AreRulesTyped : List Item → Type 0
-AreRulesTyped items = (q : List ℕ) (r : OutRule) → Contains (out_rules_of items q) r → IsTermTyped items (input_of items q) (output_of items q) r.out
-
--- the parts of a closed expression are transformations whose types fit together
+-- the parts of an expression are transformations whose types fit together
 abbrev pub FitTogether : List Item → X → Type 0
-FitTogether items (named n) = Unit {0}
-FitTogether items (two Compose place x y) =
-    (kind_of items x ≡ Some transformation) × (kind_of items y ≡ Some transformation) × (output_type items x ≡ input_type items y) × FitTogether items x × FitTogether items y
-FitTogether items (two Restrict place x y) = (kind_of items x ≡ Some transformation) × FitTogether items x
-FitTogether items (two RestrictOut place x y) = (kind_of items x ≡ Some transformation) × FitTogether items x
+FitTogether items (named n) = kind_of items (named n) ≡ Some transformation
+FitTogether items (two Compose place x y) = (output_type items x ≡ input_type items y) × FitTogether items x × FitTogether items y
+FitTogether items (two Restrict place x y) = FitTogether items x
+FitTogether items (two RestrictOut place x y) = FitTogether items x
 FitTogether items e = ⊥
 
--- Where the terms of all rules are typed, the outputs of typed trees have the output type.
+-- The terms of rules are typed, and expressions of definitions of transformations have their types.
+pub record AreRulesTyped (items : List Item) : Type 0 where
+  pub terms : (q : List ℕ) (r : OutRule) → Contains (out_rules_of items q) r → IsTermTyped items (input_of items q) (output_of items q) r.out
+  pub definitions : (n : Name) (x : X) → kind_of items (named n) ≡ Some transformation → definition_of items n.text ≡ Some x
+      → FitTogether items x × (input_type items x ≡ input_of items n.text) × (output_type items x ≡ output_of items n.text)
+
+-- Then the outputs of typed trees have the output type.
 pub record AreOutputsTyped : Type 0 where
-  pub of_names : (items : List Item) → AreRulesTyped items → (q : List ℕ) (t u : LabelTree) → HasType (input_of items q) t → HasOutput items q t u → HasType (output_of items q) u
-  pub of_expressions : (items : List Item) → AreRulesTyped items → (e : X) → FitTogether items e → (t u : LabelTree) → HasType (input_type items e) t → Relates items e t u → HasType (output_type items e) u
+  pub of_names : (items : List Item) → AreRulesTyped items → (n : Name) → kind_of items (named n) ≡ Some transformation → (t u : LabelTree) → HasType (input_of items n.text) t → HasOutput items n.text t u → HasType (output_of items n.text) u
+  pub of_expressions : (items : List Item) → AreRulesTyped items → (e : X) → FitTogether items e → (t u : LabelTree) → HasType (input_type items e) t → IsRelated items e t u → HasType (output_type items e) u

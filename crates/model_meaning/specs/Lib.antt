@@ -1,12 +1,12 @@
 pub mod Types
 pub mod Languages
-pub mod Examples
 pub mod Outputs
-pub mod Closed
+pub mod Reached
+pub mod Names
 pub mod Meaning
 pub mod Values
 pub mod Truth
-pub mod Reached
+pub mod Examples
 pub mod Programs
 pub mod Related
 pub mod Laws

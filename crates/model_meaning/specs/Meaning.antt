@@ -1,24 +1,24 @@
 -- What expressions mean: of typed trees, those that are in a language, and the pairs that a transformation relates.
-use Rattle.std.specs.Prelude.{◌≡◌, ◌⊎◌, ℕ, true, List, Option, Some, None}
+use Rattle.std.specs.Prelude.{◌⊎◌, ℕ, zero, suc, List, Option, Some, None, length}
 use Rattle.std.specs.Option.{option_map_or}
 use Rattle.model_tree.specs.Tree.{LabelTree}
 use Rattle.model_tree.specs.Signature.{PlainSignature, HasType}
 use Rattle.model_grammar.specs.declared.Op1.TheVariants.{Complement, Minimize, Domain, GetWitness}
 use Rattle.model_grammar.specs.declared.Op2.TheVariants.{Intersect, Union, Difference, PreImage, Compose, Restrict, RestrictOut, Apply}
-use Rattle.model_grammar.specs.Syntax.{X, named, one, two, literal, Item}
+use Rattle.model_grammar.specs.Syntax.{X, named, one, two, literal, Rule, Item}
 use Rattle.model_names.specs.Declared.{find_type}
 use Rattle.model_names.specs.Kinds as names
 use Rattle.model_meaning.specs.Types.{signature_of, no_signature}
-use Rattle.model_meaning.specs.Languages.{is_in}
-use Rattle.model_meaning.specs.Outputs.{HasOutput}
-use Rattle.model_meaning.specs.Closed.{closed}
+use Rattle.model_meaning.specs.Reached.{definition_of}
+use Rattle.model_meaning.specs.Outputs.{output_by}
+use Rattle.model_meaning.specs.Names.{Definitions, IsIn, AppliesBy, Gives}
 
-module _ (items : List Item) where
-  -- Of closed expressions. A complement has all trees of the type that its operand lacks: whoever speaks of a tree says that it has the type.
+-- Where the definitions mean D. A complement has all trees of the type that its operand lacks: whoever speaks of a tree says that it has the type.
+module _ (items : List Item) (D : Definitions) where
   abbrev mutual
     -- the tree is in the language
     pub IsOf : X → LabelTree → Type 0
-    IsOf (named n) t = is_in items t n.text ≡ true
+    IsOf (named n) t = IsIn items D n.text t
     IsOf (one Complement place x) t = ¬ (IsOf x t)
     IsOf (one Minimize place x) t = IsOf x t
     IsOf (one Domain place x) t = (u : LabelTree) × Relates x t u
@@ -35,7 +35,7 @@ module _ (items : List Item) where
 
     -- the transformation relates the first tree to the second
     pub Relates : X → LabelTree → LabelTree → Type 0
-    Relates (named n) t u = HasOutput items n.text t u
+    Relates (named n) t u = Gives items D (output_by n.text) t u
     Relates (one op place x) t u = ⊥
     Relates (two Compose place x y) t w = (u : LabelTree) × Relates x t u × Relates y u w
     Relates (two Restrict place x y) t u = Relates x t u × IsOf y t
@@ -47,12 +47,44 @@ module _ (items : List Item) where
     Relates (two Apply place x y) t u = ⊥
     Relates (literal name labels xs) t u = ⊥
 
-  -- Of expressions as they are written.
+-- what the name of a definition means by its expression, in which the definitions mean D
+abbrev pub HasByValue : List Item → Definitions → Option X → LabelTree → Type 0
+HasByValue items D None t = ⊥
+HasByValue items D (Some x) t = IsOf items D x t
+
+abbrev pub LinksByValue : List Item → Definitions → Option X → LabelTree → LabelTree → Type 0
+LinksByValue items D None t u = ⊥
+LinksByValue items D (Some x) t u = Relates items D x t u
+
+abbrev pub nothing : Definitions
+nothing = record { Has = λ d t. ⊥; Links = λ d t u. ⊥ }
+
+-- A definition means what its expression does, followed so many definitions deep; beyond that, nothing.
+abbrev pub followed : List Item → ℕ → Definitions
+followed items zero = nothing
+followed items (suc k) = record {
+  Has = λ d t. HasByValue items (followed items k) (definition_of items d) t;
+  Links = λ d t u. LinksByValue items (followed items k) (definition_of items d) t u;
+}
+
+-- As deep as the program has items: where no definition depends on itself, they are inside each other no deeper.
+abbrev pub meaning : List Item → Definitions
+meaning items = followed items (length items)
+
+module _ (items : List Item) where
   abbrev pub IsInLanguage : X → LabelTree → Type 0
-  IsInLanguage x t = IsOf (closed items x) t
+  IsInLanguage x t = IsOf items (meaning items) x t
 
   abbrev pub IsRelated : X → LabelTree → LabelTree → Type 0
-  IsRelated x t u = Relates (closed items x) t u
+  IsRelated x t u = Relates items (meaning items) x t u
+
+  -- the transformation with this name has the output u on t
+  abbrev pub HasOutput : List ℕ → LabelTree → LabelTree → Type 0
+  HasOutput q t u = Gives items (meaning items) (output_by q) t u
+
+  -- a rule applies to a tree of this type
+  abbrev pub Applies : PlainSignature → Rule → LabelTree → Type 0
+  Applies signature r t = AppliesBy items (meaning items) signature r t
 
   -- a type by its name; no tree has a type that isn't there
   abbrev pub signature_named : Option (List ℕ) → PlainSignature

@@ -1,4 +1,4 @@
--- Which names a name reaches.
+-- Which names a name reaches, which definitions it opens, and on which names an expression depends.
 use Rattle.std.specs.Prelude.{◌≡◌, ◌⊎◌, ℕ, List, Option, Some, None}
 use Rattle.std.specs.List.{Contains}
 use Rattle.std.specs.Option.{option_and_then}
@@ -41,11 +41,21 @@ own_value (assertion a) = None
 abbrev pub definition_of : List Item → List ℕ → Option X
 definition_of items name = option_and_then (λ item. own_value item.body) (find_item items name)
 
--- A name reaches itself; of a name that it reaches, the languages that are demanded by its rules and the transformations
--- that are called in them; and of a definition the names in its expression.
+-- A name reaches itself; and of a name that it reaches, the languages that are demanded by its rules and the
+-- transformations that are called in them. A definition has no rules, so nothing is reached through it.
 pub data Reaches (items : List Item) (name : List ℕ) : List ℕ → Type 0 where
   itself : Reaches items name name
   by_demand : (other : List ℕ) (r : Rule) (d : Demand) → Reaches items name other → Contains (rules_of items other) r → Contains r.given d → Reaches items name d.language.text
   by_lookahead : (other : List ℕ) (r : OutRule) (d : Demand) → Reaches items name other → Contains (out_rules_of items other) r → Contains r.rule.given d → Reaches items name d.language.text
   by_call : (other : List ℕ) (r : OutRule) (q : List ℕ) → Reaches items name other → Contains (out_rules_of items other) r → IsCalledIn r.out q → Reaches items name q
-  by_definition : (other : List ℕ) (x : X) (n : List ℕ) → Reaches items name other → definition_of items other ≡ Some x → IsNamedIn x n → Reaches items name n
+
+-- the name reaches a definition with this expression; that of a definition reaches itself
+pub record Opens (items : List Item) (name : List ℕ) (x : X) : Type 0 where
+  pub definition : List ℕ
+  pub reached : Reaches items name definition
+  pub is : definition_of items definition ≡ Some x
+
+-- An expression depends on the names in it, on what they reach, and on what the expressions of definitions among these depend on.
+pub data DependsOn (items : List Item) : X → List ℕ → Type 0 where
+  on_name : (x : X) (n m : List ℕ) → IsNamedIn x n → Reaches items n m → DependsOn items x m
+  by_definition : (x y : X) (n m : List ℕ) → IsNamedIn x n → Opens items n y → DependsOn items y m → DependsOn items x m

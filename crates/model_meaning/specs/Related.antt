@@ -5,7 +5,7 @@ use Rattle.model_tree.specs.Signature.{HasType}
 use Rattle.model_grammar.specs.declared.Op2.TheVariants.{Compose, PreImage}
 use Rattle.model_grammar.specs.Syntax.{OutRule, empty, Item}
 use Rattle.model_meaning.specs.Meaning.{IsRelated, IsInLanguage, input_type}
-use Rattle.model_meaning.specs.Programs.{x, ctor, type_item, is_in, rule, to, keep, apply, make, lang_item, trans_item, language_item, transformation_item, assert_item, t}
+use Rattle.model_meaning.specs.Programs.{x, ctor, type_item, demand, rule, to, keep, apply, make, lang_item, trans_item, language_item, complement_item, transformation_item, assert_item, t}
 
 -- ---- a second part that looks at a child of the middle tree, and calls another transformation on the same child
 
@@ -16,7 +16,7 @@ abbrev pub p_rules : List OutRule
 p_rules = to (rule (codes "a") [] []) (make (codes "a") []) ∷ to (rule (codes "a") [] []) (make (codes "b") []) ∷ []
 
 abbrev pub g_rule : OutRule
-g_rule = to (rule (codes "c") (codes "y" ∷ []) (is_in (codes "isA") (codes "y") ∷ [])) (make (codes "d") (apply (codes "r") (codes "y") ∷ []))
+g_rule = to (rule (codes "c") (codes "y" ∷ []) (demand (codes "isA") (codes "y") ∷ [])) (make (codes "d") (apply (codes "r") (codes "y") ∷ []))
 
 abbrev pub r_rules : List OutRule
 r_rules = to (rule (codes "a") [] []) (make (codes "a") []) ∷ to (rule (codes "b") [] []) (make (codes "b") []) ∷ []
@@ -76,7 +76,7 @@ demanding =
     type_item (ctor (codes "a") 0 ∷ ctor (codes "b") 0 ∷ ctor (codes "c") 1 ∷ [])
     ∷ lang_item (codes "pa") (rule (codes "a") [] [] ∷ [])
     ∷ lang_item (codes "pb") (rule (codes "b") [] [] ∷ [])
-    ∷ lang_item (codes "w") (rule (codes "c") (codes "x" ∷ []) (is_in (codes "pa") (codes "x") ∷ is_in (codes "pb") (codes "x") ∷ []) ∷ [])
+    ∷ lang_item (codes "w") (rule (codes "c") (codes "x" ∷ []) (demand (codes "pa") (codes "x") ∷ demand (codes "pb") (codes "x") ∷ []) ∷ [])
     ∷ assert_item 5 (empty (x (codes "w")))
     ∷ []
 
@@ -97,10 +97,54 @@ calling =
     type_item (ctor (codes "a") 0 ∷ ctor (codes "b") 0 ∷ ctor (codes "c") 1 ∷ ctor (codes "d") 2 ∷ [])
     ∷ trans_item (codes "n") p_rules
     ∷ trans_item (codes "k") (twice_rule ∷ [])
-    ∷ lang_item (codes "m") (rule (codes "d") (codes "x" ∷ codes "y" ∷ []) (is_in (codes "isA") (codes "x") ∷ is_in (codes "isB") (codes "y") ∷ []) ∷ [])
+    ∷ lang_item (codes "m") (rule (codes "d") (codes "x" ∷ codes "y" ∷ []) (demand (codes "isA") (codes "x") ∷ demand (codes "isB") (codes "y") ∷ []) ∷ [])
     ∷ lang_item (codes "isA") (rule (codes "a") [] [] ∷ [])
     ∷ lang_item (codes "isB") (rule (codes "b") [] [] ∷ [])
     ∷ language_item (codes "p") PreImage (codes "k") (codes "m")
+    ∷ []
+
+-- ---- definitions inside each other
+
+abbrev pub to_b : OutRule
+to_b = to (rule (codes "a") [] []) (make (codes "b") [])
+
+abbrev pub to_a : OutRule
+to_a = to (rule (codes "b") [] []) (make (codes "a") [])
+
+abbrev pub inside : OutRule
+inside = to (rule (codes "c") (codes "x" ∷ []) []) (make (codes "c") (apply (codes "p") (codes "x") ∷ []))
+
+abbrev pub swapping : List OutRule
+swapping = to_b ∷ to_a ∷ inside ∷ []
+
+-- `type B[]{a(0), b(0), c(1)}`
+-- `lang pb : B { b() }`
+-- `lang w : B { c(x) given (pb x) }`
+-- `def n : B := (complement w)`
+-- `trans p : B -> B { a() to (b []) | b() to (a []) | c(x) to (c [] (p x)) }`
+-- `def q : B := (pre-image p n)`
+abbrev pub nested : List Item
+nested =
+    type_item (ctor (codes "a") 0 ∷ ctor (codes "b") 0 ∷ ctor (codes "c") 1 ∷ [])
+    ∷ lang_item (codes "pb") (rule (codes "b") [] [] ∷ [])
+    ∷ lang_item (codes "w") (rule (codes "c") (codes "x" ∷ []) (demand (codes "pb") (codes "x") ∷ []) ∷ [])
+    ∷ complement_item (codes "n") (codes "w")
+    ∷ trans_item (codes "p") swapping
+    ∷ language_item (codes "q") PreImage (codes "p") (codes "n")
+    ∷ []
+
+-- ---- a rule that demands a definition, as the meaning has it and the checker doesn't
+
+-- `type B[]{a(0), b(0), c(1)}`
+-- `lang pb : B { b() }`
+-- `def n : B := (complement pb)`
+-- `lang v : B { c(x) given (n x) }`
+abbrev pub defining : List Item
+defining =
+    type_item (ctor (codes "a") 0 ∷ ctor (codes "b") 0 ∷ ctor (codes "c") 1 ∷ [])
+    ∷ lang_item (codes "pb") (rule (codes "b") [] [] ∷ [])
+    ∷ complement_item (codes "n") (codes "pb")
+    ∷ lang_item (codes "v") (rule (codes "c") (codes "x" ∷ []) (demand (codes "n") (codes "x") ∷ []) ∷ [])
     ∷ []
 
 pub record HoldOfExamples : Type 0 where
@@ -116,3 +160,9 @@ pub record HoldOfExamples : Type 0 where
   -- the two calls on `a` have outputs of their own, so `(c [] (a []))` is in the pre-image
   pub two_outputs : IsRelated calling (x (codes "k")) (t 2 (t 0 [] ∷ [])) (t 3 (t 0 [] ∷ t 1 [] ∷ []))
   pub in_pre_image : IsInLanguage calling (x (codes "p")) (t 2 (t 0 [] ∷ []))
+  -- `(c [] (b []))` has the output `(c [] (a []))`, which is in the complement; that of `(c [] (a []))` is not
+  pub in_nested : IsInLanguage nested (x (codes "q")) (t 2 (t 1 [] ∷ []))
+  pub not_in_nested : ¬ (IsInLanguage nested (x (codes "q")) (t 2 (t 0 [] ∷ [])))
+  -- the child `(a [])` is in the complement that the rule demands, and `(b [])` isn't
+  pub in_demanded : IsInLanguage defining (x (codes "v")) (t 2 (t 0 [] ∷ []))
+  pub not_in_demanded : ¬ (IsInLanguage defining (x (codes "v")) (t 2 (t 1 [] ∷ [])))

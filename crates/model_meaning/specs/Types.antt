@@ -1,15 +1,13 @@
 -- Tree types as a program declares them. Constructors and fields are numbered in their order.
-use Rattle.std.specs.Prelude.{ℕ, ℤ, pos, negsuc, List, [], map, cond, codes}
+use Rattle.std.specs.Prelude.{ℕ, ℤ, pos, negsuc, List, [], map}
 use Rattle.std.specs.Option.{option_map_or, option_and_then}
 use Rattle.model_tree.specs.Label.{Field, Label, row, pair}
-use Rattle.model_tree.specs.Signature.{Sort, wholes, truths, texts, PlainSignature}
+use Rattle.model_tree.specs.Signature.{PlainSignature}
 use Rattle.model_program.specs.Syntax.{Name, TypeItem}
 use Rattle.model_grammar.specs.Syntax.{Item}
-use Rattle.model_names.specs.Declared.{same_text, find_type, find_item}
+use Rattle.model_names.specs.Declared.{find_type, find_item}
+use Rattle.model_names.specs.Sorts.{own_sort}
 use Rattle.model_names.specs.Kinds.{own_type, own_output}
-
-abbrev pub sort_named : Name → Sort
-sort_named sort = cond (same_text sort.text (codes "Int")) wholes (cond (same_text sort.text (codes "Bool")) truths texts)
 
 -- a rank is no negative number
 abbrev pub rank_of : ℤ → ℕ
@@ -19,7 +17,7 @@ rank_of (negsuc n) = 0
 abbrev pub signature_of : TypeItem → PlainSignature
 signature_of t = record {
   name = t.name.text;
-  fields = map (λ f. record { name = f.name.text; sort = sort_named f.sort }) t.fields;
+  fields = map (λ f. record { name = f.name.text; sort = own_sort f }) t.fields;
   constructors = map (λ c. record { name = c.name.text; rank = rank_of c.rank }) t.ctors;
 }
 

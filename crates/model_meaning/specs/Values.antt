@@ -1,6 +1,6 @@
 -- Values of tree expressions, given the trees that were printed for earlier items.
 use Rattle.std.specs.Prelude.{◌≡◌, ℕ, ◌≤◌, List, [], ◌∷◌, Option, Some, None, cond}
-use Rattle.model_tree.specs.Label.{Label}
+use Rattle.model_tree.specs.Label.{Label, row}
 use Rattle.model_tree.specs.Tree.{node, Trees, no_trees, tree, LabelTree, node_count}
 use Rattle.model_tree.specs.Signature.{PlainSignature, names_of}
 use Rattle.model_grammar.specs.declared.Op1.TheVariants.{Complement, Minimize, Domain, GetWitness}
@@ -48,7 +48,7 @@ module _ (items : List Item) (trees : List Printed) where
     IsValue signature (two Restrict place x y) t = ⊥
     IsValue signature (two RestrictOut place x y) t = ⊥
     IsValue signature (literal name labels xs) (node c l ts) =
-        (number_named (names_of signature) name.text ≡ Some c) × (l ≡ made_label [] labels l) × AreValues signature xs ts
+        (number_named (names_of signature) name.text ≡ Some c) × (l ≡ made_label [] signature.fields labels (row [])) × AreValues signature xs ts
 
     pub AreValues : PlainSignature → Xs → Trees Label → Type 0
     AreValues signature no_x no_trees = Unit {0}

@@ -10,7 +10,7 @@ ghost use Rattle.fast_fault.specs.declared.place.Pos.{Pos};
 ghost use Rattle.model_grammar.specs.Syntax.{X, Item};
 ghost use Rattle.model_meaning.specs.Examples.{AreInTheirLanguages};
 ghost use Rattle.model_meaning.specs.Related.{HoldOfExamples};
-ghost use Rattle.model_meaning.specs.Laws.{AreOperations, AreOutputsTyped, AreTrueWhereNotShown, DefinitionsStandForExpressions, ShownIsFalse};
+ghost use Rattle.model_meaning.specs.Laws.{AreByRules, AreOperations, AreOutputsTyped, AreTrueWhereNotShown, DefinitionsStandForExpressions, MeaningsSettle, ShownIsFalse, TestsAgreeWithMeaning};
 
 /// Some trees, and the languages that they are in.
 pub fn examples_are_in_their_languages()
@@ -20,6 +20,21 @@ pub fn examples_are_in_their_languages()
 /// Some compositions, pre-images and languages, and what they have.
 pub fn examples_are_related()
     ensures { HoldOfExamples }
+{}
+
+/// Names that are no definitions mean what their rules say.
+pub fn names_are_by_rules()
+    ensures { (items : List Item) → AreByRules items }
+{}
+
+/// Where no rule demands a definition, tests tell what is in the language of a name, and which rules apply.
+pub fn tests_agree_with_meaning()
+    ensures { TestsAgreeWithMeaning }
+{}
+
+/// The meaning of an expression is the same however much deeper definitions are followed.
+pub fn meanings_settle()
+    ensures { MeaningsSettle }
 {}
 
 /// Operations on languages are those on sets, and operations on transformations those on relations.
@@ -42,7 +57,7 @@ pub fn unshown_is_true()
     ensures { AreTrueWhereNotShown }
 {}
 
-/// The name of a definition stands for its expression.
+/// The name of a definition whose expression doesn't depend on itself stands for the expression.
 pub fn definitions_stand_for_expressions()
     ensures { DefinitionsStandForExpressions }
 {}

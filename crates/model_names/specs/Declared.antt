@@ -5,11 +5,16 @@ use Rattle.std.specs.List.{flat_map}
 use Rattle.std.specs.Option.{option_map_or}
 use Rattle.std.specs.Str.{bytes_eq}
 use Rattle.model_program.specs.Syntax.{Name, TypeItem}
+use Rattle.model_grammar.specs.Places.{nowhere}
 use Rattle.model_grammar.specs.Syntax.{Rule, OutRule, Body, sorts, tree, lang, trans, def, assertion, Item}
 
 -- whether two texts are the same
 abbrev pub same_text : List ℕ → List ℕ → Bool
 same_text = bytes_eq
+
+-- a name by its text, wherever it stands
+abbrev pub name_of : List ℕ → Name
+name_of text = record { text = text; place = nowhere }
 
 abbrev pub own_types : Body → List TypeItem
 own_types (sorts t) = t ∷ []

@@ -1,3 +1,4 @@
 pub mod Declared
+pub mod Sorts
 pub mod Kinds
 pub mod Examples

@@ -1,12 +1,12 @@
--- Trees that a program may read, keep and print: their whole numbers are from -2^63 to 2^63 - 1.
-use Rattle.std.specs.Prelude.{ℕ, ◌^◌, pos, negsuc, Bool, true, ◌&&◌, List, nat_lt}
+-- Trees that a program may read, keep and print: their whole numbers are in the label range.
+use Rattle.std.specs.Prelude.{Bool, true, ◌&&◌}
 use Rattle.std.specs.List.{list_all}
 use Rattle.model_tree.specs.Label.{Field, whole, truth, text, Label, row, pair}
-use Rattle.model_tree.specs.Tree.{Tree, node, Trees, no_trees, tree, LabelTree}
+use Rattle.model_tree.specs.Range.{is_label_number}
+use Rattle.model_tree.specs.Tree.{node, Trees, no_trees, tree, LabelTree}
 
 abbrev pub is_kept_field : Field → Bool
-is_kept_field (whole (pos n)) = nat_lt n (2 ^ 63)
-is_kept_field (whole (negsuc n)) = nat_lt n (2 ^ 63)
+is_kept_field (whole n) = is_label_number n
 is_kept_field (truth b) = true
 is_kept_field (text t) = true
 

@@ -1,3 +1,4 @@
+pub mod Range
 pub mod Label
 pub mod Tree
 pub mod TreeCode
@@ -7,3 +8,4 @@ pub mod FormulaCode
 pub mod Signature
 pub mod Printed
 pub mod Kept
+pub mod Scalars

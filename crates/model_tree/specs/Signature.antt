@@ -1,5 +1,5 @@
 -- Tree types as plain data, and the trees that have a type.
-use Rattle.std.specs.Prelude.{◌≡◌, ℕ, ◌<◌, List, map, length, get_or}
+use Rattle.std.specs.Prelude.{◌≡◌, ℕ, ◌<◌, Bool, true, false, ◌&&◌, List, [], ◌∷◌, map, length, get_or}
 use Rattle.model_tree.specs.Label.{Field, whole, truth, text, Label, row, pair}
 use Rattle.model_tree.specs.Tree.{node, Trees, no_trees, tree, list_of, LabelTree}
 
@@ -38,9 +38,28 @@ sort_of (whole n) = wholes
 sort_of (truth b) = truths
 sort_of (text t) = texts
 
+-- whether the value may stand in a field of the sort
+abbrev pub has_sort : Sort → Field → Bool
+has_sort wholes (whole n) = true
+has_sort wholes (truth b) = false
+has_sort wholes (text t) = false
+has_sort truths (whole n) = false
+has_sort truths (truth b) = true
+has_sort truths (text t) = false
+has_sort texts (whole n) = false
+has_sort texts (truth b) = false
+has_sort texts (text t) = true
+
+-- whether there is a value for each sort, which has it, and no other value
+abbrev pub have_sorts : List Sort → List Field → Bool
+have_sorts [] [] = true
+have_sorts [] (f ∷ fs) = false
+have_sorts (s ∷ ss) [] = false
+have_sorts (s ∷ ss) (f ∷ fs) = has_sort s f && have_sorts ss fs
+
 -- the label has a value of the right sort for each field, and no other values
 abbrev pub HasSorts : List Sort → Label → Type 0
-HasSorts sorts (row values) = map sort_of values ≡ sorts
+HasSorts sorts (row values) = have_sorts sorts values ≡ true
 HasSorts sorts (pair l m) = ⊥
 
 module _ (signature : PlainSignature) where

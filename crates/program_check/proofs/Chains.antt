@@ -8,7 +8,7 @@ use Rattle.model_form.specs.Sums.{Part}
 use Rattle.model_grammar.specs.Syntax.{Expr, Parts, no_parts, part}
 use Rattle.model_checks.specs.Failures.{first_among}
 use Rattle.model_checks.specs.Sorts.{Scope, needs_sort}
-use Rattle.model_checks.specs.Forms.{has_field, have_field, form_of, added, with_part, form_behind}
+use Rattle.model_checks.specs.Forms.{has_field, have_field, form_in_range, added, with_part, form_behind}
 use Rattle.model_checks.specs.Labels.{label_failures, sorted_failures, operands_failures, steps_failures}
 use Rattle.program_check.specs.Known.{joined, next_failures, step_failures, step_form}
 use Rattle.program_check.specs.Notes.{Notes}
@@ -77,7 +77,7 @@ joined_end : (acc : Option (List Part)) → joined acc (Some []) ≡ acc
 joined_end None = refl
 joined_end (Some ps) = ap Some (append-nil ps)
 
-pub added_more : (s : Scope) (e : Expr) (m : Bool) (all rest : Parts) (form : Option Form) (acc acc2 whole : Option (List Part)) → all ≡ part m e rest → form ≡ form_of s e → acc2 ≡ joined acc (with_part m form (Some [])) → joined acc (added s all) ≡ whole → joined acc2 (added s rest) ≡ whole
+pub added_more : (s : Scope) (e : Expr) (m : Bool) (all rest : Parts) (form : Option Form) (acc acc2 whole : Option (List Part)) → all ≡ part m e rest → form ≡ form_in_range s e → acc2 ≡ joined acc (with_part m form (Some [])) → joined acc (added s all) ≡ whole → joined acc2 (added s rest) ≡ whole
 added_more s e m all rest form acc acc2 whole split form_is acc_is left =
     ap (λ x. joined x (added s rest)) acc_is ∙ joined_one acc m form (added s rest) ∙ ap (λ f. joined acc (with_part m f (added s rest))) form_is ∙ ap (λ ps. joined acc (added s ps)) (sym split) ∙ left
 

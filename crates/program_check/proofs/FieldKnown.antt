@@ -14,7 +14,8 @@ use Rattle.fast_tree.specs.Signatures.{plain_sort}
 use Rattle.fast_syntax.specs.declared.FieldItem.{FieldItem}
 use Rattle.fast_syntax.specs.View.{plain_field}
 use Rattle.model_checks.specs.Failures.{fails_if, first_among}
-use Rattle.model_checks.specs.Sorts.{sort_named, find_field, field_sort, plain_fields}
+use Rattle.model_names.specs.Sorts.{sort_named}
+use Rattle.model_checks.specs.Sorts.{find_field, field_sort, plain_fields}
 use Rattle.model_checks.specs.Forms.{form_numbered, form_of_field, is_field}
 use Rattle.model_checks.specs.Labels.{unknown_field}
 use Rattle.program_check.specs.declared.labels.Scope.{Scope}

@@ -5,7 +5,8 @@ use Rattle.std.proofs.lemmas.List.{drop_all}
 use Rattle.model_tree.specs.Signature.{wholes, truths, texts}
 use Rattle.model_label.specs.Fields.{same_sort, number_at}
 use Rattle.model_names.specs.Declared.{same_text}
-use Rattle.model_checks.specs.Sorts.{own_sort, plain_fields}
+use Rattle.model_names.specs.Sorts.{own_sort}
+use Rattle.model_checks.specs.Sorts.{plain_fields}
 use Rattle.fast_syntax.specs.declared.FieldItem.{FieldItem}
 use Rattle.fast_syntax.specs.View.{plain_field}
 use Rattle.fast_syntax.proofs.Appending.{drop_at}

@@ -17,7 +17,7 @@ use Rattle.fast_tree.specs.Signatures.{plain_sort}
 use Rattle.model_checks.specs.Failures.{fails_if}
 use Rattle.model_checks.specs.Sorts as model
 use Rattle.model_checks.specs.Sorts.{needs_sort}
-use Rattle.model_checks.specs.Forms.{is_out_of_range, has_field, form_of, added}
+use Rattle.model_checks.specs.Forms.{is_out_of_range, has_field, form_in_range, added}
 use Rattle.model_checks.specs.Labels.{label_failures, sorted_failures, operands_failures, compared, multiplied, divided}
 use Rattle.program_check.specs.declared.labels.Scope.{Scope}
 use Rattle.program_check.specs.declared.labels.Known.{Known}
@@ -25,10 +25,10 @@ use Rattle.program_check.specs.Known.{plain_scope, IsKnown, AreTruths, next_fail
 use Rattle.program_check.specs.Notes.{Notes}
 use Rattle.program_check.proofs.Noting.{then, same}
 
-pub minus_noted : (s : model.Scope) (e : Expr) (place : Pos) (form : Option Form) (a b c : Option Refusal) → form ≡ form_of s e → Notes a b (sorted_failures s wholes e)
+pub minus_noted : (s : model.Scope) (e : Expr) (place : Pos) (form : Option Form) (a b c : Option Refusal) → form ≡ form_in_range s e → Notes a b (sorted_failures s wholes e)
     → Notes b c (fails_if (is_out_of_range (option_map (product_form (negsuc 0)) form)) NumberRange place) → Notes a c (label_failures s (minus place e))
 minus_noted s e place form a b c is one two =
-    same (append_assoc (label_failures s e) (needs_sort s wholes e) (fails_if (is_out_of_range (option_map (product_form (negsuc 0)) (form_of s e))) NumberRange place))
+    same (append_assoc (label_failures s e) (needs_sort s wholes e) (fails_if (is_out_of_range (option_map (product_form (negsuc 0)) (form_in_range s e))) NumberRange place))
     (then one (same (ap (λ f. fails_if (is_out_of_range (option_map (product_form (negsuc 0)) f)) NumberRange place) is) two))
 
 pub sum_noted : (s : model.Scope) (parts : Parts) (place : Pos) (acc : Option (List Part)) (a b c : Option Refusal) → acc ≡ added s parts → Notes a b (operands_failures s wholes parts)
@@ -46,7 +46,7 @@ step_noted s place has form m e a b c one two = same (append_assoc (label_failur
 pub next_divided : (s : model.Scope) (place : Pos) (has : Bool) (form : Option Form) (m : Bool) (e : Expr) → m ≡ true → divided e ≡ next_failures s place has form m e
 next_divided s place has form m e is = ap (λ m. next_failures s place has form m e) (sym is)
 
-pub next_multiplied : (s : model.Scope) (place : Pos) (has has2 : Bool) (form form2 : Option Form) (m : Bool) (e : Expr) → m ≡ false → has2 ≡ has_field s e → form2 ≡ form_of s e → multiplied place has form has2 form2 ≡ next_failures s place has form m e
+pub next_multiplied : (s : model.Scope) (place : Pos) (has has2 : Bool) (form form2 : Option Form) (m : Bool) (e : Expr) → m ≡ false → has2 ≡ has_field s e → form2 ≡ form_in_range s e → multiplied place has form has2 form2 ≡ next_failures s place has form m e
 next_multiplied s place has has2 form form2 m e is has_is form_is = ap₂ (multiplied place has form) has_is form_is ∙ ap (λ m. next_failures s place has form m e) (sym is)
 
 -- truth values are one, in a disjunction and in a conjunction
@@ -56,7 +56,7 @@ or_known scope place parts known are = record { sort = are.sort; has = are.has; 
 pub and_known : (scope : Scope) (place : Pos) (parts : Parts) (known : Known) → AreTruths scope parts known → IsKnown scope (chain Conjunction place parts) known
 and_known scope place parts known are = record { sort = are.sort; has = are.has; form = are.form }
 
-pub truth_known : (scope : Scope) (e : Expr) (known : Known) (has : Bool) → known ≡ record { sort = Some code.Bool; has_field = has; form = None } → Some truths ≡ model.sort_of (plain_scope scope) e → has ≡ has_field (plain_scope scope) e → None ≡ form_of (plain_scope scope) e → IsKnown scope e known
+pub truth_known : (scope : Scope) (e : Expr) (known : Known) (has : Bool) → known ≡ record { sort = Some code.Bool; has_field = has; form = None } → Some truths ≡ model.sort_of (plain_scope scope) e → has ≡ has_field (plain_scope scope) e → None ≡ form_in_range (plain_scope scope) e → IsKnown scope e known
 truth_known scope e known has is sort_is has_is form_is = record {
   sort = ap (λ (k : Known). option_map plain_sort k.sort) is ∙ sort_is;
   has = ap (λ (k : Known). k.has_field) is ∙ has_is;

@@ -13,7 +13,7 @@ use Rattle.model_names.specs.Kinds.{a_tree, taken_by_one, taken_first, taken_sec
 use Rattle.model_checks.specs.Failures.{fails_if}
 use Rattle.model_checks.specs.Labels.{labels_failures}
 use Rattle.model_checks.specs.Rules.{constructor_failures, label_count_failures, fields_of}
-use Rattle.model_checks.specs.Expressions.{nested, x_failures, xs_failures, needs_be, wanted_second, expected_as, type_called, count_xs}
+use Rattle.model_checks.specs.Expressions.{nesting_failures, x_failures, xs_failures, needs_be, wanted_second, expected_as, type_called, count_xs}
 use Rattle.model_checks.proofs.SoundParts.{found_named}
 use Rattle.program_check.specs.Standings.{IsDeclared}
 
@@ -22,7 +22,7 @@ found_is items name None e = record { is = refl }
 found_is items name (Some t) e = record { is = e ∙ ap (find_type items) (sym (found_named items name (plain_type t.now) (sym e))) }
 
 -- where there are 64 operations around, it doesn't matter how many
-nested_alike : (m n : ℕ) (place : Pos) → 64 ≤ m → 64 ≤ n → nested m place ≡ nested n place
+nested_alike : (m n : ℕ) (place : Pos) → 64 ≤ m → 64 ≤ n → nesting_failures m place ≡ nesting_failures n place
 nested_alike m n place h g =
     let p : nat_le 64 m ≡ true = grind (arith, nat_tests) in
     let q : nat_le 64 n ≡ true = grind (arith, nat_tests) in

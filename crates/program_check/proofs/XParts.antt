@@ -12,7 +12,7 @@ use Rattle.fast_syntax.specs.Slices.{plain_children}
 use Rattle.model_checks.specs.Failures.{first_among}
 use Rattle.model_checks.specs.Labels.{labels_failures}
 use Rattle.model_checks.specs.Rules.{constructor_failures, label_count_failures, fields_of}
-use Rattle.model_checks.specs.Expressions.{nested, count_xs, type_called, needs_be, wanted_second, expected_as, x_failures, xs_failures}
+use Rattle.model_checks.specs.Expressions.{nesting_failures, count_xs, type_called, needs_be, wanted_second, expected_as, x_failures, xs_failures}
 use Rattle.program_check.specs.Standings.{as_failures, literal_failures}
 use Rattle.program_check.specs.Notes.{Notes}
 use Rattle.program_check.proofs.Noting.{then, same, more}
@@ -39,19 +39,19 @@ module _ (items before : List Item) where
 
   pub one_noted : (op : Op1) (place : Pos) (around deep : ℕ) (e : Option (List ℕ)) (x x1 : X) (k : Kind) (a b c : Option Refusal) → x1 ≡ x → k ≡ taken_by_one op
       → ((n : Option (List ℕ)) (z : X) → x_failures items before deep n z ≡ x_failures items before (suc around) n z)
-      → Notes a b (nested around place) → Notes b c (as_failures items before deep None k x1) → Notes a c (x_failures items before around e (one op place x))
+      → Notes a b (nesting_failures around place) → Notes b c (as_failures items before deep None k x1) → Notes a c (x_failures items before around e (one op place x))
   one_noted op place around deep e x x1 k a b c is k_is deep_is p q = then p (same (first_is around deep k (taken_by_one op) x1 x deep_is k_is is) q)
 
   pub two_noted : (op : Op2) (place : Pos) (around deep : ℕ) (e wanted : Option (List ℕ)) (x x1 x2 y y1 : X) (k l : Kind) (a b c d : Option Refusal)
       → x1 ≡ x → x2 ≡ x → y1 ≡ y → k ≡ taken_first op → l ≡ taken_second op → wanted ≡ wanted_second items before op x2
       → ((n : Option (List ℕ)) (z : X) → x_failures items before deep n z ≡ x_failures items before (suc around) n z)
-      → Notes a b (nested around place) → Notes b c (as_failures items before deep None k x1) → Notes c d (as_failures items before deep wanted l y1)
+      → Notes a b (nesting_failures around place) → Notes b c (as_failures items before deep None k x1) → Notes c d (as_failures items before deep wanted l y1)
       → Notes a d (x_failures items before around e (two op place x y))
   two_noted op place around deep e wanted x x1 x2 y y1 k l a b c d is is2 js k_is l_is wanted_is deep_is p q r =
       let want = wanted_second items before op x in
       let first = x_failures items before (suc around) None x in
       let be = needs_be items before None (taken_first op) x in
-      same (ap (λ xs. nested around place ++ xs) (append_assoc first be (as_failures items before (suc around) want (taken_second op) y)))
+      same (ap (λ xs. nesting_failures around place ++ xs) (append_assoc first be (as_failures items before (suc around) want (taken_second op) y)))
       (then p (then (same (first_is around deep k (taken_first op) x1 x deep_is k_is is) q)
       (same (operand_is around deep wanted want l (taken_second op) y1 y deep_is (wanted_is ∙ ap (wanted_second items before op) is2) l_is js) r)))
 

@@ -16,7 +16,7 @@ use Rattle.fast_syntax.specs.View.{plain_field}
 use Rattle.std.specs.Global.{Vec}
 use Rattle.model_checks.specs.Sorts as model
 use Rattle.model_checks.specs.Sorts.{sort_of, needs_sort}
-use Rattle.model_checks.specs.Forms.{has_field, have_field, form_of, kept, product_of, remainder_of, divisor_of}
+use Rattle.model_checks.specs.Forms.{has_field, have_field, form_in_range, kept, product_of, remainder_of, divisor_of}
 use Rattle.model_checks.specs.Labels.{label_failures, multiplied, divided}
 use Rattle.program_check.specs.declared.labels.Scope.{Scope}
 use Rattle.program_check.specs.declared.labels.Known.{Known}
@@ -28,7 +28,7 @@ plain_scope scope = option_map (λ fields. map plain_field fields.now) scope.fie
 pub record IsKnown (scope : Scope) (e : Expr) (known : Known) : Type 0 where
   pub sort : option_map plain_sort known.sort ≡ sort_of (plain_scope scope) e
   pub has : known.has_field ≡ has_field (plain_scope scope) e
-  pub form : known.form ≡ form_of (plain_scope scope) e
+  pub form : known.form ≡ form_in_range (plain_scope scope) e
 
 -- the form that was made, and whether none was for a number out of range
 abbrev pub form_made : Result Form FormStop → Option Form
@@ -59,7 +59,7 @@ pub record AreTruths (scope : Scope) (parts : Parts) (known : Known) : Type 0 wh
 -- what fails where a product goes on, to a remainder or by a factor
 abbrev pub next_failures : model.Scope → Pos → Bool → Option Form → Bool → Expr → List Refusal
 next_failures scope place has before true e = divided e
-next_failures scope place has before false e = multiplied place has before (has_field scope e) (form_of scope e)
+next_failures scope place has before false e = multiplied place has before (has_field scope e) (form_in_range scope e)
 
 -- a step of a product, behind what stands before it
 abbrev pub step_failures : model.Scope → Pos → Bool → Option Form → Bool → Expr → List Refusal
@@ -67,7 +67,7 @@ step_failures scope place has before rem e = label_failures scope e ++ (needs_so
 
 abbrev pub step_form : model.Scope → Bool → Option Form → Bool → Expr → Option Form
 step_form scope has before true e = remainder_of before (divisor_of e)
-step_form scope has before false e = kept (product_of has before (has_field scope e) (form_of scope e))
+step_form scope has before false e = kept (product_of has before (has_field scope e) (form_in_range scope e))
 
 -- a form was made, or a number was out of range
 abbrev pub IsMade : Result Form FormStop → Type 0

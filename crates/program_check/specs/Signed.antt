@@ -4,11 +4,12 @@ use Rattle.std.specs.Option.{option_map, option_and_then}
 use Rattle.model_tree.specs.Signature.{PlainField, PlainConstructor, PlainSignature}
 use Rattle.model_program.specs.Syntax.{FieldItem, CtorItem}
 use Rattle.model_grammar.specs.Syntax.{Item}
-use Rattle.model_meaning.specs.Types.{sort_named, rank_of, signature_of}
+use Rattle.model_names.specs.Sorts.{own_sort}
+use Rattle.model_meaning.specs.Types.{rank_of, signature_of}
 use Rattle.program_check.specs.Contexts.{own_type_item}
 
 abbrev pub field_of : FieldItem → PlainField
-field_of f = record { name = f.name.text; sort = sort_named f.sort }
+field_of f = record { name = f.name.text; sort = own_sort f }
 
 abbrev pub constructor_of : CtorItem → PlainConstructor
 constructor_of c = record { name = c.name.text; rank = rank_of c.rank }

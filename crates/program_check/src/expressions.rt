@@ -10,7 +10,7 @@ ghost use Rattle.model_names.specs.Kinds.{taken_by_one, given_by_one, taken_firs
 ghost use Rattle.fast_syntax.specs.View.{plain_name, plain_field, plain_type};
 ghost use Rattle.fast_syntax.specs.Plain.{plain_expr, plain_x, plain_item, plain_into};
 ghost use Rattle.fast_syntax.specs.Slices.{plain_children};
-ghost use Rattle.model_checks.specs.Expressions.{place_of_x, is_other_kind, is_known_later, expected_as, nested, name_failures, needs_kind, needs_type, needs_be, wanted_second, x_failures};
+ghost use Rattle.model_checks.specs.Expressions.{place_of_x, is_other_kind, is_known_later, expected_as, nesting_failures, name_failures, needs_kind, needs_type, needs_be, wanted_second, x_failures};
 ghost use Rattle.program_check.specs.Notes.{Notes};
 ghost use Rattle.program_check.specs.Contexts.{items_of, before_of, IsContext};
 ghost use Rattle.program_check.specs.Standings.{plain_kind, type_name, IsDeclared, IsStanding, only_as, as_failures, input_of_two, output_of_two, literal_failures};
@@ -186,7 +186,7 @@ fn wanted_second<'p>(
 
 /// A 65th operation, inside so many others.
 fn check_nested(least: &mut Least, around: usize, place: Pos)
-    ensures { Notes least.old.known least.new.known (nested around place) }
+    ensures { Notes least.old.known least.new.known (nesting_failures around place) }
 {
     least.note_if(around >= 64, Code::TooMany, place);
 }

@@ -14,8 +14,10 @@ ghost use Rattle.fast_tree.specs.declared.signature.Sort.TheVariants as Sort;
 ghost use Rattle.model_grammar.specs.Syntax as plain;
 ghost use Rattle.model_grammar.specs.declared.Chain.TheVariants as kind;
 ghost use Rattle.model_checks.specs.Failures.{failure, fails_if};
-ghost use Rattle.model_checks.specs.Sorts.{sort_named, find_field, own_sort, plain_fields, sort_of, place_of, is_other_sort, differ_in_sort, needs_sort};
-ghost use Rattle.model_checks.specs.Forms.{is_constant, is_out_of_range, kept, has_field, have_field, form_of, form_numbered, product_of, remainder_of, divisor_in, divisor_of, with_part};
+ghost use Rattle.model_names.specs.Sorts.{sort_named, own_sort};
+ghost use Rattle.model_checks.specs.Sorts.{find_field, plain_fields, sort_of, place_of, is_other_sort, differ_in_sort, needs_sort};
+ghost use Rattle.model_tree.specs.Range.{is_label_number};
+ghost use Rattle.model_checks.specs.Forms.{is_out_of_range, kept, has_field, have_field, form_in_range, form_numbered, product_of, remainder_of, divisor_in, divisor_of, with_part};
 ghost use Rattle.model_checks.specs.Labels.{unknown_field, compared, label_failures, operands_failures, sorted_failures, multiplied, divided};
 ghost use Rattle.program_check.specs.Notes.{Notes};
 ghost use Rattle.program_check.specs.Known.{plain_scope, IsKnown, form_made, is_range, IsMade, AreTruths, plain_added, joined, next_failures, step_failures, step_form};
@@ -175,8 +177,8 @@ fn check_field(
     })
 }
 
-fn is_constant(number: i128) -> bool
-    ensures { result ≡ is_constant number }
+fn is_label_number(number: i128) -> bool
+    ensures { result ≡ is_label_number number }
 {
     number >= i64::MIN as i128 && number <= i64::MAX as i128
 }
@@ -188,10 +190,10 @@ fn check_number(
     number: i128,
     place: Pos,
 ) -> Result<Known, Memory>
-    ensures noted { OnOk result (Notes least.old.known least.new.known (fails_if (not (is_constant number)) code.NumberRange place)) }
+    ensures noted { OnOk result (Notes least.old.known least.new.known (fails_if (not (is_label_number number)) code.NumberRange place)) }
     ensures known { IfOk result (IsKnown scope.now (plain.number place number)) }
 {
-    if !is_constant(number) {
+    if !is_label_number(number) {
         least.note(Code::NumberRange, place);
         return Ok(Known::of_nothing(Some(Sort::Int)));
     }

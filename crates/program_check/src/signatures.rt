@@ -1,33 +1,32 @@
 //! The signatures of the types of a program.
 
-ghost use Rattle.std.specs.Prelude.{◌≡◌, IfOk, map, cond};
+ghost use Rattle.std.specs.Prelude.{◌≡◌, IfOk, map};
 ghost use Rattle.std.specs.Option.{option_map};
 ghost use Rattle.fast_tree.specs.Signatures.{plain_sort, plain_field, plain_constructor, plain_signature};
 ghost use Rattle.fast_syntax.specs.View as syntax;
-ghost use Rattle.fast_syntax.specs.View.{plain_name, plain_type};
+ghost use Rattle.fast_syntax.specs.View.{plain_type};
 ghost use Rattle.fast_syntax.specs.Plain.{plain_item};
-ghost use Rattle.model_meaning.specs.Types.{sort_named, rank_of, signature_of};
+ghost use Rattle.model_names.specs.Sorts.{own_sort};
+ghost use Rattle.model_meaning.specs.Types.{rank_of, signature_of};
 ghost use Rattle.program_check.specs.Contexts.{own_type_item};
 ghost use Rattle.program_check.specs.Signed.{field_of, constructor_of, own_signature};
 
 use crate::context::own_type;
+use crate::types::sort_named;
 use fast_fault::Memory;
 use fast_syntax::items::Item;
-use fast_syntax::{CtorItem, FieldItem, Name, TypeItem};
+use fast_syntax::{CtorItem, FieldItem, TypeItem};
 use fast_tree::{CtorOf, FieldOf, Signature, Sort};
 use std::alloc::Global;
 
-/// The sort of this name, in a type whose sorts are known.
-fn sort_of(name: &Name) -> Sort
-    ensures { plain_sort result ≡ sort_named (plain_name name.now) }
+/// The sort of a field, in a type whose sorts are known.
+fn own_sort(field: &FieldItem) -> Sort
+    ensures { plain_sort result ≡ own_sort (syntax.plain_field field.now) }
 {
-    if name.text.is("Int") {
-        return Sort::Int;
+    match sort_named(&field.sort.text) {
+        Some(sort) => sort,
+        None => Sort::Text,
     }
-    if name.text.is("Bool") {
-        return Sort::Bool;
-    }
-    Sort::Text
 }
 
 fn field_of(alloc: Global, field: &FieldItem) -> Result<FieldOf, Memory>
@@ -35,7 +34,7 @@ fn field_of(alloc: Global, field: &FieldItem) -> Result<FieldOf, Memory>
 {
     Ok(FieldOf {
         name: field.name.text.copy(alloc)?,
-        sort: sort_of(&field.sort),
+        sort: own_sort(field),
     })
 }
 

@@ -3,8 +3,8 @@ use Rattle.std.specs.Prelude.{pos}
 use Rattle.model_form.specs.Sums.{put_fields, add_form, number_form}
 use Rattle.model_form.specs.Sums as model
 use Rattle.model_form.specs.Ranges.{IsForm}
-use Rattle.model_form.specs.Gathered.{IsGathered}
-use Rattle.model_form.proofs.Gathering.{gathered_more, gathered_later}
+use Rattle.lin_form.specs.Within.{IsGathered}
+use Rattle.lin_form.proofs.Gathering.{gathered_more, gathered_later}
 use Rattle.lin_form.specs.Terms.{plain_fields}
 use Rattle.lin_form.specs.Gathered.{plain_sum}
 use Rattle.lin_form.specs.declared.form.FieldTerm.{FieldTerm}

@@ -1,6 +1,6 @@
 use Rattle.std.proofs.Common.{◌≡◌, ◌+◌, ◌*◌, ◌^◌, ◌≤◌, drop, unsigned_abs}
 use Rattle.model_form.specs.Sums.{put_fields}
-use Rattle.model_form.specs.Gathered.{IsGathered}
+use Rattle.lin_form.specs.Within.{IsGathered}
 use Rattle.lin_form.specs.Terms.{plain_fields}
 use Rattle.lin_form.specs.Gathered.{plain_sum}
 use Rattle.lin_form.proofs.subst.put_fields.Given as goal

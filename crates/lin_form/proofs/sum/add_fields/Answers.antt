@@ -5,8 +5,8 @@ use Rattle.std.specs.Int.{w128}
 use Rattle.std.proofs.lemmas.Int.{to_z-of_z}
 use Rattle.model_form.specs.Sums.{add_fields}
 use Rattle.model_form.specs.Ranges.{AreFields}
-use Rattle.model_form.specs.Gathered.{TotalsBefore}
-use Rattle.model_form.proofs.Gathering.{totals_begin, total_at, totals_step, sum_within}
+use Rattle.lin_form.specs.Within.{TotalsBefore}
+use Rattle.lin_form.proofs.Gathering.{totals_begin, total_at, totals_step, sum_within}
 use Rattle.lin_form.specs.Terms.{plain_fields}
 use Rattle.lin_form.specs.declared.form.FieldTerm.{FieldTerm}
 use Rattle.lin_form.proofs.Likes.{has_room, fields_drop, held_64}

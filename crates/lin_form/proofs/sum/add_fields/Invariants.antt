@@ -1,7 +1,7 @@
 use Rattle.std.proofs.Common.{◌≡◌, ℕ, ◌+◌, ◌^◌, ◌≤◌, drop, length}
 use Rattle.model_form.specs.Sums.{add_fields}
 use Rattle.model_form.specs.Ranges.{AreFields}
-use Rattle.model_form.specs.Gathered.{TotalsBefore}
+use Rattle.lin_form.specs.Within.{TotalsBefore}
 use Rattle.lin_form.specs.Terms.{plain_fields}
 use Rattle.lin_form.proofs.sum.add_fields.Given as goal
 

@@ -4,7 +4,7 @@ use Rattle.std.specs.Prelude.{false, true}
 use Rattle.std.specs.Int.{w128}
 use Rattle.std.proofs.lemmas.Int.{to_z-of_z}
 use Rattle.model_form.specs.Sums.{is_like}
-use Rattle.model_form.specs.Gathered.{IsWithin}
+use Rattle.lin_form.specs.Within.{IsWithin}
 use Rattle.lin_form.specs.Gathered.{plain_likes}
 use Rattle.lin_form.specs.declared.sum.Like.{Like}
 use Rattle.lin_form.proofs.Likes.{has_room, likes_at, like_found, like_new, more_of}

@@ -5,8 +5,8 @@ use Rattle.std.proofs.lemmas.Int.{to_z-of_z}
 use Rattle.std.proofs.lemmas.List.{drop_all}
 use Rattle.model_form.specs.Sums.{add_remainders, add_like}
 use Rattle.model_form.specs.Ranges.{IsCoefficient, AreApart}
-use Rattle.model_form.specs.Gathered.{LikesBefore, IsWithin}
-use Rattle.model_form.proofs.Gathering.{likes_begin, likes_end, like_step}
+use Rattle.lin_form.specs.Within.{LikesBefore, IsWithin}
+use Rattle.lin_form.proofs.Gathering.{likes_begin, likes_end, like_step}
 use Rattle.lin_form.specs.Terms.{plain_remainders}
 use Rattle.lin_form.specs.Gathered.{plain_likes}
 use Rattle.lin_form.specs.declared.form.RemTerm.{RemTerm}

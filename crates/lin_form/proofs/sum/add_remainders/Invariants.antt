@@ -1,6 +1,6 @@
 use Rattle.std.proofs.Common.{◌≡◌, ℕ, ◌+◌, ◌^◌, ◌≤◌, drop}
 use Rattle.model_form.specs.Sums.{add_remainders}
-use Rattle.model_form.specs.Gathered.{LikesBefore}
+use Rattle.lin_form.specs.Within.{LikesBefore}
 use Rattle.lin_form.specs.Terms.{plain_remainders}
 use Rattle.lin_form.specs.Gathered.{plain_likes}
 use Rattle.lin_form.proofs.sum.add_remainders.Given as goal

@@ -7,9 +7,10 @@ use Rattle.std.proofs.lemmas.Result.{err_from_is_err_and}
 use Rattle.model_form.specs.Form.{Form, form, constant_of, remainder}
 use Rattle.model_form.specs.Sums.{form_of, started, put_fields, put_remainders, add_form, remainder_form, subst_form}
 use Rattle.model_form.specs.Sums as model
-use Rattle.model_form.specs.Ranges.{IsConstant, IsForm, IsOutside, IsOutsideAfter, IsOutsideWithin}
-use Rattle.model_form.specs.Gathered.{IsGathered}
-use Rattle.model_form.proofs.Gathering.{gathered_more}
+use Rattle.model_tree.specs.Range.{IsLabelNumber}
+use Rattle.model_form.specs.Ranges.{IsForm, IsOutside, IsOutsideAfter, IsOutsideWithin}
+use Rattle.lin_form.specs.Within.{IsGathered}
+use Rattle.lin_form.proofs.Gathering.{gathered_more}
 use Rattle.lin_form.specs.Terms.{plain_fields, plain_remainders}
 use Rattle.lin_form.specs.Gathered.{plain_sum}
 use Rattle.lin_form.specs.declared.form.RemTerm.{RemTerm}
@@ -75,7 +76,7 @@ returns-clause-in_range t c =
     let items = c.deref-term-items.result.now in
     let past = drop_all c.loop-term.term-index items c.loop-term-test.false in
     let begun = (c.in_ok-put_fields.ensures {u = tt}).sum in
-    let constant : to_z w128 (of_z w128 c.self.inside.constant) ≡ c.self.inside.constant = let f : IsConstant c.self.inside.constant = c.self.invariant.0 in omega (arith, ints) in
+    let constant : to_z w128 (of_z w128 c.self.inside.constant) ≡ c.self.inside.constant = let f : IsLabelNumber c.self.inside.constant = c.self.invariant.0 in omega (arith, ints) in
     let view = form c.self.inside.constant (plain_fields c.self.inside.fields.items) (plain_remainders c.self.inside.remainders.items) in
     let e : form_of (plain_sum c.loop-term.sum) ≡ subst_form view gs =
     ap form_of (ap (λ ts. put_remainders (plain_remainders ts) gs (plain_sum c.loop-term.sum)) (sym past) ∙ c.loop-term.invariant.value)

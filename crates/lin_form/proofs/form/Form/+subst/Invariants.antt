@@ -1,7 +1,7 @@
 use Rattle.std.proofs.Common.{◌≡◌, ◌+◌, ◌*◌, ◌^◌, ◌≤◌, drop, unsigned_abs, ℤ}
 use Rattle.model_form.specs.Sums.{put_remainders}
 use Rattle.model_form.specs.Ranges.{IsOutsideWithin}
-use Rattle.model_form.specs.Gathered.{IsGathered}
+use Rattle.lin_form.specs.Within.{IsGathered}
 use Rattle.lin_form.specs.Terms.{plain_remainders}
 use Rattle.lin_form.specs.Gathered.{plain_sum}
 use Rattle.lin_form.proofs.form.Form.+subst.Given as goal

@@ -8,8 +8,8 @@ use Rattle.model_form.specs.Form.{Form}
 use Rattle.model_form.specs.Sums.{add_parts, add_form, form_of, started, sign}
 use Rattle.model_form.specs.Sums as model
 use Rattle.model_form.specs.Ranges.{IsOutside}
-use Rattle.model_form.specs.Gathered.{IsGathered}
-use Rattle.model_form.proofs.Gathering.{gathered_more}
+use Rattle.lin_form.specs.Within.{IsGathered}
+use Rattle.lin_form.proofs.Gathering.{gathered_more}
 use Rattle.lin_form.specs.Gathered.{plain_sum, plain_parts}
 use Rattle.lin_form.specs.Stops.{StopsAt}
 use Rattle.lin_form.specs.declared.sum.Signed.{Signed}

@@ -1,7 +1,7 @@
 use Rattle.std.proofs.Common.{◌≡◌, ◌*◌, ◌^◌, ◌≤◌, drop, unsigned_abs}
 use Rattle.std.specs.Prelude.{pos}
 use Rattle.model_form.specs.Sums.{add_parts, started}
-use Rattle.model_form.specs.Gathered.{IsGathered}
+use Rattle.lin_form.specs.Within.{IsGathered}
 use Rattle.lin_form.specs.Gathered.{plain_sum, plain_parts}
 use Rattle.lin_form.proofs.form.Form.of_sum.Given as goal
 

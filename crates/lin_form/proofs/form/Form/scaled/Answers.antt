@@ -4,7 +4,8 @@ use Rattle.std.specs.Int.{w128}
 use Rattle.std.proofs.lemmas.Int.{to_z-of_z}
 use Rattle.model_form.specs.Form.{form}
 use Rattle.model_form.specs.Sums.{scaled_fields, scaled_remainders, product_form}
-use Rattle.model_form.specs.Ranges.{AreApart, IsConstant}
+use Rattle.model_tree.specs.Range.{IsLabelNumber}
+use Rattle.model_form.specs.Ranges.{AreApart}
 use Rattle.lin_form.specs.Terms.{plain_fields, plain_remainders}
 use Rattle.lin_form.proofs.Joined.{scaled_apart}
 use Rattle.lin_form.proofs.Outside.{none_outside, held_constant, product_is}
@@ -17,7 +18,7 @@ invariant_of-result c =
     let r = c.in_ok-remainders.ensures {u = tt} in
     let fits : FitsSigned w128 c.in_ok-constant.constant = search rules in
     let number = to_z-of_z w128 c.in_ok-constant.constant fits in
-    (subst IsConstant (sym (number ∙ k.0)) k.1, f.1, r.1, subst AreApart (sym r.0) (subst (λ ts. AreApart (scaled_remainders (to_z w128 (of_z w128 c.args.by)) (plain_remainders ts))) (sym c.deref-2.ensures.value) (scaled_apart (to_z w128 (of_z w128 c.args.by)) (plain_remainders c.self.inside.remainders.items) c.self.invariant.3)))
+    (subst IsLabelNumber (sym (number ∙ k.0)) k.1, f.1, r.1, subst AreApart (sym r.0) (subst (λ ts. AreApart (scaled_remainders (to_z w128 (of_z w128 c.args.by)) (plain_remainders ts))) (sym c.deref-2.ensures.value) (scaled_apart (to_z w128 (of_z w128 c.args.by)) (plain_remainders c.self.inside.remainders.items) c.self.invariant.3)))
 
 pub returns-clause-form : goal.returns-clause-form
 returns-clause-form c =
@@ -43,4 +44,4 @@ returns-clause-in_range c =
     let fits : FitsSigned w128 c.in_ok-constant.constant = search rules in
     let number = to_z-of_z w128 c.in_ok-constant.constant fits in
     none_outside (form (to_z w128 (of_z w128 c.in_ok-constant.constant)) (plain_fields c.in_ok-fields.fields.items) (plain_remainders c.in_ok-remainders.remainders.items))
-    (subst IsConstant (sym (number ∙ k.0)) k.1, f.1, r.1, subst AreApart (sym r.0) (subst (λ ts. AreApart (scaled_remainders (to_z w128 (of_z w128 c.args.by)) (plain_remainders ts))) (sym c.deref-2.ensures.value) (scaled_apart (to_z w128 (of_z w128 c.args.by)) (plain_remainders c.self.inside.remainders.items) c.self.invariant.3)))
+    (subst IsLabelNumber (sym (number ∙ k.0)) k.1, f.1, r.1, subst AreApart (sym r.0) (subst (λ ts. AreApart (scaled_remainders (to_z w128 (of_z w128 c.args.by)) (plain_remainders ts))) (sym c.deref-2.ensures.value) (scaled_apart (to_z w128 (of_z w128 c.args.by)) (plain_remainders c.self.inside.remainders.items) c.self.invariant.3)))

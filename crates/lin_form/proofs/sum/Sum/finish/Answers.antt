@@ -2,8 +2,9 @@ use Rattle.std.proofs.Common.{sym, ◌∙◌, subst, rules}
 use Rattle.std.specs.Prelude.{FitsSigned}
 use Rattle.std.specs.Int.{w128}
 use Rattle.std.proofs.lemmas.Int.{to_z-of_z}
-use Rattle.model_form.specs.Ranges.{AreApart, IsConstant}
-use Rattle.model_form.proofs.Gathering.{without_zeros_apart}
+use Rattle.model_tree.specs.Range.{IsLabelNumber}
+use Rattle.model_form.specs.Ranges.{AreApart}
+use Rattle.lin_form.proofs.Gathering.{without_zeros_apart}
 use Rattle.lin_form.specs.Gathered.{plain_likes}
 use Rattle.lin_form.proofs.sum.Sum.finish.Goals as goal
 
@@ -13,7 +14,7 @@ invariant_of-result c =
     let f = c.in_ok-fields.ensures {u = tt} in
     let r = c.in_ok-remainders.ensures {u = tt} in
     let fits : FitsSigned w128 c.in_ok-constant.constant = search rules in
-    (subst IsConstant (sym (to_z-of_z w128 c.in_ok-constant.constant fits ∙ k.0)) k.1, f.1, r.1, subst AreApart (sym r.0) (without_zeros_apart (plain_likes c.args.self.likes.items) (c.requires.1).apart))
+    (subst IsLabelNumber (sym (to_z-of_z w128 c.in_ok-constant.constant fits ∙ k.0)) k.1, f.1, r.1, subst AreApart (sym r.0) (without_zeros_apart (plain_likes c.args.self.likes.items) (c.requires.1).apart))
 
 pub returns-clause-in_range : goal.returns-clause-in_range
 returns-clause-in_range c =
@@ -21,4 +22,4 @@ returns-clause-in_range c =
     let f = c.in_ok-fields.ensures {u = tt} in
     let r = c.in_ok-remainders.ensures {u = tt} in
     let fits : FitsSigned w128 c.in_ok-constant.constant = search rules in
-    (subst IsConstant (sym (to_z-of_z w128 c.in_ok-constant.constant fits ∙ k.0)) k.1, f.1, r.1, subst AreApart (sym r.0) (without_zeros_apart (plain_likes c.args.self.likes.items) (c.requires.1).apart))
+    (subst IsLabelNumber (sym (to_z-of_z w128 c.in_ok-constant.constant fits ∙ k.0)) k.1, f.1, r.1, subst AreApart (sym r.0) (without_zeros_apart (plain_likes c.args.self.likes.items) (c.requires.1).apart))

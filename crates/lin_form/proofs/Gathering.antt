@@ -10,7 +10,7 @@ use Rattle.model_form.specs.Form.{Form, form, Remainders, no_remainders, remaind
 use Rattle.model_form.specs.Same.{same_form}
 use Rattle.model_form.specs.Sums.{Sum, add_fields, add_like, add_remainders, add_form, is_like, without_zeros, started}
 use Rattle.model_form.specs.Ranges.{IsForm, IsCoefficient, AreFields, AreRemainders, AreApart, IsApart}
-use Rattle.model_form.specs.Gathered.{IsWithin, AreTotals, AreLikes, IsGathered, TotalsBefore, LikesBefore}
+use Rattle.lin_form.specs.Within.{IsWithin, AreTotals, AreLikes, IsGathered, TotalsBefore, LikesBefore}
 use Rattle.model_form.proofs.Equals.{same_laws}
 use Rattle.model_form.proofs.Values.{both_out, length-add_fields}
 
