@@ -1,6 +1,6 @@
 -- Chains of Cooper's method: the choices that lead from literals through systems to a solution or a wide number.
-use Rattle.std.specs.Prelude.{ℕ, suc, ℤ, pos, neg_ℤ, ◌≡◌, ◌-◌, ◌^◌, ◌<◌, Bool, true, false, cond, ◌⊎◌, List, [], ◌∷◌, ◌++◌, map, length, slice_index_or, FitsSigned}
-use Rattle.std.specs.Int.{w64}
+use Rattle.std.specs.Prelude.{ℕ, suc, ℤ, pos, neg_ℤ, ◌≡◌, ◌-◌, ◌^◌, ◌<◌, Bool, true, false, cond, ◌⊎◌, List, [], ◌∷◌, ◌++◌, map, length, slice_index_or}
+use Rattle.model_tree.specs.Range.{label_bits, IsLabelNumber}
 use Rattle.math_cooper.specs.System.{Condition}
 use Rattle.math_cooper.specs.Puts.{Put, Passes128, IsSolution}
 use Rattle.model_chain.specs.Literals.{Literal, remainders_in, width, needs_side, count_sides, own_side, later_sides, literals_conditions, remainders_conditions, bounds_conditions}
@@ -17,10 +17,10 @@ pub record Chain : Type 0 where
 
 -- the least and the greatest number of the label range
 abbrev pub least : ℤ
-least = neg_ℤ (pos (2 ^ 63))
+least = neg_ℤ (pos (2 ^ label_bits))
 
 abbrev pub greatest : ℤ
-greatest = pos (2 ^ 63 - 1)
+greatest = pos (2 ^ label_bits - 1)
 
 -- the system that literals with sides begin with: the literals' conditions, the new variables', and the bounds'
 abbrev pub first_system : List Literal → Bool → List Bool → List Condition
@@ -57,7 +57,7 @@ HasWide C = IsChosen C × Passes128 (count_variables C.literals) (first_system C
 
 -- a solution is outside the label range: one of its fields is
 abbrev pub IsOutside : List ℤ → Type 0
-IsOutside values = (k : ℕ) × (k < 8) × (FitsSigned w64 (slice_index_or values k (pos 0)) → ⊥)
+IsOutside values = (k : ℕ) × (k < 8) × (IsLabelNumber (slice_index_or values k (pos 0)) → ⊥)
 
 -- the chain is unbounded, no number of it is outside 128 bits, and its solution is outside the label range
 abbrev pub IsFar : Chain → Type 0

@@ -1,4 +1,13 @@
+pub mod Meanings
+pub mod Types
+pub mod Chosen
 pub mod Carry
-pub mod Told
+pub mod Heads
+pub mod CarryTrans
 pub mod Sight
+pub mod Told
+pub mod Far
+pub mod Loads
 pub mod Wider
+pub mod Compared
+pub mod Names

@@ -1,114 +1,80 @@
--- Automata that were built for expressions.
-use Rattle.std.specs.Prelude.{◌≡◌, ◌<◌, ℕ, true, List, [], ◌∷◌, Some, length}
-use Rattle.std.specs.List.{All, Contains}
+-- Automata and transducers that were built for expressions.
+use Rattle.std.specs.Prelude.{◌≡◌, ◌↔◌, ◌<◌, ℕ, List, Some, length}
 use Rattle.fast_fault.specs.declared.place.Pos.{Pos}
 use Rattle.model_tree.specs.Label.{Label}
-use Rattle.model_tree.specs.Kept.{is_kept_label}
 use Rattle.model_tree.specs.Tree.{LabelTree}
 use Rattle.model_tree.specs.Signature.{HasType}
-use Rattle.model_sta.specs.Automaton.{is_accepted}
+use Rattle.model_sta.specs.Automaton.{Rule}
+use Rattle.model_sta.specs.Operations.{Auto, Has, Alike, IsUnion, IsIntersection, IsDifference, IsComplement, IsMinimal}
+use Rattle.model_sttr.specs.Transducer.{run, Sttr, Trans, Gives, GivesSame}
+use Rattle.model_sttr.specs.Operations.{AlikePairs, IsDomain, IsPreImage, IsRestriction, IsOutRestriction, IsComposition}
 use Rattle.model_program.specs.Syntax.{Name}
-use Rattle.model_grammar.specs.declared.Op1.{Op1}
-use Rattle.model_grammar.specs.declared.Op2.{Op2}
-use Rattle.model_grammar.specs.declared.Op1.TheVariants.{Complement, Minimize}
-use Rattle.model_grammar.specs.declared.Op2.TheVariants.{Intersect, Union, Difference, Apply}
+use Rattle.model_grammar.specs.declared.Op1.TheVariants.{Complement, Minimize, Domain}
+use Rattle.model_grammar.specs.declared.Op2.TheVariants.{Intersect, Union, Difference, PreImage, Compose, Restrict, RestrictOut}
 use Rattle.model_grammar.specs.Syntax.{X, named, one, two, Item}
-use Rattle.model_chain.specs.Each.{EachTwo}
-use Rattle.model_meaning.specs.Languages.{is_in}
-use Rattle.model_meaning.specs.Meaning.{IsOf, signature_named}
-use Rattle.model_meaning.specs.Reached.{Reaches}
-use Rattle.model_run.specs.Parts.{LanguagePart, IsIn, IsOn, IsLanguage, HasMoreTrees}
-use Rattle.model_run.specs.Seen.{Guard, IsGuard, Agree, IsLabelOf, HasFarLabel}
-use Rattle.model_layers.specs.Operations.{Auto, AgreeIn, KeepsGuards, Has, count, Alike, IsUnion, IsIntersection, IsDifference, IsComplement, IsMinimal}
+use Rattle.model_meaning.specs.Reached.{Opens}
+use Rattle.model_meaning.specs.Meaning.{IsInLanguage, IsRelated, signature_named}
+use Rattle.model_run.specs.Parts.{LanguagePart, RelationPart, IsInPart, RelatesByPart, IsOn, IsFrom, IsPart, IsRelationPart}
 
-module _ (items : List Item) (type : List ℕ) where
+module _ (items : List Item) where
   -- a tree of the type with this name
-  abbrev pub IsTyped : LabelTree → Type 0
-  IsTyped t = HasType (signature_named items (Some type)) t
+  abbrev pub IsTyped : List ℕ → LabelTree → Type 0
+  IsTyped type t = HasType (signature_named items (Some type)) t
 
-  -- The automaton was built for the closed expression: its language is that of the expression, and each of its states has a
+  -- each state of the automaton has a language on the type of which the expression is made
+  abbrev pub AreParts : X → List ℕ → List (List (Rule Label)) → Type 0
+  AreParts e type rules = (q : ℕ) → q < length rules → (d : LanguagePart) × IsPart items e type d × Alike (IsTyped type) (Has rules q) (IsInPart items d)
+
+  -- each state of the transducer has a relation between the types of which the expression is made
+  abbrev pub AreRelations : X → List ℕ → List ℕ → Sttr Label → Type 0
+  AreRelations e from into f = (q : ℕ) → q < length f.rules → (r : RelationPart) × IsRelationPart items e from into r × AlikePairs (IsTyped from) (Gives f (run q)) (RelatesByPart items r)
+
+  -- The automaton was built for the expression: its language is that of the expression, and each of its states has a
   -- language of which the expression is made.
-  pub record Carries (e : X) (a : Auto Label) : Type 0 where
-    pub on : IsOn items e type
-    pub in_range : a.start < count a
-    pub means : Alike IsTyped (Has a a.start) (IsOf items e)
-    pub each_state : (q : ℕ) → q < count a → (d : LanguagePart) × IsLanguage items e type d × Alike IsTyped (Has a q) (IsIn items d)
+  pub record Carries (e : X) (type : List ℕ) (a : Auto Label) : Type 0 where
+    pub is_on : IsOn items e type
+    pub in_range : a.start < length a.rules
+    pub means : Alike (IsTyped type) (Has a.rules a.start) (IsInLanguage items e)
+    pub each_state : AreParts e type a.rules
 
-  -- each state has the language of a name that the name reaches
-  pub record IsBuiltFor (n : Name) (a : Auto Label) : Type 0 where
-    pub in_range : a.start < count a
-    pub means : Alike IsTyped (Has a a.start) (λ t. is_in items t n.text ≡ true)
-    pub each_state : (q : ℕ) → q < count a → (m : Name) × Reaches items n.text m.text × IsOn items (named m) type × Alike IsTyped (Has a q) (λ t. is_in items t m.text ≡ true)
+  -- The transducer was built for the expression: its relation is that of the expression, and so on for each state and each
+  -- state of the lookahead. What it gives has the output type, and a child is given unchanged only where the two types are one.
+  pub record CarriesTrans (e : X) (from into : List ℕ) (f : Trans Label) : Type 0 where
+    pub goes : IsFrom items e from into
+    pub in_range : f.start < length f.sttr.rules
+    pub means : AlikePairs (IsTyped from) (Gives f.sttr (run f.start)) (IsRelated items e)
+    pub each_state : AreRelations e from into f.sttr
+    pub each_look : AreParts e from f.sttr.looks
+    pub typed : (q : ℕ) (t u : LabelTree) → q < length f.sttr.rules → IsTyped from t → Gives f.sttr (run q) t u → IsTyped into u
+    pub gives_same : GivesSame f.sttr → from ≡ into
 
-  -- what the operations promise makes automata of expressions
-  pub record AreCarried (place : Pos) : Type 0 where
-    pub name : (n : Name) (a : Auto Label) → IsOn items (named n) type → IsBuiltFor n a → Carries (named n) a
-    pub union : (x y : X) (a b c : Auto Label) → Carries x a → Carries y b → IsUnion IsTyped a b c → Carries (two Union place x y) c
-    pub intersect : (x y : X) (a b c : Auto Label) → Carries x a → Carries y b → IsIntersection IsTyped a b c → Carries (two Intersect place x y) c
-    pub difference : (x y : X) (a b c : Auto Label) → Carries x a → Carries y b → IsDifference IsTyped a b c → Carries (two Difference place x y) c
-    pub complement : (x : X) (a c : Auto Label) → Carries x a → IsComplement IsTyped a c → Carries (one Complement place x) c
-    pub minimize : (x : X) (a c : Auto Label) → Carries x a → IsMinimal IsTyped a c → Carries (one Minimize place x) c
+-- ---- what operations promise carries automata and transducers of operands to those of the expression
 
-  -- labels that agree on the guards of the expression agree on those of the automaton
-  abbrev pub IsSeen : X → Auto Label → Type 0
-  IsSeen e a = (l m : Label) → Agree items (e ∷ []) type l m → AgreeIn a l m
+pub record LanguagesAreCarried (items : List Item) (place : Pos) (x y : X) (type : List ℕ) : Type 0 where
+  pub union : (a b c : Auto Label) → Carries items x type a → Carries items y type b → IsUnion (IsTyped items type) a b c → Carries items (two Union place x y) type c
+  pub intersect : (a b c : Auto Label) → Carries items x type a → Carries items y type b → IsIntersection (IsTyped items type) a b c → Carries items (two Intersect place x y) type c
+  pub difference : (a b c : Auto Label) → Carries items x type a → Carries items y type b → IsDifference (IsTyped items type) a b c → Carries items (two Difference place x y) type c
+  pub complement : (a c : Auto Label) → Carries items x type a → IsComplement (IsTyped items type) a c → Carries items (one Complement place x) type c
+  pub minimize : (a c : Auto Label) → Carries items x type a → IsMinimal (IsTyped items type) a c → Carries items (one Minimize place x) type c
 
-  -- what the operations promise of guards
-  pub record AreSeen (place : Pos) : Type 0 where
-    pub union : (x y : X) (a b c : Auto Label) → IsSeen x a → IsSeen y b → KeepsGuards a b c → IsSeen (two Union place x y) c
-    pub intersect : (x y : X) (a b c : Auto Label) → IsSeen x a → IsSeen y b → KeepsGuards a b c → IsSeen (two Intersect place x y) c
-    pub difference : (x y : X) (a b c : Auto Label) → IsSeen x a → IsSeen y b → KeepsGuards a b c → IsSeen (two Difference place x y) c
-    pub complement : (x : X) (a c : Auto Label) → IsSeen x a → KeepsGuards a a c → IsSeen (one Complement place x) c
-    pub minimize : (x : X) (a c : Auto Label) → IsSeen x a → KeepsGuards a a c → IsSeen (one Minimize place x) c
+pub record TransformationsAreCarried (items : List Item) (place : Pos) (x y : X) (from into : List ℕ) : Type 0 where
+  pub domain : (f : Trans Label) (c : Auto Label) → CarriesTrans items x from into f → IsDomain (IsTyped items from) f c → Carries items (one Domain place x) from c
+  pub pre_image : (f : Trans Label) (a c : Auto Label) → CarriesTrans items x from into f → Carries items y into a → IsPreImage (IsTyped items from) f a c → Carries items (two PreImage place x y) from c
+  pub restrict : (f : Trans Label) (a : Auto Label) (c : Trans Label) → CarriesTrans items x from into f → Carries items y from a → IsRestriction (IsTyped items from) f a c → CarriesTrans items (two Restrict place x y) from into c
+  pub restrict_out : (f : Trans Label) (a : Auto Label) (c : Trans Label) → CarriesTrans items x from into f → Carries items y into a → IsOutRestriction (IsTyped items from) f a c → CarriesTrans items (two RestrictOut place x y) from into c
+  pub compose : (last : List ℕ) (f g c : Trans Label) → CarriesTrans items x from into f → CarriesTrans items y into last g → IsComposition (IsTyped items from) f g c → CarriesTrans items (two Compose place x y) from last c
 
-  -- a label of the type that agrees with no kept one on the guards of the automaton
-  abbrev pub HasFarIn : Auto Label → Type 0
-  HasFarIn a = (l : Label) × IsLabelOf items type l × ((m : Label) → IsLabelOf items type m → is_kept_label m ≡ true → ¬ (AgreeIn a l m))
+-- the name of a definition takes what was built for its expression, where it means the same
+pub record DefinitionsAreCarried (items : List Item) (n : Name) (x : X) : Type 0 where
+  pub language : (type : List ℕ) (a : Auto Label) → Opens items n.text x → IsOn items (named n) type → ((t : LabelTree) → IsInLanguage items (named n) t ↔ IsInLanguage items x t) → Carries items x type a → Carries items (named n) type a
+  pub transformation : (from into : List ℕ) (f : Trans Label) → Opens items n.text x → IsFrom items (named n) from into → ((t u : LabelTree) → IsRelated items (named n) t u ↔ IsRelated items x t u)
+      → CarriesTrans items x from into f → CarriesTrans items (named n) from into f
 
-  -- a state of the automaton accepts exactly one of two trees
-  abbrev pub AreTold : Auto Label → LabelTree → LabelTree → Type 0
-  AreTold a s t = (q : ℕ) × (q < count a) × ¬ (is_accepted a.rules s q ≡ is_accepted a.rules t q)
+abbrev pub OperationsOnLanguagesCarry : Type 0
+OperationsOnLanguagesCarry = (items : List Item) (place : Pos) (x y : X) (type : List ℕ) → LanguagesAreCarried items place x y type
 
-  -- more than so many trees of the type, each two of them told apart by states
-  pub record HasMoreTold (a : Auto Label) (most : ℕ) : Type 0 where
-    pub trees : List LabelTree
-    pub typed : All IsTyped trees
-    pub told : EachTwo (AreTold a) trees
-    pub more : most < length trees
+abbrev pub OperationsOnTransformationsCarry : Type 0
+OperationsOnTransformationsCarry = (items : List Item) (place : Pos) (x y : X) (from into : List ℕ) → TransformationsAreCarried items place x y from into
 
-abbrev pub OperationsCarry : Type 0
-OperationsCarry = (items : List Item) (type : List ℕ) (place : Pos) → AreCarried items type place
-
-abbrev pub GuardsAreSeen : Type 0
-GuardsAreSeen = (items : List Item) (type : List ℕ) (place : Pos) → AreSeen items type place
-
--- a label that is far for an automaton is far for the expression
-abbrev pub FarGoesUp : Type 0
-FarGoesUp = (items : List Item) (type : List ℕ) (e : X) (a : Auto Label) → IsSeen items type e a → HasFarIn items type a → HasFarLabel items (e ∷ []) type
-
-abbrev pub CausesGoUp : Type 0
-CausesGoUp = (items : List Item) (type : List ℕ) (e : X) (a : Auto Label) (most : ℕ) → Carries items type e a → HasMoreTold items type a most → HasMoreTrees items (e ∷ []) most
-
--- ---- from operands to whole expressions
-
--- each language of which these expressions are made is one of which those are made
-abbrev pub AreAmong : List Item → List X → List X → Type 0
-AreAmong items es fs = (e : X) → Contains es e → (f : X) × Contains fs f × ((type : List ℕ) (d : LanguagePart) → IsLanguage items e type d → IsLanguage items f type d) × ((type : List ℕ) (g : Guard) → IsGuard items e type g → IsGuard items f type g)
-
--- an operand is among what an expression is made of
-pub record AreOperandsAmong (items : List Item) (place : Pos) (x y : X) : Type 0 where
-  pub one_operand : (op : Op1) → AreAmong items (x ∷ []) (one op place x ∷ [])
-  pub first : (op : Op2) → AreAmong items (x ∷ []) (two op place x y ∷ [])
-  -- but for the tree of an `apply`
-  pub second : (op : Op2) → ¬ (op ≡ Apply) → AreAmong items (y ∷ []) (two op place x y ∷ [])
-
--- a cause of some expressions is one of all expressions that they are among
-pub record CausesWiden (items : List Item) (es fs : List X) : Type 0 where
-  pub more : (most : ℕ) → HasMoreTrees items es most → HasMoreTrees items fs most
-  pub far : (type : List ℕ) → HasFarLabel items es type → HasFarLabel items fs type
-
-abbrev pub AreWidened : Type 0
-AreWidened = (items : List Item) (es fs : List X) → AreAmong items es fs → CausesWiden items es fs
-
-abbrev pub OperandsAreAmong : Type 0
-OperandsAreAmong = (items : List Item) (place : Pos) (x y : X) → AreOperandsAmong items place x y
+abbrev pub DefinitionsCarry : Type 0
+DefinitionsCarry = (items : List Item) (n : Name) (x : X) → DefinitionsAreCarried items n x

@@ -1,2 +1,5 @@
-pub mod Operations
 pub mod Carries
+pub mod Seen
+pub mod Causes
+pub mod Compared
+pub mod Written

@@ -5,10 +5,10 @@ use Rattle.model_program.specs.Syntax.{Name}
 use Rattle.model_grammar.specs.Syntax.{named, Item}
 use Rattle.model_grammar.specs.Places.{nowhere}
 use Rattle.model_names.specs.Kinds.{language, kind_of, type_of}
-use Rattle.model_meaning.specs.Languages.{is_in}
+use Rattle.model_meaning.specs.Meaning.{IsInLanguage}
 use Rattle.model_meaning.specs.Truth.{ExactlyOne}
 use Rattle.model_meaning.specs.Reached.{Reaches}
-use Rattle.model_run.specs.Parts.{meant, AreApart}
+use Rattle.model_run.specs.Parts.{meant, reached_language, AreApart}
 
 abbrev pub name_of : List ℕ → Name
 name_of text = record { text = text; place = nowhere }
@@ -19,19 +19,13 @@ pub record IsToldByReached (items : List Item) (n : Name) (type : List ℕ) (s t
   pub reached : Reaches items n.text other
   pub kind : kind_of items (named (name_of other)) ≡ Some language
   pub on : type_of items (named (name_of other)) ≡ Some type
-  pub apart : ¬ (is_in items s other ≡ is_in items t other)
-
-exactly_one : (a b : Bool) → ¬ (a ≡ b) → ExactlyOne (a ≡ true) (b ≡ true)
-exactly_one true true apart = absurd (apart refl)
-exactly_one true false apart = inl (refl, λ e. cc)
-exactly_one false true apart = inr (refl, λ e. cc)
-exactly_one false false apart = absurd (apart refl)
+  pub apart : ExactlyOne (IsInLanguage items (named (name_of other)) s) (IsInLanguage items (named (name_of other)) t)
 
 pub apart_by_reached : (items : List Item) (n : Name) (type : List ℕ) (s t : LabelTree) → IsToldByReached items n type s t → AreApart items (named n ∷ []) type s t
 apart_by_reached items n type s t told = (
   named n,
   (0, omega arith, refl),
   meant (named (name_of told.other)),
-  (name_of told.other, told.reached, inl (refl, (told.kind, told.on))),
-  exactly_one _ _ told.apart,
+  reached_language n (name_of told.other) type told.reached (told.kind, told.on),
+  told.apart,
 )

@@ -21,11 +21,11 @@ use Rattle.model_checks.specs.Failures.{is_empty, first_among}
 use Rattle.model_checks.specs.Programs.{failures, is_well_formed}
 use Rattle.model_meaning.specs.Meaning.{input_type}
 use Rattle.model_refusals.proofs.Once.{none_refused}
-use Rattle.model_run.specs.Words.{Form, check_form, run_form, apply_form, accepts_form, self_form, limit_of}
+use Rattle.model_run.specs.Words.{CommandForm, check_form, run_form, apply_form, accepts_form, self_form, limit_of}
 use Rattle.model_run.specs.Texts.{IsRefused, IsNameRefused, IsNameOf, PlacedTree, StandsFor, StandFor, AreTreesOf, IsFileOf, IsFileRefused, trees_failures}
 use Rattle.model_run.specs.Built.{unbuilt_at}
 use Rattle.model_run.specs.Scripts.{Comes, Ending, whole, Writes, IsLine}
-use Rattle.model_run.specs.Report.{Work, items_script, trees_script, ItemsEnd, named_x, IsTextRefused, BuiltReport, ProgramReport, TreesReport, NameReport, CheckReport, RunReport, self_name, FormReport, StatusReport, IsReport, IsFree, AreHeld, IsDoableOver, IsDoable, IsDoneOrStopped}
+use Rattle.model_run.specs.Report.{Work, items_script, trees_script, ItemsEnd, named_x, IsTextRefused, BuiltReport, ProgramReport, TreesReport, NameReport, CheckReport, RunReport, self_name, CommandReport, StatusReport, IsReport, IsFree, AreHeld, IsDoableOver, IsDoable, IsDoneOrStopped}
 use Rattle.model_run.proofs.Forms.{one_form}
 
 -- ---- texts
@@ -168,7 +168,7 @@ self_status : (n : ℕ) (items : List Item) (status : Status) (work : Work) (bef
     → ItemsEnd items (limit_of None) self_name work status last → IsDoneOrStopped status
 self_status n items status work before last come free ends = items_done items (limit_of None) self_name (before ++ last) status free (work, before, last, come, ends, refl)
 
-form_done : (form : Form) (held : List ℕ → Option (List ℕ)) (status : Status) (report : List ℕ) → IsDoableOver held form → FormReport form held (whole status) report → IsDoneOrStopped status
+form_done : (form : CommandForm) (held : List ℕ → Option (List ℕ)) (status : Status) (report : List ℕ) → IsDoableOver held form → CommandReport form held (whole status) report → IsDoneOrStopped status
 form_done (check_form name) held status report (items, program) reported =
     held_done (held name) program.bytes (λ bytes. ProgramReport name bytes CheckReport (whole status) report) status program.told (program_done name program.bytes items CheckReport status report program.text program.well_formed (check_done items status report)) reported
 form_done (run_form name limit) held status report (items, program, built, free) reported =
@@ -181,7 +181,7 @@ form_done (self_form n) held status report (items, text, well, built, free) r =
     let same : items ≡ r.items = r.program.text.only items text in
     subst IsDoneOrStopped (sym r.is.0) (self_status n r.items r.status r.work r.before r.last r.comes (subst (λ xs. IsFree (items_script xs (limit_of None) self_name)) same free) r.ends)
 
-status_done : (form : Form) (held : List ℕ → Option (List ℕ)) (status : Status) (report : List ℕ) → IsDoableOver held form → StatusReport (FormReport form held) status report → IsDoneOrStopped status
+status_done : (form : CommandForm) (held : List ℕ → Option (List ℕ)) (status : Status) (report : List ℕ) → IsDoableOver held form → StatusReport (CommandReport form held) status report → IsDoneOrStopped status
 status_done form held Hold report d r = tt
 status_done form held Fails report d r = tt
 status_done form held Words report d r = r
@@ -192,8 +192,8 @@ status_done form held SinkFault report d r = tt
 status_done form held Memory report d r = tt
 
 -- a legal report of words with which nothing stands in the way is done, or was stopped
-pub completes : (words : List (List ℕ)) (held : List ℕ → Option (List ℕ)) (status : Status) (report : List ℕ) (form : Form) → IsReport words held status report → IsDoable words held form → IsDoneOrStopped status
+pub completes : (words : List (List ℕ)) (held : List ℕ → Option (List ℕ)) (status : Status) (report : List ℕ) (form : CommandForm) → IsReport words held status report → IsDoable words held form → IsDoneOrStopped status
 completes words held status report form (inl (other, is, reported)) d =
     let same = one_form words other form is.0 d.is.0 in
-    status_done form held status report d.doable (subst (λ f. StatusReport (FormReport f held) status report) same reported)
+    status_done form held status report d.doable (subst (λ f. StatusReport (CommandReport f held) status report) same reported)
 completes words held status report form (inr (none, usage)) d = absurd (none form d.is)

@@ -9,8 +9,9 @@ use Rattle.model_names.specs.Declared.{same_text, rules_of, out_rules_of, own_ru
 use Rattle.model_meaning.proofs.Members.{one_of, none_of}
 use Rattle.std.specs.Option.{option_map_or}
 use Rattle.model_meaning.specs.Reached.{itself}
+use Rattle.model_run.proofs.Undefined.{opens_nothing}
 use Rattle.model_meaning.specs.Programs.{here, name, x}
-use Rattle.model_run.specs.Seen.{Guard, tested, guard_truth, IsGuard, fields_at, Agree, IsLabelOf, HasFarLabel}
+use Rattle.model_run.specs.Seen.{Guard, tested, guard_truth, IsTest, of_language, of_transformation, IsGuard, guard_of_rule, guard_opened, guard_of_operand, guard_put, fields_at, Agree, IsLabelOf, HasFarLabel}
 use Rattle.model_run.specs.Examples.{AreFar, is_big, is_neither, guarded}
 
 abbrev the_rule : Expr → Rule
@@ -21,7 +22,7 @@ abbrev the_guard : Expr → Guard
 the_guard e = tested (fields_at (guarded e) (codes "N")) e
 
 is_guard : (e : Expr) → IsGuard (guarded e) (x (codes "p")) (codes "N") (the_guard e)
-is_guard e = (e, (name (codes "p"), itself, refl, inl (the_rule e, (0, omega arith, refl), refl)), refl)
+is_guard e = guard_of_rule (name (codes "p")) (codes "N") e (of_language (name (codes "p")) (name (codes "p")) (codes "N") (the_rule e) e itself refl (0, omega arith, refl) refl)
 
 -- a label of the type is one whole number
 one_number : (e : Expr) (P : Label → Type 0) → ((n : ℤ) → P (row (whole n ∷ []))) → (m : Label) → IsLabelOf (guarded e) (codes "N") m → P m
@@ -80,17 +81,24 @@ only_guard e other q h = by (same_text (codes "p") q) h
 
 all_agree : (l m : Label) → IsLabelOf (guarded is_neither) (codes "N") l → IsLabelOf (guarded is_neither) (codes "N") m → Agree (guarded is_neither) (x (codes "p") ∷ []) (codes "N") l m
 all_agree l m own other e at g is = elim (one_of (x (codes "p")) e [] at) [
-  | inl same ↦ by_guard (subst (λ z. IsGuard (guarded is_neither) z (codes "N") g) (sym same) is)
+  | inl same ↦ by_guard g (subst (λ z. IsGuard (guarded is_neither) z (codes "N") g) (sym same) is)
   | inr more ↦ absurd (none_of e more)
 ]
   where
     false_at : (k : Label) → IsLabelOf (guarded is_neither) (codes "N") k → guard_truth (the_guard is_neither) k ≡ false
     false_at = one_number is_neither (λ k. guard_truth (the_guard is_neither) k ≡ false) never
 
-    by_guard : IsGuard (guarded is_neither) (x (codes "p")) (codes "N") g → guard_truth g l ≡ guard_truth g m
-    by_guard (e, (k, reach, type, rules), is) =
-        let same : g ≡ the_guard is_neither = is ∙ ap (λ d. tested (fields_at (guarded is_neither) (codes "N")) d) (sym (only_guard is_neither e k.text rules)) in
+    by_test : (e : Expr) → IsTest (guarded is_neither) (name (codes "p")) (codes "N") e → is_neither ≡ e
+    by_test e (of_language _ k _ r _ reached on at is) = only_guard is_neither e k.text (inl (r, at, is))
+    by_test e (of_transformation _ k _ r _ reached on at is) = only_guard is_neither e k.text (inr (r, at, is))
+
+    by_guard : (g : Guard) → IsGuard (guarded is_neither) (x (codes "p")) (codes "N") g → guard_truth g l ≡ guard_truth g m
+    by_guard g (guard_of_rule _ _ e test) =
+        let same : tested (fields_at (guarded is_neither) (codes "N")) e ≡ the_guard is_neither = ap (λ d. tested (fields_at (guarded is_neither) (codes "N")) d) (sym (by_test e test)) in
         subst (λ h. guard_truth h l ≡ guard_truth h m) (sym same) (false_at l own ∙ sym (false_at m other))
+    by_guard g (guard_opened _ z _ _ opens is) = absurd (opens_nothing (guarded is_neither) (refl, (refl, tt)) (codes "p") z opens)
+    by_guard g (guard_of_operand _ z _ _ at is) = absurd (none_of z at)
+    by_guard g (guard_put _ z _ into k h put is) = absurd put.back
 
 pub neither_is_far : ¬ (HasFarLabel (guarded is_neither) (x (codes "p") ∷ []) (codes "N"))
 neither_is_far (l, is, far) = far (row (whole (pos 0) ∷ [])) refl refl (all_agree l (row (whole (pos 0) ∷ [])) is refl)

@@ -32,9 +32,9 @@ items_free items limit name none work before last come stops =
     none stops.item (is_there stops.item work.left stops.later items stops.left (items_left items limit name work before come)) _ stops.stop stops.cause
 
 trees_free : (items : List Item) (name text trees : List ℕ) (kind : Kind) (placed : List PlacedTree) → GivenHaveNoCause items text placed → IsFree (trees_script items name text trees kind placed)
-trees_free items name text trees language placed none given before last come (start, stops) = none.reached stops.item stops.there stops.own stops.named stops.reached stops.stop stops.cause
-trees_free items name text trees a_tree placed none given before last come (start, stops) = none.reached stops.item stops.there stops.own stops.named stops.reached stops.stop stops.cause
-trees_free items name text trees transformation placed none given before last come (inl (start, stops)) = none.reached stops.item stops.there stops.own stops.named stops.reached stops.stop stops.cause
+trees_free items name text trees language placed none given before last come (start, stops) = none.needed stops.item stops.needed stops.stop stops.cause
+trees_free items name text trees a_tree placed none given before last come (start, stops) = none.needed stops.item stops.needed stops.stop stops.cause
+trees_free items name text trees transformation placed none given before last come (inl (start, stops)) = none.needed stops.item stops.needed stops.stop stops.cause
 trees_free items name text trees transformation placed none given before last come (inr stops) =
     none.given stops.tree (is_there stops.tree given.left stops.later placed stops.left (trees_left items name text trees transformation placed given before come)) stops.stop stops.cause
 

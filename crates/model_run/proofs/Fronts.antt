@@ -5,9 +5,9 @@ use Rattle.fast_fault.specs.declared.code.Code.{Code}
 use Rattle.fast_fault.specs.declared.place.Pos.{Pos}
 use Rattle.model_grammar.specs.Syntax.{Item}
 use Rattle.model_names.specs.Kinds.{Kind, language, transformation}
-use Rattle.model_run.specs.Words.{Form, check_form, run_form, apply_form, accepts_form, self_form, limit_of}
+use Rattle.model_run.specs.Words.{CommandForm, check_form, run_form, apply_form, accepts_form, self_form, limit_of}
 use Rattle.model_run.specs.Scripts.{Script, Comes, begun, more, Ending, whole, unfinished, Writes, IsLine}
-use Rattle.model_run.specs.Report.{IsTextRefused, BuiltReport, ProgramReport, TreesReport, NameReport, items_script, trees_script, CheckReport, RunReport, FormReport}
+use Rattle.model_run.specs.Report.{IsTextRefused, BuiltReport, ProgramReport, TreesReport, NameReport, items_script, trees_script, CheckReport, RunReport, CommandReport}
 
 -- where one list is cut in two ways
 pub data IsCutAgain (front back a b : List ℕ) : Type 0 where
@@ -76,7 +76,7 @@ told_cuts : (held : Option (List ℕ)) (Reported : List ℕ → Ending → List 
 told_cuts None Reported cuts status front back reported = reported
 told_cuts (Some bytes) Reported cuts status front back reported = cuts bytes status front back reported
 
-pub form_cuts : (form : Form) (held : List ℕ → Option (List ℕ)) (status : Status) (front back : List ℕ) → FormReport form held (whole status) (front ++ back) → FormReport form held unfinished front
+pub form_cuts : (form : CommandForm) (held : List ℕ → Option (List ℕ)) (status : Status) (front back : List ℕ) → CommandReport form held (whole status) (front ++ back) → CommandReport form held unfinished front
 form_cuts (check_form file) held status front back r = told_cuts (held file) (λ bytes. ProgramReport file bytes CheckReport) (λ bytes. program_cuts file bytes CheckReport (λ items. line_cuts _ _)) status front back r
 form_cuts (run_form file limit) held status front back r =
     told_cuts (held file) (λ bytes. ProgramReport file bytes (RunReport file (limit_of limit)))

@@ -1,130 +1,126 @@
 -- Items without causes, what shows that two transformations aren't composable, classes and verdicts.
-use Rattle.std.proofs.Common.{◌≡◌, ◌↔◌, inl, inr, ℕ, Bool, true, false, not, List, sym, subst}
+use Rattle.std.proofs.Common.{◌≡◌, ◌↔◌, ℕ, Bool, true, false, not, List, inl, inr}
+use Rattle.std.specs.List.{Contains}
 use Rattle.model_tree.specs.Tree.{LabelTree}
+use Rattle.model_tree.specs.Signature.{PlainSignature}
 use Rattle.model_program.specs.Syntax.{TypeItem}
-use Rattle.model_grammar.specs.declared.Op2.TheVariants.{Intersect, Union, Difference, PreImage, Compose, Restrict, RestrictOut, Apply}
-use Rattle.model_grammar.specs.Syntax.{X, named, one, two, literal, Claim, equal, member, empty, type_check, LangItem, TransItem, sorts, lang, trans, Item}
-use Rattle.model_meaning.specs.Values.{Printed}
+use Rattle.model_grammar.specs.Syntax.{X, Claim, equal, member, empty, type_check, LangItem, TransItem, Body, sorts, lang, trans, Item}
+use Rattle.model_meaning.specs.Meaning.{IsTreeOf, input_type, output_type}
+use Rattle.model_meaning.specs.Values.{Printed, IsValue}
 use Rattle.model_meaning.specs.Truth.{Shows}
-use Rattle.model_meaning.specs.Closed.{closed}
 use Rattle.model_meaning.proofs.Laws.{shown_is_false}
 use Rattle.model_meaning.proofs.Members.{none_of}
-use Rattle.model_run.specs.Parts.{LanguagePart, LanguageParts, no_parts, and_part, Each, IsIn, IsInAll, IsInNone, IsInSome, IsLanguage, IsClass, IsOfClasses}
-use Rattle.model_run.specs.Plain.{ReachesSome}
-use Rattle.model_run.specs.Causes.{Stop, more_classes, too_wide, form_number, label_number, not_composable, empty_language, no_output, two_outputs, too_much, too_large, HasCause}
+use Rattle.model_run.specs.Parts.{LanguagePart, LanguageParts, no_parts, and_part, class, joined, IsInPart, IsInAllParts, IsInNoPart, IsInSomePart, ArePartsOf, no_more_parts, one_more_part, AreClassesOf, one_class, joined_classes, AreAllClasses, no_more_classes, one_more_class}
+use Rattle.model_run.specs.Plain.{ReachesSome, at_name, at_opened, of_first, of_second, of_restricted, of_out_restricted}
+use Rattle.model_run.specs.Items.{expressions_in, judged, tells_apart, TellsApart, by_expressions, IsComposedInItem, in_expression, OfItem, OfClaim, Finds, IsApplied}
+use Rattle.model_run.specs.Printable.{IsPrintable}
+use Rattle.model_run.specs.Causes.{HasFarOutput, HasNoOutput, HasTwoOutputs, HasLoad, AreAllLarge, IsLarge, Stop, more_classes, too_wide, form_number, label_number, not_composable, empty_language, no_output, two_outputs, too_much, too_large, HasCause}
 use Rattle.model_run.specs.Outcomes.{IsShownWith}
-use Rattle.model_run.specs.Laws.{AreQuiet, ShownAreNotComposable, ClassesAreUnions, IsOfLanguages, AreVerdictsRight}
+use Rattle.model_run.specs.Laws.{AreQuiet, ShownAreNotComposable, IsUntold, ClassesAreUnions, IsOfLanguages, AreVerdictsRight}
 
 -- ---- items without causes
 
 no_split : ¬ (false ≡ true)
 no_split e = cc
 
-module _ (items : List Item) (limit : ℕ) (trees : List Printed) where
-  quiet_type : (t : TypeItem) (stop : Stop) → ¬ (HasCause items limit trees (sorts t) stop)
-  quiet_type t (more_classes n) cause = no_split cause.1
-  quiet_type t (too_wide width) cause = no_split cause.0
-  quiet_type t (form_number n) cause = none_of cause.0 cause.1
-  quiet_type t (label_number n) cause = cause
-  quiet_type t (not_composable c) cause = none_of cause.0 cause.1
-  quiet_type t empty_language cause = cause
-  quiet_type t (no_output signature u) cause = cause
-  quiet_type t (two_outputs signature u into v w) cause = cause
-  quiet_type t (too_much load) cause = cause
-  quiet_type t too_large (inl cause) = cause
-  quiet_type t too_large (inr (inl cause)) = cause
-  quiet_type t too_large (inr (inr (inl cause))) = none_of cause.0 cause.1
-  quiet_type t too_large (inr (inr (inr cause))) = cause
+module _ (items : List Item) where
+  -- the item has no expressions, no trees and no statement
+  record SaysNothing (body : Body) : Type 1 where
+    told : tells_apart body ≡ true → ⊥
+    judges : (e : X) → Contains (judged items body) e → ⊥
+    has : (e : X) → Contains (expressions_in body) e → ⊥
+    finds : (P : PlainSignature → X → Type 0) → OfItem items P body → ⊥
+    claims : (P : Claim → Type 0) → OfClaim P body → ⊥
 
-  quiet_language : (t : LangItem) (stop : Stop) → ¬ (HasCause items limit trees (lang t) stop)
-  quiet_language t (more_classes n) cause = no_split cause.1
-  quiet_language t (too_wide width) cause = no_split cause.0
-  quiet_language t (form_number n) cause = none_of cause.0 cause.1
-  quiet_language t (label_number n) cause = cause
-  quiet_language t (not_composable c) cause = none_of cause.0 cause.1
-  quiet_language t empty_language cause = cause
-  quiet_language t (no_output signature u) cause = cause
-  quiet_language t (two_outputs signature u into v w) cause = cause
-  quiet_language t (too_much load) cause = cause
-  quiet_language t too_large (inl cause) = cause
-  quiet_language t too_large (inr (inl cause)) = cause
-  quiet_language t too_large (inr (inr (inl cause))) = none_of cause.0 cause.1
-  quiet_language t too_large (inr (inr (inr cause))) = cause
+  untold : (body : Body) → (tells_apart body ≡ true → ⊥) → TellsApart items body → ⊥
+  untold body told (by_expressions _ is) = told is
 
-  quiet_transformation : (t : TransItem) (stop : Stop) → ¬ (HasCause items limit trees (trans t) stop)
-  quiet_transformation t (more_classes n) cause = no_split cause.1
-  quiet_transformation t (too_wide width) cause = no_split cause.0
-  quiet_transformation t (form_number n) cause = none_of cause.0 cause.1
-  quiet_transformation t (label_number n) cause = cause
-  quiet_transformation t (not_composable c) cause = none_of cause.0 cause.1
-  quiet_transformation t empty_language cause = cause
-  quiet_transformation t (no_output signature u) cause = cause
-  quiet_transformation t (two_outputs signature u into v w) cause = cause
-  quiet_transformation t (too_much load) cause = cause
-  quiet_transformation t too_large (inl cause) = cause
-  quiet_transformation t too_large (inr (inl cause)) = cause
-  quiet_transformation t too_large (inr (inr (inl cause))) = none_of cause.0 cause.1
-  quiet_transformation t too_large (inr (inr (inr cause))) = cause
+  uncomposed : (body : Body) → ((e : X) → Contains (expressions_in body) e → ⊥) → (x y : X) → IsComposedInItem items x y body → ⊥
+  uncomposed body has x y (in_expression _ e at is) = has e at
+
+  module _ (limit : ℕ) (trees : List Printed) (body : Body) (nothing : SaysNothing body) where
+    quiet : (stop : Stop) → ¬ (HasCause items limit trees body stop)
+    quiet (more_classes n) cause = untold body nothing.told cause.1
+    quiet (too_wide width) cause = untold body nothing.told cause.0
+    quiet (form_number n) cause = nothing.judges cause.0 cause.1
+    quiet (label_number n) cause = nothing.finds (IsApplied items trees (HasFarOutput items n)) cause
+    quiet (not_composable c) cause = uncomposed body nothing.has cause.first cause.second cause.composed
+    quiet empty_language cause = nothing.finds (Finds (λ x. (t : LabelTree) → ¬ (IsTreeOf items x t))) cause
+    quiet (no_output signature u) cause = nothing.finds (IsApplied items trees (λ f s. (s ≡ u) × (signature ≡ input_type items f) × HasNoOutput items f u × IsPrintable u)) cause
+    quiet (two_outputs signature u into v w) cause =
+        nothing.finds (IsApplied items trees (λ f s. (s ≡ u) × (signature ≡ input_type items f) × (into ≡ output_type items f) × HasTwoOutputs items f u v w × IsPrintable u × IsPrintable v × IsPrintable w)) cause
+    quiet (too_much load) cause = nothing.finds (IsApplied items trees (HasLoad items load)) cause
+    quiet too_large (inl (inl cause)) = nothing.finds (Finds (λ x. AreAllLarge (IsTreeOf items x))) cause
+    quiet too_large (inl (inr (inl cause))) = nothing.claims (λ claim. AreAllLarge (Shows items claim)) cause
+    quiet too_large (inl (inr (inr cause))) = uncomposed body nothing.has cause.first cause.second cause.composed
+    quiet too_large (inr cause) = nothing.finds (λ signature x. (t : LabelTree) × IsValue items trees signature x t × IsLarge t) cause
+
+  of_type : (t : TypeItem) → SaysNothing (sorts t)
+  of_type t = record { told = no_split; judges = λ e at. none_of e at; has = λ e at. none_of e at; finds = λ P some. some; claims = λ P some. some }
+
+  of_language : (t : LangItem) → SaysNothing (lang t)
+  of_language t = record { told = no_split; judges = λ e at. none_of e at; has = λ e at. none_of e at; finds = λ P some. some; claims = λ P some. some }
+
+  of_transformation : (t : TransItem) → SaysNothing (trans t)
+  of_transformation t = record { told = no_split; judges = λ e at. none_of e at; has = λ e at. none_of e at; finds = λ P some. some; claims = λ P some. some }
 
 pub are_quiet : AreQuiet
-are_quiet = record { types = quiet_type; languages = quiet_language; transformations = quiet_transformation }
+are_quiet = record {
+  types = λ items limit trees t. quiet items limit trees (sorts t) (of_type items t);
+  languages = λ items limit trees t. quiet items limit trees (lang t) (of_language items t);
+  transformations = λ items limit trees t. quiet items limit trees (trans t) (of_transformation items t);
+}
 
 -- ---- what is shown
 
-module _ (items : List Item) (P Q : List ℕ → Type 0) (to : (q : List ℕ) → P q → Q q) where
-  reaches_also : (e : X) → ReachesSome items P e → ReachesSome items Q e
-  reaches_also (named n) (q, reached, is) = (q, reached, to q is)
-  reaches_also (one op place x) some = some
-  reaches_also (two Compose place x y) (inl some) = inl (reaches_also x some)
-  reaches_also (two Compose place x y) (inr some) = inr (reaches_also y some)
-  reaches_also (two Restrict place x y) some = reaches_also x some
-  reaches_also (two RestrictOut place x y) some = reaches_also x some
-  reaches_also (two Intersect place x y) some = some
-  reaches_also (two Union place x y) some = some
-  reaches_also (two Difference place x y) some = some
-  reaches_also (two PreImage place x y) some = some
-  reaches_also (two Apply place x y) some = some
-  reaches_also (literal name labels xs) some = some
+-- what is reached is the name of some transformation
+pub one_reached : (items : List Item) (P : List ℕ → Type 0) (e : X) → ReachesSome items P e → (q : List ℕ) × P q
+one_reached items P e (at_name n q reached is) = (q, is)
+one_reached items P e (at_opened n x opens some) = one_reached items P x some
+one_reached items P e (of_first place x y some) = one_reached items P x some
+one_reached items P e (of_second place x y some) = one_reached items P y some
+one_reached items P e (of_restricted place x y some) = one_reached items P x some
+one_reached items P e (of_out_restricted place x y some) = one_reached items P x some
+
+pub reaches_also : (items : List Item) (P Q : List ℕ → Type 0) → ((q : List ℕ) → P q → Q q) → (e : X) → ReachesSome items P e → ReachesSome items Q e
+reaches_also items P Q to e (at_name n q reached is) = at_name n q reached (to q is)
+reaches_also items P Q to e (at_opened n x opens some) = at_opened n x opens (reaches_also items P Q to x some)
+reaches_also items P Q to e (of_first place x y some) = of_first place x y (reaches_also items P Q to x some)
+reaches_also items P Q to e (of_second place x y some) = of_second place x y (reaches_also items P Q to y some)
+reaches_also items P Q to e (of_restricted place x y some) = of_restricted place x y (reaches_also items P Q to x some)
+reaches_also items P Q to e (of_out_restricted place x y some) = of_out_restricted place x y (reaches_also items P Q to x some)
 
 pub shown_are_not_composable : ShownAreNotComposable
-shown_are_not_composable items limit trees body c (e, at, shown) = (
-  e,
-  at,
+shown_are_not_composable items limit trees body c shown = (
   shown.first,
   shown.second,
   shown.composed,
-  λ plain. plain (reaches_also items _ _ (λ q is. (c.first, c.second, c.tree, is.1)) (closed items shown.first) shown.meet),
-  λ linear. linear (reaches_also items _ _ (λ q is. (c.copying, shown.copies.0, is.1)) (closed items shown.second) shown.copies.1),
+  λ plain. plain (reaches_also items _ _ (λ q is. (c.first, c.second, c.tree, is.1)) shown.first shown.meet),
+  λ linear. linear (reaches_also items _ _ (λ q is. (c.copying, shown.copies.0, is.1)) shown.second shown.copies.1),
 )
 
 -- ---- classes
 
-module _ (items : List Item) (P : LanguagePart → Type 0) (s t : LabelTree) (untold : (d : LanguagePart) → P d → IsIn items d s ↔ IsIn items d t) where
-  all_with : (ds : LanguageParts) → Each P ds → IsInAll items ds s → IsInAll items ds t
-  all_with no_parts each all = tt
-  all_with (and_part d ds) each all = ((untold d each.0).0 all.0, all_with ds each.1 all.1)
+module _ (items : List Item) (type : List ℕ) (s t : LabelTree) where
+  all_with : (es : List X) (ds : LanguageParts) → IsUntold items es type s t → ArePartsOf items es type ds → IsInAllParts items ds s → IsInAllParts items ds t
+  all_with es ds same (no_more_parts _ _) all = tt
+  all_with es ds same (one_more_part _ _ x d rest at is are) all = ((same x at d is).0 all.0, all_with es rest same are all.1)
 
-  none_with : (ds : LanguageParts) → Each P ds → IsInNone items ds s → IsInNone items ds t
-  none_with no_parts each none = tt
-  none_with (and_part d ds) each none = (λ inside. none.0 ((untold d each.0).1 inside), none_with ds each.1 none.1)
+  none_with : (es : List X) (ds : LanguageParts) → IsUntold items es type s t → ArePartsOf items es type ds → IsInNoPart items ds s → IsInNoPart items ds t
+  none_with es ds same (no_more_parts _ _) none = tt
+  none_with es ds same (one_more_part _ _ x d rest at is are) none = (λ inside. none.0 ((same x at d is).1 inside), none_with es rest same are none.1)
 
-  class_with : (d : LanguagePart) → IsClass P d → IsIn items d s → IsIn items d t
-  class_with d (ds, es, is, each, other) inside =
-      let own : IsInAll items ds s × IsInNone items es s = subst (λ part. IsIn items part s) is inside in
-      subst (λ part. IsIn items part t) (sym is) (all_with ds each own.0, none_with es other own.1)
+  some_with : (es : List X) (ds : LanguageParts) → IsUntold items es type s t → AreAllClasses items es type ds → IsInSomePart items ds s → IsInSomePart items ds t
+  some_with es ds same (no_more_classes _ _) some = some
+  some_with es ds same (one_more_class _ _ fs gs rest all none are) (inl inside) = inl (all_with es fs same all inside.0, none_with es gs same none inside.1)
+  some_with es ds same (one_more_class _ _ fs gs rest all none are) (inr some) = inr (some_with es rest same are some)
 
-  some_with : (ds : LanguageParts) → Each (IsClass P) ds → IsInSome items ds s → IsInSome items ds t
-  some_with no_parts each some = some
-  some_with (and_part d ds) each (inl inside) = inl (class_with d each.0 inside)
-  some_with (and_part d ds) each (inr some) = inr (some_with ds each.1 some)
-
-  of_classes : (d : LanguagePart) → IsOfClasses P d → IsIn items d s → IsIn items d t
-  of_classes d (inl one_class) inside = class_with d one_class inside
-  of_classes d (inr (ds, is, each)) inside =
-      subst (λ part. IsIn items part t) (sym is) (some_with ds each (subst (λ part. IsIn items part s) is inside))
+  classes_with : (es : List X) (d : LanguagePart) → IsUntold items es type s t → AreClassesOf items es type d → IsInPart items d s → IsInPart items d t
+  classes_with es d same (one_class _ _ ds fs all none) inside = (all_with es ds same all inside.0, none_with es fs same none inside.1)
+  classes_with es d same (joined_classes _ _ ds are) some = some_with es ds same are some
 
 pub classes_are_unions : ClassesAreUnions
-classes_are_unions items e type d is s t untold inside = of_classes items (λ part. IsLanguage items e type part) s t untold d is inside
+classes_are_unions items es type d is s t same inside = classes_with items type s t es d same is inside
 
 -- ---- verdicts
 

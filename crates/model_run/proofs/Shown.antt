@@ -1,21 +1,26 @@
 -- The examples of causes, and the example of a report.
-use Rattle.std.proofs.Common.{◌≡◌, ℕ, pos, inl, inr, true, false, List, [], ◌∷◌, ◌++◌, codes, refl, arith}
+use Rattle.std.proofs.Common.{◌≡◌, ℕ, pos, inl, inr, true, false, List, [], ◌∷◌, ◌++◌, codes, refl, sym, arith, Contains}
 use Rattle.std.specs.Fmt.{digits}
 use Rattle.model_tree.specs.Label.{whole, row}
 use Rattle.model_tree.specs.Tree.{LabelTree}
 use Rattle.model_tree.specs.Tree as trees
-use Rattle.model_grammar.specs.Syntax.{empty, Item}
-use Rattle.model_meaning.specs.Programs.{name, x, t, to, rule, make, assert_item}
+use Rattle.model_program.specs.Syntax.{Name}
+use Rattle.model_grammar.specs.Syntax.{X, named, empty, Item}
+use Rattle.model_meaning.specs.Programs.{here, name, x, t, to, rule, make, assert_item}
 use Rattle.model_meaning.specs.Related.{looking, demanding}
-use Rattle.model_meaning.specs.Outputs.{Gives, output_by}
+use Rattle.model_meaning.specs.Meaning.{meaning, IsRelated}
 use Rattle.model_meaning.specs.Reached.{itself}
 use Rattle.model_meaning.proofs.Related.{no_tree, two_rules}
-use Rattle.model_run.specs.Outcomes.{Outcome, silent, true_verdict, IsOutcome, trees_in, line_of}
+use Rattle.model_meaning.proofs.Members.{one_of, none_of}
+use Rattle.model_run.specs.Items.{expressions_in}
+use Rattle.model_run.proofs.Composed.{only_names}
+use Rattle.model_run.specs.Outcomes.{Outcome, silent, true_verdict, IsOutcomeOf, IsOutcome, trees_in, line_of}
 use Rattle.model_run.specs.Scripts.{Script, Comes, begun, more}
 use Rattle.model_run.specs.Report.{items_script}
 use Rattle.model_tree.specs.Signature.{PlainField}
 use Rattle.model_form.specs.Form.{Form, form, no_remainders}
-use Rattle.model_run.specs.Seen.{listed, fields_at, IsLabelList}
+use Rattle.model_run.specs.Seen.{LabelList, listed, chained, fields_at, IsLabelList, list_of_rule, list_of_both, form_of_list}
+use Rattle.model_run.specs.Printable.{IsPrintable}
 use Rattle.model_run.proofs.Told.{more_lists, not_both}
 use Rattle.model_run.specs.Examples.{HaveCauses, IsReported, multiplying, big_square, number_rule, product, sum, z}
 
@@ -24,10 +29,11 @@ use Rattle.model_run.specs.Examples.{HaveCauses, IsReported, multiplying, big_sq
 abbrev script : Script
 script = items_script demanding 1000 (codes "A")
 
--- an item that has no line
-silent_step : (item : Item) (left : List Item) (done : List Outcome) (written : List ℕ) → IsOutcome demanding (trees_in done) item silent
+-- an item that has no expressions and no line
+silent_step : (item : Item) (left : List Item) (done : List Outcome) (written : List ℕ) → ((e : X) → Contains (expressions_in item.body) e → ⊥) → IsOutcomeOf demanding (trees_in done) item.place.line item.body silent
     → Comes script (record { left = item ∷ left; done = done }) written → Comes script (record { left = left; done = silent ∷ done }) (written ++ [])
-silent_step item left done written may come =
+silent_step item left done written none is come =
+    let may : IsOutcome demanding (trees_in done) item silent = record { composable = only_names demanding item.body (λ e at. absurd (none e at)); is = is } in
     more _ _ written [] come (record { item = item; left = refl; outcome = silent; done = refl; may = may; is = refl })
 
 -- the last item
@@ -36,8 +42,16 @@ last_step : (item : Item) (done : List Outcome) (written : List ℕ) (o : Outcom
 last_step item done written o may come =
     more _ _ written (line_of o) come (record { item = item; left = refl; outcome = o; done = refl; may = may; is = refl })
 
-abbrev first_four : Comes script (record { left = assert_item 5 (empty (x (codes "w"))) ∷ []; done = silent ∷ silent ∷ silent ∷ silent ∷ [] }) []
-first_four = silent_step _ _ _ _ refl (silent_step _ _ _ _ refl (silent_step _ _ _ _ refl (silent_step _ _ _ _ refl begun)))
+abbrev the_last : Item
+the_last = assert_item 5 (empty (x (codes "w")))
+
+first_four : Comes script (record { left = the_last ∷ []; done = silent ∷ silent ∷ silent ∷ silent ∷ [] }) []
+first_four =
+    silent_step _ _ _ _ (λ e at. none_of e at) refl (silent_step _ _ _ _ (λ e at. none_of e at) refl (silent_step _ _ _ _ (λ e at. none_of e at) refl (silent_step _ _ _ _ (λ e at. none_of e at) refl begun)))
+
+-- its one expression is a name
+last_names : (e : X) → Contains (expressions_in the_last.body) e → (n : Name) × (e ≡ named n)
+last_names e at = elim (one_of (x (codes "w")) e [] at) [ inl same ↦ (name (codes "w"), sym same) | inr other ↦ absurd (none_of e other) ]
 
 pub is_reported : IsReported
 unfolding digits
@@ -45,7 +59,7 @@ is_reported = (
   record { left = []; done = true_verdict 5 true ∷ silent ∷ silent ∷ silent ∷ silent ∷ [] },
   codes "assert 5 pass\n",
   [],
-  last_step _ (silent ∷ silent ∷ silent ∷ silent ∷ []) [] (true_verdict 5 true) (refl, refl, no_tree) first_four,
+  last_step the_last (silent ∷ silent ∷ silent ∷ silent ∷ []) [] (true_verdict 5 true) (record { composable = only_names demanding the_last.body last_names; is = (refl, refl, no_tree) }) first_four,
   (refl, refl, refl),
   refl,
 )
@@ -53,11 +67,11 @@ is_reported = (
 -- ---- the causes
 
 -- no rule of p applies to `(b [])`
-no_output_of_b : (u : LabelTree) → ¬ (Gives looking (output_by (codes "p")) (t 1 []) u)
+pub no_output_of_b : (u : LabelTree) → ¬ (IsRelated looking (x (codes "p")) (t 1 []) u)
 no_output_of_b u (r, at, applies, made) =
-    elim (two_rules looking (codes "p") 1 (row []) trees.no_trees u r (to (rule (codes "a") [] []) (make (codes "a") [])) (to (rule (codes "a") [] []) (make (codes "b") [])) at (applies, made)) [
-      | inl makes ↦ (let off : false ≡ true = makes.0 in absurd (cc))
-      | inr makes ↦ (let off : false ≡ true = makes.0 in absurd (cc))
+    elim (two_rules looking (meaning looking) (codes "p") 1 (row []) trees.no_trees u r (to (rule (codes "a") [] []) (make (codes "a") [])) (to (rule (codes "a") [] []) (make (codes "b") [])) at (applies, made)) [
+      | inl makes ↦ (let off : false ≡ true = makes.0.0 in absurd (cc))
+      | inr makes ↦ (let off : false ≡ true = makes.0.0 in absurd (cc))
     ]
 
 -- the one field of the type
@@ -71,8 +85,21 @@ product_form_of_x = form (pos 0) (record { field = 0; coefficient = pos 20000000
 abbrev square_form : Form
 square_form = form (pos 0) (record { field = 0; coefficient = pos 4000000000000000000 } ∷ []) no_remainders
 
-product_list : IsLabelList multiplying (x (codes "big")) (codes "N") (codes "N") (listed x_field (product ∷ []))
-product_list = (name (codes "big"), itself, refl, refl, number_rule product, (0, omega arith, refl), product ∷ [], inl refl, refl)
+-- the label list of the one rule
+abbrev the_list : LabelList
+the_list = listed x_field x_field (product ∷ [])
+
+pub product_list : IsLabelList multiplying (x (codes "big")) (codes "N") (codes "N") the_list
+product_list =
+    list_of_rule (name (codes "big")) (codes "N") (codes "N") (product ∷ []) (record { transformation = name (codes "big"); reached = itself; goes = (refl, refl, refl); rule = number_rule product; there = (0, omega arith, refl); stand = inl refl })
+
+-- of the composition with itself
+square_list : IsLabelList multiplying big_square (codes "N") (codes "N") (chained the_list the_list)
+square_list = list_of_both here (x (codes "big")) (x (codes "big")) (codes "N") (codes "N") (codes "N") the_list the_list refl product_list product_list
+
+-- a leaf can be shown
+leaf_printable : (c : ℕ) → IsPrintable (t c [])
+leaf_printable c = record { kept = refl; scalars = refl; small = omega arith; shallow = omega arith }
 
 pub have_causes : HaveCauses
 have_causes = record {
@@ -86,35 +113,27 @@ have_causes = record {
       refl,
       refl,
       refl,
-      (to (rule (codes "a") [] []) (make (codes "a") []), (0, omega arith, refl), refl, (refl, refl, tt)),
-      (to (rule (codes "a") [] []) (make (codes "b") []), (1, omega arith, refl), refl, (refl, refl, tt)),
-      refl,
+      (
+        (to (rule (codes "a") [] []) (make (codes "a") []), (0, omega arith, refl), (refl, tt), (refl, refl, tt)),
+        (to (rule (codes "a") [] []) (make (codes "b") []), (1, omega arith, refl), (refl, tt), (refl, refl, tt)),
+        refl,
+      ),
+      leaf_printable 0,
+      leaf_printable 0,
+      leaf_printable 1,
     ),
   );
-  none_found = inl (t 1 [], (refl, refl, tt), (refl, refl, no_output_of_b));
+  none_found = inl (t 1 [], (refl, refl, tt), (refl, refl, no_output_of_b, leaf_printable 1));
   form_range = (
     big_square,
     (0, omega arith, refl),
     square_form,
-    (
-      codes "N",
-      square_form,
-      inr (inr (
-        codes "N",
-        listed x_field (product ∷ []),
-        product_form_of_x,
-        refl,
-        product_list,
-        inr (codes "N", listed x_field (product ∷ []), product_list, product_form_of_x, (0, omega arith, refl), inl refl),
-        refl,
-      )),
-      inl refl,
-    ),
+    form_of_list big_square (codes "N") (codes "N") (chained the_list the_list) square_form square_list (square_form, (0, omega arith, refl), inl refl),
     inr (inl (inl refl), λ low. omega (arith, low)),
   );
   label_range = (
     z 9223372036854775808,
-    (number_rule sum, (0, omega arith, refl), refl, (refl, refl, tt)),
+    (number_rule sum, (0, omega arith, refl), (refl, tt), (refl, refl, tt)),
     (refl, (0, row (whole (pos 9223372036854775808) ∷ []), trees.no_trees, inl refl, (0, omega arith, refl))),
   );
 }

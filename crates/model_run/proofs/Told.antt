@@ -1,5 +1,5 @@
 -- Lists that are told apart, and two transformations that are not composable.
-use Rattle.std.proofs.Common.{◌≡◌, inl, inr, ℕ, zero, suc, Bool, true, false, cond, List, [], ◌∷◌, Some, None, codes, get_or, refl, sym, ap, ◌∙◌, arith}
+use Rattle.std.proofs.Common.{◌≡◌, ◌↔◌, inl, inr, ℕ, zero, suc, Bool, true, false, cond, List, [], ◌∷◌, Some, None, codes, get_or, refl, sym, ap, ◌∙◌, arith}
 use Rattle.std.specs.Prelude.{slice_get}
 use Rattle.std.specs.Option.{option_map_or}
 use Rattle.std.proofs.lemmas.List.Elements.{All-nil, All-cons}
@@ -9,13 +9,17 @@ use Rattle.model_grammar.specs.declared.Op1.TheVariants.{Minimize}
 use Rattle.model_grammar.specs.Syntax.{X, one, OutRule}
 use Rattle.model_names.specs.Declared.{same_text, own_out_rules, out_rules_of}
 use Rattle.model_meaning.specs.Languages.{is_in}
-use Rattle.model_meaning.specs.Meaning.{signature_named}
+use Rattle.model_meaning.specs.Meaning.{IsInLanguage, signature_named}
+use Rattle.model_meaning.proofs.Rules.{tests_agree}
+use Rattle.model_run.proofs.Undefined.{DefineNothing, undefined, demand_nothing}
 use Rattle.model_meaning.specs.Reached.{Reaches, itself, by_demand}
 use Rattle.model_meaning.specs.Programs.{here, name, x, rule, to, make, apply, t}
 use Rattle.model_meaning.specs.Programs as programs
-use Rattle.model_run.specs.Parts.{meant, IsOn, AreApart}
-use Rattle.model_run.specs.Plain.{ReachesSome, Copies, is_before}
+use Rattle.model_run.specs.Parts.{meant, IsOn, language_of_operand, reached_language, AreApart}
+use Rattle.model_run.specs.Plain.{ReachesSome, at_name, Copies, is_before}
+use Rattle.model_run.specs.Items.{by_expressions, in_expression}
 use Rattle.model_run.specs.Causes.{HasCause, more_classes, not_composable}
+use Rattle.model_run.proofs.Laws.{one_reached}
 use Rattle.model_run.specs.Examples.{cycling, behind, minimal_body, copying_items, pick_rules, copy_rules, twice_rule, both, both_body, pick_and_copy}
 
 -- ---- lists that are told apart
@@ -53,24 +57,31 @@ Reached m = Reaches cycling (codes "m0") m
 
 -- m0 reaches m4, m3, m2 and m1 in turn
 reach4 : Reached (codes "m4")
-reach4 = by_demand (codes "m0") (behind (codes "m4")) (programs.is_in (codes "m4") (codes "y")) itself (1, omega arith, refl) (0, omega arith, refl)
+reach4 = by_demand (codes "m0") (behind (codes "m4")) (programs.demand (codes "m4") (codes "y")) itself (1, omega arith, refl) (0, omega arith, refl)
 
 reach3 : Reached (codes "m3")
-reach3 = by_demand (codes "m4") (behind (codes "m3")) (programs.is_in (codes "m3") (codes "y")) reach4 (0, omega arith, refl) (0, omega arith, refl)
+reach3 = by_demand (codes "m4") (behind (codes "m3")) (programs.demand (codes "m3") (codes "y")) reach4 (0, omega arith, refl) (0, omega arith, refl)
 
 reach2 : Reached (codes "m2")
-reach2 = by_demand (codes "m3") (behind (codes "m2")) (programs.is_in (codes "m2") (codes "y")) reach3 (0, omega arith, refl) (0, omega arith, refl)
+reach2 = by_demand (codes "m3") (behind (codes "m2")) (programs.demand (codes "m2") (codes "y")) reach3 (0, omega arith, refl) (0, omega arith, refl)
 
 reach1 : Reached (codes "m1")
-reach1 = by_demand (codes "m2") (behind (codes "m1")) (programs.is_in (codes "m1") (codes "y")) reach2 (0, omega arith, refl) (0, omega arith, refl)
+reach1 = by_demand (codes "m2") (behind (codes "m1")) (programs.demand (codes "m1") (codes "y")) reach2 (0, omega arith, refl) (0, omega arith, refl)
 
 abbrev Apart : LabelTree → LabelTree → Type 0
 Apart = AreApart cycling (minimal ∷ []) (codes "B")
 
+-- nothing is defined, so the test tells what is in a language
+in_cycling : (m : List ℕ) (u : LabelTree) → IsInLanguage cycling (x m) u ↔ is_in cycling u m ≡ true
+in_cycling m u = (tests_agree cycling (demand_nothing cycling defines_nothing)).is_in (name m) (undefined cycling defines_nothing m) u
+  where
+    defines_nothing : DefineNothing cycling
+    defines_nothing = (refl, (refl, (refl, (refl, (refl, (refl, tt))))))
+
 -- a language that m0 reaches tells two lists apart
 told : (m : List ℕ) → Reached m → IsOn cycling (x m) (codes "B") → (s u : LabelTree) → is_in cycling s m ≡ true → is_in cycling u m ≡ false → Apart s u
 told m reached on s u inside outside =
-    (minimal, (0, omega arith, refl), meant (x m), inr (inl (name m, reached, inl (refl, on))), inl (inside, λ e. (let bad : true ≡ false = sym e ∙ outside in cc)))
+    (minimal, (0, omega arith, refl), meant (x m), language_of_operand minimal (x (codes "m0")) (codes "B") (meant (x m)) (0, omega arith, refl) (reached_language (name (codes "m0")) (name m) (codes "B") reached on), inl ((in_cycling m s).1 inside, λ e. (let bad : true ≡ false = sym ((in_cycling m u).0 e) ∙ outside in cc)))
 
 by0 : (u : LabelTree) → is_in cycling u (codes "m0") ≡ false → Apart list0 u
 by0 u outside = told (codes "m0") itself (refl, refl) list0 u refl outside
@@ -96,7 +107,7 @@ typed_more u typed = (omega arith, refl, refl, (typed, tt))
 pub more_lists : HasCause cycling 4 [] minimal_body (more_classes 4)
 more_lists = (
   refl,
-  refl,
+  by_expressions minimal_body refl,
   record {
     type = codes "B";
     trees = list0 ∷ list1 ∷ list2 ∷ list3 ∷ list4 ∷ [];
@@ -145,28 +156,23 @@ rules_here q = by (same_text (codes "pick") q) (same_text (codes "copy") q) (sam
     by false false false = tt
 
 no_earlier : (i : ℕ) (s : OutRule) → ReachesSome copying_items (λ q. Copies copying_items q i s) (x (codes "copy")) → is_before s.rule.ctor.place here ≡ false
-no_earlier i s (q, reached, copies) = ap (λ p. is_before p here) (at_one_place (out_rules_of copying_items q) i s (rules_here q) copies.0)
+no_earlier i s some =
+    let one = one_reached copying_items (λ q. Copies copying_items q i s) (x (codes "copy")) some in
+    ap (λ p. is_before p here) (at_one_place (out_rules_of copying_items one.0) i s (rules_here one.0) one.1.0)
 
 differ : ¬ (codes "a" ≡ codes "b")
 differ e = let bad : 97 ≡ 98 = ap (λ w. get_or w 0 0) e in omega (arith, bad)
 
 pub not_both : HasCause copying_items 1000 [] both_body (not_composable pick_and_copy)
-not_both = (
-  both,
-  (0, omega arith, refl),
-  record {
-    first = x (codes "pick");
-    second = x (codes "copy");
-    composed = inl (refl, refl);
-    meet = (
-      codes "pick",
-      itself,
-      (
-        refl,
-        (omega arith, to (rule (codes "a") [] []) (make (codes "a") []), to (rule (codes "a") [] []) (make (codes "b") []), refl, refl, λ same. differ same.0, (omega arith, refl, refl, tt), refl, refl),
-      ),
-    );
-    copies = (twice_rule, (codes "copy", itself, (refl, (refl, (codes "x", inr (inl (refl, inl refl)))))), no_earlier);
-    signature = refl;
-  },
-)
+not_both = record {
+  first = x (codes "pick");
+  second = x (codes "copy");
+  composed = in_expression both_body both (0, omega arith, refl) (inl (refl, refl));
+  meet = at_name (name (codes "pick")) (codes "pick") itself (
+    refl,
+    (omega arith, to (rule (codes "a") [] []) (make (codes "a") []), to (rule (codes "a") [] []) (make (codes "b") []), refl, refl, λ same. differ same.0, (omega arith, refl, refl, tt), (refl, tt), (refl, tt)),
+  );
+  copies = (twice_rule, at_name (name (codes "copy")) (codes "copy") itself (refl, (refl, (codes "x", inr (inl (refl, inl refl))))), no_earlier);
+  signature = refl;
+  printable = record { kept = refl; scalars = refl; small = omega arith; shallow = omega arith };
+}

@@ -4,7 +4,7 @@ use Rattle.std.specs.Option.{option_map, option_map_or}
 use Rattle.fast_fault.specs.declared.place.Pos.{Pos}
 use Rattle.model_grammar.specs.Syntax.{X, named, one, two, literal, Claim, equal, member, empty, type_check, Body, sorts, tree, lang, trans, def, assertion, Item}
 use Rattle.model_names.specs.Declared.{find_item}
-use Rattle.model_run.specs.Words.{Form, check_form, run_form, apply_form, accepts_form, self_form}
+use Rattle.model_run.specs.Words.{CommandForm, check_form, run_form, apply_form, accepts_form, self_form}
 
 abbrev pub is_lang : Body → Bool
 is_lang (sorts t) = false
@@ -44,10 +44,10 @@ abbrev pub unbuilt_at : List Item → Option Pos
 unbuilt_at items = option_map (λ item. item.place) (find (λ item. not (is_built items item)) items)
 
 -- the forms of words that are built; the others are answered like words that are no form
-abbrev pub is_built_form : Form → Bool
-is_built_form (check_form file) = true
-is_built_form (run_form file None) = true
-is_built_form (run_form file (Some n)) = false
-is_built_form (apply_form file name trees) = false
-is_built_form (accepts_form file name trees) = false
-is_built_form (self_form n) = false
+abbrev pub is_built_command : CommandForm → Bool
+is_built_command (check_form file) = true
+is_built_command (run_form file None) = true
+is_built_command (run_form file (Some n)) = false
+is_built_command (apply_form file name trees) = false
+is_built_command (accepts_form file name trees) = false
+is_built_command (self_form n) = false

@@ -14,10 +14,10 @@ use Rattle.model_grammar.specs.Syntax.{Expr, field, number, chain, no_parts, par
 use Rattle.model_grammar.specs.declared.Rel.TheVariants.{Less, Greater}
 use Rattle.model_run.specs.Seen.{HasFarLabel}
 use Rattle.model_meaning.specs.Types.{signature_at}
-use Rattle.model_meaning.specs.Programs.{here, name, x, ctor, type_item, is_in, rule, to, apply, make, lang_item, trans_item, t}
+use Rattle.model_meaning.specs.Programs.{here, name, x, ctor, type_item, demand, rule, to, apply, make, lang_item, trans_item, t}
 use Rattle.model_meaning.specs.Related.{looking, demanding}
 use Rattle.model_run.specs.Causes.{Uncomposable, more_classes, too_wide, form_number, label_number, not_composable, empty_language, no_output, two_outputs, too_much, too_large, HasCause, TreeHasCause}
-use Rattle.model_run.specs.Loads.{outputs}
+use Rattle.model_sta.specs.Loads.{outputs}
 use Rattle.model_run.specs.Outcomes.{tree_line, minimal_line, true_verdict, tree_verdict, line_of}
 use Rattle.model_run.specs.Lines.{name_line, stop_line, outputs_lines, inside_line, outside_line}
 use Rattle.model_run.specs.Generator.{self_text}
@@ -66,14 +66,14 @@ abbrev pub tree_body : List ℕ → X → Body
 tree_body of value = tree (record { name = name (codes "t"); of = name of; value = value })
 
 -- `type N[x : Int]{z(0)}`
-abbrev number_type : Item
+abbrev pub number_type : Item
 number_type = record { place = here; body = sorts (record { name = name (codes "N"); fields = record { name = name (codes "x"); sort = name (codes "Int") } ∷ []; ctors = ctor (codes "z") 0 ∷ [] }) }
 
 -- `z() to (z [..])`
 abbrev pub number_rule : Expr → OutRule
 number_rule label = to (rule (codes "z") [] []) (node (name (codes "z")) (label ∷ []) no_out)
 
-abbrev number_item : List ℕ → Expr → Item
+abbrev pub number_item : List ℕ → Expr → Item
 number_item text label = record { place = here; body = trans (record { name = name text; from = name (codes "N"); into = name (codes "N"); rules = number_rule label ∷ [] }) }
 
 -- `2000000000 * x` and `x + 1`
@@ -130,7 +130,7 @@ pick_and_copy = record { signature = signature_at copying_items (name (codes "B"
 
 -- `cons(y) given (.. y)`
 abbrev pub behind : List ℕ → Rule
-behind language = rule (codes "cons") (codes "y" ∷ []) (is_in language (codes "y") ∷ [])
+behind language = rule (codes "cons") (codes "y" ∷ []) (demand language (codes "y") ∷ [])
 
 -- `lang m0 : B { nil() | cons(y) given (m4 y) }`, and for the numbers from 1 to 4 `lang m1 : B { cons(y) given (m0 y) }`
 abbrev pub cycling : List Item

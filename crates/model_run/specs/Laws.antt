@@ -1,22 +1,23 @@
 -- What is so of causes and verdicts, whatever the program.
-use Rattle.std.specs.Prelude.{◌≡◌, ◌↔◌, ℕ, Bool, List, [], None, Some}
+use Rattle.std.specs.Prelude.{◌≡◌, ◌↔◌, ℕ, Bool, List, [], None}
 use Rattle.std.specs.List.{Contains}
+use Rattle.fast_fault.specs.declared.code.Code.TheVariants.{NotComposable, EmptyLanguage, OutputCount}
 use Rattle.model_tree.specs.Tree.{LabelTree}
 use Rattle.model_tree.specs.Signature.{PlainSignature}
-use Rattle.model_program.specs.Syntax.{Name, TypeItem}
+use Rattle.model_program.specs.Syntax.{TypeItem}
 use Rattle.model_grammar.specs.Syntax.{X, Claim, equal, member, empty, type_check, LangItem, TransItem, AssertItem, Body, sorts, lang, trans, Item}
-use Rattle.model_names.specs.Declared.{own_name}
 use Rattle.model_names.specs.Kinds.{Kind}
-use Rattle.model_meaning.specs.Reached.{Reaches}
 use Rattle.model_meaning.specs.Values.{Printed}
 use Rattle.model_meaning.specs.Truth.{IsTrue}
-use Rattle.model_run.specs.Parts.{LanguagePart, IsIn, IsLanguage, IsOfClasses}
-use Rattle.model_run.specs.Plain.{IsComposedIn, IsPlain, IsLinear}
-use Rattle.model_run.specs.Causes.{Stop, Uncomposable, not_composable, expressions_in, HasCause, TreeHasCause}
+use Rattle.model_run.specs.Parts.{LanguagePart, IsInPart, IsPart, AreClassesOf}
+use Rattle.model_run.specs.Plain.{IsPlain, IsLinear}
+use Rattle.model_run.specs.Items.{IsComposedInItem}
+use Rattle.model_run.specs.Causes.{Stop, Uncomposable, not_composable, HasCause, TreeHasCause}
+use Rattle.model_run.specs.Owed.{IsOwed}
 use Rattle.model_run.specs.Words.{limit_of}
 use Rattle.model_run.specs.Texts.{PlacedTree}
-use Rattle.model_run.specs.Report.{items_script, trees_script, named_x, IsFree}
-use Rattle.model_run.specs.Outcomes.{true_verdict, tree_verdict, IsVerdict}
+use Rattle.model_run.specs.Report.{items_script, trees_script, named_x, IsNeeded, IsFree}
+use Rattle.model_run.specs.Outcomes.{Outcome, true_verdict, tree_verdict, IsVerdict, IsOutcome}
 
 -- Types, languages and transformations stop no run.
 pub record AreQuiet : Type 0 where
@@ -28,17 +29,24 @@ pub record AreQuiet : Type 0 where
 abbrev pub ShownAreNotComposable : Type 0
 ShownAreNotComposable =
     (items : List Item) (limit : ℕ) (trees : List Printed) (body : Body) (c : Uncomposable) → HasCause items limit trees body (not_composable c)
-    → (e : X) × Contains (expressions_in body) e × (x y : X) × IsComposedIn x y e × ¬ (IsPlain items x) × ¬ (IsLinear items y)
+    → (x y : X) × IsComposedInItem items x y body × ¬ (IsPlain items x) × ¬ (IsLinear items y)
 
--- no language of which the expression is made tells the two trees apart
-abbrev pub IsUntold : List Item → X → List ℕ → LabelTree → LabelTree → Type 0
-IsUntold items e type s t = (d : LanguagePart) → IsLanguage items e type d → IsIn items d s ↔ IsIn items d t
+-- no language of which one of the expressions is made tells the two trees apart
+abbrev pub IsUntold : List Item → List X → List ℕ → LabelTree → LabelTree → Type 0
+IsUntold items es type s t = (e : X) → Contains es e → (d : LanguagePart) → IsPart items e type d → IsInPart items d s ↔ IsInPart items d t
 
 -- A language that is described by classes has with a tree all those that are not told apart from it: it is a union of classes.
 abbrev pub ClassesAreUnions : Type 0
 ClassesAreUnions =
-    (items : List Item) (e : X) (type : List ℕ) (d : LanguagePart) → IsOfClasses (λ part. IsLanguage items e type part) d
-    → (s t : LabelTree) → IsUntold items e type s t → IsIn items d s → IsIn items d t
+    (items : List Item) (es : List X) (type : List ℕ) (d : LanguagePart) → AreClassesOf items es type d
+    → (s t : LabelTree) → IsUntold items es type s t → IsInPart items d s → IsInPart items d t
+
+-- A line that is legal owes no refusal for a composition, for a tree of an empty language, or for a number of outputs. Whether outputs that no line shows are
+-- too much is no matter of legal lines.
+pub record LinesOweNothing : Type 0 where
+  pub composition : (items : List Item) (trees : List Printed) (item : Item) (o : Outcome) → IsOutcome items trees item o → ¬ (IsOwed items trees item.body NotComposable)
+  pub witness : (items : List Item) (trees : List Printed) (item : Item) (o : Outcome) → IsOutcome items trees item o → ¬ (IsOwed items trees item.body EmptyLanguage)
+  pub count : (items : List Item) (trees : List Printed) (item : Item) (o : Outcome) → IsOutcome items trees item o → ¬ (IsOwed items trees item.body OutputCount)
 
 -- the statement is one of equality, emptiness or types
 abbrev pub IsOfLanguages : Claim → Type 0
@@ -57,9 +65,9 @@ pub record AreVerdictsRight : Type 0 where
 abbrev pub HaveNoCause : List Item → ℕ → Type 0
 HaveNoCause items limit = (item : Item) → Contains items item → (trees : List Printed) (stop : Stop) → ¬ (HasCause items limit trees item.body stop)
 
--- no item that the name reaches has a cause, and none of the trees that are given to it
+-- no item that the name needs has a cause, and none of the trees that are given to it
 pub record GivenHaveNoCause (items : List Item) (name : List ℕ) (placed : List PlacedTree) : Type 0 where
-  pub reached : (item : Item) → Contains items item → (own : Name) → own_name item.body ≡ Some own → Reaches items name own.text → (stop : Stop) → ¬ (HasCause items (limit_of None) [] item.body stop)
+  pub needed : (item : Item) → IsNeeded items name item → (stop : Stop) → ¬ (HasCause items (limit_of None) [] item.body stop)
   pub given : (tree : PlacedTree) → Contains placed tree → (stop : Stop) → ¬ (TreeHasCause items (named_x name) tree.tree stop)
 
 -- The work stops nowhere where no item and no tree has a cause.

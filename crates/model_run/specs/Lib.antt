@@ -1,6 +1,8 @@
 pub mod Parts
 pub mod Seen
 pub mod Plain
+pub mod Items
+pub mod Printable
 pub mod Loads
 pub mod Counts
 pub mod Order
@@ -12,6 +14,9 @@ pub mod Built
 pub mod Generator
 pub mod Scripts
 pub mod Lines
+pub mod Owed
 pub mod Report
 pub mod Examples
+pub mod Borders
+pub mod OwedExamples
 pub mod Laws

@@ -1,7 +1,6 @@
 -- What an item of a program gives in a run, and its line.
-use Rattle.std.specs.Prelude.{◌≡◌, ◌⊎◌, ◌≤◌, ℕ, suc, Bool, true, false, not, ◌||◌, cond, List, [], ◌∷◌, ◌++◌, codes, decimal, encode_utf8_all}
-use Rattle.model_tree.specs.Tree.{LabelTree, node_count, depth}
-use Rattle.model_tree.specs.Kept.{is_kept}
+use Rattle.std.specs.Prelude.{◌≡◌, ◌⊎◌, ℕ, suc, Bool, true, false, not, ◌||◌, cond, List, [], ◌∷◌, ◌++◌, codes, decimal, encode_utf8_all}
+use Rattle.model_tree.specs.Tree.{LabelTree}
 use Rattle.model_tree.specs.Signature.{PlainSignature, names_of}
 use Rattle.model_tree.specs.Printed.{printed_tree}
 use Rattle.model_grammar.specs.declared.Op1.TheVariants.{Minimize}
@@ -11,6 +10,8 @@ use Rattle.model_meaning.specs.Meaning.{IsInLanguage, input_type}
 use Rattle.model_meaning.specs.Values.{Printed, IsValue}
 use Rattle.model_meaning.specs.Truth.{IsTrue, Shows}
 use Rattle.model_run.specs.Counts.{IsCount}
+use Rattle.model_run.specs.Items.{IsComposable}
+use Rattle.model_run.specs.Printable.{IsPrintable}
 
 -- A line shows a tree with the type by which it is printed.
 pub data Outcome : Type 0 where
@@ -22,12 +23,6 @@ pub data Outcome : Type 0 where
   -- an assertion by its line in the text, whether it passes, and no tree or a tree
   true_verdict : ℕ → Bool → Outcome
   tree_verdict : ℕ → Bool → PlainSignature → LabelTree → Outcome
-
--- the numbers of a tree that is shown have 64 bits, and it isn't too large
-pub record IsPrintable (t : LabelTree) : Type 0 where
-  pub kept : is_kept t ≡ true
-  pub small : node_count t ≤ 1048576
-  pub shallow : depth t ≤ 2000
 
 -- the type of whose trees a statement speaks
 abbrev pub claim_type : List Item → Claim → PlainSignature
@@ -81,10 +76,12 @@ module _ (items : List Item) (trees : List Printed) where
   IsOutcomeOf line (trans t) outcome = outcome ≡ silent
   IsOutcomeOf line (def d) outcome = IsDefLine d d.value outcome
   IsOutcomeOf line (assertion a) outcome = IsVerdict line a outcome
-
   -- the item may have the outcome, where these trees were printed before it
-  abbrev pub IsOutcome : Item → Outcome → Type 0
-  IsOutcome item outcome = IsOutcomeOf item.place.line item.body outcome
+
+-- The item may have the outcome: its transformations can be composed, and the outcome is one of its body.
+pub record IsOutcome (items : List Item) (trees : List Printed) (item : Item) (outcome : Outcome) : Type 0 where
+  pub composable : IsComposable items item.body
+  pub is : IsOutcomeOf items trees item.place.line item.body outcome
 
 -- ---- lines; each ends with a line feed
 

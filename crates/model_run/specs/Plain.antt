@@ -4,16 +4,15 @@ use Rattle.fast_fault.specs.declared.place.Pos.{Pos}
 use Rattle.model_tree.specs.Tree.{LabelTree}
 use Rattle.model_tree.specs.Signature.{PlainField, HasType}
 use Rattle.model_program.specs.Syntax.{Name}
-use Rattle.model_grammar.specs.declared.Op2.TheVariants.{Intersect, Union, Difference, PreImage, Compose, Restrict, RestrictOut, Apply}
-use Rattle.model_grammar.specs.Syntax.{Expr, Out, child, call, node, Outs, no_out, and_out, X, named, one, two, literal, Xs, no_x, and_x, OutRule, Item}
+use Rattle.model_grammar.specs.declared.Op2.TheVariants.{Compose, Restrict, RestrictOut}
+use Rattle.model_grammar.specs.Syntax.{Expr, Out, child, call, node, Outs, no_out, and_out, X, named, two, OutRule, Item}
 use Rattle.model_grammar.specs.Places.{bare}
 use Rattle.model_form.specs.Same.{same_form}
 use Rattle.model_names.specs.Declared.{out_rules_of}
 use Rattle.model_meaning.specs.Types.{input_of}
-use Rattle.model_meaning.specs.Languages.{applies}
+use Rattle.model_meaning.specs.Meaning.{Applies}
 use Rattle.model_meaning.specs.Outputs.{number_named}
-use Rattle.model_meaning.specs.Closed.{closed}
-use Rattle.model_meaning.specs.Reached.{Reaches}
+use Rattle.model_meaning.specs.Reached.{Reaches, Opens}
 use Rattle.model_guard.specs.Forms.{is_whole, form_of}
 
 -- ---- the same terms
@@ -79,19 +78,14 @@ abbrev mutual
 
 -- ---- plain and linear transformations
 
--- P holds of some name that a transformation in the closed expression reaches: of both parts of a composition, and of what a restriction restricts
-abbrev pub ReachesSome : List Item → (List ℕ → Type 0) → X → Type 0
-ReachesSome items P (named n) = (q : List ℕ) × Reaches items n.text q × P q
-ReachesSome items P (one op place x) = ⊥
-ReachesSome items P (two Compose place x y) = ReachesSome items P x ⊎ ReachesSome items P y
-ReachesSome items P (two Restrict place x y) = ReachesSome items P x
-ReachesSome items P (two RestrictOut place x y) = ReachesSome items P x
-ReachesSome items P (two Intersect place x y) = ⊥
-ReachesSome items P (two Union place x y) = ⊥
-ReachesSome items P (two Difference place x y) = ⊥
-ReachesSome items P (two PreImage place x y) = ⊥
-ReachesSome items P (two Apply place x y) = ⊥
-ReachesSome items P (literal name labels xs) = ⊥
+-- P holds of some name that a transformation in the expression reaches: of both parts of a composition, and of what a restriction restricts.
+pub data ReachesSome (items : List Item) (P : List ℕ → Type 0) : X → Type 0 where
+  at_name : (n : Name) (q : List ℕ) → Reaches items n.text q → P q → ReachesSome items P (named n)
+  at_opened : (n : Name) (x : X) → Opens items n.text x → ReachesSome items P x → ReachesSome items P (named n)
+  of_first : (place : Pos) (x y : X) → ReachesSome items P x → ReachesSome items P (two Compose place x y)
+  of_second : (place : Pos) (x y : X) → ReachesSome items P y → ReachesSome items P (two Compose place x y)
+  of_restricted : (place : Pos) (x y : X) → ReachesSome items P x → ReachesSome items P (two Restrict place x y)
+  of_out_restricted : (place : Pos) (x y : X) → ReachesSome items P x → ReachesSome items P (two RestrictOut place x y)
 
 module _ (items : List Item) where
   -- Rules are numbered from 0 here, and from 1 in a report.
@@ -100,7 +94,7 @@ module _ (items : List Item) where
   Meet q i j t =
       (i < j) × (r s : OutRule) × (slice_get (out_rules_of items q) i ≡ Some r) × (slice_get (out_rules_of items q) j ≡ Some s)
       × ¬ (IsSameTerm (input_of items q).fields r.rule.vars s.rule.vars r.out s.out)
-      × HasType (input_of items q) t × (applies items (input_of items q) r.rule t ≡ true) × (applies items (input_of items q) s.rule t ≡ true)
+      × HasType (input_of items q) t × Applies items (input_of items q) r.rule t × Applies items (input_of items q) s.rule t
 
   -- the rule of a transformation names a child twice in its term
   abbrev pub Copies : List ℕ → ℕ → OutRule → Type 0
@@ -108,32 +102,11 @@ module _ (items : List Item) where
 
   -- no two rules of a transformation that is reached meet
   abbrev pub IsPlain : X → Type 0
-  IsPlain x = ¬ (ReachesSome items (λ q. (i j : ℕ) × (t : LabelTree) × Meet q i j t) (closed items x))
+  IsPlain x = ¬ (ReachesSome items (λ q. (i j : ℕ) × (t : LabelTree) × Meet q i j t) x)
 
   -- no rule of one copies
   abbrev pub IsLinear : X → Type 0
-  IsLinear x = ¬ (ReachesSome items (λ q. (i : ℕ) × (r : OutRule) × Copies q i r) (closed items x))
-
--- ---- compositions in an expression, as it is written
-
-abbrev mutual
-  -- (compose x y) stands in the expression
-  pub IsComposedIn : X → X → X → Type 0
-  IsComposedIn x y (named n) = ⊥
-  IsComposedIn x y (one op place e) = IsComposedIn x y e
-  IsComposedIn x y (two Compose place e f) = ((x ≡ e) × (y ≡ f)) ⊎ IsComposedIn x y e ⊎ IsComposedIn x y f
-  IsComposedIn x y (two Intersect place e f) = IsComposedIn x y e ⊎ IsComposedIn x y f
-  IsComposedIn x y (two Union place e f) = IsComposedIn x y e ⊎ IsComposedIn x y f
-  IsComposedIn x y (two Difference place e f) = IsComposedIn x y e ⊎ IsComposedIn x y f
-  IsComposedIn x y (two PreImage place e f) = IsComposedIn x y e ⊎ IsComposedIn x y f
-  IsComposedIn x y (two Restrict place e f) = IsComposedIn x y e ⊎ IsComposedIn x y f
-  IsComposedIn x y (two RestrictOut place e f) = IsComposedIn x y e ⊎ IsComposedIn x y f
-  IsComposedIn x y (two Apply place e f) = IsComposedIn x y e ⊎ IsComposedIn x y f
-  IsComposedIn x y (literal name labels xs) = IsComposedInOne x y xs
-
-  pub IsComposedInOne : X → X → Xs → Type 0
-  IsComposedInOne x y no_x = ⊥
-  IsComposedInOne x y (and_x e es) = IsComposedIn x y e ⊎ IsComposedInOne x y es
+  IsLinear x = ¬ (ReachesSome items (λ q. (i : ℕ) × (r : OutRule) × Copies q i r) x)
 
 -- a place that is before another
 abbrev pub is_before : Pos → Pos → Bool

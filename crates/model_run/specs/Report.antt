@@ -1,6 +1,6 @@
 -- Legal reports of each command, and with which status.
-use Rattle.std.specs.Prelude.{◌≡◌, ◌⊎◌, ℕ, suc, true, false, List, [], ◌∷◌, ◌++◌, Option, None, Some, IfSome, codes}
-use Rattle.std.specs.List.{All, Contains}
+use Rattle.std.specs.Prelude.{◌≡◌, ◌⊎◌, ◌≤◌, ℕ, suc, true, false, List, [], ◌∷◌, ◌++◌, Option, None, Some, IfSome, codes, length}
+use Rattle.std.specs.List.{All, Contains, sum_by}
 use Rattle.std.specs.declared.cmp.Ordering.TheVariants.{Less}
 use Rattle.fast_fault.specs.declared.place.Pos.{Pos}
 use Rattle.fast_fault.specs.declared.code.Code.{Code}
@@ -8,24 +8,26 @@ use Rattle.fast_fault.specs.declared.code.Code.TheVariants.{NotYet}
 use Rattle.fast_fault.specs.declared.status.Status.{Status}
 use Rattle.fast_fault.specs.declared.status.Status.TheVariants.{Hold, Fails, Words, TextRefused, RunRefused, TextFault, SinkFault, Memory}
 use Rattle.fast_fault.specs.Written.{Appends}
-use Rattle.model_tree.specs.Tree.{LabelTree}
+use Rattle.model_tree.specs.Tree.{LabelTree, node_count}
 use Rattle.model_program.specs.Syntax.{Name}
 use Rattle.model_grammar.specs.Syntax.{X, named, Item}
 use Rattle.model_grammar.specs.Places.{nowhere}
 use Rattle.model_grammar.specs.Grammar.{IsProgram}
 use Rattle.model_grammar.specs.Texts.{IsText}
-use Rattle.model_chain.specs.Each.{EachTwo}
+use Rattle.model_sta.specs.EachTwo.{EachTwo}
 use Rattle.model_checks.specs.Programs.{is_well_formed}
 use Rattle.model_names.specs.Declared.{own_name}
 use Rattle.model_names.specs.Kinds.{Kind, language, transformation}
 use Rattle.model_meaning.specs.Meaning.{IsInLanguage, IsRelated, input_type, output_type}
-use Rattle.model_meaning.specs.Reached.{Reaches}
+use Rattle.model_meaning.specs.Reached.{DependsOn}
 use Rattle.model_run.specs.Order.{label_tree_cmp}
 use Rattle.model_run.specs.Causes.{Stop, HasCause, TreeHasCause}
-use Rattle.model_run.specs.Words.{Form, check_form, run_form, apply_form, accepts_form, self_form, IsForm, limit_of, usage_line}
-use Rattle.model_run.specs.Outcomes.{Outcome, IsPrintable, IsOutcome, line_of, trees_in, has_failed}
+use Rattle.model_run.specs.Words.{CommandForm, check_form, run_form, apply_form, accepts_form, self_form, AreWordsOf, limit_of, usage_line}
+use Rattle.model_run.specs.Items.{IsComposable}
+use Rattle.model_run.specs.Printable.{IsPrintable}
+use Rattle.model_run.specs.Outcomes.{Outcome, IsOutcome, line_of, trees_in, has_failed}
 use Rattle.model_run.specs.Texts.{IsChecked, IsRefused, IsNameRefused, IsNameOf, PlacedTree, IsFileOf, IsFileRefused}
-use Rattle.model_run.specs.Built.{unbuilt_at, is_built_form}
+use Rattle.model_run.specs.Built.{unbuilt_at, is_built_command}
 use Rattle.model_run.specs.Generator.{self_text}
 use Rattle.model_run.specs.Lines.{refusal_line, name_line, stop_line, checked_line, outputs_lines, inside_line, outside_line, self_line}
 use Rattle.model_run.specs.Scripts.{Script, Comes, Ending, whole, unfinished, Writes, IsLine}
@@ -76,12 +78,14 @@ pub record Given : Type 0 where
   pub left : List PlacedTree
   pub done : ℕ
 
--- exactly the trees to which the transformation relates one, each once, in order; each can be shown
+-- Exactly the trees to which the transformation relates one, each once, in order. Each can be shown, and together they aren't too much.
 pub record AreOutputs (items : List Item) (x : X) (t : LabelTree) (us : List LabelTree) : Type 0 where
   pub outputs : (u : LabelTree) → Contains us u → IsRelated items x t u
   pub all : (u : LabelTree) → IsRelated items x t u → Contains us u
-  pub printable : All IsPrintable us
   pub in_order : EachTwo (λ u w. label_tree_cmp u w ≡ Less) us
+  pub printable : All IsPrintable us
+  pub few : length us ≤ 4096
+  pub small : sum_by node_count us ≤ 1048576
 
 -- the lines of a tree: its outputs, or whether it is in the language
 abbrev pub AreLinesOf : List Item → X → Kind → ℕ → LabelTree → List ℕ → Type 0
@@ -89,48 +93,58 @@ AreLinesOf items x transformation k t lines = (us : List LabelTree) × AreOutput
 AreLinesOf items x language k t lines = (IsInLanguage items x t × (lines ≡ inside_line k)) ⊎ (¬ (IsInLanguage items x t) × (lines ≡ outside_line k))
 AreLinesOf items x kind k t lines = ⊥
 
--- the next tree's lines come next
-pub record IsTreeDone (items : List Item) (x : X) (kind : Kind) (before : Given) (lines : List ℕ) (after : Given) : Type 0 where
-  pub tree : PlacedTree
-  pub left : before.left ≡ tree ∷ after.left
-  pub done : after.done ≡ suc before.done
-  pub are : AreLinesOf items x kind after.done tree.tree lines
+abbrev pub named_x : List ℕ → X
+named_x name = named (record { text = name; place = nowhere })
 
--- an item that the name reaches has a cause, and the line of its refusal comes alone
-pub record StopsAtReached (items : List Item) (limit : ℕ) (file name : List ℕ) (last : List ℕ) : Type 0 where
-  pub item : Item
+-- the item declares a name on which this name depends
+pub record IsNeeded (items : List Item) (name : List ℕ) (item : Item) : Type 0 where
   pub there : Contains items item
   pub own : Name
   pub named : own_name item.body ≡ Some own
-  pub reached : Reaches items name own.text
+  pub needed : DependsOn items (named_x name) own.text
+
+-- the transformations of each item that the name needs can be composed
+abbrev pub AreNeededComposable : List Item → List ℕ → Type 0
+AreNeededComposable items name = (item : Item) → IsNeeded items name item → IsComposable items item.body
+
+-- the next tree's lines come next
+pub record IsTreeDone (items : List Item) (name : List ℕ) (kind : Kind) (before : Given) (lines : List ℕ) (after : Given) : Type 0 where
+  pub composable : AreNeededComposable items name
+  pub tree : PlacedTree
+  pub left : before.left ≡ tree ∷ after.left
+  pub done : after.done ≡ suc before.done
+  pub are : AreLinesOf items (named_x name) kind after.done tree.tree lines
+
+-- an item that the name needs has a cause, and the line of its refusal comes alone
+pub record StopsAtNeeded (items : List Item) (limit : ℕ) (file name : List ℕ) (last : List ℕ) : Type 0 where
+  pub item : Item
+  pub needed : IsNeeded items name item
   pub stop : Stop
   pub cause : HasCause items limit [] item.body stop
   pub is : last ≡ stop_line stop file item.place
 
 -- the next tree has a cause, and the line of its refusal comes last
-pub record StopsAtTree (items : List Item) (x : X) (file : List ℕ) (given : Given) (last : List ℕ) : Type 0 where
+pub record StopsAtTree (items : List Item) (name file : List ℕ) (given : Given) (last : List ℕ) : Type 0 where
+  pub composable : AreNeededComposable items name
   pub tree : PlacedTree
   pub later : List PlacedTree
   pub left : given.left ≡ tree ∷ later
   pub stop : Stop
-  pub cause : TreeHasCause items x tree.tree stop
+  pub cause : TreeHasCause items (named_x name) tree.tree stop
   pub is : last ≡ stop_line stop file tree.place
 
-abbrev pub named_x : List ℕ → X
-named_x name = named (record { text = name; place = nowhere })
-
 abbrev pub TreesEnd : List Item → List ℕ → List ℕ → List ℕ → Kind → Given → Status → List ℕ → Type 0
-TreesEnd items file name trees kind given Hold last = (given.left ≡ []) × (last ≡ [])
+TreesEnd items file name trees kind given Hold last = AreNeededComposable items name × (given.left ≡ []) × (last ≡ [])
 TreesEnd items file name trees transformation given RunRefused last =
-    ((given.done ≡ 0) × StopsAtReached items (limit_of None) file name last) ⊎ StopsAtTree items (named_x name) trees given last
-TreesEnd items file name trees kind given RunRefused last = (given.done ≡ 0) × StopsAtReached items (limit_of None) file name last
+    ((given.done ≡ 0) × StopsAtNeeded items (limit_of None) file name last) ⊎ StopsAtTree items name trees given last
+TreesEnd items file name trees kind given RunRefused last = (given.done ≡ 0) × StopsAtNeeded items (limit_of None) file name last
 TreesEnd items file name trees kind given status last = ⊥
 
 abbrev pub trees_script : List Item → List ℕ → List ℕ → List ℕ → Kind → List PlacedTree → Script
 trees_script items file name trees kind placed = record {
   State = Given;
   start = record { left = placed; done = 0 };
-  Next = IsTreeDone items (named_x name) kind;
+  Next = IsTreeDone items name kind;
   Ends = TreesEnd items file name trees kind;
 }
 
@@ -193,14 +207,14 @@ pub record SelfReport (n : ℕ) (ending : Ending) (report : List ℕ) : Type 0 w
   pub is : IsLine status (self_last n items work status last) ending report
 
 -- What a form of words may report over what is held under each name, where that is told.
-abbrev pub FormReport : Form → (List ℕ → Option (List ℕ)) → Ending → List ℕ → Type 0
-FormReport (check_form file) held ending report = IfSome (held file) (λ bytes. ProgramReport file bytes CheckReport ending report)
-FormReport (run_form file limit) held ending report = IfSome (held file) (λ bytes. ProgramReport file bytes (RunReport file (limit_of limit)) ending report)
-FormReport (apply_form file name trees) held ending report =
+abbrev pub CommandReport : CommandForm → (List ℕ → Option (List ℕ)) → Ending → List ℕ → Type 0
+CommandReport (check_form file) held ending report = IfSome (held file) (λ bytes. ProgramReport file bytes CheckReport ending report)
+CommandReport (run_form file limit) held ending report = IfSome (held file) (λ bytes. ProgramReport file bytes (RunReport file (limit_of limit)) ending report)
+CommandReport (apply_form file name trees) held ending report =
     IfSome (held file) (λ bytes. ProgramReport file bytes (NameReport file name trees transformation (held trees)) ending report)
-FormReport (accepts_form file name trees) held ending report =
+CommandReport (accepts_form file name trees) held ending report =
     IfSome (held file) (λ bytes. ProgramReport file bytes (NameReport file name trees language (held trees)) ending report)
-FormReport (self_form n) held ending report = SelfReport n ending report
+CommandReport (self_form n) held ending report = SelfReport n ending report
 
 -- With each status: after a fault of the sink or for want of memory a report is nothing or an unfinished one; where a text
 -- couldn't be taken nothing is written.
@@ -212,8 +226,8 @@ StatusReport Reported Memory report = (report ≡ []) ⊎ Reported unfinished re
 StatusReport Reported status report = Reported (whole status) report
 
 -- words that are a form that is built
-abbrev pub IsWords : List (List ℕ) → Form → Type 0
-IsWords words form = IsForm words form × (is_built_form form ≡ true)
+abbrev pub IsWords : List (List ℕ) → CommandForm → Type 0
+IsWords words form = AreWordsOf words form × (is_built_command form ≡ true)
 
 -- a legal report of these words over what is held; words that are no form are answered by the usage line
 abbrev pub UsageReport : Status → List ℕ → Type 0
@@ -224,8 +238,8 @@ UsageReport status report = ⊥
 
 abbrev pub IsReport : List (List ℕ) → (List ℕ → Option (List ℕ)) → Status → List ℕ → Type 0
 IsReport words held status report =
-    ((form : Form) × IsWords words form × StatusReport (FormReport form held) status report)
-    ⊎ (((form : Form) → ¬ (IsWords words form)) × UsageReport status report)
+    ((form : CommandForm) × IsWords words form × StatusReport (CommandReport form held) status report)
+    ⊎ (((form : CommandForm) → ¬ (IsWords words form)) × UsageReport status report)
 
 -- What this call appended is, with its status, legal.
 abbrev pub Reports : (Status → List ℕ → Type 0) → Status → Option (List ℕ) → Option (List ℕ) → Type 0
@@ -257,7 +271,7 @@ pub record AreHeld (held : List ℕ → Option (List ℕ)) (file name trees : Li
   pub free : IsFree (trees_script items file name trees kind placed)
 
 -- The texts of a form are accepted, and no item or tree that it works on has a cause.
-abbrev pub IsDoableOver : (List ℕ → Option (List ℕ)) → Form → Type 0
+abbrev pub IsDoableOver : (List ℕ → Option (List ℕ)) → CommandForm → Type 0
 IsDoableOver held (check_form file) = (items : List Item) × IsHeld held file items
 IsDoableOver held (run_form file limit) = (items : List Item) × IsHeld held file items × (unbuilt_at items ≡ None) × IsFree (items_script items (limit_of limit) file)
 IsDoableOver held (apply_form file name trees) = AreHeld held file name trees transformation
@@ -266,7 +280,7 @@ IsDoableOver held (self_form n) =
     (items : List Item) × IsText IsProgram (self_text n) items × (is_well_formed items ≡ true) × (unbuilt_at items ≡ None) × IsFree (items_script items (limit_of None) self_name)
 
 -- nothing stands in the way of a whole report
-pub record IsDoable (words : List (List ℕ)) (held : List ℕ → Option (List ℕ)) (form : Form) : Type 0 where
+pub record IsDoable (words : List (List ℕ)) (held : List ℕ → Option (List ℕ)) (form : CommandForm) : Type 0 where
   pub is : IsWords words form
   pub doable : IsDoableOver held form
 

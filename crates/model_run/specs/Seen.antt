@@ -4,11 +4,12 @@ use Rattle.std.specs.List.{Contains}
 use Rattle.model_tree.specs.Label.{Label}
 use Rattle.model_tree.specs.Signature.{PlainField, HasSorts, sorts_of}
 use Rattle.model_tree.specs.Kept.{is_kept_label}
+use Rattle.fast_fault.specs.declared.place.Pos.{Pos}
 use Rattle.model_program.specs.Syntax.{Name}
-use Rattle.model_grammar.specs.declared.Op2.TheVariants.{Intersect, Union, Difference, PreImage, Compose, Restrict, RestrictOut, Apply}
+use Rattle.model_grammar.specs.declared.Op2.TheVariants.{Compose}
 use Rattle.model_grammar.specs.declared.Rel.{Rel}
 use Rattle.model_grammar.specs.declared.Rel.TheVariants.{Equal, NotEqual, Less, AtMost, Greater, AtLeast}
-use Rattle.model_grammar.specs.Syntax.{Expr, field, number, text, truth, negation, compare, minus, chain, Parts, no_parts, part, Out, child, call, node, Outs, no_out, and_out, X, named, one, two, literal, Rule, OutRule, Item}
+use Rattle.model_grammar.specs.Syntax.{Expr, field, number, text, truth, negation, compare, minus, chain, Parts, no_parts, part, Out, child, call, node, Outs, no_out, and_out, X, named, two, Rule, OutRule, Item}
 use Rattle.model_names.specs.Declared.{rules_of, out_rules_of}
 use Rattle.model_names.specs.Kinds.{type_of, output_of}
 use Rattle.model_form.specs.Form.{Form, form, Remainders, no_remainders, remainder}
@@ -19,14 +20,15 @@ use Rattle.model_label.specs.Meaning.{is_true}
 use Rattle.model_meaning.specs.Types.{values_of}
 use Rattle.model_meaning.specs.Outputs.{made_label}
 use Rattle.model_meaning.specs.Meaning.{signature_named}
-use Rattle.model_meaning.specs.Reached.{Reaches}
+use Rattle.model_meaning.specs.Reached.{Reaches, Opens}
 use Rattle.model_guard.specs.Forms.{is_whole, form_of}
+use Rattle.model_run.specs.Parts.{operands, LooksBack, IsFrom}
 
 -- ---- label lists and guards, as they are written or with label lists put for the fields
 
--- Written ones are over labels with some fields.
+-- Written ones are over labels with some fields; a list makes labels with others.
 pub data LabelList : Type 0 where
-  listed : List PlainField → List Expr → LabelList
+  listed : List PlainField → List PlainField → List Expr → LabelList
   -- the second, with the first put for its fields
   chained : LabelList → LabelList → LabelList
 
@@ -36,7 +38,7 @@ pub data Guard : Type 0 where
 
 -- the label that a list makes of a label
 abbrev pub list_label : LabelList → Label → Label
-list_label (listed fields labels) l = made_label fields labels l
+list_label (listed from into labels) l = made_label from into labels l
 list_label (chained m n) l = list_label n (list_label m l)
 
 -- whether a guard holds of a label
@@ -50,7 +52,7 @@ forms_of fields (e ∷ es) = cond (is_whole fields e) (form_of fields e ∷ form
 
 -- the forms of those labels of a list that are whole numbers, in order
 abbrev pub list_forms : LabelList → List Form
-list_forms (listed fields labels) = forms_of fields labels
+list_forms (listed from into labels) = forms_of from labels
 list_forms (chained m n) = map (λ f. subst_form f (list_forms m)) (list_forms n)
 
 -- ---- comparisons of whole numbers
@@ -103,79 +105,55 @@ module _ (items : List Item) where
   abbrev pub fields_at : List ℕ → List PlainField
   fields_at type = (signature_named items (Some type)).fields
 
-  -- of the names that a name reaches, the label lists of transformations from one type to another
-  abbrev pub IsListOfName : Name → List ℕ → List ℕ → LabelList → Type 0
-  IsListOfName n from into m =
-      (k : Name) × Reaches items n.text k.text × (type_of items (named k) ≡ Some from) × (output_of items (named k) ≡ Some into)
-      × (r : OutRule) × Contains (out_rules_of items k.text) r × (labels : List Expr) × AreLabelsIn r.out labels × (m ≡ listed (fields_at from) labels)
+-- the guard of a rule of a language on the type, or of a transformation from it, that the name reaches
+pub data IsTest (items : List Item) : Name → List ℕ → Expr → Type 0 where
+  of_language : (n k : Name) (type : List ℕ) (r : Rule) (e : Expr) → Reaches items n.text k.text → type_of items (named k) ≡ Some type → Contains (rules_of items k.text) r → r.guard ≡ Some e → IsTest items n type e
+  of_transformation : (n k : Name) (type : List ℕ) (r : OutRule) (e : Expr) → Reaches items n.text k.text → type_of items (named k) ≡ Some type → Contains (out_rules_of items k.text) r → r.rule.guard ≡ Some e → IsTest items n type e
 
-  -- the guards of languages on the type, and of transformations from it
-  abbrev pub IsTestOfName : Name → List ℕ → Expr → Type 0
-  IsTestOfName n type e =
-      (k : Name) × Reaches items n.text k.text × (type_of items (named k) ≡ Some type)
-      × (((r : Rule) × Contains (rules_of items k.text) r × (r.guard ≡ Some e)) ⊎ ((r : OutRule) × Contains (out_rules_of items k.text) r × (r.rule.guard ≡ Some e)))
+-- the labels of a constructor in a term of a rule of a transformation between the types that the name reaches
+pub record AreLabels (items : List Item) (n : Name) (from into : List ℕ) (labels : List Expr) : Type 0 where
+  pub transformation : Name
+  pub reached : Reaches items n.text transformation.text
+  pub goes : IsFrom items (named transformation) from into
+  pub rule : OutRule
+  pub there : Contains (out_rules_of items transformation.text) rule
+  pub stand : AreLabelsIn rule.out labels
 
-  -- the comparisons in these guards and label lists
-  abbrev pub IsCompareOfName : Name → List ℕ → Compare → Type 0
-  IsCompareOfName n type c =
-      ((e : Expr) × IsTestOfName n type e × IsCompareIn (fields_at type) e c)
-      ⊎ ((into : List ℕ) × (labels : List Expr) × IsListOfName n type into (listed (fields_at type) labels) × (e : Expr) × Contains labels e × IsCompareIn (fields_at type) e c)
+-- m is a label list of the expression, from one type to another
+pub data IsLabelList (items : List Item) : X → List ℕ → List ℕ → LabelList → Type 0 where
+  list_of_rule : (n : Name) (from into : List ℕ) (labels : List Expr) → AreLabels items n from into labels → IsLabelList items (named n) from into (listed (fields_at items from) (fields_at items into) labels)
+  list_opened : (n : Name) (x : X) (from into : List ℕ) (m : LabelList) → Opens items n.text x → IsLabelList items x from into m → IsLabelList items (named n) from into m
+  list_of_operand : (e x : X) (from into : List ℕ) (m : LabelList) → Contains (operands e) x → IsLabelList items x from into m → IsLabelList items e from into m
+  -- one of the second transformation, with one of the first that makes labels of its output type put for the fields
+  list_of_both : (place : Pos) (x y : X) (from middle into : List ℕ) (m n : LabelList) → output_of items x ≡ Some middle → IsLabelList items x from middle m → IsLabelList items y middle into n → IsLabelList items (two Compose place x y) from into (chained m n)
 
-  -- m is a label list of the closed expression, from one type to another
-  abbrev pub IsLabelList : X → List ℕ → List ℕ → LabelList → Type 0
-  IsLabelList (named n) from into m = IsListOfName n from into m
-  IsLabelList (one op place x) from into m = IsLabelList x from into m
-  IsLabelList (two Intersect place x y) from into m = IsLabelList x from into m ⊎ IsLabelList y from into m
-  IsLabelList (two Union place x y) from into m = IsLabelList x from into m ⊎ IsLabelList y from into m
-  IsLabelList (two Difference place x y) from into m = IsLabelList x from into m ⊎ IsLabelList y from into m
-  IsLabelList (two PreImage place x y) from into m = IsLabelList x from into m ⊎ IsLabelList y from into m
-  IsLabelList (two Compose place x y) from into m =
-      IsLabelList x from into m ⊎ IsLabelList y from into m
-      ⊎ ((middle : List ℕ) × (m₁ m₂ : LabelList) × (output_of items x ≡ Some middle) × IsLabelList x from middle m₁ × IsLabelList y middle into m₂ × (m ≡ chained m₁ m₂))
-  IsLabelList (two Restrict place x y) from into m = IsLabelList x from into m ⊎ IsLabelList y from into m
-  IsLabelList (two RestrictOut place x y) from into m = IsLabelList x from into m ⊎ IsLabelList y from into m
-  IsLabelList (two Apply place x y) from into m = IsLabelList x from into m
-  IsLabelList (literal name labels xs) from into m = ⊥
+-- a label list of the transformation that is looked back through, from the type to its output type
+pub record IsPutList (items : List Item) (e : X) (y : X) (type into : List ℕ) (m : LabelList) : Type 0 where
+  pub first : X
+  pub back : LooksBack e first y
+  pub onto : output_of items first ≡ Some into
+  pub list : IsLabelList items first type into m
 
-  -- a guard of P on the output type of the transformation, with a label list of the transformation put for the fields
-  abbrev pub IsPutGuard : X → List ℕ → (List ℕ → Guard → Type 0) → Guard → Type 0
-  IsPutGuard x type P g = (into : List ℕ) × (m : LabelList) × (h : Guard) × (output_of items x ≡ Some into) × IsLabelList x type into m × P into h × (g ≡ put_in m h)
+-- g is a guard of the expression, on labels of the type
+pub data IsGuard (items : List Item) : X → List ℕ → Guard → Type 0 where
+  guard_of_rule : (n : Name) (type : List ℕ) (e : Expr) → IsTest items n type e → IsGuard items (named n) type (tested (fields_at items type) e)
+  guard_opened : (n : Name) (x : X) (type : List ℕ) (g : Guard) → Opens items n.text x → IsGuard items x type g → IsGuard items (named n) type g
+  guard_of_operand : (e x : X) (type : List ℕ) (g : Guard) → Contains (operands e) x → IsGuard items x type g → IsGuard items e type g
+  -- one of the second operand, with a label list of the first put for the fields
+  guard_put : (e y : X) (type into : List ℕ) (m : LabelList) (g : Guard) → IsPutList items e y type into m → IsGuard items y into g → IsGuard items e type (put_in m g)
 
-  -- the same of a comparison
-  abbrev pub IsPutCompare : X → List ℕ → (List ℕ → Compare → Type 0) → Compare → Type 0
-  IsPutCompare x type P c = (into : List ℕ) × (m : LabelList) × (d : Compare) × (output_of items x ≡ Some into) × IsLabelList x type into m × P into d × (c ≡ put_compare m d)
+-- c is a comparison of the expression, on labels of the type
+pub data IsCompare (items : List Item) : X → List ℕ → Compare → Type 0 where
+  compare_of_guard : (n : Name) (type : List ℕ) (e : Expr) (c : Compare) → IsTest items n type e → IsCompareIn (fields_at items type) e c → IsCompare items (named n) type c
+  compare_of_label : (n : Name) (type into : List ℕ) (labels : List Expr) (e : Expr) (c : Compare) → AreLabels items n type into labels → Contains labels e → IsCompareIn (fields_at items type) e c → IsCompare items (named n) type c
+  compare_opened : (n : Name) (x : X) (type : List ℕ) (c : Compare) → Opens items n.text x → IsCompare items x type c → IsCompare items (named n) type c
+  compare_of_operand : (e x : X) (type : List ℕ) (c : Compare) → Contains (operands e) x → IsCompare items x type c → IsCompare items e type c
+  compare_put : (e y : X) (type into : List ℕ) (m : LabelList) (c : Compare) → IsPutList items e y type into m → IsCompare items y into c → IsCompare items e type (put_compare m c)
 
-  -- g is a guard of the closed expression, on labels of the type
-  abbrev pub IsGuard : X → List ℕ → Guard → Type 0
-  IsGuard (named n) type g = (e : Expr) × IsTestOfName n type e × (g ≡ tested (fields_at type) e)
-  IsGuard (one op place x) type g = IsGuard x type g
-  IsGuard (two Intersect place x y) type g = IsGuard x type g ⊎ IsGuard y type g
-  IsGuard (two Union place x y) type g = IsGuard x type g ⊎ IsGuard y type g
-  IsGuard (two Difference place x y) type g = IsGuard x type g ⊎ IsGuard y type g
-  IsGuard (two PreImage place x y) type g = IsGuard x type g ⊎ IsGuard y type g ⊎ IsPutGuard x type (λ i h. IsGuard y i h) g
-  IsGuard (two Compose place x y) type g = IsGuard x type g ⊎ IsGuard y type g ⊎ IsPutGuard x type (λ i h. IsGuard y i h) g
-  IsGuard (two Restrict place x y) type g = IsGuard x type g ⊎ IsGuard y type g
-  IsGuard (two RestrictOut place x y) type g = IsGuard x type g ⊎ IsGuard y type g ⊎ IsPutGuard x type (λ i h. IsGuard y i h) g
-  IsGuard (two Apply place x y) type g = IsGuard x type g
-  IsGuard (literal name labels xs) type g = ⊥
-
-  -- c is a comparison of the closed expression, on labels of the type
-  abbrev pub IsCompare : X → List ℕ → Compare → Type 0
-  IsCompare (named n) type c = IsCompareOfName n type c
-  IsCompare (one op place x) type c = IsCompare x type c
-  IsCompare (two Intersect place x y) type c = IsCompare x type c ⊎ IsCompare y type c
-  IsCompare (two Union place x y) type c = IsCompare x type c ⊎ IsCompare y type c
-  IsCompare (two Difference place x y) type c = IsCompare x type c ⊎ IsCompare y type c
-  IsCompare (two PreImage place x y) type c = IsCompare x type c ⊎ IsCompare y type c ⊎ IsPutCompare x type (λ i d. IsCompare y i d) c
-  IsCompare (two Compose place x y) type c = IsCompare x type c ⊎ IsCompare y type c ⊎ IsPutCompare x type (λ i d. IsCompare y i d) c
-  IsCompare (two Restrict place x y) type c = IsCompare x type c ⊎ IsCompare y type c
-  IsCompare (two RestrictOut place x y) type c = IsCompare x type c ⊎ IsCompare y type c ⊎ IsPutCompare x type (λ i d. IsCompare y i d) c
-  IsCompare (two Apply place x y) type c = IsCompare x type c
-  IsCompare (literal name labels xs) type c = ⊥
-
+module _ (items : List Item) where
   -- two labels give each guard of the expressions on the type the same truth value
   abbrev pub Agree : List X → List ℕ → Label → Label → Type 0
-  Agree es type l m = (e : X) → Contains es e → (g : Guard) → IsGuard e type g → guard_truth g l ≡ guard_truth g m
+  Agree es type l m = (e : X) → Contains es e → (g : Guard) → IsGuard items e type g → guard_truth g l ≡ guard_truth g m
 
   -- labels of the type
   abbrev pub IsLabelOf : List ℕ → Label → Type 0
@@ -196,34 +174,24 @@ abbrev mutual
   IsFormInOne no_remainders f = ⊥
   IsFormInOne (remainder a g k rs) f = IsFormIn g f ⊎ IsFormInOne rs f
 
--- Forms over labels of a type. f is, or is the inner form of a remainder in, a side of a comparison or a whole number of a
--- label list of the names that a name reaches.
-abbrev pub IsFormOfName : List Item → Name → List ℕ → Form → Type 0
-IsFormOfName items n type f =
-    ((c : Compare) × IsCompareOfName items n type c × (IsFormIn c.left f ⊎ IsFormIn c.right f))
-    ⊎ ((into : List ℕ) × (m : LabelList) × IsListOfName items n type into m × (g : Form) × Contains (list_forms m) g × IsFormIn g f)
+-- a side of a comparison, or the inner form of a remainder in one
+abbrev pub IsFormInCompare : Compare → Form → Type 0
+IsFormInCompare c f = IsFormIn c.left f ⊎ IsFormIn c.right f
 
--- a form of P on the output type of the transformation, with a label list of the transformation put for the fields
-abbrev pub IsPutForm : List Item → X → List ℕ → (List ℕ → Form → Type 0) → Form → Type 0
-IsPutForm items x type P f = (into : List ℕ) × (m : LabelList) × (g : Form) × (output_of items x ≡ Some into) × IsLabelList items x type into m × P into g × (f ≡ subst_form g (list_forms m))
+-- a whole number of a label list, or the inner form of a remainder in one
+abbrev pub IsFormInList : LabelList → Form → Type 0
+IsFormInList m f = (g : Form) × Contains (list_forms m) g × IsFormIn g f
 
--- f is a form of the closed expression, over labels of the type; what is put for fields is put into inner forms first
-abbrev pub IsFormOn : List Item → X → List ℕ → Form → Type 0
-IsFormOn items (named n) type f = IsFormOfName items n type f
-IsFormOn items (one op place x) type f = IsFormOn items x type f
-IsFormOn items (two Intersect place x y) type f = IsFormOn items x type f ⊎ IsFormOn items y type f
-IsFormOn items (two Union place x y) type f = IsFormOn items x type f ⊎ IsFormOn items y type f
-IsFormOn items (two Difference place x y) type f = IsFormOn items x type f ⊎ IsFormOn items y type f
-IsFormOn items (two PreImage place x y) type f = IsFormOn items x type f ⊎ IsFormOn items y type f ⊎ IsPutForm items x type (λ i g. IsFormOn items y i g) f
-IsFormOn items (two Compose place x y) type f = IsFormOn items x type f ⊎ IsFormOn items y type f ⊎ IsPutForm items x type (λ i g. IsFormOn items y i g) f
-IsFormOn items (two Restrict place x y) type f = IsFormOn items x type f ⊎ IsFormOn items y type f
-IsFormOn items (two RestrictOut place x y) type f = IsFormOn items x type f ⊎ IsFormOn items y type f ⊎ IsPutForm items x type (λ i g. IsFormOn items y i g) f
-IsFormOn items (two Apply place x y) type f = IsFormOn items x type f
-IsFormOn items (literal name labels xs) type f = ⊥
-
--- f is such a form, or the inner form of a remainder in one
-abbrev pub IsFormOf : List Item → X → Form → Type 0
-IsFormOf items e f = (type : List ℕ) × (g : Form) × IsFormOn items e type g × IsFormIn g f
+-- f is a form of the expression: in a comparison or in a label list of it. A label list is put for the fields from the inside
+-- out, and what is made of an inner form counts where the whole no longer has it.
+pub data IsFormOf (items : List Item) : X → Form → Type 0 where
+  form_of_compare : (e : X) (type : List ℕ) (c : Compare) (f : Form) → IsCompare items e type c → IsFormInCompare c f → IsFormOf items e f
+  form_of_list : (e : X) (from into : List ℕ) (m : LabelList) (f : Form) → IsLabelList items e from into m → IsFormInList m f → IsFormOf items e f
+  form_opened : (n : Name) (x : X) (f : Form) → Opens items n.text x → IsFormOf items x f → IsFormOf items (named n) f
+  form_of_operand : (e x : X) (f : Form) → Contains (operands e) x → IsFormOf items x f → IsFormOf items e f
+  put_in_compare : (e y : X) (type into : List ℕ) (m : LabelList) (c : Compare) (f : Form) → IsPutList items e y type into m → IsCompare items y into c → IsFormInCompare c f → IsFormOf items e (subst_form f (list_forms m))
+  put_in_list : (place : Pos) (x y : X) (from middle into : List ℕ) (m n : LabelList) (f : Form) → output_of items x ≡ Some middle → IsLabelList items x from middle m → IsLabelList items y middle into n → IsFormInList n f
+      → IsFormOf items (two Compose place x y) (subst_form f (list_forms m))
 
 -- two comparisons of equal forms, of the same kind
 abbrev pub IsSameCompare : Compare → Compare → Type 0

@@ -5,7 +5,7 @@ use Rattle.fast_fault.specs.declared.place.Pos.{Pos}
 use Rattle.fast_fault.specs.declared.code.Code.{Code}
 use Rattle.fast_fault.specs.declared.code.Code.TheVariants.{UnknownName, WrongKind, WrongRank, WrongSort, NumberRange, TooMany}
 use Rattle.fast_fault.specs.declared.refusal.Refusal.{Refusal}
-use Rattle.model_tree.specs.Label.{Label, whole}
+use Rattle.model_tree.specs.Label.{Label, whole, row}
 use Rattle.model_tree.specs.Tree.{node, Trees, no_trees, tree, LabelTree}
 use Rattle.model_tree.specs.Kept.{is_kept_field}
 use Rattle.model_tree.specs.Signature.{PlainField, PlainSignature, names_of, ranks_of, sort_of}
@@ -58,9 +58,9 @@ IsNameOf items kind name = option_and_then (λ item. own_kind item.body) (find_i
 
 -- ---- files of trees, whose labels are constants
 
-abbrev pub count : FileTrees → ℕ
-count file.no_trees = 0
-count (and_tree t ts) = suc (count ts)
+abbrev pub file_tree_count : FileTrees → ℕ
+file_tree_count file.no_trees = 0
+file_tree_count (and_tree t ts) = suc (file_tree_count ts)
 
 -- of a constant: it isn't of the field's sort; it is a number without 64 bits; it is a text of more than 4,096 bytes
 abbrev pub sort_failures : PlainField → Expr → List Refusal
@@ -90,7 +90,7 @@ module _ (signature : PlainSignature) where
   abbrev mutual
     pub tree_failures : FileTree → List Refusal
     tree_failures (file.node place name labels trees) =
-        head_failures (number_named (names_of signature) name.text) (count trees) name.place
+        head_failures (number_named (names_of signature) name.text) (file_tree_count trees) name.place
         ++ (fails_if (not (length signature.fields == length labels)) WrongRank name.place
         ++ (label_failures signature.fields labels ++ trees_failures trees))
 
@@ -101,7 +101,7 @@ module _ (signature : PlainSignature) where
   abbrev mutual
     -- the tree that one of a file stands for
     pub StandsFor : FileTree → LabelTree → Type 0
-    StandsFor (file.node place name labels trees) (node c l ts) = (number_named (names_of signature) name.text ≡ Some c) × (l ≡ made_label [] labels l) × StandFor trees ts
+    StandsFor (file.node place name labels trees) (node c l ts) = (number_named (names_of signature) name.text ≡ Some c) × (l ≡ made_label [] signature.fields labels (row [])) × StandFor trees ts
 
     pub StandFor : FileTrees → Trees Label → Type 0
     StandFor file.no_trees no_trees = Unit {0}

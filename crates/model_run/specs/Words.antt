@@ -2,23 +2,23 @@
 use Rattle.std.specs.Prelude.{◌≡◌, ◌≢◌, ◌≤◌, ℕ, List, [], ◌∷◌, Option, Some, None, codes, decimal, unwrap_or}
 
 -- The words of a command line are the bytes of each. A file is its name.
-pub data Form : Type 0 where
-  check_form : List ℕ → Form
-  run_form : List ℕ → Option ℕ → Form
+pub data CommandForm : Type 0 where
+  check_form : List ℕ → CommandForm
+  run_form : List ℕ → Option ℕ → CommandForm
   -- a file, a name in it, and a file of trees
-  apply_form : List ℕ → List ℕ → List ℕ → Form
-  accepts_form : List ℕ → List ℕ → List ℕ → Form
-  self_form : ℕ → Form
+  apply_form : List ℕ → List ℕ → List ℕ → CommandForm
+  accepts_form : List ℕ → List ℕ → List ℕ → CommandForm
+  self_form : ℕ → CommandForm
 
 -- check FILE; run FILE; run FILE --classes N, with N from 1 to 2000; apply FILE NAME TREES; accepts FILE NAME TREES; self N,
 -- with N from 1 to 200. FILE, NAME and TREES are not empty, and N is decimal.
-abbrev pub IsForm : List (List ℕ) → Form → Type 0
-IsForm words (check_form file) = (file ≢ []) × (words ≡ codes "check" ∷ file ∷ [])
-IsForm words (run_form file None) = (file ≢ []) × (words ≡ codes "run" ∷ file ∷ [])
-IsForm words (run_form file (Some n)) = (file ≢ []) × (1 ≤ n) × (n ≤ 2000) × (words ≡ codes "run" ∷ file ∷ codes "--classes" ∷ decimal n ∷ [])
-IsForm words (apply_form file name trees) = (file ≢ []) × (name ≢ []) × (trees ≢ []) × (words ≡ codes "apply" ∷ file ∷ name ∷ trees ∷ [])
-IsForm words (accepts_form file name trees) = (file ≢ []) × (name ≢ []) × (trees ≢ []) × (words ≡ codes "accepts" ∷ file ∷ name ∷ trees ∷ [])
-IsForm words (self_form n) = (1 ≤ n) × (n ≤ 200) × (words ≡ codes "self" ∷ decimal n ∷ [])
+abbrev pub AreWordsOf : List (List ℕ) → CommandForm → Type 0
+AreWordsOf words (check_form file) = (file ≢ []) × (words ≡ codes "check" ∷ file ∷ [])
+AreWordsOf words (run_form file None) = (file ≢ []) × (words ≡ codes "run" ∷ file ∷ [])
+AreWordsOf words (run_form file (Some n)) = (file ≢ []) × (1 ≤ n) × (n ≤ 2000) × (words ≡ codes "run" ∷ file ∷ codes "--classes" ∷ decimal n ∷ [])
+AreWordsOf words (apply_form file name trees) = (file ≢ []) × (name ≢ []) × (trees ≢ []) × (words ≡ codes "apply" ∷ file ∷ name ∷ trees ∷ [])
+AreWordsOf words (accepts_form file name trees) = (file ≢ []) × (name ≢ []) × (trees ≢ []) × (words ≡ codes "accepts" ∷ file ∷ name ∷ trees ∷ [])
+AreWordsOf words (self_form n) = (1 ≤ n) × (n ≤ 200) × (words ≡ codes "self" ∷ decimal n ∷ [])
 
 -- the number of trees that may be told apart
 abbrev pub limit_of : Option ℕ → ℕ

@@ -6,11 +6,13 @@
 
 ghost use Rattle.std.specs.Prelude.{◌++◌, List, ℕ, Option};
 ghost use Rattle.fast_fault.specs.declared.status.Status.{Status};
+ghost use Rattle.model_run.specs.Borders.{AreNotLegal};
 ghost use Rattle.model_run.specs.Examples.{AreFar, LinesAre, HaveCauses, IsReported};
-ghost use Rattle.model_run.specs.Laws.{AreFreeWhereNoCause, AreQuiet, AreVerdictsRight, ClassesAreUnions, ShownAreNotComposable};
-ghost use Rattle.model_run.specs.Report.{FormReport, IsDoable, IsDoneOrStopped, IsReport};
+ghost use Rattle.model_run.specs.Laws.{AreFreeWhereNoCause, AreQuiet, AreVerdictsRight, ClassesAreUnions, LinesOweNothing, ShownAreNotComposable};
+ghost use Rattle.model_run.specs.OwedExamples.{AreOwed};
+ghost use Rattle.model_run.specs.Report.{CommandReport, IsDoable, IsDoneOrStopped, IsReport};
 ghost use Rattle.model_run.specs.Scripts.{whole, unfinished};
-ghost use Rattle.model_run.specs.Words.{Form};
+ghost use Rattle.model_run.specs.Words.{CommandForm};
 
 /// Some lines, and a program that is generated.
 pub fn examples_of_lines()
@@ -27,6 +29,16 @@ pub fn examples_of_far_labels()
     ensures { AreFar }
 {}
 
+/// Items of which a refusal is owed, and items of which none is.
+pub fn examples_of_owed_refusals()
+    ensures { AreOwed }
+{}
+
+/// Outcomes, outputs, trees and causes that no legal report has.
+pub fn examples_at_the_borders()
+    ensures { AreNotLegal }
+{}
+
 /// A program that passes, and its report.
 pub fn example_of_a_report()
     ensures { IsReported }
@@ -34,7 +46,7 @@ pub fn example_of_a_report()
 
 /// A legal report that is cut off anywhere is an unfinished one.
 pub fn fronts_are_unfinished()
-    ensures { (form : Form) (held : List ℕ → Option (List ℕ)) (status : Status) (front back : List ℕ) → FormReport form held (whole status) (front ++ back) → FormReport form held unfinished front }
+    ensures { (form : CommandForm) (held : List ℕ → Option (List ℕ)) (status : Status) (front back : List ℕ) → CommandReport form held (whole status) (front ++ back) → CommandReport form held unfinished front }
 {}
 
 /// Types, languages and transformations stop no run.
@@ -45,6 +57,11 @@ pub fn some_items_are_quiet()
 /// What shows that two transformations are not composable does so.
 pub fn shown_are_not_composable()
     ensures { ShownAreNotComposable }
+{}
+
+/// A legal line owes no refusal for what it shows.
+pub fn legal_lines_owe_nothing()
+    ensures { LinesOweNothing }
 {}
 
 /// What is described by classes is a union of classes.
@@ -59,7 +76,7 @@ pub fn verdicts_are_right()
 
 /// Where nothing stands in the way of a whole report, a legal report is a whole one, or was stopped from outside.
 pub fn doable_is_done()
-    ensures { (words : List (List ℕ)) (held : List ℕ → Option (List ℕ)) (status : Status) (report : List ℕ) (form : Form) → IsReport words held status report → IsDoable words held form → IsDoneOrStopped status }
+    ensures { (words : List (List ℕ)) (held : List ℕ → Option (List ℕ)) (status : Status) (report : List ℕ) (form : CommandForm) → IsReport words held status report → IsDoable words held form → IsDoneOrStopped status }
 {}
 
 /// Where no item and no tree has a cause, the work stops nowhere.

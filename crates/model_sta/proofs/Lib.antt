@@ -4,3 +4,7 @@ pub mod Sets
 pub mod Reached
 pub mod Least
 pub mod Pairs
+pub mod Beside
+pub mod Told
+pub mod TreeOrder
+pub mod Counts

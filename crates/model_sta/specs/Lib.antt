@@ -5,3 +5,9 @@ pub mod Reached
 pub mod Least
 pub mod Laws
 pub mod Pairwise
+pub mod EachTwo
+pub mod Operations
+pub mod Told
+pub mod Contexts
+pub mod Loads
+pub mod Together

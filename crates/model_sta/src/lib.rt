@@ -1,9 +1,11 @@
 //! Alternating tree automata of the meaning, as plain data for contracts: rules, acceptance, the set of the states that
-//! accept a tree, and classes, which are the sets that trees have, with their least trees.
+//! accept a tree, and classes, which are the sets that trees have, with their least trees; what operations on automata
+//! promise, contexts, and when trees are too many or too large.
 //!
 //! It promises nothing that runs: what it proves is that the definitions agree with each other.
 #![tactic(auto)]
 
+ghost use Rattle.model_sta.specs.Together.{BesideIsTogether, EqualTreesAreSame, SetsAreTold, TreesAreOrdered};
 ghost use Rattle.model_sta.specs.Laws.{TestIsFact, SetIsAccepted, StepAgrees, SetByChildren, ClosedIsComplete, StepIsReached, LeastBound, HasWitness};
 
 /// The test of acceptance, its reading in words of existence, and the set of accepting states say the same; and that
@@ -21,4 +23,16 @@ pub fn laws_of_classes<L>()
     ensures step_is_reached { StepIsReached L }
     ensures least_bound { LeastBound L }
     ensures has_witness { HasWitness L }
+{}
+
+/// Sets are different where states tell their trees apart, and two automata can stand in one list of rules.
+pub fn laws_of_told_trees<L>()
+    ensures sets_are_told { SetsAreTold L }
+    ensures together { BesideIsTogether L }
+{}
+
+/// Trees have a total order wherever labels have one.
+pub fn laws_of_order<V, L>()
+    ensures ordered { TreesAreOrdered V }
+    ensures same { EqualTreesAreSame V L }
 {}

@@ -1,5 +1,0 @@
-use Rattle.model_layers.proofs.Carry.{operations_carry}
-use Rattle.model_layers.proofs.operations_carry.Goals as goal
-
-pub returns : goal.returns
-returns c = operations_carry

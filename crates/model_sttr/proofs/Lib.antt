@@ -1,0 +1,6 @@
+pub mod Instances
+pub mod Cuts
+pub mod Outputs
+pub mod Stands
+pub mod Heads
+pub mod Single

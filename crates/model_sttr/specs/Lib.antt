@@ -1,0 +1,9 @@
+pub mod Terms
+pub mod Transducer
+pub mod TermCode
+pub mod Plain
+pub mod Cuts
+pub mod Guards
+pub mod Operations
+pub mod Loads
+pub mod Laws

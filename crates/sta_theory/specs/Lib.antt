@@ -1,0 +1,12 @@
+pub mod Kinds
+pub mod Opposite
+pub mod Beside
+pub mod Contexts
+pub mod Machines
+pub mod Blocks
+pub mod Built
+pub mod Made
+pub mod Rounds
+pub mod Minimal
+pub mod Laws
+pub mod Parts
