@@ -42,7 +42,7 @@ impl Theory for Bools {
     type Chain = Never;
 
     ghost use Rattle.flat_label.specs.Bools.{bools_label, truth_at, IsBools, equal_bools, equal_fields, equal_fields_fit};
-    ghost use Rattle.std.specs.Prelude.{◌≡◌, ◌<◌};
+    ghost use Rattle.std.specs.Prelude.{◌≡◌, ◌<◌, refl};
 
     ghost label_of = { λ v. bools_label v.items };
 
@@ -50,15 +50,9 @@ impl Theory for Bools {
 
     ghost atom_fits = { λ t a. a.field < t.fields };
 
-    ghost has_label = { λ t l. IsBools t.fields l };
+    ghost meaning = { λ t. record { has = IsBools t.fields; keeps = IsBools t.fields; equal = ⟦<BoolAtom as PartialEq>⟧.eq; chain_of = λ _ _. ⊥; passes = λ _. ⊥; is_far = λ _. ⊥ } };
 
-    ghost keeps_label = { λ t l. IsBools t.fields l };
-
-    ghost chain_over = { λ t literals c. ⊥ };
-
-    ghost chain_passes = { λ t c. ⊥ };
-
-    ghost chain_is_far = { λ t c. ⊥ };
+    ghost equal_is_own = { λ t. refl };
 
     ghost equal_atoms = { λ a b l e. equal_fields a.field b.field l e };
 
@@ -67,8 +61,6 @@ impl Theory for Bools {
     ghost equal_values = { λ v w. equal_bools v.items w.items };
 
     ghost keeps_labels = { λ t l kept. kept };
-
-    ghost chain_grows = { λ t atoms more c h over. over };
 
     #[tactic(auto, using(crate::proofs::BoolFacts::on_bools))]
     fn holds(&self, atom: &BoolAtom, value: &Vec<bool>) -> bool {

@@ -116,15 +116,9 @@ impl Theory for Texts {
 
     ghost atom_fits = { λ t a. SidesFit t.fields a };
 
-    ghost has_label = { λ t l. IsTexts t.fields l };
+    ghost meaning = { λ t. record { has = IsTexts t.fields; keeps = IsTexts t.fields; equal = ⟦<TextAtom as PartialEq>⟧.eq; chain_of = λ _ _. ⊥; passes = λ _. ⊥; is_far = λ _. ⊥ } };
 
-    ghost keeps_label = { λ t l. IsTexts t.fields l };
-
-    ghost chain_over = { λ t literals c. ⊥ };
-
-    ghost chain_passes = { λ t c. ⊥ };
-
-    ghost chain_is_far = { λ t c. ⊥ };
+    ghost equal_is_own = { λ t. refl };
 
     ghost equal_atoms = { equal_atoms_hold ⟦<TextSide as PartialEq>⟧.eq (record { fields = λ _ _. refl; field_constant = λ _ _. refl; constant_field = λ _ _. refl; constants = λ _ _. refl }) };
 
@@ -133,8 +127,6 @@ impl Theory for Texts {
     ghost equal_values = { λ v w. equal_texts v.items w.items };
 
     ghost keeps_labels = { λ t l kept. kept };
-
-    ghost chain_grows = { λ t atoms more c h over. over };
 
     fn holds(&self, atom: &TextAtom, value: &Vec<Text>) -> bool {
         atom.left.text(value) == atom.right.text(value)

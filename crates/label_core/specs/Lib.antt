@@ -2,7 +2,9 @@ pub mod Atoms
 pub mod Formula
 pub mod Lit
 pub mod Maps
+pub mod Meaning
 pub mod Pair
+pub mod Puts
 pub mod SameFormula
 pub mod SameLaws
 pub mod Verdict

@@ -7,10 +7,12 @@ use Rattle.std.specs.declared.cmp.Ordering.TheVariants.{Less, Equal, Greater}
 use Rattle.std.specs.Ordering.{ordering_then}
 use Rattle.model_tree.specs.Label.{Label, row, pair}
 use Rattle.label_core.specs.Atoms.{has_equal, EachHasEqual}
+use Rattle.label_core.specs.Meaning.{Meaning}
 use Rattle.label_core.specs.declared.theory.Lit.{Lit}
 use Rattle.label_core.specs.declared.pair.PairAtom.{PairAtom}
 use Rattle.label_core.specs.declared.pair.PairAtom.TheVariants.{Left, Right}
 use Rattle.label_core.specs.declared.pair.PairChain.{PairChain}
+use Rattle.label_core.specs.declared.pair.PairValue.{PairValue}
 use Rattle.label_core.specs.declared.pair.PairChain.TheVariants as chain
 
 -- what holds of the two parts of a label
@@ -64,6 +66,18 @@ module _ {P Q : Type 0} where
   right_lits [] = []
   right_lits (x ∷ xs) = right_lit x.atom x.sign (right_lits xs)
 
+-- the labels of two parts, and the chains of one of them, where atoms of two parts are equal by this test
+abbrev pub pair_meaning : {P Q V W C D : Type 0} {u : V → Label} {v : W → Label} {h : P → Label → Bool} {k : Q → Label → Bool}
+    → Meaning u h C → Meaning v k D → (PairAtom P Q → PairAtom P Q → Bool) → Meaning (λ (x : PairValue V W). pair (u x.left) (v x.right)) (pair_holds h k) (PairChain C D)
+pair_meaning M N equal = record {
+  has = HasParts M.has N.has;
+  keeps = HasParts M.keeps N.keeps;
+  equal = equal;
+  chain_of = λ literals. OfChain (M.chain_of (left_lits literals)) (N.chain_of (right_lits literals));
+  passes = OfChain M.passes N.passes;
+  is_far = OfChain M.is_far N.is_far;
+}
+
 module _ {P Q : Type 0} (e : P → P → Bool) (f : Q → Q → Bool) where
   -- the equality that is derived
   pub record IsPairEq (E : PairAtom P Q → PairAtom P Q → Bool) : Type 0 where
@@ -105,10 +119,6 @@ module _ {P Q : Type 0} (e : P → P → Bool) (f : Q → Q → Bool) (E : PairA
   rights_have_equal [] more h = All-nil (λ q. IsTrue (has_equal f (rights more) q))
   rights_have_equal (Left p ∷ atoms) more h = rights_have_equal atoms more (λ k d l. h (suc k) d (omega (arith, l)))
   rights_have_equal (Right q ∷ atoms) more h = All-cons (λ q. IsTrue (has_equal f (rights more) q)) q (rights atoms) (subst IsTrue (equal_right more q) (h 0 (Right q) (omega arith))) (rights_have_equal atoms more (λ k d l. h (suc k) d (omega (arith, l))))
-
-  pub pair_chain_grows : {C D : Type 0} (F : List P → C → Type 0) (G : List Q → D → Type 0) → ((atoms more : List P) (c : C) → EachHasEqual e atoms more → F atoms c → F more c) → ((atoms more : List Q) (d : D) → EachHasEqual f atoms more → G atoms d → G more d) → (atoms more : List (PairAtom P Q)) (c : PairChain C D) → EachHasEqual E atoms more → OfChain (F (lefts atoms)) (G (rights atoms)) c → OfChain (F (lefts more)) (G (rights more)) c
-  pair_chain_grows F G grows_left grows_right atoms more (chain.Left c) h = grows_left (lefts atoms) (lefts more) c (lefts_have_equal atoms more h)
-  pair_chain_grows F G grows_left grows_right atoms more (chain.Right d) h = grows_right (rights atoms) (rights more) d (rights_have_equal atoms more h)
 
 pub parts_kept : {F G F' G' : Label → Type 0} → ((l : Label) → F l → F' l) → ((m : Label) → G m → G' m) → (l : Label) → HasParts F G l → HasParts F' G' l
 parts_kept f g (row fields) h = h

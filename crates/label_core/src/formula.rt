@@ -4,6 +4,7 @@ ghost use Rattle.std.specs.Prelude.{◌≡◌, IfOk, map};
 ghost use Rattle.model_tree.specs.Formula as plain;
 ghost use Rattle.model_tree.specs.Formula.{formula_holds, EveryAtom};
 ghost use Rattle.label_core.specs.Formula.{plain_formula};
+ghost use Rattle.label_core.specs.Meaning.{KeepsValue};
 
 use crate::theory::Theory;
 use fast_fault::Memory;
@@ -48,7 +49,7 @@ impl<A> Formula<A> {
     /// Whether the formula holds of the value's label. Takes no memory.
     pub fn holds<T: Theory<Atom = A>>(&self, theory: &T, value: &T::Value) -> bool
         requires atoms_fit { EveryAtom (T.atom_fits theory.now) (plain_formula self.now) }
-        requires value_fits { T.keeps_label theory.now (T.label_of value.now) }
+        requires value_fits { KeepsValue (T.meaning theory.now) value.now }
         ensures { result ≡ formula_holds (λ a. T.atom_holds a (T.label_of value.now)) (plain_formula self.now) }
     {
         match self {

@@ -2,7 +2,9 @@
 
 ghost use Rattle.std.specs.Prelude.{◌≡◌, Bool, true, ℤ, IfOk};
 ghost use Rattle.model_tree.specs.Label.{Label};
+ghost use Rattle.model_tree.specs.Kept.{is_kept_label};
 ghost use Rattle.label_core.specs.Maps.{IsMade, IsPut, IsChained};
+ghost use Rattle.label_core.specs.Meaning.{KeepsValue};
 
 use crate::formula::Formula;
 use crate::theory::Theory;
@@ -49,6 +51,9 @@ pub trait Labels: Theory {
     /// Whether an atom has this number, outside its range, once a map's entries are put.
     ghost put_outside: { Self.Map → Self.Atom → ℤ → Type 0 };
 
+    /// Whether a map is the second one with the first one's entries put for the fields.
+    ghost is_chained: { Self.Map → Self.Map → Self.Map → Type 0 };
+
     /// Whether the second map has this number, outside its range, once the first one's entries are put.
     ghost chain_outside: { Self.Map → Self.Map → ℤ → Type 0 };
 
@@ -64,7 +69,7 @@ pub trait Labels: Theory {
         value: &Self::Value,
     ) -> Result<Applied<Self::Value>, Memory>
         requires map_fits { map_fits self.now map.now }
-        requires value_fits { Self.keeps_label self.now (Self.label_of value.now) }
+        requires value_fits { KeepsValue (Self.meaning self.now) value.now }
         ensures { IfOk result (IsMade Self.label_of (make map.now (Self.label_of value.now))) };
 
     /// What an atom over the labels that the map makes says of the labels that it makes them of.
@@ -76,7 +81,7 @@ pub trait Labels: Theory {
     ) -> Result<Put<Self::Atom>, Memory>
         requires map_fits { map_fits self.now map.now }
         requires atom_fits { (made : Self) × map_makes made map.now × Self.atom_fits made atom.now }
-        ensures { IfOk result (IsPut Self.atom_holds (Self.has_label self.now) (Self.atom_fits self.now) (is_put map.now atom.now) (put_outside map.now atom.now) (λ l. Self.atom_holds atom.now (make map.now l))) };
+        ensures { IfOk result (IsPut (Self.meaning self.now) (Self.atom_fits self.now) (is_put map.now atom.now) (put_outside map.now atom.now) (λ l. Self.atom_holds atom.now (make map.now l))) };
 
     /// The second map after the first one.
     fn chain_maps(
@@ -87,10 +92,13 @@ pub trait Labels: Theory {
     ) -> Result<PutMap<Self::Map>, Memory>
         requires first_fits { map_fits self.now first.now }
         requires second_fits { (made : Self) × map_makes made first.now × map_fits made second.now }
-        ensures { IfOk result (IsChained make (Self.has_label self.now) (λ map. map_fits self.now map × ((made : Self) → map_makes made second.now → map_makes made map)) (chain_outside first.now second.now) (λ l. make second.now (make first.now l))) };
+        ensures { IfOk result (IsChained (Self.meaning self.now) make (is_chained first.now second.now) (λ map. map_fits self.now map × ((made : Self) → map_makes made second.now → map_makes made map)) (chain_outside first.now second.now) (λ l. make second.now (make first.now l))) };
 
     /// A map of a theory's labels makes labels of the theory that it is into.
-    ghost made_labels: { (t made : Self) (m : Self.Map) (l : Label) → map_fits t m → map_makes made m → Self.has_label t l → Self.has_label made (make m l) };
+    ghost made_labels: { (t made : Self) (m : Self.Map) (l : Label) → map_fits t m → map_makes made m → (Self.meaning t).has l → (Self.meaning made).has (make m l) };
+
+    /// A label made whose numbers are all in the label range is one that this theory keeps.
+    ghost made_kept: { (t made : Self) (m : Self.Map) (l : Label) → map_fits t m → map_makes made m → (Self.meaning t).has l → is_kept_label (make m l) ≡ true → (Self.meaning made).keeps (make m l) };
 
     /// Equal maps make equal labels.
     ghost equal_maps: { (m n : Self.Map) (l : Label) → Self.Map.eq m n ≡ true → make m l ≡ make n l };

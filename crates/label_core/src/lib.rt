@@ -8,6 +8,7 @@ mod copies;
 mod formula;
 mod labels;
 mod pair;
+mod puts;
 mod same;
 mod theory;
 
@@ -15,4 +16,5 @@ pub use copies::Duplicate;
 pub use formula::{Formula, conjunction, disjunction, negation};
 pub use labels::{Applied, Labels, Put, PutMap};
 pub use pair::{Pair, PairAtom, PairChain, PairValue};
+pub use puts::put_formula;
 pub use theory::{Lit, Theory, Verdict};

@@ -109,7 +109,7 @@ impl<A: Theory, B: Theory> Theory for Pair<A, B> {
 
     ghost use Rattle.std.specs.Prelude.{refl};
     ghost use Rattle.model_tree.specs.Label.{pair};
-    ghost use Rattle.label_core.specs.Pair.{pair_holds, OfAtom, HasParts, OfChain, lefts, rights, equal_pair_atoms, equal_pair_atoms_fit, equal_parts, parts_kept, pair_chain_grows};
+    ghost use Rattle.label_core.specs.Pair.{pair_holds, pair_meaning, OfAtom, equal_pair_atoms, equal_pair_atoms_fit, equal_parts, parts_kept};
 
     ghost label_of = { λ v. pair (A.label_of v.left) (B.label_of v.right) };
 
@@ -117,15 +117,9 @@ impl<A: Theory, B: Theory> Theory for Pair<A, B> {
 
     ghost atom_fits = { λ t. OfAtom (A.atom_fits t.left) (B.atom_fits t.right) };
 
-    ghost has_label = { λ t. HasParts (A.has_label t.left) (B.has_label t.right) };
+    ghost meaning = { λ t. pair_meaning (A.meaning t.left) (B.meaning t.right) ⟦<PairAtom<A::Atom, B::Atom> as PartialEq>⟧.eq };
 
-    ghost keeps_label = { λ t. HasParts (A.keeps_label t.left) (B.keeps_label t.right) };
-
-    ghost chain_over = { λ t atoms. OfChain (A.chain_over t.left (lefts atoms)) (B.chain_over t.right (rights atoms)) };
-
-    ghost chain_passes = { λ t. OfChain (A.chain_passes t.left) (B.chain_passes t.right) };
-
-    ghost chain_is_far = { λ t. OfChain (A.chain_is_far t.left) (B.chain_is_far t.right) };
+    ghost equal_is_own = { λ t. refl };
 
     ghost equal_atoms = { equal_pair_atoms A.Atom.eq B.Atom.eq ⟦<PairAtom<A::Atom, B::Atom> as PartialEq>⟧.eq (record { left_left = λ _ _. refl; left_right = λ _ _. refl; right_left = λ _ _. refl; right_right = λ _ _. refl }) A.atom_holds B.atom_holds A.equal_atoms B.equal_atoms };
 
@@ -134,8 +128,6 @@ impl<A: Theory, B: Theory> Theory for Pair<A, B> {
     ghost equal_values = { λ v w. equal_parts _ _ _ _ _ _ (A.equal_values v.left w.left) (B.equal_values v.right w.right) };
 
     ghost keeps_labels = { λ t l. parts_kept (A.keeps_labels t.left) (B.keeps_labels t.right) l };
-
-    ghost chain_grows = { λ t. pair_chain_grows A.Atom.eq B.Atom.eq ⟦<PairAtom<A::Atom, B::Atom> as PartialEq>⟧.eq (record { left_left = λ _ _. refl; left_right = λ _ _. refl; right_left = λ _ _. refl; right_right = λ _ _. refl }) (A.chain_over t.left) (B.chain_over t.right) (A.chain_grows t.left) (B.chain_grows t.right) };
 
     fn holds(
         &self,

@@ -1,11 +1,11 @@
 //! What a label algebra has to bring.
 
-ghost use Rattle.std.specs.Prelude.{◌≡◌, ◌↔◌, Bool, true, IsTrue, List, IfOk};
+ghost use Rattle.std.specs.Prelude.{◌≡◌, ◌↔◌, Bool, true, IsTrue, IfOk};
 ghost use Rattle.std.specs.declared.cmp.Ordering.TheVariants.{Equal};
 ghost use Rattle.model_tree.specs.Label.{Label};
-ghost use Rattle.label_core.specs.Lit.{SatisfiesAll, LitsFit, atoms_of};
-ghost use Rattle.label_core.specs.Atoms.{EachHasEqual};
-ghost use Rattle.label_core.specs.Verdict.{Decides};
+ghost use Rattle.label_core.specs.Lit.{LitsFit};
+ghost use Rattle.label_core.specs.Meaning.{Meaning, KeepsValue};
+ghost use Rattle.label_core.specs.Verdict.{DecidesAll};
 
 use crate::copies::Duplicate;
 use fast_fault::Memory;
@@ -44,25 +44,13 @@ pub trait Theory {
     /// Whether an atom speaks of this theory's labels.
     ghost atom_fits: { Self → Self.Atom → Type 0 };
 
-    /// Which labels the meaning has.
-    ghost has_label: { Self → Label → Type 0 };
-
-    /// Which of these a value may stand for.
-    ghost keeps_label: { Self → Label → Type 0 };
-
-    /// Whether a chain is over these atoms.
-    ghost chain_over: { Self → List Self.Atom → Self.Chain → Type 0 };
-
-    /// Whether a chain passes its width.
-    ghost chain_passes: { Self → Self.Chain → Type 0 };
-
-    /// Whether a chain is far: it has a solution, and only outside the kept labels.
-    ghost chain_is_far: { Self → Self.Chain → Type 0 };
+    /// Which labels there are and which of them a value may stand for, which atoms are equal, and what a chain shows.
+    ghost meaning: { Self → Meaning label_of atom_holds Self.Chain };
 
     /// Whether the atom holds of the value's label. Takes no memory.
     fn holds(&self, atom: &Self::Atom, value: &Self::Value) -> bool
         requires atom_fits { atom_fits self.now atom.now }
-        requires value_fits { keeps_label self.now (label_of value.now) }
+        requires value_fits { KeepsValue (meaning self.now) value.now }
         ensures { result ≡ atom_holds atom.now (label_of value.now) };
 
     /// Decides the conjunction of the literals.
@@ -72,7 +60,7 @@ pub trait Theory {
         literals: &[Lit<Self::Atom>],
     ) -> Result<Verdict<Self::Value, Self::Chain>, Memory>
         requires { LitsFit (atom_fits self.now) literals.now }
-        ensures { IfOk result (Decides label_of (has_label self.now) (keeps_label self.now) (SatisfiesAll atom_holds literals.now) (λ chain. chain_over self.now (atoms_of literals.now) chain × chain_passes self.now chain) (chain_is_far self.now)) };
+        ensures { IfOk result (DecidesAll (meaning self.now) literals.now) };
 
     /// A value of the same label.
     fn copy_value(&self, alloc: Global, value: &Self::Value) -> Result<Self::Value, Memory>
@@ -80,7 +68,10 @@ pub trait Theory {
 
     /// Of a chain that passes its width, as each one that `decide` gives: whether it is far. Takes no memory.
     fn far(&self, chain: &Self::Chain) -> bool
-        ensures { chain_passes self.now chain.now → IsTrue result ↔ chain_is_far self.now chain.now };
+        ensures { (meaning self.now).passes chain.now → IsTrue result ↔ (meaning self.now).is_far chain.now };
+
+    /// The equality of the meaning is the atoms' own.
+    ghost equal_is_own: { (t : Self) → (meaning t).equal ≡ Self.Atom.eq };
 
     /// Equal atoms hold of the same labels.
     ghost equal_atoms: { (a b : Self.Atom) (l : Label) → Self.Atom.eq a b ≡ true → atom_holds a l ≡ atom_holds b l };
@@ -92,8 +83,5 @@ pub trait Theory {
     ghost equal_values: { (v w : Self.Value) → (Self.Value.cmp v w ≡ Equal) ↔ (label_of v ≡ label_of w) };
 
     /// A kept label is a label of the meaning.
-    ghost keeps_labels: { (t : Self) (l : Label) → keeps_label t l → has_label t l };
-
-    /// A chain over some atoms is over each list that has an equal one of each of them.
-    ghost chain_grows: { (t : Self) (atoms more : List Self.Atom) (chain : Self.Chain) → EachHasEqual Self.Atom.eq atoms more → chain_over t atoms chain → chain_over t more chain };
+    ghost keeps_labels: { (t : Self) (l : Label) → (meaning t).keeps l → (meaning t).has l };
 }

@@ -1,6 +1,11 @@
 pub mod SameAtoms
 pub mod Truths
-pub mod Fronts
+pub mod Opens
+pub mod Forcing
+pub mod Literals
+pub mod Weights
+pub mod Branches
+pub mod Numbering
 pub mod RowLists
 pub mod Signs
 pub mod Verdicts

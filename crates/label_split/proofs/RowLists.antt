@@ -1,15 +1,18 @@
 -- Facts on lists of rows of signs.
-use Rattle.std.proofs.Common.{◌≡◌, ◌⊎◌, inl, inr, Bool, true, false, not, List, [], ◌∷◌, ◌++◌, map, length, get_or, All, Contains, ℕ, zero, suc, ◌<◌, refl, sym, ap, ◌∙◌, subst, append_assoc, arith}
+use Rattle.std.proofs.Common.{◌≡◌, ◌⊎◌, inl, inr, Bool, true, false, not, List, [], ◌∷◌, ◌++◌, map, length, get_or, All, Contains, ℕ, zero, suc, ◌<◌, ◌≤◌, ◌+◌, ◌-◌, take, refl, sym, ap, ◌∙◌, subst, append_assoc, arith}
 use Rattle.std.specs.List.{AllPairs}
-use Rattle.std.proofs.lemmas.List.{length-map}
+use Rattle.std.proofs.lemmas.List.{length-map, length-take, map-append}
 use Rattle.std.proofs.lemmas.List.Elements.{All-nil, All-cons, All-append, All-map, Contains-append_left, Contains-append_right, Contains-append_cases}
 use Rattle.std.proofs.lemmas.List.Quantifiers.{all_pairs_push}
 use Rattle.std.proofs.lemmas.List.Kept.{AllPairs-cons}
 use Rattle.model_tree.specs.Label.{Label}
+use Rattle.label_core.specs.Meaning.{Meaning, IsChainOver}
 use Rattle.label_split.specs.declared.rows.SignRow.{SignRow}
 use Rattle.label_split.specs.declared.rows.SplitStop.{SplitStop}
 use Rattle.label_split.specs.declared.rows.SplitStop.TheVariants.{TooMany, Wide, Memory}
-use Rattle.label_split.specs.Split.{IsRow, StopsFor, SplitsInto, HasMoreRows, HasUnkeptRow, AreLonger, Extends, IsPartly}
+use Rattle.label_split.specs.declared.rows.Noted.{Noted}
+use Rattle.label_split.specs.Noted.{rows_of}
+use Rattle.label_split.specs.Split.{IsRow, Stops, SplitsInto, HasMoreRows, HasUnkeptRow, AreLonger, Extends, IsPartly}
 
 -- the last of a list, and what comes before it
 all_front : {X : Type 0} (P : X → Type 0) (xs : List X) (x : X) → All P (xs ++ x ∷ []) → All P xs × P x
@@ -53,10 +56,10 @@ one_or_other true false = inr refl
 one_or_other false true = inr refl
 one_or_other false false = inl refl
 
-module _ {V : Type 0} (label_of : V → Label) (has keeps : Label → Type 0) (before after : Label → List Bool) (last : Label → Bool) (more : (l : Label) → after l ≡ before l ++ last l ∷ []) where
-  module _ (row kept : SignRow V) (b : Bool) (sound : IsRow label_of keeps before row) (value_is : label_of kept.value ≡ label_of row.value) (b_is : b ≡ last (label_of row.value)) (signs_are : kept.signs.items ≡ row.signs.items ++ b ∷ []) where
-    pub kept_sound : IsRow label_of keeps after kept
-    kept_sound = (subst keeps (sym value_is) sound.0, signs_are ∙ (λ i. sound.1 i ++ b_is i ∷ []) ∙ sym (more (label_of row.value)) ∙ ap after (sym value_is))
+module _ {A V W : Type 0} {label_of : V → Label} {holds : A → Label → Bool} (M : Meaning label_of holds W) (before after : Label → List Bool) (last : Label → Bool) (more : (l : Label) → after l ≡ before l ++ last l ∷ []) where
+  module _ (row kept : SignRow V) (b : Bool) (sound : IsRow M before row) (value_is : label_of kept.value ≡ label_of row.value) (b_is : b ≡ last (label_of row.value)) (signs_are : kept.signs.items ≡ row.signs.items ++ b ∷ []) where
+    pub kept_sound : IsRow M after kept
+    kept_sound = (subst M.keeps (sym value_is) sound.0, signs_are ∙ (λ i. sound.1 i ++ b_is i ∷ []) ∙ sym (more (label_of row.value)) ∙ ap after (sym value_is))
 
     -- a label whose row begins so has one of the two signs at the end
     at_end : (l : Label) → row.signs.items ≡ before l → (last l ≡ b) ⊎ (last l ≡ not b) → (kept.signs.items ≡ after l) ⊎ (after l ≡ row.signs.items ++ not b ∷ [])
@@ -68,9 +71,9 @@ module _ {V : Type 0} (label_of : V → Label) (has keeps : Label → Type 0) (b
     only_kept l none (inr e) = absurd (none e)
 
     -- the row with the sign of its value, where no label has the other
-    pub longer_alone : ((l : Label) → has l → ¬ (after l ≡ row.signs.items ++ not b ∷ [])) → AreLonger label_of has keeps before after row (kept ∷ [])
+    pub longer_alone : ((l : Label) → M.has l → ¬ (after l ≡ row.signs.items ++ not b ∷ [])) → AreLonger M before after row (kept ∷ [])
     longer_alone none = record {
-      sound = all_first (IsRow label_of keeps after) kept kept_sound;
+      sound = all_first (IsRow M after) kept kept_sound;
       complete = λ l h e. only_kept l (none l h) (at_end l e (one_or_other (last l) b));
       apart = λ i j d less low. absurd (omega arith);
       begin = all_first (λ r. (b : Bool) × (r.signs.items ≡ row.signs.items ++ b ∷ [])) kept (b, signs_are);
@@ -81,20 +84,20 @@ module _ {V : Type 0} (label_of : V → Label) (has keeps : Label → Type 0) (b
     either_kept other l is (inr e) = (other, first_of other (kept ∷ []), is ∙ sym e)
 
     -- with one of the other sign
-    pub longer_both : (other : SignRow V) → IsRow label_of keeps after other → other.signs.items ≡ row.signs.items ++ not b ∷ [] → AreLonger label_of has keeps before after row (other ∷ kept ∷ [])
+    pub longer_both : (other : SignRow V) → IsRow M after other → other.signs.items ≡ row.signs.items ++ not b ∷ [] → AreLonger M before after row (other ∷ kept ∷ [])
     longer_both other holds is = record {
-      sound = All-cons (IsRow label_of keeps after) other (kept ∷ []) holds (all_first (IsRow label_of keeps after) kept kept_sound);
+      sound = All-cons (IsRow M after) other (kept ∷ []) holds (all_first (IsRow M after) kept kept_sound);
       complete = λ l h e. either_kept other l is (at_end l e (one_or_other (last l) b));
       apart = all_pairs_push (λ q r. ¬ (q.signs.items ≡ r.signs.items)) (other ∷ []) kept (λ i j d less low. absurd (omega arith))
           (all_first (λ q. ¬ (q.signs.items ≡ kept.signs.items)) other (λ e. not_same b (sym (same_last row.signs.items row.signs.items (not b) b (sym is ∙ e ∙ signs_are)))));
       begin = All-cons (λ r. (b : Bool) × (r.signs.items ≡ row.signs.items ++ b ∷ [])) other (kept ∷ []) (not b, is) (all_first (λ r. (b : Bool) × (r.signs.items ≡ row.signs.items ++ b ∷ [])) kept (b, signs_are));
     }
 
-  module _ (row kept : SignRow V) (b : Bool) (sound : IsRow label_of keeps before row) (value_is : label_of kept.value ≡ label_of row.value) (b_is : b ≡ last (label_of row.value)) (signs_are : kept.signs.items ≡ row.signs.items ++ b ∷ []) (old mid new : List (SignRow V)) (pushed : new ≡ mid ++ kept ∷ []) where
-    pub extends_alone : mid ≡ old → ((l : Label) → has l → ¬ (after l ≡ row.signs.items ++ not b ∷ [])) → Extends label_of has keeps before after row old new
+  module _ (row kept : SignRow V) (b : Bool) (sound : IsRow M before row) (value_is : label_of kept.value ≡ label_of row.value) (b_is : b ≡ last (label_of row.value)) (signs_are : kept.signs.items ≡ row.signs.items ++ b ∷ []) (old mid new : List (SignRow V)) (pushed : new ≡ mid ++ kept ∷ []) where
+    pub extends_alone : mid ≡ old → ((l : Label) → M.has l → ¬ (after l ≡ row.signs.items ++ not b ∷ [])) → Extends M before after row old new
     extends_alone is none = (kept ∷ [], pushed ∙ ap (λ rs. rs ++ kept ∷ []) is, longer_alone row kept b sound value_is b_is signs_are none)
 
-    pub extends_both : (other : SignRow V) → mid ≡ old ++ other ∷ [] → IsRow label_of keeps after other → other.signs.items ≡ row.signs.items ++ not b ∷ [] → Extends label_of has keeps before after row old new
+    pub extends_both : (other : SignRow V) → mid ≡ old ++ other ∷ [] → IsRow M after other → other.signs.items ≡ row.signs.items ++ not b ∷ [] → Extends M before after row old new
     extends_both other is holds signs = (other ∷ kept ∷ [], pushed ∙ ap (λ rs. rs ++ kept ∷ []) is ∙ append_assoc old (other ∷ []) (kept ∷ []), longer_both row kept b sound value_is b_is signs_are other holds signs)
 
 module _ {X : Type 0} (R : X → X → Type 0) where
@@ -120,12 +123,12 @@ module _ {X : Type 0} (R : X → X → Type 0) where
   pairs_map f [] h = λ i j d less low. absurd (omega arith)
   pairs_map f (y ∷ ys) h = AllPairs-cons R (f y) (map f ys) (All-map (R (f y)) f ys (λ k d l. h 0 (suc k) d (omega arith) (omega (arith, l)))) (pairs_map f ys (λ i j d less low. h (suc i) (suc j) d (omega (arith, less)) (omega (arith, low))))
 
-module _ {V : Type 0} (label_of : V → Label) (has keeps : Label → Type 0) (before after : Label → List Bool) where
-  pub partly_start : (rows : List (SignRow V)) → SplitsInto label_of has keeps before rows → IsPartly label_of has keeps before after rows []
+module _ {A V W : Type 0} {label_of : V → Label} {holds : A → Label → Bool} (M : Meaning label_of holds W) (before after : Label → List Bool) where
+  pub partly_start : (rows : List (SignRow V)) → SplitsInto M before rows → IsPartly M before after rows []
   partly_start rows s = record {
     rest_sound = s.sound;
     rest_apart = s.apart;
-    sound = All-nil (IsRow label_of keeps after);
+    sound = All-nil (IsRow M after);
     apart = λ i j d less low. absurd (omega arith);
     complete = λ l h. inl (s.complete l h);
     unlike = λ k d low. All-nil (λ r. (b : Bool) → ¬ (r.signs.items ≡ (get_or rows k d).signs.items ++ b ∷ []));
@@ -135,43 +138,43 @@ module _ {V : Type 0} (label_of : V → Label) (has keeps : Label → Type 0) (b
   ended refined l (inl x) = let k = x.1 in absurd (omega (arith, k.1))
   ended refined l (inr y) = y
 
-  partly_end : (refined : List (SignRow V)) → IsPartly label_of has keeps before after [] refined → SplitsInto label_of has keeps after refined
+  partly_end : (refined : List (SignRow V)) → IsPartly M before after [] refined → SplitsInto M after refined
   partly_end refined p = record {
     sound = p.sound;
     complete = λ l h. ended refined l (p.complete l h);
     apart = p.apart;
   }
 
-  pub partly_done : (rows refined : List (SignRow V)) → length rows ≡ 0 → IsPartly label_of has keeps before after rows refined → SplitsInto label_of has keeps after refined
+  pub partly_done : (rows refined : List (SignRow V)) → length rows ≡ 0 → IsPartly M before after rows refined → SplitsInto M after refined
   partly_done [] refined e p = partly_end refined p
   partly_done (r ∷ rows) refined e p = absurd (omega arith)
 
-  module _ (rest : List (SignRow V)) (row : SignRow V) (refined added : List (SignRow V)) (p : IsPartly label_of has keeps before after (rest ++ row ∷ []) refined) (longer : AreLonger label_of has keeps before after row added) where
+  module _ (rest : List (SignRow V)) (row : SignRow V) (refined added : List (SignRow V)) (p : IsPartly M before after (rest ++ row ∷ []) refined) (longer : AreLonger M before after row added) where
     last_row : {r : SignRow V} → Contains (row ∷ []) r → r ≡ row
     last_row (zero, low, e) = sym e
     last_row (suc k, low, e) = absurd (omega (arith, low))
 
-    from_rest : (l : Label) → has l → (r : SignRow V) → r.signs.items ≡ before l → Contains rest r ⊎ Contains (row ∷ []) r
+    from_rest : (l : Label) → M.has l → (r : SignRow V) → r.signs.items ≡ before l → Contains rest r ⊎ Contains (row ∷ []) r
         → ((r : SignRow V) × Contains rest r × (r.signs.items ≡ before l)) ⊎ ((r : SignRow V) × Contains (refined ++ added) r × (r.signs.items ≡ after l))
     from_rest l h r e (inl there) = inl (r, there, e)
     from_rest l h r e (inr here) =
         let found = longer.complete l h (ap (λ q. q.signs.items) (sym (last_row here)) ∙ e) in
         inr (found.0, Contains-append_right refined added found.0 found.1, found.2)
 
-    covered : (l : Label) → has l → ((r : SignRow V) × Contains (rest ++ row ∷ []) r × (r.signs.items ≡ before l)) ⊎ ((r : SignRow V) × Contains refined r × (r.signs.items ≡ after l))
+    covered : (l : Label) → M.has l → ((r : SignRow V) × Contains (rest ++ row ∷ []) r × (r.signs.items ≡ before l)) ⊎ ((r : SignRow V) × Contains refined r × (r.signs.items ≡ after l))
         → ((r : SignRow V) × Contains rest r × (r.signs.items ≡ before l)) ⊎ ((r : SignRow V) × Contains (refined ++ added) r × (r.signs.items ≡ after l))
     covered l h (inl x) = from_rest l h x.0 x.2 (Contains-append_cases rest (row ∷ []) x.0 x.1)
     covered l h (inr y) = inr (y.0, Contains-append_left refined added y.0 y.1, y.2)
 
     -- the rows that begin with the last of the rest
-    pub partly_step : IsPartly label_of has keeps before after rest (refined ++ added)
+    pub partly_step : IsPartly M before after rest (refined ++ added)
     partly_step =
         let others = all_front (λ q. All (λ r. (b : Bool) → ¬ (r.signs.items ≡ q.signs.items ++ b ∷ [])) refined) rest row p.unlike in
         let unlike_row = pairs_last (λ q r. ¬ (q.signs.items ≡ r.signs.items)) rest row p.rest_apart in
         record {
-          rest_sound = (all_front (IsRow label_of keeps before) rest row p.rest_sound).0;
+          rest_sound = (all_front (IsRow M before) rest row p.rest_sound).0;
           rest_apart = pairs_front (λ q r. ¬ (q.signs.items ≡ r.signs.items)) rest row p.rest_apart;
-          sound = All-append (IsRow label_of keeps after) refined added p.sound longer.sound;
+          sound = All-append (IsRow M after) refined added p.sound longer.sound;
           apart = pairs_append (λ q r. ¬ (q.signs.items ≡ r.signs.items)) refined added p.apart longer.apart
               (λ i d low. λ j f under. let begun = longer.begin j f under in λ e. others.1 i d low begun.0 (e ∙ begun.1));
           complete = λ l h. covered l h (p.complete l h);
@@ -180,46 +183,83 @@ module _ {V : Type 0} (label_of : V → Label) (has keeps : Label → Type 0) (b
         }
 
   -- one row is taken off the rest, and those that begin with it are added
-  pub partly_more : (rows rest : List (SignRow V)) (row : SignRow V) (refined new : List (SignRow V)) → rows ≡ rest ++ row ∷ [] → IsPartly label_of has keeps before after rows refined → Extends label_of has keeps before after row refined new → IsPartly label_of has keeps before after rest new
+  pub partly_more : (rows rest : List (SignRow V)) (row : SignRow V) (refined new : List (SignRow V)) → rows ≡ rest ++ row ∷ [] → IsPartly M before after rows refined → Extends M before after row refined new → IsPartly M before after rest new
   partly_more rows rest row refined new e p (added, is, longer) =
-      subst (IsPartly label_of has keeps before after rest) (sym is) (partly_step rest row refined added (subst (λ rs. IsPartly label_of has keeps before after rs refined) e p) longer)
+      subst (IsPartly M before after rest) (sym is) (partly_step rest row refined added (subst (λ rs. IsPartly M before after rs refined) e p) longer)
 
-module _ {V : Type 0} (label_of : V → Label) (has keeps : Label → Type 0) (signs : Label → List Bool) where
+module _ {A V W : Type 0} {label_of : V → Label} {holds : A → Label → Bool} (M : Meaning label_of holds W) (signs : Label → List Bool) where
   abbrev labels : List (SignRow V) → List Label
   labels rows = map (λ r. label_of r.value) rows
 
   -- too long a list shows so many labels
-  pub more_rows : (rows : List (SignRow V)) (most : ℕ) → SplitsInto label_of has keeps signs rows → most < length rows → HasMoreRows keeps signs most
+  pub more_rows : (rows : List (SignRow V)) (most : ℕ) → SplitsInto M signs rows → most < length rows → HasMoreRows M signs most
   more_rows rows most s long = (
     labels rows,
-    All-map keeps (λ r. label_of r.value) rows (λ k d l. (s.sound k d l).0),
+    All-map M.keeps (λ r. label_of r.value) rows (λ k d l. (s.sound k d l).0),
     pairs_map (λ l m. ¬ (signs l ≡ signs m)) (λ r. label_of r.value) rows (λ i j d less low e. s.apart i j d less low ((s.sound i d (omega (arith, less, low))).1 ∙ e ∙ sym (s.sound j d low).1)),
     rw length-map long,
   )
 
-module _ (has keeps : Label → Type 0) (before signs : Label → List Bool) (part : List Bool → List Bool) (is_part : (l : Label) → before l ≡ part (signs l)) where
+module _ {A V W : Type 0} {label_of : V → Label} {holds : A → Label → Bool} (M : Meaning label_of holds W) (before signs : Label → List Bool) (part : List Bool → List Bool) (is_part : (l : Label) → before l ≡ part (signs l)) where
   apart_by_part : (l m : Label) → ¬ (before l ≡ before m) → ¬ (signs l ≡ signs m)
   apart_by_part l m n e = n (is_part l ∙ ap part e ∙ sym (is_part m))
 
   -- what parts of the rows show, the rows do
-  pub more_by_part : (most : ℕ) → HasMoreRows keeps before most → HasMoreRows keeps signs most
+  pub more_by_part : (most : ℕ) → HasMoreRows M before most → HasMoreRows M signs most
   more_by_part most (ls, kept, apart, long) = (ls, kept, (λ i j d less low. apart_by_part (get_or ls i d) (get_or ls j d) (apart i j d less low)), long)
 
-  pub unkept_by_part : HasUnkeptRow has keeps before → HasUnkeptRow has keeps signs
+  pub unkept_by_part : HasUnkeptRow M before → HasUnkeptRow M signs
   unkept_by_part (l, h, none) = (l, h, λ m k. apart_by_part m l (none m k))
 
-module _ {V : Type 0} (label_of : V → Label) (has keeps : Label → Type 0) where
+module _ {A V W : Type 0} {label_of : V → Label} {holds : A → Label → Bool} (M : Meaning label_of holds W) where
   -- the one row of no signs
-  pub start_row : (row : SignRow V) → keeps (label_of row.value) → row.signs.items ≡ [] → SplitsInto label_of has keeps (λ _. []) (row ∷ [])
+  pub start_row : (row : SignRow V) → M.keeps (label_of row.value) → row.signs.items ≡ [] → SplitsInto M (λ _. []) (row ∷ [])
   start_row row k e = record {
-    sound = all_first (IsRow label_of keeps (λ _. [])) row (k, e);
+    sound = all_first (IsRow M (λ _. [])) row (k, e);
     complete = λ l h. (row, first_of row [], e);
     apart = λ i j d less low. absurd (omega arith);
   }
 
-module _ {W : Type 0} (has keeps : Label → Type 0) (before signs : Label → List Bool) (part : List Bool → List Bool) (is_part : (l : Label) → before l ≡ part (signs l)) (gives more far : W → Type 0) (grows : (w : W) → gives w → more w) (many : Type 0) where
+module _ {A V W : Type 0} {label_of : V → Label} {holds : A → Label → Bool} (M : Meaning label_of holds W) (before signs : Label → List Bool) (part : List Bool → List Bool) (is_part : (l : Label) → before l ≡ part (signs l)) (some more : List A) (grows : (w : W) → IsChainOver M some w → IsChainOver M more w) (many : Type 0) where
   -- what stops the list of parts stops the list
-  pub stop_by_part : (stop : SplitStop W) → StopsFor ⊥ has keeps before gives far stop → StopsFor many has keeps signs more far stop
+  pub stop_by_part : (stop : SplitStop W) → Stops M ⊥ before some stop → Stops M many signs more stop
   stop_by_part TooMany h = absurd h
-  stop_by_part (Wide w) h = (grows w h.0, λ f. unkept_by_part has keeps before signs part is_part (h.1 f))
+  stop_by_part (Wide w) h = ((grows w h.0.0, h.0.1), λ f. unkept_by_part M before signs part is_part (h.1 f))
   stop_by_part Memory h = tt
+
+pub no_rows : {V : Type 0} (noted : List (Noted V)) → length noted ≡ 0 → length (rows_of noted) ≡ 0
+no_rows [] e = refl
+no_rows (n ∷ ns) e = absurd (omega arith)
+
+-- rows of signs that are the same at each label
+pub splits_as : {A V W : Type 0} {label_of : V → Label} {holds : A → Label → Bool} (M : Meaning label_of holds W) (signs others : Label → List Bool) → ((l : Label) → signs l ≡ others l) → (rows : List (SignRow V)) → SplitsInto M signs rows → SplitsInto M others rows
+splits_as M signs others same rows s = record {
+  sound = λ k d low. let here = s.sound k d low in (here.0, here.1 ∙ same _);
+  complete = λ l h. let found = s.complete l h in (found.0, found.1, found.2 ∙ same l);
+  apart = s.apart;
+}
+
+-- what stops one list stops another, of rows that are the same at each label
+module _ {A V W : Type 0} {label_of : V → Label} {holds : A → Label → Bool} (M : Meaning label_of holds W) (signs others : Label → List Bool) (same : (l : Label) → signs l ≡ others l) (some more : List A) (grows : (w : W) → IsChainOver M some w → IsChainOver M more w) (many many' : Type 0) where
+  pub stop_as : (many → many') → (stop : SplitStop W) → Stops M many signs some stop → Stops M many' others more stop
+  stop_as to TooMany h = to h
+  stop_as to (Wide w) h = ((grows w h.0.0, h.0.1), λ f. unkept_by_part M signs others (λ s. s) same (h.1 f))
+  stop_as to Memory h = tt
+
+pub row_of_rest : {V : Type 0} (P : SignRow V → Type 0) (rows rest : List (Noted V)) (noted : Noted V) → rows ≡ rest ++ noted ∷ [] → All P (rows_of rows) → P noted.row
+row_of_rest P rows rest noted e h = (all_front P (rows_of rest) noted.row (subst (All P) (ap rows_of e ∙ map-append (λ n. n.row) rest (noted ∷ [])) h)).1
+
+take_less : {X : Type 0} (n m : ℕ) (xs : List X) → n ≤ m → take n (take m xs) ≡ take n xs
+take_less zero m xs l = refl
+take_less (suc n) zero xs l = absurd (omega arith)
+take_less (suc n) (suc m) [] l = refl
+take_less (suc n) (suc m) (x ∷ xs) l = ap (λ ys. x ∷ ys) (take_less n m xs (omega arith))
+
+-- all but the last of the first formulas
+pub front_again : {X : Type 0} (xs : List X) (i : ℕ) → i < length xs → take i xs ≡ take (length (take (i + 1) xs) - 1) (take (i + 1) xs)
+front_again xs i low =
+    let back : i ≡ length (take (i + 1) xs) - 1 = omega (arith, length-take (i + 1) xs) in
+    sym (take_less i (i + 1) xs (omega arith)) ∙ ap (λ n. take n (take (i + 1) xs)) back
+
+pub long_rows : {V : Type 0} (most : ℕ) (rows : List (Noted V)) → most < length rows → most < length (rows_of rows)
+long_rows most rows l = subst (λ n. most < n) (sym (length-map rows (λ n. n.row))) l

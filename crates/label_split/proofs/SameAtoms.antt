@@ -1,9 +1,9 @@
 -- Facts on atoms up to their own equality.
-use Rattle.std.proofs.Common.{◌≡◌, Bool, true, false, ◌||◌, IsTrue, List, [], ◌∷◌, ◌++◌, All, take, drop, length, get_or, ℕ, suc, ◌+◌, ◌<◌, ◌≤◌, add-one, refl, sym, ap, ◌∙◌, subst, if◌then◌else◌, arith}
+use Rattle.std.proofs.Common.{◌≡◌, Bool, true, false, ◌||◌, IsTrue, List, [], ◌∷◌, ◌++◌, All, drop, length, get_or, ℕ, suc, ◌+◌, ◌<◌, ◌≤◌, add-one, refl, sym, ap, ◌∙◌, if◌then◌else◌, arith}
 use Rattle.std.specs.List.{list_any}
 use Rattle.std.specs.Cmp.{IsEquivalence}
 use Rattle.std.proofs.lemmas.List.Elements.{All-nil, All-cons, All-append}
-use Rattle.std.proofs.lemmas.List.{drop_all, take_more, take-append-drop}
+use Rattle.std.proofs.lemmas.List.{drop_all}
 use Rattle.std.proofs.Math.Seq.{drop-cons}
 use Rattle.std.proofs.lemmas.List.Folds.{list_any-append}
 use Rattle.model_tree.specs.Formula as plain
@@ -81,36 +81,6 @@ module _ {A : Type 0} (eq : A → A → Bool) where
   pub atoms_end : (atoms : List A) (fs : List (Formula A)) (i : ℕ) (all : Bool) (a : A) → length fs ≤ i → (has_equal eq atoms a || has_equal eq (atoms_in_each (drop i fs)) a) ≡ all → has_equal eq atoms a ≡ all
   atoms_end atoms fs i all a high h = sym (or_none (has_equal eq atoms a)) ∙ ap (λ gs. has_equal eq atoms a || has_equal eq (atoms_in_each gs) a) (sym (drop_all i fs high)) ∙ h
 
-  each_append : (fs gs : List (Formula A)) (a : A) → has_equal eq (atoms_in_each (fs ++ gs)) a ≡ (has_equal eq (atoms_in_each fs) a || has_equal eq (atoms_in_each gs) a)
-  each_append [] gs a = refl
-  each_append (f ∷ fs) gs a =
-      list_any-append (eq a) (atoms_in (plain_formula f)) (atoms_in_each (fs ++ gs))
-      ∙ ap (λ b. has_equal eq (atoms_in (plain_formula f)) a || b) (each_append fs gs a)
-      ∙ sym (or_assoc (has_equal eq (atoms_in (plain_formula f)) a) (has_equal eq (atoms_in_each fs) a) (has_equal eq (atoms_in_each gs) a))
-      ∙ ap (λ b. b || has_equal eq (atoms_in_each gs) a) (sym (list_any-append (eq a) (atoms_in (plain_formula f)) (atoms_in_each fs)))
-
-  one_formula : (f : Formula A) (a : A) → has_equal eq (atoms_in_each (f ∷ [])) a ≡ has_equal eq (atoms_in (plain_formula f)) a
-  one_formula f a = list_any-append (eq a) (atoms_in (plain_formula f)) [] ∙ or_none (has_equal eq (atoms_in (plain_formula f)) a)
-
-  -- one more formula in the front of a list
-  pub atoms_taken : (old new : List A) (fs : List (Formula A)) (i : ℕ) (f : Formula A) (a : A) → i < length fs → f ≡ get_or fs i f → has_equal eq new a ≡ (has_equal eq old a || has_equal eq (atoms_in (plain_formula f)) a)
-      → has_equal eq old a ≡ has_equal eq (atoms_in_each (take i fs)) a → has_equal eq new a ≡ has_equal eq (atoms_in_each (take (i + 1) fs)) a
-  atoms_taken old new fs i f a low is e h =
-      e ∙ ap (λ b. b || has_equal eq (atoms_in (plain_formula f)) a) h
-      ∙ ap (λ b. has_equal eq (atoms_in_each (take i fs)) a || b) (sym (one_formula f a))
-      ∙ sym (each_append (take i fs) (f ∷ []) a)
-      ∙ ap (λ gs. has_equal eq (atoms_in_each gs) a) (sym (take_more fs i f low ∙ ap (λ g. take i fs ++ g ∷ []) (sym is)))
-
-module _ {A : Type 0} (eq : A → A → Bool) (laws : IsEquivalence eq) where
-  itself : (bs more : List A) → ((a : A) → IsTrue (has_equal eq bs a) → IsTrue (has_equal eq more a)) → EachHasEqual eq bs more
-  itself [] more h = All-nil (λ a. IsTrue (has_equal eq more a))
-  itself (b ∷ bs) more h = All-cons (λ a. IsTrue (has_equal eq more a)) b bs (h b (either_true (eq b b) (has_equal eq bs b) (laws.refl b))) (itself bs more (λ a e. h a (other_true (eq a b) (has_equal eq bs a) e)))
-
-  -- the atoms of the first formulas are among those of all
-  pub taken_among : (fs : List (Formula A)) (i : ℕ) → EachHasEqual eq (atoms_in_each (take i fs)) (atoms_in_each fs)
-  taken_among fs i = itself (atoms_in_each (take i fs)) (atoms_in_each fs)
-      (λ a e. subst IsTrue (sym (each_append eq (take i fs) (drop i fs) a) ∙ ap (λ gs. has_equal eq (atoms_in_each gs) a) (take-append-drop i fs)) (either_true (has_equal eq (atoms_in_each (take i fs)) a) (has_equal eq (atoms_in_each (drop i fs)) a) e))
-
 module _ {A : Type 0} (P : A → Type 0) where
   front : (xs ys : List A) → All P (xs ++ ys) → All P xs
   front [] ys h = All-nil P
@@ -154,5 +124,18 @@ module _ {A : Type 0} (P : A → Type 0) where
   pub all_atoms_of_each : (fs : List (Formula A)) → FormulasFit P fs → All P (atoms_in_each fs)
   all_atoms_of_each [] h = All-nil P
   all_atoms_of_each (f ∷ fs) h = All-append P (atoms_in (plain_formula f)) (atoms_in_each fs) (all_atoms (plain_formula f) (h 0 f (omega arith))) (all_atoms_of_each fs (λ k d b. h (suc k) d (omega (arith, b))))
+
+module _ {A : Type 0} (eq : A → A → Bool) where
+  fits_by : (F : A → Type 0) → ((a b : A) → eq a b ≡ true → F b → F a) → (b : A) (bs : List A) (a : A) (s : Bool) → eq a b ≡ s → F b → (IsTrue (has_equal eq bs a) → F a) → IsTrue (s || has_equal eq bs a) → F a
+  fits_by F same b bs a true e f rest h = same a b e f
+  fits_by F same b bs a false e f rest h = rest h
+
+  pub equal_fits : (F : A → Type 0) → ((a b : A) → eq a b ≡ true → F b → F a) → (bs : List A) → All F bs → (a : A) → IsTrue (has_equal eq bs a) → F a
+  equal_fits F same [] h a e = cc
+  equal_fits F same (b ∷ bs) h a e = fits_by F same b bs a (eq a b) refl (h 0 b (omega arith)) (equal_fits F same bs (λ k d l. h (suc k) d (omega (arith, l))) a) e
+
+  pub own_equal : IsEquivalence eq → (bs : List A) → EachHasEqual eq bs bs
+  own_equal laws [] = All-nil (λ a. IsTrue (has_equal eq [] a))
+  own_equal laws (b ∷ bs) = All-cons (λ a. IsTrue (has_equal eq (b ∷ bs) a)) b bs (either_true (eq b b) (has_equal eq bs b) (laws.refl b)) (λ k d l. other_true (eq (get_or bs k d) b) (has_equal eq bs (get_or bs k d)) (own_equal laws bs k d l))
 
 pub ruleset on_atoms = (atom_is_there, atom_is_inserted)

@@ -1,11 +1,12 @@
 -- Facts on rows of signs.
-use Rattle.std.proofs.Common.{◌≡◌, Bool, true, false, IsTrue, All, replicate, List, [], ◌∷◌, ◌++◌, take, length, get_or, ℕ, zero, suc, ◌+◌, ◌-◌, ◌<◌, refl, sym, ap, ap₂, ◌∙◌, arith}
-use Rattle.std.proofs.lemmas.List.{take_more, map-append, take_all}
+use Rattle.std.proofs.Common.{map, drop, length-append, ◌≤◌, ◌≡◌, Bool, true, false, IsTrue, All, replicate, List, [], ◌∷◌, ◌++◌, take, length, get_or, ℕ, zero, suc, ◌+◌, ◌-◌, ◌<◌, refl, sym, ap, ap₂, ◌∙◌, arith}
+use Rattle.std.proofs.lemmas.List.{take_more, map-append, take_all, length-map, length-drop, drop-map, drop_at}
 use Rattle.std.proofs.lemmas.List.Elements.{All-nil, All-cons}
 use Rattle.model_tree.specs.Label.{Label}
 use Rattle.model_tree.specs.Formula.{formula_holds}
 use Rattle.label_core.specs.Formula.{plain_formula}
 use Rattle.label_core.specs.declared.formula.Formula.{Formula}
+use Rattle.label_split.specs.Known.{holds_at}
 use Rattle.label_split.specs.Signs.{signs_at}
 
 module _ {A : Type 0} (holds : A → Label → Bool) where
@@ -51,3 +52,15 @@ module _ {A : Type 0} (holds : A → Label → Bool) where
   signs_taken [] (suc i) l = refl
   signs_taken (f ∷ fs) zero l = refl
   signs_taken (f ∷ fs) (suc i) l = ap (λ xs. formula_holds (λ a. holds a l) (plain_formula f) ∷ xs) (signs_taken fs i l)
+
+-- the sign of the last formula alone
+pub last_signs : (truths : List Bool) (fs : List (Formula ℕ)) (before : List Bool) (s : Bool) → map (holds_at truths) fs ≡ before ++ s ∷ [] → map (holds_at truths) (drop (length fs - 1) fs) ≡ s ∷ []
+last_signs truths fs before s e =
+    let long : length before ≡ length fs - 1 = omega (arith, length-map fs (holds_at truths), ap length e, length-append before (s ∷ [])) in
+    sym (drop-map (holds_at truths) (length fs - 1) fs) ∙ ap (drop (length fs - 1)) e ∙ drop_at before (s ∷ []) (length fs - 1) long
+
+-- the same of the range from the last on
+pub last_of_range : (truths : List Bool) (fs : List (Formula ℕ)) (before : List Bool) (s : Bool) → map (holds_at truths) fs ≡ before ++ s ∷ [] → map (holds_at truths) (take (length fs - (length fs - 1)) (drop (length fs - 1) fs)) ≡ s ∷ []
+last_of_range truths fs before s e =
+    let high : length (drop (length fs - 1) fs) ≤ length fs - (length fs - 1) = omega (arith, length-drop (length fs - 1) fs) in
+    ap (map (holds_at truths)) (take_all (length fs - (length fs - 1)) (drop (length fs - 1) fs) high) ∙ last_signs truths fs before s e

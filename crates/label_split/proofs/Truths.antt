@@ -1,21 +1,15 @@
 -- What is known of a formula is true, and where all its atoms are known, so is it.
-use Rattle.std.proofs.Common.{◌≡◌, Bool, true, false, not, cond, ◌&&◌, ◌||◌, Option, Some, None, IsSome, IsTrue, List, [], ◌∷◌, All, map, length, ℕ, suc, ◌+◌, refl, sym, ap, ap₂, ◌∙◌, arith, ◌⊎◌, inl, inr, get_or, drop, ◌<◌, add-one}
+use Rattle.std.proofs.Common.{◌≡◌, Bool, true, false, not, ◌&&◌, ◌||◌, Option, Some, None, IsSome, IfSome, List, [], ◌∷◌, All, map, length, ℕ, zero, suc, ◌+◌, refl, sym, ap, ap₂, ◌∙◌, arith, get_or, take, ◌++◌, ◌<◌, ◌≤◌, subst}
 use mathlib.Core.Bool.{beq}
-use Rattle.std.proofs.Math.Seq.{drop-cons}
-use Rattle.model_tree.specs.Label.{Label}
+use Rattle.std.specs.List.{list_all, list_any}
+use Rattle.std.proofs.lemmas.List.{take_more, map-append, take_all}
+use Rattle.std.proofs.lemmas.List.Elements.{All-nil, All-cons, All-append}
 use Rattle.model_tree.specs.Formula as plain
-use Rattle.model_tree.specs.Formula.{yes, no, atom, negation, all_of, some_of, no_formulas, formula, formula_holds, all_hold, some_hold, EveryAtom, EveryAtomOfAll}
-use Rattle.label_core.specs.Atoms.{has_equal}
-use Rattle.label_core.specs.Lit.{SatisfiesAll, atoms_of}
+use Rattle.model_tree.specs.Formula.{yes, no, atom, negation, all_of, some_of, no_formulas, formula, formulas_of, formula_holds, all_hold, some_hold, EveryAtom, EveryAtomOfAll}
 use Rattle.label_core.specs.Formula.{plain_formula}
 use Rattle.label_core.specs.declared.formula.Formula.{Formula}
-use Rattle.label_core.specs.declared.theory.Lit.{Lit}
-use Rattle.label_split.specs.Known.{literal_sign, denied, if_false, if_true, both, either, formula_known, all_known, some_known, contradicts, contradicts_some}
-
--- the truth value agrees with what is known
-abbrev pub Agrees : Option Bool → Bool → Type 0
-Agrees None b = Unit {0}
-Agrees (Some a) b = a ≡ b
+use Rattle.label_split.specs.Known.{denied, if_false, if_true, both, either, formula_known, all_known, some_known, Agrees, known_at, truth_at, Follows, holds_at, settled}
+use Rattle.label_split.specs.Numbers.{HaveSigns, IsUnsettled, IsWrong}
 
 agrees_not : (x : Option Bool) (b : Bool) → Agrees x b → Agrees (denied x) (not b)
 agrees_not None b h = tt
@@ -97,93 +91,101 @@ module _ {A : Type 0} (k : A → Option Bool) where
     some_in_full no_formulas h = refl
     some_in_full (formula f fs) h = some_either (formula_known k f) (some_known k fs) (known_in_full f h.0) (some_in_full fs h.1)
 
-differs : (x : Option Bool) (b c : Bool) → contradicts x b ≡ true → Agrees x c → ¬ (c ≡ b)
-differs None b c h a e = cc
-differs (Some true) true c h a e = cc
-differs (Some true) false c h a e = cc
-differs (Some false) true c h a e = cc
-differs (Some false) false c h a e = cc
+and_false : (a : Bool) → (a && false) ≡ false
+and_false true = refl
+and_false false = refl
 
-is_same : (x : Option Bool) (b c : Bool) → contradicts x b ≡ false → IsSome x → Agrees x c → c ≡ b
-is_same None b c h i a = cc
-is_same (Some true) true c h i a = sym a
-is_same (Some true) false c h i a = cc
-is_same (Some false) true c h i a = cc
-is_same (Some false) false c h i a = sym a
+or_true : (a : Bool) → (a || true) ≡ true
+or_true true = refl
+or_true false = refl
 
-or_true : (a b : Bool) → (a || b) ≡ true → (a ≡ true) ⊎ (b ≡ true)
-or_true true b h = inl refl
-or_true false b h = inr h
+-- parts that are all settled
+pub all_settled : {A : Type 0} (k : A → Option Bool) (fs : List (Formula A)) → All (λ f. IsSome (formula_known k (plain_formula f))) fs → IsSome (all_known k (formulas_of (map plain_formula fs)))
+all_settled k [] h = refl
+all_settled k (f ∷ fs) h = some_both (formula_known k (plain_formula f)) (all_known k (formulas_of (map plain_formula fs))) (h 0 f (omega arith)) (all_settled k fs (λ i d b. h (suc i) d (omega (arith, b))))
 
-or_false : (a b : Bool) → (a || b) ≡ false → (a ≡ false) × (b ≡ false)
-or_false true b h = cc
-or_false false b h = (refl, h)
+pub some_settled : {A : Type 0} (k : A → Option Bool) (fs : List (Formula A)) → All (λ f. IsSome (formula_known k (plain_formula f))) fs → IsSome (some_known k (formulas_of (map plain_formula fs)))
+some_settled k [] h = refl
+some_settled k (f ∷ fs) h = some_either (formula_known k (plain_formula f)) (some_known k (formulas_of (map plain_formula fs))) (h 0 f (omega arith)) (some_settled k fs (λ i d b. h (suc i) d (omega (arith, b))))
 
-module _ {A : Type 0} (k : A → Option Bool) (h : A → Bool) (follows : (a : A) → Agrees (k a) (h a)) where
-  -- where some formula is contradicted, the signs are others
-  pub contradicted_signs : (fs : List (Formula A)) (bs : List Bool) → contradicts_some k fs bs ≡ true → ¬ (map (λ f. formula_holds h (plain_formula f)) fs ≡ bs)
-  contradicted_signs [] bs c e = cc
-  contradicted_signs (f ∷ fs) [] c e = cc
-  contradicted_signs (f ∷ fs) (b ∷ bs) c e =
-      let first : formula_holds h (plain_formula f) ≡ b = cc in
-      let others : map (λ f. formula_holds h (plain_formula f)) fs ≡ bs = cc in
-      elim (or_true (contradicts (formula_known k (plain_formula f)) b) (contradicts_some k fs bs) c) as (λ _. ⊥) [ inl x ↦ differs (formula_known k (plain_formula f)) b (formula_holds h (plain_formula f)) x (known_is_true k h follows (plain_formula f)) first | inr y ↦ contradicted_signs fs bs y others ]
+-- a formula that is settled has that truth value
+pub settled_holds : (known : List (Option Bool)) (truths : List Bool) (f : Formula ℕ) (b : Bool) → settled known f ≡ Some b → Follows known truths → holds_at truths f ≡ b
+settled_holds known truths f b e follows = sym (subst (λ x. Agrees x (holds_at truths f)) e (known_is_true (known_at known) (truth_at truths) follows (plain_formula f)))
 
-  -- where none is, and all atoms are known, these are the signs
-  pub settled_signs : (fs : List (Formula A)) (bs : List Bool) → length bs ≡ length fs → contradicts_some k fs bs ≡ false → All (λ f. EveryAtom (λ a. IsSome (k a)) (plain_formula f)) fs → map (λ f. formula_holds h (plain_formula f)) fs ≡ bs
-  settled_signs [] [] same c every = refl
-  settled_signs [] (b ∷ bs) same c every = absurd (omega arith)
-  settled_signs (f ∷ fs) [] same c every = absurd (omega arith)
-  settled_signs (f ∷ fs) (b ∷ bs) same c every =
-      let two = or_false (contradicts (formula_known k (plain_formula f)) b) (contradicts_some k fs bs) c in
-      ap₂ (λ x xs. x ∷ xs) (is_same (formula_known k (plain_formula f)) b (formula_holds h (plain_formula f)) two.0 (known_in_full k (plain_formula f) (every 0 f (omega arith))) (known_is_true k h follows (plain_formula f)))
-      (settled_signs fs bs (omega arith) two.1 (λ i d b. every (suc i) d (omega (arith, b))))
+-- a settled formula that isn't settled to have the truth value never has it
+pub never_holds : (known : List (Option Bool)) (truths : List Bool) (f : Formula ℕ) (b : Bool) → IsSome (settled known f) → ¬ (settled known f ≡ Some b) → Follows known truths → ¬ (holds_at truths f ≡ b)
+never_holds known truths f b some other follows e = by (settled known f) refl some
+  where
+    by : (x : Option Bool) → settled known f ≡ x → IsSome x → ⊥
+    by None is s = cc
+    by (Some c) is s = other (is ∙ ap Some (sym (settled_holds known truths f c is follows) ∙ e))
 
-module _ {A : Type 0} (eq : A → A → Bool) (holds : A → Label → Bool) (equal : (a b : A) (l : Label) → eq a b ≡ true → holds a l ≡ holds b l) where
-  one_follows : (x : Lit A) (a : A) (l : Label) (rest : Option Bool) (b : Bool) → eq x.atom a ≡ b → holds x.atom l ≡ x.sign → Agrees rest (holds a l) → Agrees (cond b (Some x.sign) rest) (holds a l)
-  one_follows x a l rest true e s r = sym s ∙ equal x.atom a l e
-  one_follows x a l rest false e s r = r
+-- what the signs of a list say of one formula
+pub sign_at : (formulas : List (Formula ℕ)) (signs truths : List Bool) (k : ℕ) (f : Formula ℕ) → k < length formulas → f ≡ get_or formulas k f → HaveSigns formulas signs truths → holds_at truths f ≡ get_or signs k false
+sign_at [] signs truths k f low is h = absurd (omega arith)
+sign_at (g ∷ gs) [] truths k f low is h = cc
+sign_at (g ∷ gs) (b ∷ bs) truths zero f low is h =
+    let first : holds_at truths g ≡ b = cc in ap (holds_at truths) is ∙ first
+sign_at (g ∷ gs) (b ∷ bs) truths (suc k) f low is h =
+    let others : HaveSigns gs bs truths = cc in sign_at gs bs truths k f (omega arith) is others
 
-  -- a label that satisfies the literals has their signs
-  pub literals_follow : (literals : List (Lit A)) (l : Label) → SatisfiesAll holds literals l → (a : A) → Agrees (literal_sign eq literals a) (holds a l)
-  literals_follow [] l s a = tt
-  literals_follow (x ∷ xs) l s a = one_follows x a l (literal_sign eq xs a) (eq x.atom a) refl (s 0 x (omega arith)) (literals_follow xs l (λ i d b. s (suc i) d (omega (arith, b))) a)
-
-module _ {A : Type 0} (eq : A → A → Bool) (turn : (a b : A) → eq a b ≡ eq b a) where
-  one_known : (x : Lit A) (a : A) (rest : Option Bool) (more : Bool) (b : Bool) → eq x.atom a ≡ b → IsTrue (eq a x.atom || more) → (IsTrue more → IsSome rest) → IsSome (cond b (Some x.sign) rest)
-  one_known x a rest more true e h r = refl
-  one_known x a rest more false e h r = r (rw (turn a x.atom, e) at h)
-
-  -- an atom that has an equal one among the literals has a sign
-  pub literals_know : (literals : List (Lit A)) (a : A) → IsTrue (has_equal eq (atoms_of literals) a) → IsSome (literal_sign eq literals a)
-  literals_know [] a h = cc
-  literals_know (x ∷ xs) a h = one_known x a (literal_sign eq xs a) (has_equal eq (atoms_of xs) a) (eq x.atom a) refl h (literals_know xs a)
-
-pub same_bools : (a b : Bool) → not (beq a b) ≡ false → a ≡ b
+pub same_bools : (a b : Bool) → beq a b ≡ true → a ≡ b
 same_bools true true h = refl
 same_bools true false h = cc
 same_bools false true h = cc
 same_bools false false h = refl
 
-not_contradicted : (s b : Bool) → s ≡ b → contradicts (Some s) b ≡ false
-not_contradicted true true e = refl
-not_contradicted true false e = cc
-not_contradicted false true e = cc
-not_contradicted false false e = refl
+pub other_bools : (a b : Bool) → beq a b ≡ false → ¬ (a ≡ b)
+other_bools true true h e = cc
+other_bools true false h e = cc
+other_bools false true h e = cc
+other_bools false false h e = cc
 
--- a formula that is known to have its sign, or isn't known
-pub known_alike : (x : Option Bool) (s b : Bool) → x ≡ Some s → not (beq s b) ≡ false → contradicts x b ≡ false
-known_alike x s b is h = ap (λ y. contradicts y b) is ∙ not_contradicted s b (same_bools s b h)
+pub not_other : (a b : Bool) → not (beq a b) ≡ false → a ≡ b
+not_other true true h = refl
+not_other true false h = cc
+not_other false true h = cc
+not_other false false h = refl
 
-pub not_known : (x : Option Bool) (b : Bool) → x ≡ None → contradicts x b ≡ false
-not_known x b is = ap (λ y. contradicts y b) is
+pub not_same : (a b : Bool) → not (beq a b) ≡ true → ¬ (a ≡ b)
+not_same true true h e = cc
+not_same true false h e = cc
+not_same false true h e = cc
+not_same false false h e = cc
 
-module _ {A : Type 0} (k : A → Option Bool) where
-  -- one more formula that is not contradicted
-  pub contradicts_step : (fs : List (Formula A)) (bs : List Bool) (i : ℕ) (f : Formula A) (all : Bool) → i < length fs → length bs ≡ length fs → f ≡ get_or fs i f → contradicts (formula_known k (plain_formula f)) (get_or bs i false) ≡ false
-      → contradicts_some k (drop i fs) (drop i bs) ≡ all → contradicts_some k (drop (i + 1) fs) (drop (i + 1) bs) ≡ all
-  contradicts_step fs bs i f all low same is here h =
-      let low' : i < length bs = omega arith in
-      ap (λ b. b || contradicts_some k (drop (i + 1) fs) (drop (i + 1) bs)) (sym here)
-      ∙ (λ j. contradicts_some k ((ap (λ g. g ∷ drop (i + 1) fs) is ∙ ap (λ n. get_or fs i f ∷ drop n fs) (add-one i) ∙ sym (drop-cons fs i f low)) j) ((ap (λ n. get_or bs i false ∷ drop n bs) (add-one i) ∙ sym (drop-cons bs i false low')) j))
-      ∙ h
+-- a formula that has another sign isn't settled to have its own
+pub unsettled_by_wrong : (formulas : List (Formula ℕ)) (signs : List Bool) (known : List (Option Bool)) (truths : List Bool) (k : ℕ) → Follows known truths → IsWrong formulas signs truths k → IsUnsettled formulas signs known k
+unsettled_by_wrong formulas signs known truths k follows wrong = record {
+  low = wrong.low;
+  unsettled = λ d e. wrong.other d (settled_holds known truths (get_or formulas k d) (get_or signs k false) e follows);
+}
+
+-- one more formula has its sign
+pub signs_further : (truths : List Bool) (fs : List (Formula ℕ)) (bs : List Bool) (i : ℕ) (f : Formula ℕ) → i < length fs → length bs ≡ length fs → f ≡ get_or fs i f → holds_at truths f ≡ get_or bs i false → HaveSigns (take i fs) (take i bs) truths → HaveSigns (take (i + 1) fs) (take (i + 1) bs) truths
+signs_further truths fs bs i f low same is s h =
+    let low' : i < length bs = omega arith in
+    ap (map (holds_at truths)) (take_more fs i f low ∙ ap (λ g. take i fs ++ g ∷ []) (sym is)) ∙ map-append (holds_at truths) (take i fs) (f ∷ []) ∙ ap₂ (λ xs x. xs ++ x ∷ []) h s ∙ sym (take_more bs i false low')
+
+-- what holds of the first elements and of the next
+pub all_further : {X : Type 0} (P : X → Type 0) (xs : List X) (i : ℕ) (x : X) → i < length xs → x ≡ get_or xs i x → All P (take i xs) → P x → All P (take (i + 1) xs)
+all_further P xs i x low is h p = subst (All P) (sym (take_more xs i x low ∙ ap (λ y. take i xs ++ y ∷ []) (sym is))) (All-append P (take i xs) (x ∷ []) h (All-cons P x [] p (All-nil P)))
+
+pub all_taken : {X : Type 0} (P : X → Type 0) (xs : List X) (i : ℕ) → length xs ≤ i → All P (take i xs) → All P xs
+all_taken P xs i high h = subst (All P) (take_all i xs high) h
+
+pub one_false : (h : Formula ℕ → Bool) (fs : List (Formula ℕ)) (k : ℕ) (f : Formula ℕ) → k < length fs → f ≡ get_or fs k f → h f ≡ false → list_all h fs ≡ false
+one_false h [] k f low is e = absurd (omega arith)
+one_false h (g ∷ gs) zero f low is e = ap (λ b. b && list_all h gs) (ap h (sym is) ∙ e)
+one_false h (g ∷ gs) (suc k) f low is e = ap (λ b. h g && b) (one_false h gs k f (omega arith) is e) ∙ and_false (h g)
+
+pub one_true : (h : Formula ℕ → Bool) (fs : List (Formula ℕ)) (k : ℕ) (f : Formula ℕ) → k < length fs → f ≡ get_or fs k f → h f ≡ true → list_any h fs ≡ true
+one_true h [] k f low is e = absurd (omega arith)
+one_true h (g ∷ gs) zero f low is e = ap (λ b. b || list_any h gs) (ap h (sym is) ∙ e)
+one_true h (g ∷ gs) (suc k) f low is e = ap (λ b. h g || b) (one_true h gs k f (omega arith) is e) ∙ or_true (h g)
+
+pub copied : {X : Type 0} (xs : List X) (n : ℕ) (x y : X) → x ≡ y → y ≡ get_or xs n y → x ≡ get_or xs n x
+copied xs n x y e is = e ∙ is ∙ ap (get_or xs n) (sym e)
+
+pub some_as : {X : Type 0} (P Q : X → Type 0) → ((x : X) → P x → Q x) → (o : Option X) → IfSome o P → IfSome o Q
+some_as P Q to None h = tt
+some_as P Q to (Some x) h = to x h

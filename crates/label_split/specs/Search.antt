@@ -1,27 +1,60 @@
--- What a search for a label has to meet, and how far it has come.
-use Rattle.std.specs.Prelude.{◌≡◌, ℕ, Bool, List, length, get_or, take}
+-- What a search for a label has still to look at, and what it has found.
+use Rattle.std.specs.Prelude.{◌≡◌, ◌<◌, ◌⊎◌, ℕ, Bool, Option, Some, None, List, [], ◌∷◌, length, map, All, IsTrue}
 use Rattle.model_tree.specs.Label.{Label}
-use Rattle.label_core.specs.Atoms.{has_equal}
-use Rattle.label_core.specs.Lit.{SatisfiesAll, atoms_of}
+use Rattle.model_tree.specs.Formula.{formula_holds}
+use Rattle.label_core.specs.Formula.{plain_formula}
+use Rattle.label_core.specs.Meaning.{Meaning, IsChainOver}
+use Rattle.label_core.specs.Verdict.{Decides, OnlyFar}
 use Rattle.label_core.specs.declared.formula.Formula.{Formula}
-use Rattle.label_core.specs.declared.theory.Lit.{Lit}
-use Rattle.label_split.specs.Signs.{atoms_in_each, FormulasFit, signs_at}
+use Rattle.label_core.specs.declared.theory.Verdict.{Verdict}
+use Rattle.label_split.specs.Known.{known_at, Follows}
+use Rattle.label_split.specs.Numbers.{truths_at, HaveSigns}
+use Rattle.label_split.specs.Signs.{atoms_in_each}
+use Rattle.label_split.specs.declared.known.Known.{Known}
+use Rattle.label_split.specs.declared.search.Look.{Look}
+use Rattle.label_split.specs.declared.search.Look.TheVariants.{Found, Closed, TooWide, Again, Turn}
 
-module _ {A : Type 0} where
-  -- formulas that fit, a sign for each, and their atoms
-  pub record IsGoal (eq : A → A → Bool) (fits : A → Type 0) (atoms : List A) (formulas : List (Formula A)) (signs : List Bool) : Type 0 where
-    pub fit : FormulasFit fits formulas
-    pub lengths : length signs ≡ length formulas
-    pub are_atoms : (a : A) → has_equal eq atoms a ≡ has_equal eq (atoms_in_each formulas) a
+abbrev pub branch_lists : List Known → List (List (Option Bool))
+branch_lists branches = map (λ known. known.signs.items) branches
 
-  -- the literals are over the first of the atoms, in order
-  abbrev pub IsFront : List A → List (Lit A) → Type 0
-  IsFront atoms literals = atoms_of literals ≡ take (length literals) atoms
+-- the truth values follow what is known in one of these
+abbrev pub Covers : List (List (Option Bool)) → List Bool → Type 0
+Covers [] truths = ⊥
+Covers (known ∷ rest) truths = Follows known truths ⊎ Covers rest truths
 
-  -- the label satisfies the literals, and the formulas have their signs there
-  abbrev pub Meets : (A → Label → Bool) → List (Lit A) → List (Formula A) → List Bool → Label → Type 0
-  Meets holds literals formulas signs l = SatisfiesAll holds literals l × (signs_at holds formulas l ≡ signs)
+module _ {A V W : Type 0} {label_of : V → Label} {holds : A → Label → Bool} (M : Meaning label_of holds W) where
+  -- the verdict on the conjunction of the formulas
+  abbrev pub DecidesEach : List (Formula A) → Verdict V W → Type 0
+  DecidesEach formulas = Decides M (λ l. All (λ f. IsTrue (formula_holds (λ a. holds a l) (plain_formula f))) formulas) (IsChainOver M (atoms_in_each formulas))
 
-  -- the atom of this number has the sign at the label
-  abbrev pub NextIs : (A → Label → Bool) → List A → ℕ → Bool → Label → Type 0
-  NextIs holds atoms n sign l = (d : A) → holds (get_or atoms n d) l ≡ sign
+  module _ (atoms : List A) where
+    -- the verdict on whether formulas over the numbers of the atoms have these signs
+    abbrev pub DecidesSigns : List (Formula ℕ) → List Bool → Verdict V W → Type 0
+    DecidesSigns formulas signs = Decides M (λ l. HaveSigns formulas signs (truths_at holds atoms l)) (IsChainOver M atoms)
+
+    module _ (asked : Label → Type 0) where
+      -- each label that is as asked is among those that are left; or there is a chain, and where it is far, each kept one is
+      abbrev pub IsLeft : Option W → (Label → Type 0) → Type 0
+      IsLeft None left = (l : Label) → M.has l → asked l → left l
+      IsLeft (Some w) left = (IsChainOver M atoms w × M.passes w) × (M.is_far w → ((l : Label) × M.has l × asked l) × ((l : Label) → M.keeps l → asked l → left l))
+
+      -- the answer for the labels that follow what is known; or an atom that wasn't known and is, or isn't
+      abbrev pub Looks : List (Option Bool) → List (Option Bool) → Look V W → Type 0
+      Looks old known (Found v) = M.keeps (label_of v) × asked (label_of v)
+      Looks old known Closed = (l : Label) → M.has l → Follows known (truths_at holds atoms l) → ¬ asked l
+      Looks old known (TooWide w) = (IsChainOver M atoms w × M.passes w) × (M.is_far w → OnlyFar M (λ l. Follows known (truths_at holds atoms l) × asked l))
+      Looks old known (Again formula atom) = (known_at old atom ≡ None) × (known_at known atom ≡ None → ⊥)
+      Looks old known (Turn formula atom sign) = (atom < length known) × (known_at known atom ≡ None)
+
+-- whether the formula has said more of the atom, or both signs of it are to be looked at
+abbrev pub IsNext : {V W : Type 0} → ℕ → ℕ → Bool → List (Option Bool) → Look V W → Type 0
+IsNext number atom sign known (Found v) = ⊥
+IsNext number atom sign known Closed = ⊥
+IsNext number atom sign known (TooWide w) = ⊥
+IsNext number atom sign known (Again n a) = (a ≡ atom) × (known_at known atom ≡ None → ⊥)
+IsNext number atom sign known (Turn n a s) = (a ≡ atom) × (known_at known atom ≡ None)
+
+-- of two chains the first, unless there is none or it is far
+abbrev pub IsNearer : {W : Type 0} → (W → Type 0) → Option W → W → W → Type 0
+IsNearer far None second w = w ≡ second
+IsNearer far (Some first) second w = ((w ≡ second) × far first) ⊎ ((w ≡ first) × ¬ far first)

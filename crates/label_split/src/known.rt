@@ -1,40 +1,79 @@
-//! What some literals already say of a formula.
+//! What is known of a formula, where truth values of some atoms are. Atoms are numbers.
 
-ghost use Rattle.std.specs.Prelude.{◌≡◌, length};
-ghost use Rattle.label_core.specs.Formula.{plain_formula};
-ghost use Rattle.label_split.specs.Known.{literal_sign, formula_known, contradicts_some};
+ghost use Rattle.std.specs.Prelude.{◌≡◌, ◌<◌, ℕ, false, None, Some, IfNone, IfOk, IfSome, IsSome, length, replicate, slice_set};
+ghost use Rattle.std.specs.List.{All};
+ghost use Rattle.label_split.specs.Known.{IsWithin, Forces, known_at, truth_at, settled};
 
-use label_core::{Formula, Lit};
+use fast_fault::Memory;
+use label_core::Formula;
+use std::alloc::Global;
 
-/// The sign that the literals give the atom, if one of them is over an equal atom.
-fn sign_of<A: Eq>(literals: &[Lit<A>], atom: &A) -> Option<bool>
-    ensures { result ≡ literal_sign A.eq literals.now atom.now }
-{
-    for literal in literals {
-        if literal.atom == *atom {
-            return Some(literal.sign);
-        }
-    }
-    None
+/// The truth values of atoms that are known, by the atoms' numbers.
+#[derive(Drop)]
+pub struct Known {
+    signs: Vec<Option<bool>>,
 }
 
-/// The truth value of the formula, where the literals settle it.
+impl Known {
+    /// Nothing of so many atoms.
+    pub fn nothing(alloc: Global, atoms: usize) -> Result<Known, Memory>
+        ensures { IfOk result (λ known. known.signs.items ≡ replicate atoms None) }
+    {
+        let mut signs = Vec::new(alloc);
+        for _ in 0..atoms {
+            signs.push(None)?;
+        }
+        Ok(Known { signs })
+    }
+
+    /// What is known of the atom.
+    pub fn of(&self, atom: usize) -> Option<bool>
+        ensures { result ≡ known_at self.now.signs.items atom }
+    {
+        if atom < self.signs.len() {
+            self.signs[atom]
+        } else {
+            None
+        }
+    }
+
+    /// Puts down that the atom has this truth value, unless something is known of it.
+    pub fn put(&mut self, atom: usize, sign: bool)
+        ensures { Forces (λ truths. truth_at truths atom ≡ sign) self.old.signs.items self.new.signs.items }
+    {
+        if atom < self.signs.len() && self.signs[atom].is_none() {
+            self.signs[atom] = Some(sign);
+        }
+    }
+
+    /// The same, with one more atom.
+    pub fn with(&self, alloc: Global, atom: usize, sign: bool) -> Result<Known, Memory>
+        requires { atom < length self.now.signs.items }
+        ensures { IfOk result (λ made. made.signs.items ≡ slice_set self.now.signs.items atom (Some sign)) }
+    {
+        let mut signs = Vec::from_slice(alloc, &self.signs)?;
+        signs[atom] = Some(sign);
+        Ok(Known { signs })
+    }
+}
+
+/// The truth value of the formula, where those that are known settle it.
 #[tactic(auto, using(label_core::proofs::Formulas::on_formulas))]
-pub fn known<A: Eq>(formula: &Formula<A>, literals: &[Lit<A>]) -> Option<bool>
-    ensures { result ≡ formula_known (literal_sign A.eq literals.now) (plain_formula formula.now) }
+pub fn settled(formula: &Formula<usize>, known: &Known) -> Option<bool>
+    ensures { result ≡ settled known.now.signs.items formula.now }
 {
     match formula {
         Formula::Yes => Some(true),
         Formula::No => Some(false),
-        Formula::Atom(atom) => sign_of(literals, atom),
-        Formula::Not(inner) => match known(inner, literals) {
+        Formula::Atom(atom) => known.of(*atom),
+        Formula::Not(inner) => match settled(inner, known) {
             Some(holds) => Some(!holds),
             None => None,
         },
         Formula::And(parts) => {
             let mut open = false;
             'every: for part in parts {
-                match known(part, literals) {
+                match settled(part, known) {
                     Some(true) => {}
                     Some(false) => return Some(false),
                     None => open = true,
@@ -45,7 +84,7 @@ pub fn known<A: Eq>(formula: &Formula<A>, literals: &[Lit<A>]) -> Option<bool>
         Formula::Or(parts) => {
             let mut open = false;
             'some: for part in parts {
-                match known(part, literals) {
+                match settled(part, known) {
                     Some(true) => return Some(true),
                     Some(false) => {}
                     None => open = true,
@@ -56,17 +95,48 @@ pub fn known<A: Eq>(formula: &Formula<A>, literals: &[Lit<A>]) -> Option<bool>
     }
 }
 
-/// Whether the literals give some formula another truth value than its sign.
-pub fn contradicted<A: Eq>(formulas: &[Formula<A>], signs: &[bool], literals: &[Lit<A>]) -> bool
-    requires { length signs.now ≡ length formulas.now }
-    ensures { result ≡ contradicts_some (literal_sign A.eq literals.now) formulas.now signs.now }
+/// An atom of the formula that isn't known, unless the formula is settled.
+#[tactic(auto, using(crate::proofs::Opens::on_opens))]
+#[cycle(open)]
+pub fn open_atom(formula: &Formula<usize>, known: &Known) -> Option<usize>
+    ensures none { IfNone result (IsSome (settled known.now.signs.items formula.now)) }
+    ensures some { IfSome result (λ i. (known_at known.now.signs.items i ≡ None) × ((n : ℕ) → IsWithin n formula.now → i < n)) }
 {
-    for i in 0..formulas.len() {
-        if let Some(sign) = known(&formulas[i], literals) {
-            if sign != signs[i] {
-                return true;
+    match formula {
+        Formula::Yes => None,
+        Formula::No => None,
+        Formula::Atom(atom) => match known.of(*atom) {
+            Some(_) => None,
+            None => Some(*atom),
+        },
+        Formula::Not(inner) => open_atom(inner, known),
+        Formula::And(parts) => open_among(parts, known),
+        Formula::Or(parts) => open_among(parts, known),
+    }
+}
+
+/// The same of the first of these formulas that isn't settled.
+#[cycle(open)]
+fn open_among(formulas: &[Formula<usize>], known: &Known) -> Option<usize>
+    ensures none { IfNone result (All (λ f. IsSome (settled known.now.signs.items f)) formulas.now) }
+    ensures some { IfSome result (λ i. (known_at known.now.signs.items i ≡ None) × ((n : ℕ) → All (IsWithin n) formulas.now → i < n)) }
+{
+    for formula in formulas {
+        if is_open(formula, known) {
+            if let Some(atom) = open_atom(formula, known) {
+                return Some(atom);
             }
         }
     }
-    false
+    None
+}
+
+/// Whether the formula isn't settled.
+fn is_open(formula: &Formula<usize>, known: &Known) -> bool
+    ensures { result ≡ false → IsSome (settled known.now.signs.items formula.now) }
+{
+    match settled(formula, known) {
+        Some(_) => false,
+        None => true,
+    }
 }

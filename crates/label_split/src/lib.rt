@@ -6,7 +6,9 @@
 
 mod atoms;
 mod conjunction;
+mod force;
 mod known;
+mod numbers;
 mod rows;
 mod search;
 

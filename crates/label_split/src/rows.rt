@@ -1,16 +1,18 @@
 //! The rows of signs that labels have.
 
-ghost use Rattle.std.specs.Prelude.{◌≡◌, ◌<◌, ◌≤◌, ◌-◌, [], ◌∷◌, ◌++◌, length, take, IfOk, OnOk, IfErr, MatchOption};
+ghost use Rattle.std.specs.Prelude.{◌≡◌, ◌<◌, ◌≤◌, ◌-◌, ◌+◌, ◌++◌, [], ◌∷◌, true, false, All, IsTrue, IfSome, length, map, take, IfOk, OnOk, IfErr, MatchOption};
 ghost use Rattle.model_tree.specs.Label.{Label};
-ghost use Rattle.label_core.specs.Atoms.{has_equal};
-ghost use Rattle.label_split.specs.Signs.{atoms_in_each, FormulasFit, signs_at};
-ghost use Rattle.label_split.specs.Search.{IsGoal};
-ghost use Rattle.label_split.specs.Split.{SplitsInto, IsRow, StopsFor, HasMoreRows, Extends};
+ghost use Rattle.label_core.specs.Meaning.{KeepsValue};
+ghost use Rattle.label_split.specs.Known.{IsWithin};
+ghost use Rattle.label_split.specs.Numbers.{number_holds};
+ghost use Rattle.label_split.specs.Signs.{FormulasFit, signs_at};
+ghost use Rattle.label_split.specs.Split.{SplitsInto, IsRow, Stops, StopsFor, HasMoreRows, Extends};
+ghost use Rattle.label_split.specs.Noted.{rows_of, IsSample};
 
-use crate::atoms::add_atoms;
-use crate::search::search;
+use crate::conjunction::atoms_of_each;
+use crate::numbers::number_each;
+use crate::search::{Asked, holds_of, note, search};
 use fast_fault::Memory;
-use indexmap::IndexSet;
 use label_core::{Formula, Theory, Verdict};
 use std::alloc::{AllocError, AllocFailed, Global};
 
@@ -71,13 +73,49 @@ fn with_last(alloc: Global, signs: &[bool], last: bool) -> Result<Vec<bool>, Mem
     Ok(made)
 }
 
+/// The row with one more sign.
+fn with_sign<V: Drop>(row: SignRow<V>, sign: bool) -> Result<SignRow<V>, Memory>
+    ensures value { IfOk result (λ made. made.value ≡ row.value) }
+    ensures signs { IfOk result (λ made. made.signs.items ≡ row.signs.items ++ sign ∷ []) }
+{
+    let value = row.value;
+    let mut signs = row.signs;
+    signs.push(sign)?;
+    Ok(SignRow { signs, value })
+}
+
+/// A row, with the numbers of formulas that tell it from others.
+#[derive(Drop)]
+struct Noted<V> {
+    row: SignRow<V>,
+    active: Vec<usize>,
+}
+
+/// What is known of the last formula by itself with one of its signs: that no label has it, a row that some label has, or
+/// nothing.
+#[derive(Drop)]
+enum Sample<V> {
+    Nowhere,
+    At(Noted<V>),
+    Unknown,
+}
+
+/// The formulas, and samples for both signs of the last one.
+#[derive(Drop)]
+struct Sampled<'q, V> {
+    formulas: &'q [Formula<usize>],
+    on: Sample<V>,
+    off: Sample<V>,
+}
+
 /// The one row of no signs, if there is a label.
 fn start<T: Theory>(
     theory: &T,
     alloc: Global,
-) -> Result<Vec<SignRow<T::Value>>, SplitStop<T::Chain>>
-    ensures rows { IfOk result (λ rows. SplitsInto T.label_of (T.has_label theory.now) (T.keeps_label theory.now) (λ _. []) rows.items) }
-    ensures stop { IfErr result (StopsFor ⊥ (T.has_label theory.now) (T.keeps_label theory.now) (λ _. []) (λ chain. T.chain_over theory.now [] chain × T.chain_passes theory.now chain) (T.chain_is_far theory.now)) }
+    atoms: &[T::Atom],
+) -> Result<Vec<Noted<T::Value>>, SplitStop<T::Chain>>
+    ensures rows { IfOk result (λ rows. SplitsInto (T.meaning theory.now) (λ _. []) (rows_of rows.items)) }
+    ensures stop { IfErr result (Stops (T.meaning theory.now) ⊥ (λ _. []) atoms.now) }
 {
     let literals = Vec::new(alloc);
     let mut rows = Vec::new(alloc);
@@ -86,30 +124,185 @@ fn start<T: Theory>(
         Verdict::Wide(chain) => Err(SplitStop::Wide(chain)),
         Verdict::Sat(value) => {
             let signs = Vec::new(alloc);
-            rows.push(SignRow { signs, value })?;
+            let active = Vec::new(alloc);
+            rows.push(Noted {
+                row: SignRow { signs, value },
+                active,
+            })?;
             Ok(rows)
         }
     }
 }
 
-/// A row with these signs, if some label has it.
+/// The signs of the formulas at the value's label.
+fn signs_of<T: Theory>(
+    theory: &T,
+    alloc: Global,
+    atoms: &[T::Atom],
+    formulas: &[Formula<usize>],
+    value: &T::Value,
+) -> Result<Vec<bool>, Memory>
+    requires within { All (IsWithin (length atoms.now)) formulas.now }
+    requires fit { All (T.atom_fits theory.now) atoms.now }
+    requires kept { KeepsValue (T.meaning theory.now) value.now }
+    ensures { IfOk result (λ signs. signs.items ≡ signs_at (number_holds T.atom_holds atoms.now) formulas.now (T.label_of value.now)) }
+{
+    let mut signs = Vec::new(alloc);
+    for formula in formulas {
+        signs.push(holds_of(theory, atoms, formula, value))?;
+    }
+    Ok(signs)
+}
+
+/// A sample for the sign of the last formula.
+fn find_sample<T: Theory>(
+    theory: &T,
+    alloc: Global,
+    atoms: &[T::Atom],
+    formulas: &[Formula<usize>],
+    sign: bool,
+) -> Result<Sample<T::Value>, Memory>
+    requires within { All (IsWithin (length atoms.now)) formulas.now }
+    requires fit { All (T.atom_fits theory.now) atoms.now }
+    requires some { 0 < length formulas.now }
+    ensures { IfOk result (IsSample (T.meaning theory.now) (signs_at (number_holds T.atom_holds atoms.now) formulas.now) sign) }
+{
+    let last = formulas.len() - 1;
+    let signs = vec![in alloc; sign; 1]?;
+    let asked = Asked {
+        formulas: &formulas[last..],
+        signs: &signs,
+    };
+    let mut active = vec![in alloc; 0; 1]?;
+    match search(theory, alloc, atoms, &asked, &mut active)? {
+        Verdict::Unsat => Ok(Sample::Nowhere),
+        Verdict::Wide(_) => Ok(Sample::Unknown),
+        Verdict::Sat(value) => {
+            let signs = signs_of(theory, alloc, atoms, formulas, &value)?;
+            let active = vec![in alloc; last; 1]?;
+            Ok(Sample::At(Noted {
+                row: SignRow { signs, value },
+                active,
+            }))
+        }
+    }
+}
+
+/// Whether the signs are the same.
+fn are_same(signs: &[bool], others: &[bool]) -> bool
+    ensures { IsTrue result → signs.now ≡ others.now }
+{
+    if signs.len() != others.len() {
+        return false;
+    }
+    for i in 0..signs.len() {
+        if signs[i] != others[i] {
+            return false;
+        }
+    }
+    true
+}
+
+/// A copy of the sample, if it has these signs.
+fn matching_copy<T: Theory>(
+    theory: &T,
+    alloc: Global,
+    found: &Noted<T::Value>,
+    signs: &[bool],
+) -> Result<Option<Noted<T::Value>>, Memory>
+    ensures { IfOk result (λ found_copy. IfSome found_copy (λ copy. (copy.row.signs.items ≡ signs.now) × (found.now.row.signs.items ≡ signs.now) × (T.label_of copy.row.value ≡ T.label_of found.now.row.value))) }
+{
+    if !are_same(&found.row.signs, signs) {
+        return Ok(None);
+    }
+    let value = theory.copy_value(alloc, &found.row.value)?;
+    let signs = Vec::from_slice(alloc, signs)?;
+    let active = found.active.clone()?;
+    Ok(Some(Noted {
+        row: SignRow { signs, value },
+        active,
+    }))
+}
+
+/// Adds the numbers, but for that of the last formula.
+fn learn(active: &mut Vec<usize>, tried: &[usize], last: usize) -> Result<(), Memory> {
+    for number in tried {
+        if *number != last {
+            note(active, *number)?;
+        }
+    }
+    Ok(())
+}
+
+/// A row with these signs, if some label has it. The active formulas are those that the search begins with; those that
+/// tell the row from its neighbours come to them.
 fn row_with<T: Theory>(
     theory: &T,
     alloc: Global,
     atoms: &[T::Atom],
-    formulas: &[Formula<T::Atom>],
+    formulas: &[Formula<usize>],
     signs: Vec<bool>,
-) -> Result<Option<SignRow<T::Value>>, SplitStop<T::Chain>>
-    requires goal { IsGoal T.Atom.eq (T.atom_fits theory.now) atoms.now formulas.now signs.items }
-    ensures row { IfOk result (λ found. MatchOption found ((l : Label) → (T.has_label theory.now) l → ¬ (signs_at T.atom_holds formulas.now l ≡ signs.items)) (λ row. IsRow T.label_of (T.keeps_label theory.now) (signs_at T.atom_holds formulas.now) row × (row.signs.items ≡ signs.items))) }
-    ensures stop { IfErr result (StopsFor ⊥ (T.has_label theory.now) (T.keeps_label theory.now) (signs_at T.atom_holds formulas.now) (λ chain. T.chain_over theory.now (atoms_in_each formulas.now) chain × T.chain_passes theory.now chain) (T.chain_is_far theory.now)) }
+    active: &mut Vec<usize>,
+) -> Result<Option<Noted<T::Value>>, SplitStop<T::Chain>>
+    requires within { All (IsWithin (length atoms.now)) formulas.now }
+    requires fit { All (T.atom_fits theory.now) atoms.now }
+    requires some { 0 < length formulas.now }
+    requires lengths { length signs.items ≡ length formulas.now }
+    ensures row { IfOk result (λ found. MatchOption found ((l : Label) → (T.meaning theory.now).has l → ¬ ((signs_at (number_holds T.atom_holds atoms.now) formulas.now) l ≡ signs.items)) (λ noted. IsRow (T.meaning theory.now) (signs_at (number_holds T.atom_holds atoms.now) formulas.now) noted.row × (noted.row.signs.items ≡ signs.items))) }
+    ensures stop { IfErr result (Stops (T.meaning theory.now) ⊥ (signs_at (number_holds T.atom_holds atoms.now) formulas.now) atoms.now) }
 {
-    let mut literals = Vec::new(alloc);
-    match search(theory, alloc, atoms, formulas, &signs, &mut literals)? {
-        Verdict::Sat(value) => Ok(Some(SignRow { signs, value })),
-        Verdict::Unsat => Ok(None),
+    let last = formulas.len() - 1;
+    let mut tried = Vec::from_slice(alloc, active)?;
+    tried.push(last)?;
+    let asked = Asked {
+        formulas,
+        signs: &signs,
+    };
+    match search(theory, alloc, atoms, &asked, &mut tried)? {
         Verdict::Wide(chain) => Err(SplitStop::Wide(chain)),
+        Verdict::Unsat => {
+            learn(active, &tried, last)?;
+            Ok(None)
+        }
+        Verdict::Sat(value) => {
+            note(active, last)?;
+            Ok(Some(Noted {
+                row: SignRow { signs, value },
+                active: tried,
+            }))
+        }
     }
+}
+
+/// The row that has one sign more than this one, if some label has it.
+fn longer_row<T: Theory>(
+    theory: &T,
+    alloc: Global,
+    atoms: &[T::Atom],
+    last: &Sampled<T::Value>,
+    row: &mut Noted<T::Value>,
+    sign: bool,
+) -> Result<Option<Noted<T::Value>>, SplitStop<T::Chain>>
+    requires within { All (IsWithin (length atoms.now)) last.now.formulas.now }
+    requires fit { All (T.atom_fits theory.now) atoms.now }
+    requires lengths { length row.old.row.signs.items + 1 ≡ length last.now.formulas.now }
+    requires on { IsSample (T.meaning theory.now) (signs_at (number_holds T.atom_holds atoms.now) last.now.formulas.now) true last.now.on }
+    requires off { IsSample (T.meaning theory.now) (signs_at (number_holds T.atom_holds atoms.now) last.now.formulas.now) false last.now.off }
+    ensures row { IfOk result (λ found. MatchOption found ((l : Label) → (T.meaning theory.now).has l → ¬ ((signs_at (number_holds T.atom_holds atoms.now) last.now.formulas.now) l ≡ row.old.row.signs.items ++ sign ∷ [])) (λ noted. IsRow (T.meaning theory.now) (signs_at (number_holds T.atom_holds atoms.now) last.now.formulas.now) noted.row × (noted.row.signs.items ≡ row.old.row.signs.items ++ sign ∷ []))) }
+    ensures stop { IfErr result (Stops (T.meaning theory.now) ⊥ (signs_at (number_holds T.atom_holds atoms.now) last.now.formulas.now) atoms.now) }
+    ensures kept { OnOk result (row.new.row ≡ row.old.row) }
+{
+    let signs = with_last(alloc, &row.row.signs, sign)?;
+    match if sign { &last.on } else { &last.off } {
+        Sample::Nowhere => return Ok(None),
+        Sample::Unknown => {}
+        Sample::At(found) => {
+            if let Some(copy) = matching_copy(theory, alloc, found, &signs)? {
+                return Ok(Some(copy));
+            }
+        }
+    }
+    row_with(theory, alloc, atoms, last.formulas, signs, &mut row.active)
 }
 
 /// Adds the rows of the formulas that begin with this row of all but the last formula.
@@ -117,25 +310,27 @@ fn extend<T: Theory>(
     theory: &T,
     alloc: Global,
     atoms: &[T::Atom],
-    formulas: &[Formula<T::Atom>],
-    row: SignRow<T::Value>,
-    rows: &mut Vec<SignRow<T::Value>>,
+    last: &Sampled<T::Value>,
+    mut row: Noted<T::Value>,
+    rows: &mut Vec<Noted<T::Value>>,
 ) -> Result<(), SplitStop<T::Chain>>
-    requires fit { FormulasFit (T.atom_fits theory.now) formulas.now }
-    requires are_atoms { (a : T.Atom) → has_equal T.Atom.eq atoms.now a ≡ has_equal T.Atom.eq (atoms_in_each formulas.now) a }
-    requires some { 0 < length formulas.now }
-    requires row { IsRow T.label_of (T.keeps_label theory.now) (signs_at T.atom_holds (take (length formulas.now - 1) formulas.now)) row }
-    ensures added { OnOk result (Extends T.label_of (T.has_label theory.now) (T.keeps_label theory.now) (signs_at T.atom_holds (take (length formulas.now - 1) formulas.now)) (signs_at T.atom_holds formulas.now) row rows.old.items rows.new.items) }
-    ensures stop { IfErr result (StopsFor ⊥ (T.has_label theory.now) (T.keeps_label theory.now) (signs_at T.atom_holds formulas.now) (λ chain. T.chain_over theory.now (atoms_in_each formulas.now) chain × T.chain_passes theory.now chain) (T.chain_is_far theory.now)) }
+    requires within { All (IsWithin (length atoms.now)) last.now.formulas.now }
+    requires fit { All (T.atom_fits theory.now) atoms.now }
+    requires some { 0 < length last.now.formulas.now }
+    requires on { IsSample (T.meaning theory.now) (signs_at (number_holds T.atom_holds atoms.now) last.now.formulas.now) true last.now.on }
+    requires off { IsSample (T.meaning theory.now) (signs_at (number_holds T.atom_holds atoms.now) last.now.formulas.now) false last.now.off }
+    requires row { IsRow (T.meaning theory.now) (signs_at (number_holds T.atom_holds atoms.now) (take (length last.now.formulas.now - 1) last.now.formulas.now)) row.row }
+    ensures added { OnOk result (Extends (T.meaning theory.now) (signs_at (number_holds T.atom_holds atoms.now) (take (length last.now.formulas.now - 1) last.now.formulas.now)) (signs_at (number_holds T.atom_holds atoms.now) last.now.formulas.now) row.row (rows_of rows.old.items) (rows_of rows.new.items)) }
+    ensures stop { IfErr result (Stops (T.meaning theory.now) ⊥ (signs_at (number_holds T.atom_holds atoms.now) last.now.formulas.now) atoms.now) }
 {
-    let holds = formulas[formulas.len() - 1].holds(theory, &row.value);
-    let turned = with_last(alloc, &row.signs, !holds)?;
-    if let Some(other) = row_with(theory, alloc, atoms, formulas, turned)? {
+    let number = last.formulas.len() - 1;
+    let holds = holds_of(theory, atoms, &last.formulas[number], &row.row.value);
+    if let Some(other) = longer_row(theory, alloc, atoms, last, &mut row, !holds)? {
         rows.push(other)?;
     }
-    let signs = with_last(alloc, &row.signs, holds)?;
-    let value = row.value;
-    rows.push(SignRow { signs, value })?;
+    let active = row.active;
+    let kept = with_sign(row.row, holds)?;
+    rows.push(Noted { row: kept, active })?;
     Ok(())
 }
 
@@ -144,21 +339,62 @@ fn refine<T: Theory>(
     theory: &T,
     alloc: Global,
     atoms: &[T::Atom],
-    formulas: &[Formula<T::Atom>],
-    mut rows: Vec<SignRow<T::Value>>,
-) -> Result<Vec<SignRow<T::Value>>, SplitStop<T::Chain>>
-    requires fit { FormulasFit (T.atom_fits theory.now) formulas.now }
-    requires are_atoms { (a : T.Atom) → has_equal T.Atom.eq atoms.now a ≡ has_equal T.Atom.eq (atoms_in_each formulas.now) a }
+    formulas: &[Formula<usize>],
+    mut rows: Vec<Noted<T::Value>>,
+) -> Result<Vec<Noted<T::Value>>, SplitStop<T::Chain>>
+    requires within { All (IsWithin (length atoms.now)) formulas.now }
+    requires fit { All (T.atom_fits theory.now) atoms.now }
     requires some { 0 < length formulas.now }
-    requires rows { SplitsInto T.label_of (T.has_label theory.now) (T.keeps_label theory.now) (signs_at T.atom_holds (take (length formulas.now - 1) formulas.now)) rows.items }
-    ensures rows { IfOk result (λ refined. SplitsInto T.label_of (T.has_label theory.now) (T.keeps_label theory.now) (signs_at T.atom_holds formulas.now) refined.items) }
-    ensures stop { IfErr result (StopsFor ⊥ (T.has_label theory.now) (T.keeps_label theory.now) (signs_at T.atom_holds formulas.now) (λ chain. T.chain_over theory.now (atoms_in_each formulas.now) chain × T.chain_passes theory.now chain) (T.chain_is_far theory.now)) }
+    requires rows { SplitsInto (T.meaning theory.now) (signs_at (number_holds T.atom_holds atoms.now) (take (length formulas.now - 1) formulas.now)) (rows_of rows.items) }
+    ensures rows { IfOk result (λ refined. SplitsInto (T.meaning theory.now) (signs_at (number_holds T.atom_holds atoms.now) formulas.now) (rows_of refined.items)) }
+    ensures stop { IfErr result (Stops (T.meaning theory.now) ⊥ (signs_at (number_holds T.atom_holds atoms.now) formulas.now) atoms.now) }
 {
+    let on = find_sample(theory, alloc, atoms, formulas, true)?;
+    let off = find_sample(theory, alloc, atoms, formulas, false)?;
+    let last = Sampled { formulas, on, off };
     let mut refined = Vec::new(alloc);
     'rest: while let Some(row) = rows.pop() {
-        extend(theory, alloc, atoms, formulas, row, &mut refined)?;
+        extend(theory, alloc, atoms, &last, row, &mut refined)?;
     }
     Ok(refined)
+}
+
+/// The rows of formulas over the numbers of the atoms.
+fn split_numbered<T: Theory>(
+    theory: &T,
+    alloc: Global,
+    atoms: &[T::Atom],
+    formulas: &[Formula<usize>],
+    most: u32,
+) -> Result<Vec<Noted<T::Value>>, SplitStop<T::Chain>>
+    requires within { All (IsWithin (length atoms.now)) formulas.now }
+    requires fit { All (T.atom_fits theory.now) atoms.now }
+    ensures rows { IfOk result (λ rows. SplitsInto (T.meaning theory.now) (signs_at (number_holds T.atom_holds atoms.now) formulas.now) (rows_of rows.items)) }
+    ensures few { IfOk result (λ rows. length (rows_of rows.items) ≤ most) }
+    ensures stop { IfErr result (Stops (T.meaning theory.now) (HasMoreRows (T.meaning theory.now) (signs_at (number_holds T.atom_holds atoms.now) formulas.now) most) (signs_at (number_holds T.atom_holds atoms.now) formulas.now) atoms.now) }
+{
+    let mut rows = start(theory, alloc, atoms)?;
+    for i in 0..formulas.len() {
+        if rows.len() > most as usize {
+            return Err(SplitStop::TooMany);
+        }
+        rows = refine(theory, alloc, atoms, &formulas[..i + 1], rows)?;
+    }
+    if rows.len() <= most as usize {
+        return Ok(rows);
+    }
+    Err(SplitStop::TooMany)
+}
+
+/// The rows, without the numbers.
+fn without_notes<V: Drop>(alloc: Global, noted: Vec<Noted<V>>) -> Result<Vec<SignRow<V>>, Memory>
+    ensures { IfOk result (λ rows. rows.items ≡ rows_of noted.items) }
+{
+    let mut rows = Vec::new(alloc);
+    for one in noted {
+        rows.push(one.row)?;
+    }
+    Ok(rows)
 }
 
 /// Exactly the rows of signs that labels have, each once, each with a value that has these signs; no list where there are
@@ -170,21 +406,12 @@ pub fn split<T: Theory>(
     most: u32,
 ) -> Result<Vec<SignRow<T::Value>>, SplitStop<T::Chain>>
     requires fit { FormulasFit (T.atom_fits theory.now) formulas.now }
-    ensures rows { IfOk result (λ rows. SplitsInto T.label_of (T.has_label theory.now) (T.keeps_label theory.now) (signs_at T.atom_holds formulas.now) rows.items) }
+    ensures rows { IfOk result (λ rows. SplitsInto (T.meaning theory.now) (signs_at T.atom_holds formulas.now) rows.items) }
     ensures few { IfOk result (λ rows. length rows.items ≤ most) }
-    ensures stop { IfErr result (StopsFor (HasMoreRows (T.keeps_label theory.now) (signs_at T.atom_holds formulas.now) most) (T.has_label theory.now) (T.keeps_label theory.now) (signs_at T.atom_holds formulas.now) (λ chain. T.chain_over theory.now (atoms_in_each formulas.now) chain × T.chain_passes theory.now chain) (T.chain_is_far theory.now)) }
+    ensures stop { IfErr result (StopsFor (T.meaning theory.now) (HasMoreRows (T.meaning theory.now) (signs_at T.atom_holds formulas.now) most) formulas.now) }
 {
-    let mut atoms = IndexSet::new(alloc);
-    let mut rows = start(theory, alloc)?;
-    for i in 0..formulas.len() {
-        if rows.len() > most as usize {
-            return Err(SplitStop::TooMany);
-        }
-        add_atoms(alloc, &formulas[i], &mut atoms)?;
-        rows = refine(theory, alloc, atoms.as_slice(), &formulas[..i + 1], rows)?;
-    }
-    if rows.len() <= most as usize {
-        return Ok(rows);
-    }
-    Err(SplitStop::TooMany)
+    let atoms = atoms_of_each(alloc, formulas)?;
+    let numbered = number_each(alloc, &atoms, formulas)?;
+    let rows = split_numbered(theory, alloc, atoms.as_slice(), &numbered, most)?;
+    Ok(without_notes(alloc, rows)?)
 }

@@ -1,125 +1,296 @@
-//! A search for a label at which formulas have given signs.
+//! A search for a label at which formulas have given signs. It keeps apart what is known of the atoms in each branch, and
+//! asks the theory only for what is known there. A label that it shows is looked at: the next atom is one of a formula
+//! that has another sign.
 
-ghost use Rattle.std.specs.Prelude.{◌≡◌, ◌<◌, IsTrue, length, IfOk, OnOk, IfSome, IfNone};
-ghost use Rattle.label_core.specs.Verdict.{Decides};
-ghost use Rattle.label_split.specs.Signs.{atoms_in_each, FormulasFit, signs_at};
-ghost use Rattle.label_split.specs.Search.{IsGoal, IsFront, Meets, NextIs};
+ghost use Rattle.std.specs.Prelude.{◌≡◌, ◌<◌, ◌+◌, ◌⊎◌, Bool, false, List, None, Some, length, IfOk, OnOk, IfSome, IfNone, All, slice_set};
+ghost use Rattle.label_core.specs.Meaning.{KeepsValue};
+ghost use Rattle.label_split.specs.Known.{Forces, Follows, known_at, holds_at, settled};
+ghost use Rattle.label_split.specs.Numbers.{truths_at, AreAsked, HaveSigns, IsUnsettled, IsWrong, AreLiterals};
+ghost use Rattle.label_split.specs.Search.{branch_lists, Covers, DecidesSigns, IsNearer, IsNext, Looks};
+ghost use Rattle.label_split.specs.Weights.{weight, open_weight};
 
-use crate::known::contradicted;
+use crate::force::force;
+use crate::known::{Known, open_atom, settled};
 use fast_fault::Memory;
 use label_core::{Duplicate, Formula, Lit, Theory, Verdict};
 use std::alloc::Global;
 
-/// Whether the formulas have these signs at the value's label.
-#[tactic(auto, using(crate::proofs::Signs::on_signs))]
-fn have_signs<T: Theory>(
+/// Formulas over numbers of atoms, and the sign that each is to have.
+#[derive(Clone, Copy)]
+pub struct Asked<'q> {
+    pub formulas: &'q [Formula<usize>],
+    pub signs: &'q [bool],
+}
+
+/// What is found in a branch: the answer; or that the formula of this number says more of an atom; or that an atom of the
+/// formula is to be looked at with both signs, this one first.
+#[derive(Drop)]
+pub enum Look<V, W> {
+    Found(V),
+    Closed,
+    TooWide(W),
+    Again(usize, usize),
+    Turn(usize, usize, bool),
+}
+
+/// Whether the formula holds of the value's label.
+#[tactic(auto, using(label_core::proofs::Formulas::on_formulas))]
+pub fn holds_of<T: Theory>(
     theory: &T,
-    formulas: &[Formula<T::Atom>],
-    signs: &[bool],
+    atoms: &[T::Atom],
+    formula: &Formula<usize>,
     value: &T::Value,
 ) -> bool
-    requires fit { FormulasFit (T.atom_fits theory.now) formulas.now }
-    requires lengths { length signs.now ≡ length formulas.now }
-    requires kept { T.keeps_label theory.now (T.label_of value.now) }
-    ensures { IsTrue result → signs_at T.atom_holds formulas.now (T.label_of value.now) ≡ signs.now }
+    requires fit { All (T.atom_fits theory.now) atoms.now }
+    requires kept { KeepsValue (T.meaning theory.now) value.now }
+    ensures { result ≡ holds_at (truths_at T.atom_holds atoms.now (T.label_of value.now)) formula.now }
 {
-    for i in 0..formulas.len() {
-        if formulas[i].holds(theory, value) != signs[i] {
+    match formula {
+        Formula::Yes => true,
+        Formula::No => false,
+        Formula::Atom(atom) => *atom < atoms.len() && theory.holds(&atoms[*atom], value),
+        Formula::Not(inner) => !holds_of(theory, atoms, inner, value),
+        Formula::And(parts) => {
+            'every: for part in parts {
+                if !holds_of(theory, atoms, part, value) {
+                    return false;
+                }
+            }
+            true
+        }
+        Formula::Or(parts) => {
+            'some: for part in parts {
+                if holds_of(theory, atoms, part, value) {
+                    return true;
+                }
+            }
+            false
+        }
+    }
+}
+
+/// Puts down what the formula says of atoms, if it has its sign; whether it may have it.
+fn take_sign(asked: &Asked, number: usize, known: &mut Known) -> bool
+    requires asked { AreAsked (length known.old.signs.items) asked.now.formulas.now asked.now.signs.now }
+    ensures forces { Forces (HaveSigns asked.now.formulas.now asked.now.signs.now) known.old.signs.items known.new.signs.items }
+    ensures may { result ≡ false → (truths : List Bool) → Follows known.new.signs.items truths → ¬ HaveSigns asked.now.formulas.now asked.now.signs.now truths }
+{
+    if number >= asked.formulas.len() {
+        return true;
+    }
+    match settled(&asked.formulas[number], known) {
+        Some(holds) => holds == asked.signs[number],
+        None => {
+            force(&asked.formulas[number], asked.signs[number], known);
+            true
+        }
+    }
+}
+
+/// The same of each of these formulas.
+fn take_signs(asked: &Asked, numbers: &[usize], known: &mut Known) -> bool
+    requires asked { AreAsked (length known.old.signs.items) asked.now.formulas.now asked.now.signs.now }
+    ensures forces { Forces (HaveSigns asked.now.formulas.now asked.now.signs.now) known.old.signs.items known.new.signs.items }
+    ensures may { result ≡ false → (truths : List Bool) → Follows known.new.signs.items truths → ¬ HaveSigns asked.now.formulas.now asked.now.signs.now truths }
+{
+    for number in numbers {
+        if !take_sign(asked, *number, known) {
             return false;
         }
     }
     true
 }
 
-/// The answer, where no further literal is needed for it.
-fn settled<T: Theory>(
-    theory: &T,
+/// What is known, as literals.
+fn literals_of<T: Theory>(
+    _theory: &T,
     alloc: Global,
     atoms: &[T::Atom],
-    formulas: &[Formula<T::Atom>],
-    signs: &[bool],
-    literals: &[Lit<T::Atom>],
-) -> Result<Option<Verdict<T::Value, T::Chain>>, Memory>
-    requires goal { IsGoal T.Atom.eq (T.atom_fits theory.now) atoms.now formulas.now signs.now }
-    requires front { IsFront atoms.now literals.now }
-    ensures settled { IfOk result (λ found. IfSome found (Decides T.label_of (T.has_label theory.now) (T.keeps_label theory.now) (Meets T.atom_holds literals.now formulas.now signs.now) (λ chain. T.chain_over theory.now (atoms_in_each formulas.now) chain × T.chain_passes theory.now chain) (T.chain_is_far theory.now))) }
-    ensures open { IfOk result (λ found. IfNone found (length literals.now < length atoms.now)) }
+    known: &Known,
+) -> Result<Vec<Lit<T::Atom>>, Memory>
+    requires { length known.now.signs.items ≡ length atoms.now }
+    ensures { IfOk result (λ literals. AreLiterals (T.atom_fits _theory.now) T.atom_holds atoms.now known.now.signs.items literals.items) }
 {
-    if contradicted(formulas, signs, literals) {
-        return Ok(Some(Verdict::Unsat));
+    let mut literals = Vec::new(alloc);
+    for i in 0..atoms.len() {
+        if let Some(sign) = known.of(i) {
+            let atom = atoms[i].duplicate(alloc)?;
+            literals.push(Lit { atom, sign })?;
+        }
     }
-    let found = theory.decide(alloc, literals)?;
-    if literals.len() == atoms.len() {
-        return Ok(Some(found));
+    Ok(literals)
+}
+
+/// The first formula that has another sign at the value's label.
+fn wrong<T: Theory>(theory: &T, atoms: &[T::Atom], asked: &Asked, value: &T::Value) -> Option<usize>
+    requires asked { AreAsked (length atoms.now) asked.now.formulas.now asked.now.signs.now }
+    requires fit { All (T.atom_fits theory.now) atoms.now }
+    requires kept { KeepsValue (T.meaning theory.now) value.now }
+    ensures right { IfNone result (HaveSigns asked.now.formulas.now asked.now.signs.now (truths_at T.atom_holds atoms.now (T.label_of value.now))) }
+    ensures wrong { IfSome result (IsWrong asked.now.formulas.now asked.now.signs.now (truths_at T.atom_holds atoms.now (T.label_of value.now))) }
+{
+    for i in 0..asked.formulas.len() {
+        if holds_of(theory, atoms, &asked.formulas[i], value) != asked.signs[i] {
+            return Some(i);
+        }
     }
-    match found {
-        Verdict::Unsat => Ok(Some(Verdict::Unsat)),
-        Verdict::Wide(_) => Ok(None),
-        Verdict::Sat(value) => {
-            if have_signs(theory, formulas, signs, &value) {
-                return Ok(Some(Verdict::Sat(value)));
-            }
-            Ok(None)
+    None
+}
+
+/// The first formula that isn't settled to have its sign.
+fn unsettled(asked: &Asked, known: &Known) -> Option<usize>
+    requires asked { AreAsked (length known.now.signs.items) asked.now.formulas.now asked.now.signs.now }
+    ensures settled { IfNone result ((truths : List Bool) → Follows known.now.signs.items truths → HaveSigns asked.now.formulas.now asked.now.signs.now truths) }
+    ensures open { IfSome result (IsUnsettled asked.now.formulas.now asked.now.signs.now known.now.signs.items) }
+{
+    for i in 0..asked.formulas.len() {
+        match settled(&asked.formulas[i], known) {
+            Some(holds) if holds == asked.signs[i] => {}
+            _ => return Some(i),
+        }
+    }
+    None
+}
+
+/// An atom of the formula that wasn't known. Puts down what the formula says of atoms.
+fn open_after(asked: &Asked, number: usize, known: &mut Known) -> Option<usize>
+    requires asked { AreAsked (length known.old.signs.items) asked.now.formulas.now asked.now.signs.now }
+    requires unsettled { IsUnsettled asked.now.formulas.now asked.now.signs.now known.old.signs.items number }
+    ensures forces { Forces (HaveSigns asked.now.formulas.now asked.now.signs.now) known.old.signs.items known.new.signs.items }
+    ensures none { IfNone result ((truths : List Bool) → Follows known.new.signs.items truths → ¬ HaveSigns asked.now.formulas.now asked.now.signs.now truths) }
+    ensures some { IfSome result (λ atom. (atom < length known.new.signs.items) × (known_at known.old.signs.items atom ≡ None)) }
+{
+    match open_atom(&asked.formulas[number], known) {
+        None => None,
+        Some(atom) => {
+            force(&asked.formulas[number], asked.signs[number], known);
+            Some(atom)
         }
     }
 }
 
-/// Decides whether some label satisfies the literals and gives the formulas these signs.
-#[cycle(search)]
+/// What is to be done with an atom of the formula that wasn't known.
+fn go_on<V, W>(number: usize, atom: usize, sign: bool, known: &Known) -> Look<V, W>
+    requires { atom < length known.now.signs.items }
+    ensures { IsNext number atom sign known.now.signs.items result }
+{
+    match known.of(atom) {
+        Some(_) => Look::Again(number, atom),
+        None => Look::Turn(number, atom, sign),
+    }
+}
+
+/// What is found in a branch.
+fn look_at<T: Theory>(
+    theory: &T,
+    alloc: Global,
+    atoms: &[T::Atom],
+    asked: &Asked,
+    active: &[usize],
+    known: &mut Known,
+) -> Result<Look<T::Value, T::Chain>, Memory>
+    requires asked { AreAsked (length known.old.signs.items) asked.now.formulas.now asked.now.signs.now }
+    requires many { length known.old.signs.items ≡ length atoms.now }
+    requires fit { All (T.atom_fits theory.now) atoms.now }
+    ensures forces { OnOk result (Forces (HaveSigns asked.now.formulas.now asked.now.signs.now) known.old.signs.items known.new.signs.items) }
+    ensures looks { IfOk result (Looks (T.meaning theory.now) atoms.now (λ l. HaveSigns asked.now.formulas.now asked.now.signs.now (truths_at T.atom_holds atoms.now l)) known.old.signs.items known.new.signs.items) }
+{
+    if !take_signs(asked, active, known) {
+        return Ok(Look::Closed);
+    }
+    let literals = literals_of(theory, alloc, atoms, known)?;
+    match theory.decide(alloc, &literals)? {
+        Verdict::Unsat => Ok(Look::Closed),
+        Verdict::Sat(value) => match wrong(theory, atoms, asked, &value) {
+            None => Ok(Look::Found(value)),
+            Some(number) => match open_after(asked, number, known) {
+                None => Ok(Look::Closed),
+                Some(atom) => {
+                    let sign = !theory.holds(&atoms[atom], &value);
+                    Ok(go_on(number, atom, sign, known))
+                }
+            },
+        },
+        Verdict::Wide(chain) => match unsettled(asked, known) {
+            None => Ok(Look::TooWide(chain)),
+            Some(number) => match open_after(asked, number, known) {
+                None => Ok(Look::Closed),
+                Some(atom) => Ok(go_on(number, atom, true, known)),
+            },
+        },
+    }
+}
+
+/// Adds a branch for each sign of the atom. That of the given sign is looked at first.
+fn add_branches(
+    alloc: Global,
+    known: &Known,
+    atom: usize,
+    sign: bool,
+    branches: &mut Vec<Known>,
+) -> Result<(), Memory>
+    requires unknown { (atom < length known.now.signs.items) × (known_at known.now.signs.items atom ≡ None) }
+    ensures covers { OnOk result ((truths : List Bool) → Follows known.now.signs.items truths ⊎ Covers (branch_lists branches.old.items) truths → Covers (branch_lists branches.new.items) truths) }
+    ensures weight { OnOk result (weight (branch_lists branches.new.items) < weight (branch_lists branches.old.items) + open_weight known.now.signs.items) }
+    ensures many { OnOk result (All (λ k. length k ≡ length known.now.signs.items) (branch_lists branches.old.items) → All (λ k. length k ≡ length known.now.signs.items) (branch_lists branches.new.items)) }
+{
+    branches.push(known.with(alloc, atom, !sign)?)?;
+    branches.push(known.with(alloc, atom, sign)?)?;
+    Ok(())
+}
+
+/// Adds the number, unless it is there.
+pub fn note(active: &mut Vec<usize>, number: usize) -> Result<(), Memory> {
+    if !active.contains(&number) {
+        active.push(number)?;
+    }
+    Ok(())
+}
+
+/// Of two chains, where there are two, one that isn't far, if there is one.
+fn nearer<T: Theory>(theory: &T, first: Option<T::Chain>, second: T::Chain) -> T::Chain
+    requires { IfSome first (T.meaning theory.now).passes }
+    ensures { IsNearer (T.meaning theory.now).is_far first second result }
+{
+    match first {
+        None => second,
+        Some(chain) => { if theory.far(&chain) { second } else { chain } }
+    }
+}
+
+/// Decides whether some label gives the formulas these signs. Begins with what the active formulas say of atoms, and adds
+/// to them those whose signs had to be looked at.
 pub fn search<T: Theory>(
     theory: &T,
     alloc: Global,
     atoms: &[T::Atom],
-    formulas: &[Formula<T::Atom>],
-    signs: &[bool],
-    literals: &mut Vec<Lit<T::Atom>>,
+    asked: &Asked,
+    active: &mut Vec<usize>,
 ) -> Result<Verdict<T::Value, T::Chain>, Memory>
-    requires goal { IsGoal T.Atom.eq (T.atom_fits theory.now) atoms.now formulas.now signs.now }
-    requires front { IsFront atoms.now literals.old.items }
-    ensures found { IfOk result (Decides T.label_of (T.has_label theory.now) (T.keeps_label theory.now) (Meets T.atom_holds literals.old.items formulas.now signs.now) (λ chain. T.chain_over theory.now (atoms_in_each formulas.now) chain × T.chain_passes theory.now chain) (T.chain_is_far theory.now)) }
-    ensures kept { OnOk result (literals.new.items ≡ literals.old.items) }
+    requires asked { AreAsked (length atoms.now) asked.now.formulas.now asked.now.signs.now }
+    requires fit { All (T.atom_fits theory.now) atoms.now }
+    ensures { IfOk result (DecidesSigns (T.meaning theory.now) atoms.now asked.now.formulas.now asked.now.signs.now) }
 {
-    if let Some(found) = settled(theory, alloc, atoms, formulas, signs, literals)? {
-        return Ok(found);
-    }
-    match with_sign(theory, alloc, atoms, formulas, signs, literals, true)? {
-        Verdict::Sat(value) => Ok(Verdict::Sat(value)),
-        Verdict::Unsat => with_sign(theory, alloc, atoms, formulas, signs, literals, false),
-        Verdict::Wide(chain) => {
-            match with_sign(theory, alloc, atoms, formulas, signs, literals, false)? {
-                Verdict::Sat(value) => Ok(Verdict::Sat(value)),
-                Verdict::Unsat => Ok(Verdict::Wide(chain)),
-                Verdict::Wide(other) => {
-                    if theory.far(&chain) {
-                        return Ok(Verdict::Wide(other));
-                    }
-                    Ok(Verdict::Wide(chain))
-                }
+    let mut wide = None;
+    let mut branches = Vec::new(alloc);
+    branches.push(Known::nothing(alloc, atoms.len())?)?;
+    'branches: while let Some(mut known) = branches.pop() {
+        match look_at(theory, alloc, atoms, asked, active, &mut known)? {
+            Look::Found(value) => return Ok(Verdict::Sat(value)),
+            Look::Closed => {}
+            Look::TooWide(chain) => wide = Some(nearer(theory, wide, chain)),
+            Look::Again(number, _atom) => {
+                note(active, number)?;
+                branches.push(known)?;
+            }
+            Look::Turn(number, atom, sign) => {
+                note(active, number)?;
+                add_branches(alloc, &known, atom, sign, &mut branches)?;
             }
         }
     }
-}
-
-/// The same among the labels at which the next atom has this sign.
-#[cycle(search)]
-fn with_sign<T: Theory>(
-    theory: &T,
-    alloc: Global,
-    atoms: &[T::Atom],
-    formulas: &[Formula<T::Atom>],
-    signs: &[bool],
-    literals: &mut Vec<Lit<T::Atom>>,
-    sign: bool,
-) -> Result<Verdict<T::Value, T::Chain>, Memory>
-    requires goal { IsGoal T.Atom.eq (T.atom_fits theory.now) atoms.now formulas.now signs.now }
-    requires front { IsFront atoms.now literals.old.items }
-    requires open { length literals.old.items < length atoms.now }
-    ensures found { IfOk result (Decides T.label_of (T.has_label theory.now) (T.keeps_label theory.now) (λ l. Meets T.atom_holds literals.old.items formulas.now signs.now l × NextIs T.atom_holds atoms.now (length literals.old.items) sign l) (λ chain. T.chain_over theory.now (atoms_in_each formulas.now) chain × T.chain_passes theory.now chain) (T.chain_is_far theory.now)) }
-    ensures kept { OnOk result (literals.new.items ≡ literals.old.items) }
-{
-    let atom = atoms[literals.len()].duplicate(alloc)?;
-    literals.push(Lit { atom, sign })?;
-    let found = search(theory, alloc, atoms, formulas, signs, literals)?;
-    literals.pop();
-    Ok(found)
+    match wide {
+        None => Ok(Verdict::Unsat),
+        Some(chain) => Ok(Verdict::Wide(chain)),
+    }
 }

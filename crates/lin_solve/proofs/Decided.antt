@@ -22,7 +22,7 @@ use Rattle.lin_solve.specs.Tried.{TellsSides}
 use Rattle.lin_solve.specs.declared.tried.Stuck.{Stuck}
 use Rattle.lin_solve.specs.declared.tried.Tried.TheVariants.{Far, Wide, Unsat}
 use Rattle.lin_solve.specs.Plain.{plain_literals}
-use Rattle.lin_solve.specs.Shown.{plain_choice, plain_chain, choices_of, AllKept}
+use Rattle.lin_solve.specs.Shown.{bits_of, is_bounded, plain_choice, plain_chain, PassesWidth, choices_of, AllKept}
 
 pub sat_for : (ls : List Literal) (b : Bool) (sides : List Bool) (ps : List Put) (us : List ℤ) → AreLiteralsOver 8 ls → IsSolved (count_variables ls) (first_system ls b sides) ps us → (length us ≡ 8) × HoldsAll ls us
 sat_for ls b sides ps us over s =
@@ -40,19 +40,19 @@ pub kept_at : (us : List ℤ) → length us ≡ 8 → AllKept us → (k : ℕ) �
 kept_at us e h k l = h k (pos 0) (subst (λ n. k < n) (sym e) l)
 
 -- the chain shown is the one of these sides and puts
-shown_is : (lits : List (Lit Compare)) (c : Chain) (b : Bool) (sides : List Bool) (ps : List Put) → c.literals.items ≡ lits → map plain_choice c.choices.items ≡ choices_of (plain_literals lits) sides ps → c.bounded ≡ b → plain_chain c ≡ made (plain_literals lits) b sides ps
+shown_is : (lits : List (Lit Compare)) (c : Chain) (b : Bool) (sides : List Bool) (ps : List Put) → c.literals.items ≡ lits → map plain_choice c.choices.items ≡ choices_of (plain_literals lits) sides ps → is_bounded c.width ≡ b → plain_chain c ≡ made (plain_literals lits) b sides ps
 shown_is lits c b sides ps e f g = λ i. record { literals = plain_literals (e i); choices = f i; bounded = g i }
 
 abbrev Shows : List (Lit Compare) → Chain → Type 0
-Shows ls c = (c.literals.items ≡ ls) × Passes c.bits (plain_chain c) × (IsFar (plain_chain c) → (us : List ℤ) → length us ≡ 8 → AllKept us → HoldsAll (plain_literals ls) us → ⊥)
+Shows ls c = (c.literals.items ≡ ls) × PassesWidth c × (IsFar (plain_chain c) → (us : List ℤ) → length us ≡ 8 → AllKept us → HoldsAll (plain_literals ls) us → ⊥)
 
-pub wide_for : (lits : List (Lit Compare)) (c : Chain) (b : Bool) (sides : List Bool) (ps : List Put) → c.literals.items ≡ lits → map plain_choice c.choices.items ≡ choices_of (plain_literals lits) sides ps → c.bounded ≡ b → c.bits ≡ 128
+pub wide_for : (lits : List (Lit Compare)) (c : Chain) (b : Bool) (sides : List Bool) (ps : List Put) → c.literals.items ≡ lits → map plain_choice c.choices.items ≡ choices_of (plain_literals lits) sides ps → is_bounded c.width ≡ b → bits_of c.width ≡ 128
     → length sides ≡ count_sides (plain_literals lits) → Passes128 (count_variables (plain_literals lits)) (first_system (plain_literals lits) b sides) ps
     → (b ≡ true → (D : chains.Chain) × (D.literals ≡ plain_literals lits) × IsFar D) → Shows lits c
 wide_for lits c b sides ps e f g bits l h far =
     let is = shown_is lits c b sides ps e f g in
     let wide = subst HasWide (sym is) (wide_chain (plain_literals lits) b sides ps l h) in
-    let other : c.bounded ≡ true → (D : chains.Chain) × (D.literals ≡ plain_literals c.literals.items) × IsFar D = λ t. by (far (sym g ∙ t)) in
+    let other : is_bounded c.width ≡ true → (D : chains.Chain) × (D.literals ≡ plain_literals c.literals.items) × IsFar D = λ t. by (far (sym g ∙ t)) in
     (e, inl (bits, wide, other), λ k us n kept holds. k.1 wide)
   where
     by : (D : chains.Chain) × (D.literals ≡ plain_literals lits) × IsFar D → (D : chains.Chain) × (D.literals ≡ plain_literals c.literals.items) × IsFar D
@@ -61,7 +61,7 @@ wide_for lits c b sides ps e f g bits l h far =
 pub far_of : (ls : List Literal) (sides : List Bool) (ps : List Put) → length sides ≡ count_sides ls → IsFarOff (count_variables ls) (first_system ls false sides) ps → IsFar (made ls false sides ps)
 far_of ls sides ps l h = far_chain ls sides ps h.values l h.fits h.is h.outside
 
-pub far_for : (lits : List (Lit Compare)) (c : Chain) (sides : List Bool) (ps : List Put) → c.literals.items ≡ lits → map plain_choice c.choices.items ≡ choices_of (plain_literals lits) sides ps → c.bounded ≡ false → c.bits ≡ 64
+pub far_for : (lits : List (Lit Compare)) (c : Chain) (sides : List Bool) (ps : List Put) → c.literals.items ≡ lits → map plain_choice c.choices.items ≡ choices_of (plain_literals lits) sides ps → is_bounded c.width ≡ false → bits_of c.width ≡ 64
     → length sides ≡ count_sides (plain_literals lits) → IsFarOff (count_variables (plain_literals lits)) (first_system (plain_literals lits) false sides) ps
     → ((us : List ℤ) → length us ≡ 8 → AllKept us → HoldsAll (plain_literals lits) us → ⊥) → Shows lits c
 far_for lits c sides ps e f g bits l h none =

@@ -19,13 +19,13 @@ use Rattle.lin_solve.specs.declared.compare.Compare.{Compare}
 use Rattle.lin_solve.specs.declared.chain.Chain.{Chain}
 use Rattle.label_core.specs.declared.theory.Verdict.TheVariants.{Wide}
 use Rattle.lin_solve.specs.Plain.{plain_compare, plain_relation, plain_literal, plain_literals}
-use Rattle.lin_solve.specs.Shown.{AllKept, plain_chain, Answers}
+use Rattle.lin_solve.specs.Shown.{AllKept, plain_chain, PassesWidth, Answers}
 use Rattle.lin_solve.specs.Wholes.{wholes_label, IsWholes, KeepsWholes, compare_at, CompareFits}
 use Rattle.lin_solve.specs.Equal.{wholes_back}
-use Rattle.lin_solve.specs.Kept.{AreKept}
+use Rattle.lin_solve.specs.Kept.{AreKept, AreSome}
 use Rattle.lin_solve.specs.contracts.compare.ComparePartialEq.TheImpl.{ghosts as compares}
 use Rattle.lin_solve.proofs.Alike.{laws_of_equality, alike}
-use Rattle.lin_solve.proofs.Once.{atoms_among, plain_different, kept_hold}
+use Rattle.lin_solve.proofs.Once.{kept_hold}
 
 pub agree : (n : ℕ) (c : Compare) (us vs : List ℤ) → AgreeBelow n us vs → CompareFits n c → compare_holds (plain_compare c) us ≡ compare_holds (plain_compare c) vs
 agree n c us vs a fits =
@@ -69,19 +69,11 @@ module _ (n : ℕ) (few : n ≤ 8) (ls : List (Lit Compare)) (fit : LitsFit (Com
       (wholes_label (take n us), (take n us, length-take-le n us (omega (arith, many, few)), refl), satisfies us (take n us) (λ k l. sym (get_or-take n us k (pos 0) l)) h)
 
   pub wide_shown : (c : Chain) → AreLiteralsOver 8 (plain_literals c.literals.items) → Answers {V = List ℤ} (AreKept compares.eq ls) (λ us. us) ls (Wide c)
-      → (((EachHasEqual compares.eq (atoms_of c.literals.items) (atoms_of ls) × EachTwo (λ l m. ¬ (l ≡ m)) (plain_literals c.literals.items)) × Passes c.bits (plain_chain c)) × (IsFar (plain_chain c) → ((l : Label) × IsWholes n l × SatisfiesAll compare_at ls l) × ((l : Label) → KeepsWholes n l → ¬ (SatisfiesAll compare_at ls l))))
+      → (AreSome compares.eq ls c.literals.items × PassesWidth c) × (IsFar (plain_chain c) → ((l : Label) × IsWholes n l × SatisfiesAll compare_at ls l) × ((l : Label) → KeepsWholes n l → ¬ (SatisfiesAll compare_at ls l)))
   wide_shown c over (kept, passes, none) = (
-    ((atoms_among compares.eq laws_of_equality c.literals.items ls kept.among, plain_different compares.eq laws_of_equality c.literals.items kept.once), passes),
+    ((kept.among, kept.once), passes),
     λ far. (some_satisfies (for_all (far_has_values (plain_chain c) over far)), kept_none (none far)),
   )
     where
       for_all : (us : List ℤ) × (length us ≡ 8) × HoldsAll (plain_literals c.literals.items) us × IsOutside us → (us : List ℤ) × (length us ≡ 8) × HoldsAll (plain_literals ls) us × IsOutside us
       for_all (us, many, h, out) = (us, many, (kept_hold compares.eq laws_of_equality alike ls c.literals.items kept us).0 h, out)
-
-other_width : {n : ℕ} → true ≡ (n == 64) → n ≡ 128 → ⊥
-other_width e bits = cc
-
--- a chain that passes its width is far exactly where that is 64
-pub far_by_bits : (c : Chain) (b : Bool) → b ≡ (c.bits == 64) → Passes c.bits (plain_chain c) → IsTrue b ↔ IsFar (plain_chain c)
-far_by_bits c b is (inl (bits, wide, other)) = (λ t. absurd (other_width (sym (sym is ∙ t)) bits), λ far. absurd (far.1 wide))
-far_by_bits c b is (inr (bits, far)) = (λ t. far, λ f. is ∙ ap (λ n. n == 64) bits)

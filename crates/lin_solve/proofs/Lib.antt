@@ -1,3 +1,4 @@
+pub mod Guessed
 pub mod Numbered
 pub mod Filled
 pub mod Pushed

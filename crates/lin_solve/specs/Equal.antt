@@ -141,19 +141,6 @@ module _ (R : Relation → Relation → Bool) (apart : IsRelationEq R) (E : Comp
   }
 
 module _ {A : Type 0} (E : A → A → Bool) (laws : IsEquivalence E) where
-  module _ (a : A) (more : List A) where
-    by : (b : A) (bs : List A) (t : Bool) → E a b ≡ t → (list_any (E a) bs ≡ true → list_any (E a) more ≡ true) → list_any (E b) more ≡ true → (t || list_any (E a) bs) ≡ true → list_any (E a) more ≡ true
-    by b bs true e later here h = list_any_congr laws a b more e ∙ here
-    by b bs false e later here h = later h
-
-    among : (atoms : List A) → EachHasEqual E atoms more → list_any (E a) atoms ≡ true → list_any (E a) more ≡ true
-    among [] each h = cc
-    among (b ∷ bs) each h = by b bs (E a b) refl (among bs (All-tail (λ c. IsTrue (has_equal E more c)) b bs each)) (All-head (λ c. IsTrue (has_equal E more c)) b bs each) h
-
-  -- what is among some is among all that have an equal one of each of them
-  pub among_grows : (own atoms more : List A) → EachHasEqual E atoms more → EachHasEqual E own atoms → EachHasEqual E own more
-  among_grows own atoms more each h = λ k d l. among (get_or own k d) more atoms each (h k d l)
-
   -- each is among themselves
   pub among_own : (own : List A) → EachHasEqual E own own
   among_own own = λ k d l. list_any-from_Contains laws (get_or own k d) own (Contains-get_or own k d l)

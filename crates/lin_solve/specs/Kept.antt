@@ -23,6 +23,10 @@ module _ (E : Compare → Compare → Bool) where
   abbrev pub AreDifferent : List (Lit Compare) → Type 0
   AreDifferent ls = EachTwo (λ l m. is_same l m ≡ false) ls
 
+  -- the second are some of the first, none twice
+  abbrev pub AreSome : List (Lit Compare) → List (Lit Compare) → Type 0
+  AreSome ls ks = EachHasEqual is_same ks ls × AreDifferent ks
+
   -- each of the first once: they are the same literals, but no two of the second are the same
   pub record AreKept (ls ks : List (Lit Compare)) : Type 0 where
     pub among : EachHasEqual is_same ks ls

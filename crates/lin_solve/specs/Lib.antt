@@ -4,3 +4,4 @@ pub mod Shown
 pub mod Wholes
 pub mod Equal
 pub mod Kept
+pub mod Meaning

@@ -4,14 +4,14 @@ ghost use Rattle.std.specs.Prelude.{◌≡◌, ◌++◌, ◌∷◌, [], IfOk, ma
 ghost use Rattle.cooper_solve.specs.Told.{puts_of};
 ghost use Rattle.model_chain.specs.Chains.{side_choices, take_put, side as chain_side};
 ghost use Rattle.lin_solve.specs.Plain.{plain_literals};
-ghost use Rattle.lin_solve.specs.Shown.{plain_choice, choices_of};
+ghost use Rattle.lin_solve.specs.Shown.{bits_of, plain_choice, choices_of};
 
 use crate::compare::Compare;
 use crate::repeats::copy_literal;
 use crate::system::{needs_side, side_at, step_on};
 use crate::tried::Stuck;
 use cooper_solve::Put;
-use fast_fault::Memory;
+use fast_fault::{LABEL_BITS, Memory};
 use label_core::Lit;
 use std::alloc::Global;
 
@@ -19,8 +19,31 @@ use std::alloc::Global;
 /// put.
 #[derive(Clone, Copy, Debug, PartialEq, Eq)]
 pub enum Choice {
-    Side(u64, bool),
+    Side { literal: u64, positive: bool },
     Put(Put),
+}
+
+/// The width that a chain passes.
+#[derive(Clone, Copy, Debug, PartialEq, Eq)]
+pub enum Width {
+    /// 64 bits, by its solution.
+    Solution,
+    /// 128 bits, by a number of it.
+    Number,
+    /// The same of a chain whose fields are bounded, since one without bounds has a solution that is far off.
+    BoundedNumber,
+}
+
+impl Width {
+    /// So many bits.
+    pub fn bits(self) -> u32
+        ensures { result ≡ bits_of self }
+    {
+        match self {
+            Width::Solution => LABEL_BITS,
+            Width::Number | Width::BoundedNumber => 128,
+        }
+    }
 }
 
 /// The choices that lead from literals to a solution that is far off, or to a number that is too wide.
@@ -28,8 +51,7 @@ pub enum Choice {
 pub struct Chain {
     pub literals: Vec<Lit<Compare>>,
     pub choices: Vec<Choice>,
-    pub bounded: bool,
-    pub bits: u32,
+    pub width: Width,
 }
 
 fn copy_literals(alloc: Global, literals: &[Lit<Compare>]) -> Result<Vec<Lit<Compare>>, Memory>
@@ -46,7 +68,10 @@ fn push_side(index: usize, side: bool, needed: bool, out: &mut Vec<Choice>) -> R
     ensures { IfOk result (λ _. map plain_choice out.new.items ≡ map plain_choice out.old.items ++ cond needed (chain_side index side ∷ []) []) }
 {
     if needed {
-        out.push(Choice::Side(index as u64, side))?;
+        out.push(Choice::Side {
+            literal: index as u64,
+            positive: side,
+        })?;
     }
     Ok(())
 }
@@ -81,11 +106,10 @@ fn push_puts(puts: &[Put], out: &mut Vec<Choice>) -> Result<(), Memory>
 pub(crate) fn chain_of(
     alloc: Global,
     literals: &[Lit<Compare>],
-    bounded: bool,
-    bits: u32,
+    width: Width,
     stuck: &Stuck,
 ) -> Result<Chain, Memory>
-    ensures { IfOk result (λ c. (c.literals.items ≡ literals.now) × (map plain_choice c.choices.items ≡ choices_of (plain_literals literals.now) stuck.now.sides.items (puts_of stuck.now.puts.items)) × (c.bounded ≡ bounded) × (c.bits ≡ bits)) }
+    ensures { IfOk result (λ c. (c.literals.items ≡ literals.now) × (map plain_choice c.choices.items ≡ choices_of (plain_literals literals.now) stuck.now.sides.items (puts_of stuck.now.puts.items)) × (c.width ≡ width)) }
 {
     let copies = copy_literals(alloc, literals)?;
     let mut choices = Vec::new(alloc);
@@ -94,7 +118,6 @@ pub(crate) fn chain_of(
     Ok(Chain {
         literals: copies,
         choices,
-        bounded,
-        bits,
+        width,
     })
 }

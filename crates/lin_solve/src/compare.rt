@@ -4,7 +4,7 @@ ghost use Rattle.std.specs.Prelude.{◌≡◌};
 ghost use Rattle.model_chain.specs.Literals.{compare_holds};
 ghost use Rattle.lin_solve.specs.Plain.{plain_compare};
 
-use fast_fault::Memory;
+use fast_fault::{LabelInt, Memory};
 use label_core::Duplicate;
 use lin_form::Form;
 use std::alloc::Global;
@@ -27,7 +27,7 @@ pub struct Compare {
 
 impl Compare {
     /// Whether it holds at these values of the fields. A field past the list counts as 0.
-    pub fn holds(&self, values: &[i64]) -> bool
+    pub fn holds(&self, values: &[LabelInt]) -> bool
         ensures { result ≡ compare_holds (plain_compare self.now) values.now }
     {
         let left = self.left.eval(values);

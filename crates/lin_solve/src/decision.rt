@@ -8,14 +8,15 @@ ghost use Rattle.lin_solve.specs.Plain.{plain_literals, AreTheirs};
 ghost use Rattle.lin_solve.specs.Shown.{Answers};
 ghost use Rattle.lin_solve.specs.Kept.{AreKept};
 
-use crate::chain::{Chain, chain_of};
+use crate::chain::{Chain, Width, chain_of};
 use crate::compare::Compare;
+use crate::guess::guess;
 use crate::numbering::{Remainder, remainders_of};
 use crate::over::are_over;
 use crate::repeats::{are_different, once, sided_stand_last};
 use crate::system::{needs_side, step_on};
 use crate::tried::{Stuck, Tried, try_sides};
-use fast_fault::Memory;
+use fast_fault::{LabelInt, Memory};
 use label_core::{Lit, Verdict};
 use std::alloc::Global;
 
@@ -37,7 +38,7 @@ fn decide_bounded(
     known: &[Remainder],
     count: usize,
     far: &Stuck,
-) -> Result<Verdict<Vec<i64>, Chain>, Memory>
+) -> Result<Verdict<Vec<LabelInt>, Chain>, Memory>
     requires known { AreTheirs literals.now known.now }
     requires over { AreLiteralsOver 8 (plain_literals literals.now) }
     requires count { count ≡ count_sides (plain_literals literals.now) }
@@ -48,15 +49,23 @@ fn decide_bounded(
     let none = Vec::new(alloc);
     match try_sides(alloc, literals, known, true, &none, count)? {
         Tried::Solved(values) => Ok(Verdict::Sat(values)),
-        Tried::Wide(wide) => Ok(Verdict::Wide(chain_of(alloc, literals, true, 128, &wide)?)),
-        Tried::Unsat => Ok(Verdict::Wide(chain_of(alloc, literals, false, 64, far)?)),
+        Tried::Wide(wide) => Ok(Verdict::Wide(chain_of(
+            alloc,
+            literals,
+            Width::BoundedNumber,
+            &wide,
+        )?)),
+        Tried::Unsat => Ok(Verdict::Wide(chain_of(alloc, literals, Width::Solution, far)?)),
         // A bounded system has no such solution.
         Tried::Far(_far) => unreachable!(),
     }
 }
 
 // Decides them all, in the order in which they are given.
-fn decide_all(alloc: Global, literals: &[Lit<Compare>]) -> Result<Verdict<Vec<i64>, Chain>, Memory>
+fn decide_all(
+    alloc: Global,
+    literals: &[Lit<Compare>],
+) -> Result<Verdict<Vec<LabelInt>, Chain>, Memory>
     ensures { IfOk result (Answers (λ ls. ls ≡ literals.now) vec_items literals.now) }
 {
     are_over(literals);
@@ -65,17 +74,24 @@ fn decide_all(alloc: Global, literals: &[Lit<Compare>]) -> Result<Verdict<Vec<i6
     let none = Vec::new(alloc);
     match try_sides(alloc, literals, &known, false, &none, count)? {
         Tried::Solved(values) => Ok(Verdict::Sat(values)),
-        Tried::Wide(wide) => Ok(Verdict::Wide(chain_of(alloc, literals, false, 128, &wide)?)),
+        Tried::Wide(wide) => Ok(Verdict::Wide(chain_of(alloc, literals, Width::Number, &wide)?)),
         Tried::Unsat => Ok(Verdict::Unsat),
         Tried::Far(far) => decide_bounded(alloc, literals, &known, count, &far),
     }
 }
 
-/// Decides whether the literals hold at some values of the eight fields. Its chain has each of them once, negated
+/// Decides whether the literals hold at some values of the eight fields. Values that are found by trying are an answer;
+/// else Cooper's method tells. Its chain has each of them once, negated
 /// equalities last: so sides are tried where all else is known.
-pub fn decide(alloc: Global, literals: &[Lit<Compare>]) -> Result<Verdict<Vec<i64>, Chain>, Memory>
+pub fn decide(
+    alloc: Global,
+    literals: &[Lit<Compare>],
+) -> Result<Verdict<Vec<LabelInt>, Chain>, Memory>
     ensures { IfOk result (Answers (AreKept ⟦<Compare as PartialEq>⟧.eq literals.now) vec_items literals.now) }
 {
+    if let Some(values) = guess(alloc, literals)? {
+        return Ok(Verdict::Sat(values));
+    }
     if are_different(literals) && sided_stand_last(literals) {
         return decide_all(alloc, literals);
     }

@@ -3,11 +3,11 @@
 ghost use Rattle.std.specs.Prelude.{◌≡◌, ◌≤◌, IfOk, length, take};
 ghost use Rattle.lin_solve.specs.Shown.{AllKept};
 
-use crate::chain::Chain;
+use crate::chain::{Chain, Width};
 use crate::compare::{Compare, Relation};
 use crate::decision::decide;
 use crate::over::are_over;
-use fast_fault::Memory;
+use fast_fault::{LabelInt, Memory};
 use label_core::{Lit, Theory, Verdict};
 use std::alloc::Global;
 
@@ -29,7 +29,7 @@ impl Ints {
 }
 
 /// The first so many of the values.
-fn first(alloc: Global, values: &[i64], count: u32) -> Result<Vec<i64>, Memory>
+fn first(alloc: Global, values: &[LabelInt], count: u32) -> Result<Vec<LabelInt>, Memory>
     requires { count ≤ length values.now }
     ensures first { IfOk result (λ first. first.items ≡ take count values.now) }
     ensures kept { IfOk result (λ first. AllKept first.items) }
@@ -44,19 +44,14 @@ fn first(alloc: Global, values: &[i64], count: u32) -> Result<Vec<i64>, Memory>
 impl Theory for Ints {
     type Atom = Compare;
 
-    type Value = Vec<i64>;
+    type Value = Vec<LabelInt>;
 
     type Chain = Chain;
 
     ghost use Rattle.std.specs.Prelude.{◌≡◌, refl};
-    ghost use Rattle.model_chain.specs.Each.{EachTwo};
-    ghost use Rattle.model_chain.specs.Chains.{Passes, IsFar};
-    ghost use Rattle.label_core.specs.Atoms.{EachHasEqual};
-    ghost use Rattle.label_core.specs.Lit.{atoms_of};
-    ghost use Rattle.lin_solve.specs.Plain.{plain_literals};
-    ghost use Rattle.lin_solve.specs.Shown.{plain_chain};
-    ghost use Rattle.lin_solve.specs.Wholes.{wholes_label, compare_at, IsWholes, KeepsWholes, CompareFits};
-    ghost use Rattle.lin_solve.specs.Equal.{equal_hold, equal_fit, equal_wholes, kept_wholes, among_grows, compare_laws};
+    ghost use Rattle.lin_solve.specs.Wholes.{wholes_label, compare_at, CompareFits};
+    ghost use Rattle.lin_solve.specs.Meaning.{whole_meaning};
+    ghost use Rattle.lin_solve.specs.Equal.{equal_hold, equal_fit, equal_wholes, kept_wholes};
 
     ghost label_of = { λ v. wholes_label v.items };
 
@@ -64,15 +59,9 @@ impl Theory for Ints {
 
     ghost atom_fits = { λ t. CompareFits t.fields };
 
-    ghost has_label = { λ t. IsWholes t.fields };
+    ghost meaning = { λ t. whole_meaning t.fields ⟦<Compare as PartialEq>⟧.eq };
 
-    ghost keeps_label = { λ t. KeepsWholes t.fields };
-
-    ghost chain_over = { λ t atoms c. EachHasEqual ⟦<Compare as PartialEq>⟧.eq (atoms_of c.literals.items) atoms × EachTwo (λ l m. ¬ (l ≡ m)) (plain_literals c.literals.items) };
-
-    ghost chain_passes = { λ t c. Passes c.bits (plain_chain c) };
-
-    ghost chain_is_far = { λ t c. IsFar (plain_chain c) };
+    ghost equal_is_own = { λ t. refl };
 
     ghost equal_atoms = { equal_hold ⟦<Relation as PartialEq>⟧.eq (record { less = refl; at_most = refl; equal = refl; less_at_most = refl; less_equal = refl; at_most_less = refl; at_most_equal = refl; equal_less = refl; equal_at_most = refl }) ⟦<Compare as PartialEq>⟧.eq (record { parts = λ _ _. refl }) };
 
@@ -82,9 +71,7 @@ impl Theory for Ints {
 
     ghost keeps_labels = { λ t. kept_wholes t.fields };
 
-    ghost chain_grows = { λ t atoms more c each over. (among_grows ⟦<Compare as PartialEq>⟧.eq (compare_laws ⟦<Relation as PartialEq>⟧.eq (record { less = refl; at_most = refl; equal = refl; less_at_most = refl; less_equal = refl; at_most_less = refl; at_most_equal = refl; equal_less = refl; equal_at_most = refl }) ⟦<Compare as PartialEq>⟧.eq (record { parts = λ _ _. refl })) (atoms_of c.literals.items) atoms more each over.0, over.1) };
-
-    fn holds(&self, atom: &Compare, value: &Vec<i64>) -> bool {
+    fn holds(&self, atom: &Compare, value: &Vec<LabelInt>) -> bool {
         atom.holds(value)
     }
 
@@ -92,7 +79,7 @@ impl Theory for Ints {
         &self,
         alloc: Global,
         literals: &[Lit<Compare>],
-    ) -> Result<Verdict<Vec<i64>, Chain>, Memory> {
+    ) -> Result<Verdict<Vec<LabelInt>, Chain>, Memory> {
         match decide(alloc, literals)? {
             Verdict::Sat(values) => Ok(Verdict::Sat(first(alloc, &values, self.fields)?)),
             Verdict::Unsat => Ok(Verdict::Unsat),
@@ -103,11 +90,11 @@ impl Theory for Ints {
         }
     }
 
-    fn copy_value(&self, _alloc: Global, value: &Vec<i64>) -> Result<Vec<i64>, Memory> {
+    fn copy_value(&self, _alloc: Global, value: &Vec<LabelInt>) -> Result<Vec<LabelInt>, Memory> {
         Ok(value.clone()?)
     }
 
     fn far(&self, chain: &Chain) -> bool {
-        chain.bits == 64
+        matches!(chain.width, Width::Solution)
     }
 }

@@ -7,6 +7,7 @@
 mod chain;
 mod compare;
 mod decision;
+mod guess;
 mod ints;
 mod numbering;
 mod over;
@@ -15,7 +16,7 @@ mod rows;
 mod system;
 mod tried;
 
-pub use chain::{Chain, Choice};
+pub use chain::{Chain, Choice, Width};
 pub use compare::{Compare, Relation};
 pub use decision::decide;
 pub use ints::Ints;

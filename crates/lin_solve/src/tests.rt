@@ -1,4 +1,4 @@
-use crate::{Compare, Relation, decide};
+use crate::{Compare, Relation, Width, decide};
 use fast_fault::Memory;
 use label_core::{Lit, Verdict};
 use lin_form::{Form, FormStop, Signed};
@@ -82,7 +82,7 @@ fn told(alloc: Global, literals: &[Lit<Compare>]) -> Result<&'static str, Memory
             if chain.literals.len() < literals.len() {
                 return Ok("a chain of fewer literals");
             }
-            if chain.bits == 64 {
+            if chain.width == Width::Solution {
                 Ok("far")
             } else {
                 Ok("wide")
@@ -251,6 +251,19 @@ fn decides_linear_literals(rt: HostRuntime) -> Result<(), Fail> {
             "2147483647 x = 6442450941",
             &[pair(0, &[(2147483647, 0)], Equal, 6442450941, &[])],
             "values",
+        ),
+        (
+            // x is a multiple of five primes near 2^31, so it is above 2^127
+            "five products of primes, x > 0",
+            &[
+                pair(0, &[(2147483647, 0)], Equal, 0, &[(2147483629, 1)]),
+                pair(0, &[(2147483587, 1)], Equal, 0, &[(2147483579, 2)]),
+                pair(0, &[(2147483563, 2)], Equal, 0, &[(2147483549, 3)]),
+                pair(0, &[(2147483543, 3)], Equal, 0, &[(2147483497, 4)]),
+                pair(0, &[(2147483489, 4)], Equal, 0, &[(2147483477, 5)]),
+                pair(0, &[], Less, 0, x),
+            ],
+            "wide",
         ),
     ];
     for (place, (_, rows, want)) in cases.iter().enumerate() {

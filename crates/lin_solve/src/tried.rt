@@ -11,7 +11,7 @@ use crate::compare::Compare;
 use crate::numbering::{Remainder, remainders_of};
 use crate::system::{first_system, needs_side, step_on};
 use cooper_solve::{Found, Put, solve};
-use fast_fault::Memory;
+use fast_fault::{LabelInt, Memory};
 use label_core::Lit;
 use std::alloc::Global;
 
@@ -25,7 +25,7 @@ pub(crate) struct Stuck {
 /// What is found with some sides, or with all.
 #[derive(Drop)]
 pub(crate) enum Tried {
-    Solved(Vec<i64>),
+    Solved(Vec<LabelInt>),
     Far(Stuck),
     Wide(Stuck),
     Unsat,

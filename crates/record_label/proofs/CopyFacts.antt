@@ -10,6 +10,12 @@ use Rattle.record_label.specs.contracts.maps.RowEntryPartialEq.TheImpl.{eq-value
 use Rattle.record_label.specs.contracts.maps.RowEntryEq.TheImpl.Laws.{laws-law}
 use Rattle.record_label.specs.Rows.{RowAtom}
 use Rattle.record_label.specs.PlainMaps.{plain_entry}
+use Rattle.record_label.specs.Written.{plain_written}
+use Rattle.record_label.specs.declared.written.Mark.{Mark}
+use Rattle.record_label.specs.declared.written.Written.{Written}
+use Rattle.record_label.specs.contracts.written.MarkPartialEq.TheImpl as mark
+use Rattle.record_label.specs.contracts.written.WrittenPartialEq.TheImpl as written
+use Rattle.record_label.specs.contracts.written.WrittenEq.TheImpl.Laws as laws
 
 by_plain : (A : RowAtom → RowAtom → Bool) (f g : Formula RowAtom) → plain_formula f ≡ plain_formula g → same_formula A (plain_formula f) (plain_formula f) ≡ true → same_formula A (plain_formula f) (plain_formula g) ≡ true
 by_plain A f g one h = subst (λ p. same_formula A (plain_formula f) p ≡ true) one h
@@ -36,6 +42,16 @@ same_entries (x ∷ xs) (y ∷ ys) e =
     let first : plain_entry x ≡ plain_entry y = cc in
     let rest : map plain_entry xs ≡ map plain_entry ys = cc in λ i. same_entry x y first i && same_entries xs ys rest i
 
-pub if_ok : {T E : Type 0} (r : Result T E) (P Q : T → Type 0) → ((x : T) → P x → Q x) → IfOk r P → IfOk r Q
-if_ok (Ok x) P Q f h = f x h
-if_ok (Err e) P Q f h = h
+-- what is written, piece by piece
+pub same_written : (xs ys : List Written) → map plain_written xs ≡ map plain_written ys → pointwise written.eq-value.it xs ys ≡ true
+same_written [] [] e = refl
+same_written [] (y ∷ ys) e = absurd cc
+same_written (x ∷ xs) [] e = absurd cc
+same_written (x ∷ xs) (y ∷ ys) e =
+    let first : x.marks.items ≡ y.marks.items = cc in
+    let rest : map plain_written xs ≡ map plain_written ys = cc in
+    let own : written.eq-value.it x y ≡ true = subst (λ (ms : List Mark). pointwise mark.eq-value.it x.marks.items ms ≡ true) first (laws.laws-law.refl x) in λ i. own i && same_written xs ys rest i
+
+pub if_both : {T E : Type 0} (r : Result T E) (P R Q : T → Type 0) → ((x : T) → P x → R x → Q x) → IfOk r P → IfOk r R → IfOk r Q
+if_both (Ok x) P R Q f h k = f x h k
+if_both (Err e) P R Q f h k = h

@@ -7,7 +7,10 @@ use Rattle.fast_syntax.specs.Plain.{plain_expr}
 use Rattle.fast_tree.specs.declared.signature.FieldOf.{FieldOf}
 use Rattle.fast_tree.specs.Signatures.{plain_sort, plain_field}
 use Rattle.record_label.specs.declared.maps.RowEntry.{RowEntry}
+use Rattle.record_label.specs.Parts.{AreWithin}
 use Rattle.record_label.specs.PlainMaps.{plain_entry}
+use Rattle.record_label.specs.Written.{plain_written, written_for, written_for_each}
+use Rattle.record_label.specs.declared.written.Written.{Written as Kept}
 use Rattle.flat_label.specs.declared.texts.TextSide.{TextSide}
 use Rattle.model_tree.specs.Label.{whole, truth}
 use Rattle.model_tree.specs.Signature.{Sort, wholes, truths, texts, PlainField}
@@ -30,6 +33,7 @@ module _ (fields : List PlainField) where
   pub number_entry : length fields ≤ 8 → (e : Expr) (f : Form) → is_whole fields e ≡ true → f ≡ form_of fields e → IsEntryOf fields e wholes (number_by f)
   number_entry few e f h is = subst (λ g. IsEntryOf fields e wholes (number_by g)) (sym is) (record {
     makes = λ values sorts. ap whole (form_value fields values few sorts e h) ∙ sym (whole_of_sort (value_of fields values e) (whole_sort fields values e sorts h));
+    written = refl;
     fit = form_over fields (count_of wholes (map (λ x. x.sort) fields)) (λ name has. number_low fields wholes name has) e;
     of_sort = refl;
   })
@@ -37,6 +41,7 @@ module _ (fields : List PlainField) where
   pub truth_entry : (e : Expr) (f : Formula RowAtom) → is_guard fields e ≡ true → IsGuardOf fields e f → IsEntryOf fields e truths (truth_by f)
   truth_entry e f h is = record {
     makes = λ values sorts. ap truth (is.holds values sorts) ∙ sym (truth_of_sort (value_of fields values e) (guard_sort fields values e sorts h));
+    written = is;
     fit = is.fit;
     of_sort = refl;
   }
@@ -44,6 +49,7 @@ module _ (fields : List PlainField) where
   pub text_entry : (e : Expr) → is_text fields e ≡ true → IsEntryOf fields e texts (text_by (side_of fields e))
   text_entry e h = record {
     makes = λ values sorts. sym (text_value fields values e sorts h);
+    written = refl;
     fit = side_fits fields e h;
     of_sort = refl;
   }
@@ -74,6 +80,13 @@ module _ (fields : List PlainField) where
   entries_push (d ∷ es) (t ∷ sorts) [] e s x many are is = absurd are
   entries_push (d ∷ es) (t ∷ sorts) (y ∷ entries) e s x many are is = (are.0, entries_push es sorts entries e s x (omega (arith, many)) are.1 is)
 
+-- the sorts and the expressions up to a place, and what is kept of one more
+pub kept_push : (sorts : List Sort) (es : List Expr) (s : Sort) (e : Expr) → length es ≡ length sorts → written_for_each (sorts ++ s ∷ []) (es ++ e ∷ []) ≡ written_for_each sorts es ++ written_for s e ∷ []
+kept_push [] [] s e many = refl
+kept_push [] (d ∷ es) s e many = absurd (omega (arith, many))
+kept_push (t ∷ sorts) [] s e many = absurd (omega (arith, many))
+kept_push (t ∷ sorts) (d ∷ es) s e many = ap (λ ws. written_for t d ∷ ws) (kept_push sorts es s e (omega (arith, many)))
+
 pub given_side : (b : Bool) (s t : TextSide) → b ≡ true → Some s ≡ cond b (Some t) None → s ≡ t
 given_side true s t e h = cc
 given_side false s t e h = cc
@@ -82,6 +95,23 @@ given_side false s t e h = cc
 pub sort_at : (items : List FieldOf) (i : ℕ) (d : FieldOf) → i < length items → get_or (map (λ (f : PlainField). f.sort) (map plain_field items)) i (plain_sort d.sort) ≡ plain_sort (get_or items i d).sort
 sort_at items i d l =
     get_or-map (λ (f : PlainField). f.sort) (map plain_field items) i (plain_field d) (plain_sort d.sort) (omega (arith, l, length-map items plain_field)) ∙ ap (λ (f : PlainField). f.sort) (get_or-map plain_field items i d (plain_field d) l)
+
+-- what is kept of the expressions up to a place, and one more
+module _ (es : List Written) (items : List FieldOf) (many : length es ≡ length items) (i : ℕ) (e : Written) (f : FieldOf) (l : i < length es) (e_is : e ≡ get_or es i e) (f_is : f ≡ get_or items i f) where
+  abbrev sorts : List Sort
+  sorts = map (λ (g : PlainField). g.sort) (map plain_field items)
+
+  pub kept_more : (made now : List Kept) (x : Kept) → now ≡ made ++ x ∷ [] → map plain_written made ≡ written_for_each (take i sorts) (take i (map plain_expr es)) → plain_written x ≡ written_for (plain_sort f.sort) (plain_expr e) → map plain_written now ≡ written_for_each (take (i + 1) sorts) (take (i + 1) (map plain_expr es))
+  kept_more made now x pushed before own =
+      let among : i < length (map plain_expr es) = omega (arith, l, length-map es plain_expr) in
+      let low : i < length sorts = omega (arith, l, many, length-map (map plain_field items) (λ (g : PlainField). g.sort), length-map items plain_field) in
+      let expr_is : get_or (map plain_expr es) i (plain_expr e) ≡ plain_expr e = get_or-map plain_expr es i e (plain_expr e) l ∙ ap plain_expr (sym e_is) in
+      let sort_is : get_or sorts i (plain_sort f.sort) ≡ plain_sort f.sort = sort_at items i f (omega (arith, l, many)) ∙ ap (λ (g : FieldOf). plain_sort g.sort) (sym f_is) in
+      let front : take (i + 1) (map plain_expr es) ≡ take i (map plain_expr es) ++ plain_expr e ∷ [] = take_more (map plain_expr es) i (plain_expr e) among ∙ ap (λ y. take i (map plain_expr es) ++ y ∷ []) expr_is in
+      let front' : take (i + 1) sorts ≡ take i sorts ++ plain_sort f.sort ∷ [] = take_more sorts i (plain_sort f.sort) low ∙ ap (λ y. take i sorts ++ y ∷ []) sort_is in
+      let few : length (take i (map plain_expr es)) ≡ length (take i sorts) = length-take-le i (map plain_expr es) (omega (arith, among)) ∙ sym (length-take-le i sorts (omega (arith, low))) in
+      ap (map plain_written) pushed ∙ map-append plain_written made (x ∷ []) ∙ (λ j. before j ++ own j ∷ [])
+      ∙ sym ((λ j. written_for_each (front' j) (front j)) ∙ kept_push (take i sorts) (take i (map plain_expr es)) (plain_sort f.sort) (plain_expr e) few)
 
 module _ (fields : List PlainField) (es : List Written) (items : List FieldOf) (sorted : AreOfSorts fields (map plain_expr es) (map (λ (f : PlainField). f.sort) (map plain_field items))) where
   pub many_labels : length es ≡ length items
@@ -118,3 +148,13 @@ module _ (fields : List PlainField) (es : List Written) (items : List FieldOf) (
         let few : length (take i (map plain_expr es)) ≡ length (take i sorts) = length-take-le i (map plain_expr es) (omega (arith, among)) ∙ sym (length-take-le i sorts (omega (arith, low))) in
         subst (λ ys. AreEntriesOf fields ys (take (i + 1) sorts) (map plain_entry now)) front (subst (λ ys. AreEntriesOf fields (take i (map plain_expr es) ++ plain_expr e ∷ []) ys (map plain_entry now)) front'
         (subst (AreEntriesOf fields (take i (map plain_expr es) ++ plain_expr e ∷ []) (take i sorts ++ plain_sort f.sort ∷ [])) all (entries_push fields (take i (map plain_expr es)) (take i sorts) (map plain_entry made) (plain_expr e) (plain_sort f.sort) (plain_entry x) few are is)))
+
+-- where there are no forms, none is out of range
+pub none_within : (forms : List Form) → forms ≡ [] → AreWithin forms
+none_within [] e n o = let at = o.1 in absurd (omega (arith, at.1))
+none_within (f ∷ forms) e n o = absurd cc
+
+pub no_forms : (fields : List PlainField) (e : Expr) (es : List Expr) → forms_in fields e ≡ [] → forms_in_each fields es ≡ [] → forms_in_each fields (e ∷ es) ≡ []
+no_forms fields e es none rest = λ i. none i ++ rest i
+
+pub ruleset on_no_forms = (none_within, no_forms)

@@ -42,9 +42,9 @@ module _ (sorts : List Sort) (entries : List Entry) (few : count_of wholes sorts
     pub atom_says : (f : Formula RowAtom) → f ≡ put_atom entries a → ((n : ℤ) → IsOutsidePut entries a n → ⊥) → Says f
     atom_says f is none = subst Says (sym is) (at_label, put_fits sorts entries a fit, every (Contains (atoms_in (put_atom entries a))) (put_atom entries a) (λ b c. c), none)
 
-  module _ (second : List Entry) where
+  module _ (second : List Entry) {Kept : Type 0} (kept : Kept) where
     abbrev Chains : List Entry → Type 0
-    Chains chained = ((l : Label) → HasSorts sorts l → made chained l ≡ made second (made entries l)) × (EntriesFit sorts chained × ((into : List Sort) → map sort_by second ≡ into → map sort_by chained ≡ into)) × ((n : ℤ) → SomeOutside (IsOutsideEntry entries) second n → ⊥)
+    Chains chained = ((l : Label) → HasSorts sorts l → made chained l ≡ made second (made entries l)) × ((chained ≡ map (put_entry entries) second) × Kept) × (EntriesFit sorts chained × ((into : List Sort) → map sort_by second ≡ into → map sort_by chained ≡ into)) × ((n : ℤ) → SomeOutside (IsOutsideEntry entries) second n → ⊥)
 
     chained_at : (l : Label) → HasSorts sorts l → made (map (put_entry entries) second) l ≡ made second (made entries l)
     chained_at (row fields) has = ap row (entries_put fields entries low second)
@@ -52,4 +52,4 @@ module _ (sorts : List Sort) (entries : List Entry) (few : count_of wholes sorts
 
     -- a map after another one
     pub map_says : (chained : List Entry) → chained ≡ map (put_entry entries) second → ((n : ℤ) → SomeOutside (IsOutsideEntry entries) second n → ⊥) → Chains chained
-    map_says chained is none = subst Chains (sym is) (chained_at, (entries_put_fit sorts entries second fit, λ into h. entries_put_sorts entries second ∙ h), none)
+    map_says chained is none = subst Chains (sym is) (chained_at, (refl, kept), (entries_put_fit sorts entries second fit, λ into h. entries_put_sorts entries second ∙ h), none)

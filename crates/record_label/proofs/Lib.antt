@@ -9,3 +9,5 @@ pub mod PutFacts
 pub mod CopyFacts
 pub mod LabelFacts
 pub mod EntryFacts
+pub mod ChainFacts
+pub mod Pieces

@@ -7,7 +7,8 @@ use Rattle.std.specs.List.{list_all}
 use Rattle.std.proofs.lemmas.Bool.{lt-ltb, ltb-true}
 use Rattle.std.proofs.lemmas.List.Elements.{All-nil, All-cons, All-head, All-tail}
 use Rattle.model_tree.specs.Label.{Field, whole, truth, text, Label, row, pair}
-use Rattle.model_tree.specs.Signature.{Sort, wholes, truths, texts, sort_of, HasSorts}
+use Rattle.model_tree.specs.Signature.{Sort, wholes, truths, texts, sort_of, have_sorts, HasSorts}
+use Rattle.model_tree.proofs.Sorts.{own_sorts, have_these_sorts}
 use Rattle.model_label.specs.Fields.{same_sort}
 use Rattle.model_tree.specs.Kept.{is_kept_field}
 use Rattle.model_form.proofs.Over.{AgreeBelow}
@@ -103,13 +104,13 @@ pub side_fits_in : (sorts : List Sort) (fields : List Field) (s : TextSide) → 
 side_fits_in sorts fields s is fits = subst (λ n. SideFits n s) (ap (count_of texts) (sym is) ∙ sym (count_of_texts fields)) fits
 
 pub has_parts : (sorts : List Sort) (l : Label) → HasSorts sorts l → HasThree sorts (parts_of l)
-has_parts sorts (row fields) is =
-    ((wholes_in fields, count_of_wholes fields ∙ ap (count_of wholes) is, refl), ((truths_in fields, count_of_truths fields ∙ ap (count_of truths) is, refl), (texts_in fields, count_of_texts fields ∙ ap (count_of texts) is, refl)))
+has_parts sorts (row fields) has =
+    let is = own_sorts sorts fields has in ((wholes_in fields, count_of_wholes fields ∙ ap (count_of wholes) is, refl), ((truths_in fields, count_of_truths fields ∙ ap (count_of truths) is, refl), (texts_in fields, count_of_texts fields ∙ ap (count_of texts) is, refl)))
 has_parts sorts (pair l m) is = absurd is
 
 pub keeps_parts : (sorts : List Sort) (l : Label) → KeepsSorts sorts l → KeepsThree sorts (parts_of l)
-keeps_parts sorts (row fields) (is, kept) =
-    ((wholes_in fields, count_of_wholes fields ∙ ap (count_of wholes) is, numbers_fit fields kept, refl), ((truths_in fields, count_of_truths fields ∙ ap (count_of truths) is, refl), (texts_in fields, count_of_texts fields ∙ ap (count_of texts) is, refl)))
+keeps_parts sorts (row fields) (has, kept) =
+    let is = own_sorts sorts fields has in ((wholes_in fields, count_of_wholes fields ∙ ap (count_of wholes) is, numbers_fit fields kept, refl), ((truths_in fields, count_of_truths fields ∙ ap (count_of truths) is, refl), (texts_in fields, count_of_texts fields ∙ ap (count_of texts) is, refl)))
 keeps_parts sorts (pair l m) (is, kept) = absurd is
 
 -- ---- labels made of their parts
@@ -122,6 +123,9 @@ merged_sorts (truths ∷ sorts) ns [] ts = ap (λ ss. truths ∷ ss) (merged_sor
 merged_sorts (truths ∷ sorts) ns (b ∷ bs) ts = ap (λ ss. truths ∷ ss) (merged_sorts sorts ns bs ts)
 merged_sorts (texts ∷ sorts) ns bs [] = ap (λ ss. texts ∷ ss) (merged_sorts sorts ns bs [])
 merged_sorts (texts ∷ sorts) ns bs (t ∷ ts) = ap (λ ss. texts ∷ ss) (merged_sorts sorts ns bs ts)
+
+merged_have : (sorts : List Sort) (ns : List ℤ) (bs : List Bool) (ts : List (List ℕ)) → have_sorts sorts (merged sorts ns bs ts) ≡ true
+merged_have sorts ns bs ts = have_these_sorts sorts (merged sorts ns bs ts) (merged_sorts sorts ns bs ts)
 
 merged_kept : (sorts : List Sort) (ns : List ℤ) (bs : List Bool) (ts : List (List ℕ)) → AllKept ns → list_all is_kept_field (merged sorts ns bs ts) ≡ true
 merged_kept [] ns bs ts fit = refl
@@ -189,7 +193,7 @@ module _ (sorts : List Sort) (lits : List (Lit RowAtom)) where
       let many' = bools.length_of_label (count_of truths sorts) bs rest.0 in
       let many'' = texts_of.length_of_label (count_of texts sorts) ts rest.1 in
       subst (λ m. KeepsSorts sorts m × SatisfiesAll row_holds lits m) (sym made)
-      ((merged_sorts sorts ns bs ts, merged_kept sorts ns bs ts (subst AllKept (sym same) kept)), subst Satisfies (merged_parts sorts ns bs ts (ap length same ∙ many) many' many'') all)
+      ((merged_have sorts ns bs ts, merged_kept sorts ns bs ts (subst AllKept (sym same) kept)), subst Satisfies (merged_parts sorts ns bs ts (ap length same ∙ many) many' many'') all)
 
   -- where no parts satisfy all, no label does
   pub none_satisfies : ((m : Label) → HasThree sorts m → ¬ (Satisfies m)) → (l : Label) → HasSorts sorts l → ¬ (SatisfiesAll row_holds lits l)
@@ -203,4 +207,4 @@ module _ (sorts : List Sort) (lits : List (Lit RowAtom)) where
   some_satisfies (row fields, has, all) = absurd has
   some_satisfies (pair l (row fields), has, all) = absurd has.1
   some_satisfies (pair l (pair m k), ((ns, many, is), ((bs, many', is'), (ts, many'', is''))), all) =
-      (row (merged sorts ns bs ts), merged_sorts sorts ns bs ts, subst Satisfies ((λ i. pair (is i) (pair (is' i) (is'' i))) ∙ merged_parts sorts ns bs ts many many' many'') all)
+      (row (merged sorts ns bs ts), merged_have sorts ns bs ts, subst Satisfies ((λ i. pair (is i) (pair (is' i) (is'' i))) ∙ merged_parts sorts ns bs ts many many' many'') all)

@@ -1,5 +1,6 @@
 -- Atoms and entries that are equal, as it is derived, say and make the same.
 use Rattle.std.specs.Prelude.{◌≡◌, ◌<◌, Bool, true, List, refl}
+use Rattle.std.specs.Cmp.{IsEquivalence}
 use Rattle.model_tree.specs.Label.{Label}
 use Rattle.model_tree.specs.Signature.{Sort, wholes, truths, texts}
 use Rattle.label_core.specs.Atoms.{EachHasEqual}
@@ -12,7 +13,7 @@ use Rattle.flat_label.specs.Texts.{IsSideEq, SidesFit, are_one_text, equal_atoms
 use Rattle.flat_label.specs.declared.bools.BoolAtom.{BoolAtom}
 use Rattle.flat_label.specs.declared.texts.TextAtom.{TextAtom}
 use Rattle.flat_label.specs.declared.texts.TextSide.{TextSide}
-use Rattle.lin_solve.specs.Equal.{IsRelationEq, IsCompareEq, equal_hold, equal_fit, among_grows, compare_laws}
+use Rattle.lin_solve.specs.Equal.{IsRelationEq, IsCompareEq, equal_hold, equal_fit, compare_laws}
 use Rattle.lin_solve.specs.Wholes.{compare_at, CompareFits}
 use Rattle.lin_solve.specs.contracts.compare.RelationPartialEq.TheImpl as relation
 use Rattle.lin_solve.specs.declared.compare.Compare.{Compare}
@@ -26,7 +27,7 @@ use Rattle.record_label.specs.MapLaws.{IsEntryEq}
 abbrev pub same_atoms : RowAtom → RowAtom → Bool
 same_atoms a b = entry.eq-value.it (Truth (Atom a)) (Truth (Atom b))
 
-abbrev same_compares : Compare → Compare → Bool
+abbrev pub same_compares : Compare → Compare → Bool
 same_compares c d = same_atoms (Left c) (Left d)
 
 abbrev same_flats : PairAtom BoolAtom TextAtom → PairAtom BoolAtom TextAtom → Bool
@@ -98,7 +99,9 @@ module _ (sorts : List Sort) where
   equal_rows_fit =
       equal_pair_atoms_fit same_compares same_flats same_atoms rows_derived (CompareFits (count_of wholes sorts)) (FlatFits sorts) (equal_fit relation.eq-value.it relations_derived same_compares compares_derived (count_of wholes sorts)) flats_fit
 
--- comparisons among some atoms are among all that have an equal one of each of them
-pub among_more : (own : List Compare) (atoms more : List RowAtom) → EachHasEqual same_atoms atoms more → EachHasEqual same_compares own (lefts atoms) → EachHasEqual same_compares own (lefts more)
-among_more own atoms more each =
-    among_grows same_compares (compare_laws relation.eq-value.it relations_derived same_compares compares_derived) own (lefts atoms) (lefts more) (lefts_have_equal same_compares same_flats same_atoms rows_derived atoms more each)
+pub compares_laws : IsEquivalence same_compares
+compares_laws = compare_laws relation.eq-value.it relations_derived same_compares compares_derived
+
+-- the comparisons of atoms have equal ones among those of atoms that have an equal one of each
+pub compares_grow : (atoms more : List RowAtom) → EachHasEqual same_atoms atoms more → EachHasEqual same_compares (lefts atoms) (lefts more)
+compares_grow = lefts_have_equal same_compares same_flats same_atoms rows_derived

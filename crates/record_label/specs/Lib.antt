@@ -7,3 +7,5 @@ pub mod Maps
 pub mod PlainMaps
 pub mod MapLaws
 pub mod Derived
+pub mod Meaning
+pub mod Written

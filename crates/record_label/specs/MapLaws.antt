@@ -4,6 +4,7 @@ use Rattle.std.specs.Cmp.Lexicographic.{pointwise}
 use Rattle.std.proofs.Common.{ap, sym, subst, ◌∙◌, ◌&&◌}
 use Rattle.model_tree.specs.Label.{Field, whole, truth, Label, row, pair}
 use Rattle.model_tree.specs.Signature.{Sort, wholes, truths, texts, sort_of, HasSorts}
+use Rattle.model_tree.proofs.Sorts.{have_these_sorts}
 use Rattle.model_form.specs.Form.{Form}
 use Rattle.model_form.specs.Same.{same_form}
 use Rattle.model_form.proofs.Equals.{same_value}
@@ -29,8 +30,8 @@ made_sorts fields (text_by s ∷ entries) = ap (λ ss. texts ∷ ss) (made_sorts
 
 -- a label that is made has a value of the right sort for each entry
 made_has : (entries : List Entry) (l : Label) → HasSorts (map sort_by entries) (made entries l)
-made_has entries (row fields) = made_sorts fields entries
-made_has entries (pair l m) = made_sorts [] entries
+made_has entries (row fields) = have_these_sorts (map sort_by entries) (map (made_by fields) entries) (made_sorts fields entries)
+made_has entries (pair l m) = have_these_sorts (map sort_by entries) (map (made_by []) entries) (made_sorts [] entries)
 
 pub made_labels : (sorts : List Sort) (entries : List Entry) (l : Label) → map sort_by entries ≡ sorts → HasSorts sorts (made entries l)
 made_labels sorts entries l is = subst (λ ss. HasSorts ss (made entries l)) is (made_has entries l)
@@ -47,7 +48,7 @@ pub record IsEntryEq (A : RowAtom → RowAtom → Bool) (S : TextSide → TextSi
   pub text_number : (s : TextSide) (g : Form) → E (Text s) (Number g) ≡ false
   pub text_truth : (s : TextSide) (g : Formula RowAtom) → E (Text s) (Truth g) ≡ false
 
-both_true : (a b : Bool) → (a && b) ≡ true → (a ≡ true) × (b ≡ true)
+pub both_true : (a b : Bool) → (a && b) ≡ true → (a ≡ true) × (b ≡ true)
 both_true true b e = (refl, e)
 both_true false b e = cc
 

@@ -11,13 +11,14 @@ use Rattle.model_form.specs.Form.{Form, value}
 use Rattle.model_form.specs.Sums.{subst_form}
 use Rattle.model_form.specs.Ranges.{IsOutsideAfter}
 use Rattle.model_form.specs.Over.{IsOver}
-use Rattle.model_guard.specs.Forms.{wholes_in, is_whole, forms_in}
+use Rattle.model_guard.specs.Forms.{wholes_in, is_whole, form_of, forms_in}
 use Rattle.model_guard.specs.Guards.{is_guard}
 use Rattle.label_core.specs.declared.pair.PairAtom.TheVariants.{Left, Right}
 use Rattle.flat_label.specs.declared.texts.TextSide.{TextSide}
 use Rattle.flat_label.specs.declared.texts.TextSide.TheVariants as side
 use Rattle.flat_label.specs.Texts.{texts_label, side_text, SideFits}
 use Rattle.lin_solve.specs.declared.compare.Compare.{Compare}
+use Rattle.record_label.specs.Guards.{IsGuardOf, side_of}
 use Rattle.record_label.specs.Rows.{texts_in, RowAtom, row_holds, RowFits, count_of}
 
 -- a form for a whole number, a formula for a truth value, and a field or a constant for a text
@@ -162,9 +163,16 @@ abbrev pub forms_in_each : List PlainField → List Expr → List Form
 forms_in_each fields [] = []
 forms_in_each fields (e ∷ es) = forms_in fields e ++ forms_in_each fields es
 
--- The entry makes of each label of the type the value that the expression has there; it is of this sort, and speaks of fields that there are.
+-- the entry is what is written: the form of a whole number, the guard of a truth value, the side of a text
+abbrev pub IsAsWritten : List PlainField → Expr → Entry → Type 0
+IsAsWritten fields e (number_by f) = f ≡ form_of fields e
+IsAsWritten fields e (truth_by f) = IsGuardOf fields e f
+IsAsWritten fields e (text_by s) = s ≡ side_of fields e
+
+-- The entry makes of each label of the type the value that the expression has there, by what is written; it is of this sort, and speaks of fields that there are.
 pub record IsEntryOf (fields : List PlainField) (e : Expr) (sort : Sort) (entry : Entry) : Type 0 where
   pub makes : (values : List Field) → map sort_of values ≡ map (λ x. x.sort) fields → made_by values entry ≡ value_of fields values e
+  pub written : IsAsWritten fields e entry
   pub fit : EntryFits (map (λ x. x.sort) fields) entry
   pub of_sort : sort_by entry ≡ sort
 

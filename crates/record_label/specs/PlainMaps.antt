@@ -1,7 +1,7 @@
 -- The entries of a map as plain data.
-use Rattle.std.specs.Prelude.{◌≡◌, ℤ, true, FitsSigned, MatchResult}
+use Rattle.std.specs.Prelude.{◌≡◌, ℤ, true, MatchResult}
 use Rattle.std.specs.declared.result.Result.{Result}
-use Rattle.std.specs.Int.{w64}
+use Rattle.model_tree.specs.Range.{IsLabelNumber}
 use Rattle.model_tree.specs.Label.{Field, whole}
 use Rattle.model_tree.specs.Kept.{is_kept_field}
 use Rattle.fast_tree.specs.declared.label.Value.{Value}
@@ -23,7 +23,7 @@ plain_entry (Text s) = text_by s
 -- a value of the field, of 64 bits if it is a whole number; or the whole number that it is, which has more
 abbrev pub IsMadeField : Field → Applied Value → Type 0
 IsMadeField f (applied.Value v) = (field_of v ≡ f) × (is_kept_field f ≡ true)
-IsMadeField f (applied.Range n) = (f ≡ whole n) × (FitsSigned w64 n → ⊥)
+IsMadeField f (applied.Range n) = (f ≡ whole n) × (IsLabelNumber n → ⊥)
 
 -- a value seen as it is asked for, where no number is outside; or a number that is
 abbrev pub Gives : {A X : Type 0} → (A → X) → X → (ℤ → Type 0) → Result A FormStop → Type 0

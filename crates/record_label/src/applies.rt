@@ -11,7 +11,7 @@ ghost use Rattle.record_label.specs.PlainMaps.{plain_entry, IsMadeField};
 use crate::maps::{RowEntry, RowMap};
 use crate::reads::{side_text, wholes};
 use crate::rows::RowLabels;
-use fast_fault::Memory;
+use fast_fault::{LabelInt, Memory};
 use fast_tree::{Label, Value};
 use label_core::Applied;
 use std::alloc::Global;
@@ -23,7 +23,7 @@ fn made_number(number: i128) -> Applied<Value>
     if number < i64::MIN as i128 || number > i64::MAX as i128 {
         return Applied::Range(number);
     }
-    Applied::Value(Value::Int(number as i64))
+    Applied::Value(Value::Int(number as LabelInt))
 }
 
 /// What the entry makes of the value's label.

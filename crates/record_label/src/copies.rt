@@ -2,8 +2,10 @@
 
 ghost use Rattle.std.specs.Prelude.{◌≡◌, IfOk, map};
 ghost use Rattle.record_label.specs.PlainMaps.{plain_entry};
+ghost use Rattle.record_label.specs.Written.{plain_written};
 
 use crate::maps::{RowEntry, RowMap};
+use crate::written::Written;
 use fast_fault::Memory;
 use std::alloc::Global;
 
@@ -18,15 +20,28 @@ fn copy_entry(alloc: Global, entry: &RowEntry) -> Result<RowEntry, Memory>
     }
 }
 
+/// The same pieces.
+pub(crate) fn copy_written(alloc: Global, written: &[Written]) -> Result<Vec<Written>, Memory>
+    ensures { IfOk result (λ copies. map plain_written copies.items ≡ map plain_written written.now) }
+{
+    let mut copies = Vec::new(alloc);
+    for one in written {
+        copies.push(one.copy(alloc)?)?;
+    }
+    Ok(copies)
+}
+
 impl RowMap {
     /// The same map.
     pub fn copy(&self, alloc: Global) -> Result<RowMap, Memory>
-        ensures { IfOk result (λ copy. map plain_entry copy.entries.items ≡ map plain_entry self.now.entries.items) }
+        ensures entries { IfOk result (λ copy. map plain_entry copy.entries.items ≡ map plain_entry self.now.entries.items) }
+        ensures written { IfOk result (λ copy. map plain_written copy.written.items ≡ map plain_written self.now.written.items) }
     {
         let mut entries = Vec::new(alloc);
         for entry in &self.entries {
             entries.push(copy_entry(alloc, entry)?)?;
         }
-        Ok(RowMap { entries })
+        let written = copy_written(alloc, &self.written)?;
+        Ok(RowMap { entries, written })
     }
 }

@@ -10,7 +10,7 @@ ghost use Rattle.label_core.specs.Formula.{plain_formula};
 ghost use Rattle.fast_tree.specs.Signatures.{plain_signature};
 ghost use Rattle.fast_syntax.specs.Plain.{plain_expr};
 ghost use Rattle.record_label.specs.Guards.{IsGuardOf, IsFormulaOf, AreFormulasOf, pair_of, agreement_of, compared_by, compared_by_forms, comparison_of, is_numeric, side_of};
-ghost use Rattle.record_label.specs.Parts.{unmarked};
+ghost use Rattle.record_label.specs.Parts.{AreWithin, unmarked};
 
 use crate::forms::form_of;
 use crate::lookups::{has_field, number_of};
@@ -205,16 +205,20 @@ fn formulas_of(
     Ok(formulas)
 }
 
-/// The guard that an expression is. `Range` comes only where a whole number that is written in it has a form with a
-/// number outside its range, and that number; no well-formed program has one.
+/// The guard that an expression is.
 pub fn guard_of(
     alloc: Global,
     expr: &Expr,
     signature: &Signature,
-) -> Result<Formula<RowAtom>, FormStop>
+) -> Result<Formula<RowAtom>, Memory>
     requires few { length signature.now.fields.items ≤ 8 }
     requires guard { is_guard (plain_signature signature.now).fields (plain_expr expr.now) ≡ true }
-    ensures { MatchResult result (λ guard. IsGuardOf (plain_signature signature.now).fields (plain_expr expr.now) (plain_formula guard)) (λ stop. StopsAt (HasOutside (forms_in (plain_signature signature.now).fields (plain_expr expr.now))) stop) }
+    requires within { AreWithin (forms_in (plain_signature signature.now).fields (plain_expr expr.now)) }
+    ensures { IfOk result (λ guard. IsGuardOf (plain_signature signature.now).fields (plain_expr expr.now) (plain_formula guard)) }
 {
-    formula_of(alloc, expr, signature)
+    match formula_of(alloc, expr, signature) {
+        Ok(guard) => Ok(guard),
+        Err(FormStop::Memory) => Err(Memory),
+        Err(FormStop::Range(_)) => unreachable!(),
+    }
 }

@@ -21,9 +21,11 @@ mod reads;
 mod rows;
 #[cfg(test)]
 mod tests;
+mod written;
 
 pub use checks::{is_test, is_text};
 pub use forms::form_of;
 pub use guards::guard_of;
 pub use maps::{RowEntry, RowMap, map_of};
 pub use rows::{RowAtom, RowLabels};
+pub use written::{Mark, Written, written_alike};

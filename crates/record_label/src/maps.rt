@@ -1,17 +1,20 @@
 //! Maps of labels: an entry for each field of the labels that they make.
 
-ghost use Rattle.std.specs.Prelude.{◌≡◌, ◌≤◌, true, List, map, IfOk, MatchResult, length};
+ghost use Rattle.std.specs.Prelude.{◌≡◌, ◌≤◌, true, List, map, IfOk, length};
 ghost use Rattle.model_tree.specs.Signature.{sorts_of};
-ghost use Rattle.model_guard.specs.Forms.{forms_in, HasOutside};
-ghost use Rattle.lin_form.specs.Stops.{StopsAt};
+ghost use Rattle.model_guard.specs.Forms.{form_of, forms_in};
 ghost use Rattle.fast_tree.specs.Signatures.{plain_signature, plain_sort};
 ghost use Rattle.fast_syntax.specs.Plain.{plain_expr};
 ghost use Rattle.record_label.specs.Maps.{is_of_sort, AreOfSorts, forms_in_each, IsEntryOf, AreEntriesOf};
+ghost use Rattle.record_label.specs.Parts.{AreWithin};
 ghost use Rattle.record_label.specs.PlainMaps.{plain_entry};
+ghost use Rattle.record_label.specs.Written.{plain_written, written_for, written_for_each};
 
 use crate::forms::form_of;
 use crate::guards::{guard_of, side};
 use crate::rows::RowAtom;
+use crate::written::Written;
+use fast_fault::Memory;
 use fast_syntax::expressions::Expr;
 use fast_tree::{Signature, Sort};
 use flat_label::TextSide;
@@ -27,20 +30,36 @@ pub enum RowEntry {
     Text(TextSide),
 }
 
-/// A map into the labels of a type: an entry for each of its fields.
+/// A map into the labels of a type: an entry for each of its fields, and beside each truth value what is written there,
+/// places aside.
 #[derive(PartialEq, Eq, Drop)]
 pub struct RowMap {
     pub entries: Vec<RowEntry>,
+    pub written: Vec<Written>,
+}
+
+/// The form of a whole number that is in range.
+fn form_in_range(alloc: Global, expr: &Expr, from: &Signature) -> Result<Form, Memory>
+    requires few { length from.now.fields.items ≤ 8 }
+    requires within { AreWithin (forms_in (plain_signature from.now).fields (plain_expr expr.now)) }
+    ensures { IfOk result (λ form. form ≡ form_of (plain_signature from.now).fields (plain_expr expr.now)) }
+{
+    match form_of(alloc, expr, from) {
+        Ok(form) => Ok(form),
+        Err(FormStop::Memory) => Err(Memory),
+        Err(FormStop::Range(_)) => unreachable!(),
+    }
 }
 
 /// The entry that an expression of this sort is.
-fn entry_of(alloc: Global, expr: &Expr, sort: Sort, from: &Signature) -> Result<RowEntry, FormStop>
+fn entry_of(alloc: Global, expr: &Expr, sort: Sort, from: &Signature) -> Result<RowEntry, Memory>
     requires few { length from.now.fields.items ≤ 8 }
     requires sorted { is_of_sort (plain_signature from.now).fields (plain_sort sort) (plain_expr expr.now) ≡ true }
-    ensures { MatchResult result (λ entry. IsEntryOf (plain_signature from.now).fields (plain_expr expr.now) (plain_sort sort) (plain_entry entry)) (λ stop. StopsAt (HasOutside (forms_in (plain_signature from.now).fields (plain_expr expr.now))) stop) }
+    requires within { AreWithin (forms_in (plain_signature from.now).fields (plain_expr expr.now)) }
+    ensures { IfOk result (λ entry. IsEntryOf (plain_signature from.now).fields (plain_expr expr.now) (plain_sort sort) (plain_entry entry)) }
 {
     match sort {
-        Sort::Int => Ok(RowEntry::Number(form_of(alloc, expr, from)?)),
+        Sort::Int => Ok(RowEntry::Number(form_in_range(alloc, expr, from)?)),
         Sort::Bool => Ok(RowEntry::Truth(guard_of(alloc, expr, from)?)),
         Sort::Text => match side(alloc, expr, from)? {
             Some(side) => Ok(RowEntry::Text(side)),
@@ -49,21 +68,45 @@ fn entry_of(alloc: Global, expr: &Expr, sort: Sort, from: &Signature) -> Result<
     }
 }
 
-/// The map that label expressions are, one for each field of the labels made. `Range` comes only where a whole number
-/// that is written in one of them has a form with a number outside its range, and that number.
+/// What is kept of an expression of this sort as it is written.
+fn kept_of(alloc: Global, expr: &Expr, sort: Sort) -> Result<Written, Memory>
+    ensures { IfOk result (λ kept. plain_written kept ≡ written_for (plain_sort sort) (plain_expr expr.now)) }
+{
+    match sort {
+        Sort::Bool => Written::of(alloc, expr),
+        Sort::Int | Sort::Text => Ok(Written::nothing(alloc)),
+    }
+}
+
+/// What is kept of each of the expressions.
+fn kept_of_each(alloc: Global, labels: &[Expr], into: &Signature) -> Result<Vec<Written>, Memory>
+    requires { length labels.now ≡ length into.now.fields.items }
+    ensures { IfOk result (λ written. map plain_written written.items ≡ written_for_each (sorts_of (plain_signature into.now)) (map plain_expr labels.now)) }
+{
+    let mut written = Vec::new(alloc);
+    for i in 0..labels.len() {
+        written.push(kept_of(alloc, &labels[i], into.fields[i].sort)?)?;
+    }
+    Ok(written)
+}
+
+/// The map that label expressions are, one for each field of the labels made.
 pub fn map_of(
     alloc: Global,
     labels: &[Expr],
     from: &Signature,
     into: &Signature,
-) -> Result<RowMap, FormStop>
+) -> Result<RowMap, Memory>
     requires few { length from.now.fields.items ≤ 8 }
     requires sorted { AreOfSorts (plain_signature from.now).fields (map plain_expr labels.now) (sorts_of (plain_signature into.now)) }
-    ensures { MatchResult result (λ made. AreEntriesOf (plain_signature from.now).fields (map plain_expr labels.now) (sorts_of (plain_signature into.now)) (map plain_entry made.entries.items)) (λ stop. StopsAt (HasOutside (forms_in_each (plain_signature from.now).fields (map plain_expr labels.now))) stop) }
+    requires within { AreWithin (forms_in_each (plain_signature from.now).fields (map plain_expr labels.now)) }
+    ensures entries { IfOk result (λ made. AreEntriesOf (plain_signature from.now).fields (map plain_expr labels.now) (sorts_of (plain_signature into.now)) (map plain_entry made.entries.items)) }
+    ensures written { IfOk result (λ made. map plain_written made.written.items ≡ written_for_each (sorts_of (plain_signature into.now)) (map plain_expr labels.now)) }
 {
     let mut entries = Vec::new(alloc);
     for i in 0..labels.len() {
         entries.push(entry_of(alloc, &labels[i], into.fields[i].sort, from)?)?;
     }
-    Ok(RowMap { entries })
+    let written = kept_of_each(alloc, labels, into)?;
+    Ok(RowMap { entries, written })
 }

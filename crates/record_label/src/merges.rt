@@ -7,7 +7,7 @@ ghost use Rattle.fast_tree.specs.Entries.{label_meaning};
 ghost use Rattle.fast_tree.specs.Signatures.{plain_sort};
 ghost use Rattle.record_label.specs.Rows.{count_of, merged};
 
-use fast_fault::{Memory, Text};
+use fast_fault::{LabelInt, Memory, Text};
 use fast_tree::{Label, Sort, Value};
 use std::alloc::Global;
 
@@ -30,7 +30,7 @@ pub fn count(sorts: &[Sort], sort: Sort) -> u32
 pub fn merge(
     alloc: Global,
     sorts: &[Sort],
-    mut numbers: Vec<i64>,
+    mut numbers: Vec<LabelInt>,
     mut truths: Vec<bool>,
     mut texts: Vec<Text>,
 ) -> Result<Label, Memory>

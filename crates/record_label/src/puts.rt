@@ -6,8 +6,10 @@ ghost use Rattle.model_tree.specs.Formula as plain;
 ghost use Rattle.label_core.specs.Formula.{plain_formula};
 ghost use Rattle.record_label.specs.Maps.{forms_of, formulas_in, sides_in, are_one, put_compare, put_side, put_atom, put_formula, put_entry, IsOutsideCompared, IsOutsidePut, IsOutsideOf, IsOutsideEntry, SomeOutside};
 ghost use Rattle.record_label.specs.PlainMaps.{plain_entry, Gives};
+ghost use Rattle.record_label.specs.Written.{plain_written};
 ghost use Rattle.label_core.specs.declared.pair.PairAtom.{PairAtom};
 
+use crate::copies::copy_written;
 use crate::maps::{RowEntry, RowMap};
 use crate::rows::RowAtom;
 use fast_fault::{Memory, Text};
@@ -216,16 +218,31 @@ fn put_entry(
     }
 }
 
+/// Entries with the first ones put for the fields.
+fn put_entries(
+    alloc: Global,
+    entries: &[RowEntry],
+    first: &[RowEntry],
+) -> Result<Vec<RowEntry>, FormStop>
+    ensures { Gives (λ made. map plain_entry made.items) (map (put_entry (map plain_entry first.now)) (map plain_entry entries.now)) (SomeOutside (IsOutsideEntry (map plain_entry first.now)) (map plain_entry entries.now)) result }
+{
+    let forms = forms_of(alloc, first)?;
+    let mut made = Vec::new(alloc);
+    for entry in entries {
+        made.push(put_entry(alloc, entry, first, &forms)?)?;
+    }
+    Ok(made)
+}
+
 impl RowMap {
-    /// This map after the first one. `Range` comes where a form of it has a number outside its range, and that number.
+    /// This map after the first one, with what is written in this one. `Range` comes where a form of it has a number
+    /// outside its range, and that number.
     pub fn after(&self, alloc: Global, first: &RowMap) -> Result<RowMap, FormStop>
-        ensures { Gives (λ made. map plain_entry made.entries.items) (map (put_entry (map plain_entry first.now.entries.items)) (map plain_entry self.now.entries.items)) (SomeOutside (IsOutsideEntry (map plain_entry first.now.entries.items)) (map plain_entry self.now.entries.items)) result }
+        ensures entries { Gives (λ made. map plain_entry made.entries.items) (map (put_entry (map plain_entry first.now.entries.items)) (map plain_entry self.now.entries.items)) (SomeOutside (IsOutsideEntry (map plain_entry first.now.entries.items)) (map plain_entry self.now.entries.items)) result }
+        ensures written { IfOk result (λ made. map plain_written made.written.items ≡ map plain_written self.now.written.items) }
     {
-        let forms = forms_of(alloc, &first.entries)?;
-        let mut entries = Vec::new(alloc);
-        for entry in &self.entries {
-            entries.push(put_entry(alloc, entry, &first.entries, &forms)?)?;
-        }
-        Ok(RowMap { entries })
+        let entries = put_entries(alloc, &self.entries, &first.entries)?;
+        let written = copy_written(alloc, &self.written)?;
+        Ok(RowMap { entries, written })
     }
 }

@@ -7,12 +7,12 @@ ghost use Rattle.flat_label.specs.Texts.{SideFits, side_text, texts_label};
 ghost use Rattle.model_guard.specs.Forms.{wholes_in};
 ghost use Rattle.record_label.specs.Rows.{truths_in, texts_in};
 
-use fast_fault::Text;
+use fast_fault::{LabelInt, Text};
 use fast_tree::Value;
 use flat_label::TextSide;
 
 /// The whole number with this number, or 0.
-fn whole_at(values: &[Value], number: u32) -> i64
+fn whole_at(values: &[Value], number: u32) -> LabelInt
     ensures { result ≡ slice_index_or (wholes_in (map field_of values.now)) number (pos 0) }
 {
     let mut before = number;
@@ -28,7 +28,7 @@ fn whole_at(values: &[Value], number: u32) -> i64
 }
 
 /// The first eight whole numbers. Where there are fewer the rest are 0.
-pub fn wholes(values: &[Value]) -> [i64; 8]
+pub fn wholes(values: &[Value]) -> [LabelInt; 8]
     ensures { (k : ℕ) → k < 8 → slice_index_or result k (pos 0) ≡ slice_index_or (wholes_in (map field_of values.now)) k (pos 0) }
 {
     let mut wholes = [0; 8];

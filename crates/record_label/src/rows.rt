@@ -158,18 +158,11 @@ impl Theory for RowLabels {
     type Chain = Chain;
 
     ghost use Rattle.std.specs.Prelude.{◌≡◌, refl};
-    ghost use Rattle.model_tree.specs.Signature.{HasSorts};
     ghost use Rattle.fast_tree.specs.Entries.{label_meaning};
-    ghost use Rattle.label_core.specs.Atoms.{EachHasEqual};
-    ghost use Rattle.label_core.specs.Lit.{atoms_of};
-    ghost use Rattle.label_core.specs.Pair.{lefts};
-    ghost use Rattle.model_chain.specs.Each.{EachTwo};
-    ghost use Rattle.model_chain.specs.Chains.{Passes, IsFar};
-    ghost use Rattle.lin_solve.specs.Plain.{plain_literals};
-    ghost use Rattle.lin_solve.specs.Shown.{plain_chain};
-    ghost use Rattle.record_label.specs.Rows.{row_holds, RowFits, KeepsSorts};
+    ghost use Rattle.record_label.specs.Rows.{row_holds, RowFits};
     ghost use Rattle.record_label.specs.Equal.{equal_labels};
-    ghost use Rattle.record_label.specs.Derived.{equal_rows, equal_rows_fit, among_more};
+    ghost use Rattle.record_label.specs.Derived.{equal_rows, equal_rows_fit};
+    ghost use Rattle.record_label.specs.Meaning.{row_meaning};
 
     ghost label_of = { label_meaning };
 
@@ -177,15 +170,9 @@ impl Theory for RowLabels {
 
     ghost atom_fits = { RowFits };
 
-    ghost has_label = { HasSorts };
+    ghost meaning = { row_meaning };
 
-    ghost keeps_label = { KeepsSorts };
-
-    ghost chain_over = { λ t atoms c. EachHasEqual ⟦<Compare as PartialEq>⟧.eq (atoms_of c.literals.items) (lefts atoms) × EachTwo (λ l m. ¬ (l ≡ m)) (plain_literals c.literals.items) };
-
-    ghost chain_passes = { λ t c. Passes c.bits (plain_chain c) };
-
-    ghost chain_is_far = { λ t c. IsFar (plain_chain c) };
+    ghost equal_is_own = { λ t. refl };
 
     ghost equal_atoms = { equal_rows };
 
@@ -194,8 +181,6 @@ impl Theory for RowLabels {
     ghost equal_values = { equal_labels ⟦<Value as Ord>⟧.cmp (record { numbers = λ _ _. refl; truths = λ _ _. refl; texts = λ _ _. refl; number_truth = λ _ _. refl; number_text = λ _ _. refl; truth_number = λ _ _. refl; truth_text = λ _ _. refl; text_number = λ _ _. refl; text_truth = λ _ _. refl }) };
 
     ghost keeps_labels = { λ t l kept. kept.0 };
-
-    ghost chain_grows = { λ t atoms more c each over. (among_more (atoms_of c.literals.items) atoms more each over.0, over.1) };
 
     fn holds(&self, atom: &RowAtom, value: &Label) -> bool {
         match atom {

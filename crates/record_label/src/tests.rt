@@ -3,11 +3,14 @@
 ghost use Rattle.std.specs.Prelude.{◌≡◌, ◌+◌, ◌++◌, ◌<◌, ◌≤◌, [], ◌∷◌, true, IsTrue, IfOk, length, map};
 ghost use Rattle.model_tree.specs.Signature.{wholes, truths, texts};
 ghost use Rattle.model_tree.specs.Signature as model;
+ghost use Rattle.model_form.specs.Over.{IsOver};
+ghost use Rattle.model_guard.specs.Forms.{forms_in};
 ghost use Rattle.model_guard.specs.Guards.{is_guard};
 ghost use Rattle.fast_tree.specs.Entries.{label_meaning};
 ghost use Rattle.fast_tree.specs.Signatures.{plain_field, plain_signature, plain_sort};
 ghost use Rattle.fast_syntax.specs.Plain.{plain_expr};
 ghost use Rattle.label_core.specs.Lit.{LitsFit};
+ghost use Rattle.label_core.specs.Meaning.{KeepsValue};
 ghost use Rattle.record_label.specs.Rows.{RowFits, KeepsSorts};
 ghost use Rattle.record_label.specs.Maps.{EntriesFit, is_of_sort, sort_by};
 ghost use Rattle.record_label.specs.PlainMaps.{plain_entry};
@@ -108,7 +111,7 @@ enum Answer {
 /// Whether each literal has its sign at the value.
 fn all_hold<T: Theory>(theory: &T, literals: &[Lit<T::Atom>], value: &T::Value) -> bool
     requires literals { LitsFit (T.atom_fits theory.now) literals.now }
-    requires value { T.keeps_label theory.now (T.label_of value.now) }
+    requires value { KeepsValue (T.meaning theory.now) value.now }
 {
     for literal in literals {
         if theory.holds(&literal.atom, value) != literal.sign {
@@ -245,7 +248,8 @@ fn numbers(alloc: Global, sides: &[Side]) -> Result<RowMap, FormStop> {
     for side in sides {
         entries.push(RowEntry::Number(form(alloc, *side)?))?;
     }
-    Ok(RowMap { entries })
+    let written = Vec::new(alloc);
+    Ok(RowMap { entries, written })
 }
 
 /// What comes of a map after another one: the map that was expected, another one, or a number outside its range.
@@ -409,7 +413,8 @@ fn exchange(alloc: Global, left: u32, right: u32) -> Result<RowMap, Memory>
     entries.push(RowEntry::Number(Form::field(alloc, left)?))?;
     entries.push(RowEntry::Text(TextSide::Field(0)))?;
     entries.push(RowEntry::Number(Form::field(alloc, right)?))?;
-    Ok(RowMap { entries })
+    let written = Vec::new(alloc);
+    Ok(RowMap { entries, written })
 }
 
 /// Whether a map's copy is equal to it.
@@ -426,7 +431,7 @@ fn applied<L: Labels>(
     expected: &L::Value,
 ) -> Result<bool, Memory>
     requires fits { L.map_fits labels.now map.now }
-    requires value { L.keeps_label labels.now (L.label_of value.now) }
+    requires value { KeepsValue (L.meaning labels.now) value.now }
 {
     match labels.apply(alloc, map, value)? {
         Applied::Value(made) => Ok(made == *expected),
@@ -468,6 +473,94 @@ fn repeated<L: Labels>(
     }
 }
 
+/// A number outside the label range that the map makes of the value's label.
+fn made_outside<L: Labels>(
+    alloc: Global,
+    labels: &L,
+    map: &L::Map,
+    value: &L::Value,
+) -> Result<Option<i128>, Memory>
+    requires fits { L.map_fits labels.now map.now }
+    requires value { KeepsValue (L.meaning labels.now) value.now }
+{
+    match labels.apply(alloc, map, value)? {
+        Applied::Value(_) => Ok(None),
+        Applied::Range(number) => Ok(Some(number)),
+    }
+}
+
+/// A number outside its range of the atom with the map's entries put.
+fn put_outside<L: Labels>(
+    alloc: Global,
+    labels: &L,
+    map: &L::Map,
+    atom: &L::Atom,
+) -> Result<Option<i128>, Memory>
+    requires fits { L.map_fits labels.now map.now }
+    requires makes { L.map_makes labels.now map.now }
+    requires atom { L.atom_fits labels.now atom.now }
+{
+    match labels.subst(alloc, map, atom)? {
+        Put::Formula(_) => Ok(None),
+        Put::Range(number) => Ok(Some(number)),
+    }
+}
+
+/// A number outside its range of the map after itself.
+fn chained_outside<L: Labels>(
+    alloc: Global,
+    labels: &L,
+    map: &L::Map,
+) -> Result<Option<i128>, Memory>
+    requires fits { L.map_fits labels.now map.now }
+    requires makes { L.map_makes labels.now map.now }
+{
+    match labels.chain_maps(alloc, map, map)? {
+        PutMap::Map(_) => Ok(None),
+        PutMap::Range(number) => Ok(Some(number)),
+    }
+}
+
+/// 2147483647 times the whole number.
+fn times(alloc: Global, field: u32) -> Result<Form, FormStop>
+    requires { field < 2 }
+    ensures { IfOk result (IsOver 2) }
+{
+    Form::field(alloc, field)?.scaled(alloc, 2147483647)
+}
+
+/// The map to x < y, each whole number times 2147483647, and the same text.
+fn enlarge(alloc: Global) -> Result<RowMap, FormStop>
+    ensures fit { IfOk result (λ made. EntriesFit (truths ∷ wholes ∷ texts ∷ wholes ∷ []) (map plain_entry made.entries.items)) }
+    ensures sorts { IfOk result (λ made. map sort_by (map plain_entry made.entries.items) ≡ truths ∷ wholes ∷ texts ∷ wholes ∷ []) }
+{
+    let mut entries = Vec::new(alloc);
+    entries.push(RowEntry::Truth(Formula::Atom(less(alloc, 0, 1)?)))?;
+    entries.push(RowEntry::Number(times(alloc, 0)?))?;
+    entries.push(RowEntry::Text(TextSide::Field(0)))?;
+    entries.push(RowEntry::Number(times(alloc, 1)?))?;
+    let written = Vec::new(alloc);
+    Ok(RowMap { entries, written })
+}
+
+/// What is outside of what the map makes of a label, of a comparison with it and of the map after itself.
+fn outside(alloc: Global, theory: &RowLabels) -> Result<[Option<i128>; 3], FormStop>
+    requires { theory.now ≡ truths ∷ wholes ∷ texts ∷ wholes ∷ [] }
+{
+    let large = enlarge(alloc)?;
+    let value = label(alloc, true, 0, "a", 4611686018427387904)?;
+    let atom = PairAtom::Left(Compare {
+        left: times(alloc, 0)?,
+        relation: Relation::Less,
+        right: Form::field(alloc, 1)?,
+    });
+    Ok([
+        made_outside(alloc, theory, &large, &value)?,
+        put_outside(alloc, theory, &large, &atom)?,
+        chained_outside(alloc, theory, &large)?,
+    ])
+}
+
 /// Whether the map makes what it should of a label.
 fn makes(alloc: Global, theory: &RowLabels, once: &RowMap) -> Result<bool, Memory>
     requires sorts { theory.now ≡ truths ∷ wholes ∷ texts ∷ wholes ∷ [] }
@@ -499,12 +592,19 @@ fn maps_through_the_bound(rt: HostRuntime) -> Result<(), Fail> {
     assert!(rt; exchanges(alloc, &theory, &once)?);
     let twice = exchange(alloc, 0, 1)?;
     assert!(rt; repeated(alloc, &theory, &once, &twice)?);
+    // 2147483647 times 2^62, and 2147483647 times itself
+    let product = 4611686014132420609;
+    let [made, put, chained] = outside(alloc, &theory)?;
+    assert!(rt; made == Some(9903520309671356180765605888));
+    assert!(rt; put == Some(product));
+    assert!(rt; chained == Some(product));
     Ok(())
 }
 
 /// The field with this name, if it is of this sort.
 fn named(alloc: Global, name: &str, sort: Sort, signature: &Signature) -> Result<Expr, FormStop>
-    ensures { IfOk result (λ made. is_of_sort (plain_signature signature.now).fields (plain_sort sort) (plain_expr made) ≡ true) }
+    ensures sorted { IfOk result (λ made. is_of_sort (plain_signature signature.now).fields (plain_sort sort) (plain_expr made) ≡ true) }
+    ensures plain { IfOk result (λ made. forms_in (plain_signature signature.now).fields (plain_expr made) ≡ []) }
 {
     let name = Text::of(alloc, name)?;
     if !has_field(signature, sort, &name) {
@@ -516,40 +616,50 @@ fn named(alloc: Global, name: &str, sort: Sort, signature: &Signature) -> Result
     })
 }
 
-/// That one whole number is greater than another one.
-fn greater(alloc: Global, left: &str, right: &str, signature: &Signature) -> Result<Expr, FormStop>
-    ensures { IfOk result (λ made. is_guard (plain_signature signature.now).fields (plain_expr made) ≡ true) }
+/// A comparison of two whole numbers.
+fn related(
+    alloc: Global,
+    rel: Rel,
+    left: &str,
+    right: &str,
+    signature: &Signature,
+) -> Result<Expr, FormStop>
+    ensures guard { IfOk result (λ made. is_guard (plain_signature signature.now).fields (plain_expr made) ≡ true) }
+    ensures plain { IfOk result (λ made. forms_in (plain_signature signature.now).fields (plain_expr made) ≡ []) }
 {
     let left = named(alloc, left, Sort::Int, signature)?;
     let right = named(alloc, right, Sort::Int, signature)?;
     Ok(Expr {
         place: left.place,
-        node: Node::Compare(
-            Rel::Greater,
-            Box::new(alloc, left)?,
-            Box::new(alloc, right)?,
-        ),
+        node: Node::Compare(rel, Box::new(alloc, left)?, Box::new(alloc, right)?),
     })
 }
 
-/// The map to y > x, y, t and x.
-fn written(alloc: Global, signature: &Signature) -> Result<RowMap, FormStop>
+/// The map to y > x, or to x < y, and y, t and x.
+#[tactic(auto, using(crate::proofs::EntryFacts::on_no_forms))]
+fn written(alloc: Global, greater: bool, signature: &Signature) -> Result<RowMap, FormStop>
     requires few { length signature.now.fields.items ≤ 8 }
     requires sorts { model.sorts_of (plain_signature signature.now) ≡ truths ∷ wholes ∷ texts ∷ wholes ∷ [] }
 {
+    let (rel, left, right) = if greater {
+        (Rel::Greater, "y", "x")
+    } else {
+        (Rel::Less, "x", "y")
+    };
     let mut labels = Vec::new(alloc);
-    labels.push(greater(alloc, "y", "x", signature)?)?;
+    labels.push(related(alloc, rel, left, right, signature)?)?;
     labels.push(named(alloc, "y", Sort::Int, signature)?)?;
     labels.push(named(alloc, "t", Sort::Text, signature)?)?;
     labels.push(named(alloc, "x", Sort::Int, signature)?)?;
-    map_of(alloc, &labels, signature, signature)
+    Ok(map_of(alloc, &labels, signature, signature)?)
 }
 
 /// Whether the guard x > y is y < x.
+#[tactic(auto, using(crate::proofs::EntryFacts::on_no_forms))]
 fn reads_guard(alloc: Global, signature: &Signature) -> Result<bool, FormStop>
     requires { length signature.now.fields.items ≤ 8 }
 {
-    let written = greater(alloc, "x", "y", signature)?;
+    let written = related(alloc, Rel::Greater, "x", "y", signature)?;
     let guard = guard_of(alloc, &written, signature)?;
     Ok(guard == Formula::Atom(less(alloc, 1, 0)?))
 }
@@ -559,7 +669,11 @@ fn reads_guards_and_maps(rt: HostRuntime) -> Result<(), Fail> {
     let alloc = rt.alloc();
     let signature = signature(alloc)?;
     assert!(rt; reads_guard(alloc, &signature)?);
-    let map = written(alloc, &signature)?;
-    assert!(rt; map == exchange(alloc, 1, 0)?);
+    let map = written(alloc, true, &signature)?;
+    let other = written(alloc, false, &signature)?;
+    assert!(rt; map.entries == exchange(alloc, 1, 0)?.entries);
+    assert!(rt; other.entries == map.entries);
+    assert!(rt; other != map, "what is written differs");
+    assert!(rt; map.copy(alloc)? == map);
     Ok(())
 }

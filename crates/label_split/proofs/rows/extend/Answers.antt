@@ -1,8 +1,10 @@
-use Rattle.std.proofs.Common.{◌≡◌, ◌-◌, ◌++◌, ◌∷◌, [], not, take, length, refl, sym, ap, ◌∙◌}
+use Rattle.std.proofs.Common.{◌≡◌, ◌-◌, ◌++◌, ◌∷◌, [], take, length, sym, ap, ◌∙◌}
+use Rattle.std.proofs.lemmas.List.{map-append}
 use Rattle.model_tree.specs.Label.{Label}
-use Rattle.model_tree.specs.Formula.{formula_holds}
-use Rattle.label_core.specs.Formula.{plain_formula}
+use Rattle.label_split.specs.Known.{holds_at}
+use Rattle.label_split.specs.Numbers.{truths_at, number_holds}
 use Rattle.label_split.specs.Signs.{signs_at}
+use Rattle.label_split.specs.Noted.{rows_of}
 use Rattle.label_split.proofs.Signs.{last_sign}
 use Rattle.label_split.proofs.RowLists.{extends_alone, extends_both}
 use Rattle.label_split.proofs.rows.extend.Goals.{in-Some+in_ok-push, in_default}
@@ -10,16 +12,17 @@ use Rattle.label_split.proofs.rows.extend.Goals as goal
 
 pub returns-clause-added : goal.returns-clause-added
 returns-clause-added g c =
-    let more = λ (l : Label). last_sign g.T.Theory.atom_holds c.args.formulas.now c.index-formulas-formulas.result l c.requires.some c.index-formulas-formulas.is in
-    let turned : c.in_ok-turned.turned.items ≡ c.args.row.signs.items ++ not c.holds-holds.result ∷ [] = c.in_ok-turned.ensures ∙ ap (λ s. s ++ not c.holds-holds.result ∷ []) c.deref.ensures.value in
-    let kept : c.in_ok-signs.signs.items ≡ c.args.row.signs.items ++ c.holds-holds.result ∷ [] = c.in_ok-signs.ensures ∙ ap (λ s. s ++ c.holds-holds.result ∷ []) c.deref-2.ensures.value in
-    elim c.match-branch-3.branch [
+    let more = λ (l : Label). last_sign (number_holds g.T.Theory.atom_holds c.args.atoms.now) c.args.last.now.formulas.now c.index-last-number.result l c.requires.some c.index-last-number.is in
+    let same : c.longer_row.new.row.row ≡ c.args.row.row = c.in_ok-other.ensures.kept in
+    let value_is : g.T.Theory.label_of c.in_ok-kept.kept.value ≡ g.T.Theory.label_of c.args.row.row.value = ap g.T.Theory.label_of (c.in_ok-kept.ensures.value ∙ ap (λ r. r.value) same) in
+    let b_is : c.holds_of-holds.result ≡ holds_at (truths_at g.T.Theory.atom_holds c.args.atoms.now (g.T.Theory.label_of c.args.row.row.value)) c.index-last-number.result = c.holds_of-holds.ensures ∙ ap (holds_at (truths_at g.T.Theory.atom_holds c.args.atoms.now (g.T.Theory.label_of c.args.row.row.value))) (sym c.index-last-number.is) in
+    let signs_are : c.in_ok-kept.kept.signs.items ≡ c.args.row.row.signs.items ++ c.holds_of-holds.result ∷ [] = c.in_ok-kept.ensures.signs ∙ ap (λ r. r.signs.items ++ c.holds_of-holds.result ∷ []) same in
+    let pushed = ap rows_of c.in_ok-push-2.ensures.items ∙ map-append (λ n. n.row) c.match-branch-2.rows.items _ in
+    elim c.match-branch-2.branch [
       | in-Some+in_ok-push w ↦
           let found = rw w.in-Some.is at c.in_ok-other.ensures.row in
-          extends_both g.T.Theory.label_of (g.T.Theory.has_label c.args.theory.now) (g.T.Theory.keeps_label c.args.theory.now) (signs_at g.T.Theory.atom_holds (take (length c.args.formulas.now - 1) c.args.formulas.now)) (signs_at g.T.Theory.atom_holds c.args.formulas.now) (λ l. formula_holds (λ a. g.T.Theory.atom_holds a l) (plain_formula c.index-formulas-formulas.result)) more c.args.row (record { signs = c.in_ok-signs.signs; value = c.args.row.value }) c.holds-holds.result c.requires.row refl c.holds-holds.ensures kept
-          c.args.rows.now.items c.match-branch-3.rows.items _ c.in_ok-push-2.ensures.items w.in-Some.other (ap (λ v. v.items) w.rows-is ∙ w.in_ok-push.ensures.items) found.0 (found.1 ∙ turned)
+          extends_both (g.T.Theory.meaning c.args.theory.now) (signs_at (number_holds g.T.Theory.atom_holds c.args.atoms.now) (take (length c.args.last.now.formulas.now - 1) c.args.last.now.formulas.now)) (signs_at (number_holds g.T.Theory.atom_holds c.args.atoms.now) c.args.last.now.formulas.now) (λ l. holds_at (truths_at g.T.Theory.atom_holds c.args.atoms.now l) c.index-last-number.result) more c.args.row.row c.in_ok-kept.kept c.holds_of-holds.result c.requires.row value_is b_is signs_are (rows_of c.args.rows.now.items) (rows_of c.match-branch-2.rows.items) (rows_of c.push-2.new.self.items) pushed w.in-Some.other.row (ap (λ v. rows_of v.items) w.rows-is ∙ ap rows_of w.in_ok-push.ensures.items ∙ map-append (λ n. n.row) c.args.rows.now.items _) found.0 found.1
       | in_default w ↦
           let none = rw w.in_default.is at c.in_ok-other.ensures.row in
-          extends_alone g.T.Theory.label_of (g.T.Theory.has_label c.args.theory.now) (g.T.Theory.keeps_label c.args.theory.now) (signs_at g.T.Theory.atom_holds (take (length c.args.formulas.now - 1) c.args.formulas.now)) (signs_at g.T.Theory.atom_holds c.args.formulas.now) (λ l. formula_holds (λ a. g.T.Theory.atom_holds a l) (plain_formula c.index-formulas-formulas.result)) more c.args.row (record { signs = c.in_ok-signs.signs; value = c.args.row.value }) c.holds-holds.result c.requires.row refl c.holds-holds.ensures kept
-          c.args.rows.now.items c.match-branch-3.rows.items _ c.in_ok-push-2.ensures.items (ap (λ v. v.items) w.rows-is) (λ l h e. none l h (e ∙ sym turned))
+          extends_alone (g.T.Theory.meaning c.args.theory.now) (signs_at (number_holds g.T.Theory.atom_holds c.args.atoms.now) (take (length c.args.last.now.formulas.now - 1) c.args.last.now.formulas.now)) (signs_at (number_holds g.T.Theory.atom_holds c.args.atoms.now) c.args.last.now.formulas.now) (λ l. holds_at (truths_at g.T.Theory.atom_holds c.args.atoms.now l) c.index-last-number.result) more c.args.row.row c.in_ok-kept.kept c.holds_of-holds.result c.requires.row value_is b_is signs_are (rows_of c.args.rows.now.items) (rows_of c.match-branch-2.rows.items) (rows_of c.push-2.new.self.items) pushed (ap (λ v. rows_of v.items) w.rows-is) none
     ]

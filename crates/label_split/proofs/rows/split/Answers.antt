@@ -1,37 +1,38 @@
-use Rattle.std.proofs.Common.{◌<◌, ◌+◌, take, length, arith}
-use Rattle.label_split.specs.Signs.{atoms_in_each, signs_at}
-use Rattle.label_split.proofs.Signs.{signs_taken}
-use Rattle.label_split.proofs.SameAtoms.{atoms_taken, taken_among}
-use Rattle.label_split.proofs.RowLists.{more_rows, more_by_part, stop_by_part}
-use Rattle.label_split.specs.Split.{HasMoreRows}
 use Rattle.std.proofs.lemmas.Result.{err_from_is_err_and}
+use Rattle.model_tree.specs.Label.{Label}
+use Rattle.label_core.proofs.Chains.{chain_grows}
+use Rattle.label_split.specs.Numbers.{number_holds}
+use Rattle.label_split.specs.Signs.{atoms_in_each, signs_at}
+use Rattle.label_split.specs.Split.{HasMoreRows}
+use Rattle.label_split.specs.Noted.{rows_of}
+use Rattle.label_split.proofs.Numbering.{gathered, atoms_fit, atoms_among, all_within, same_signs}
+use Rattle.label_split.proofs.RowLists.{splits_as, stop_as, more_by_part}
 use Rattle.label_split.proofs.rows.split.Goals as goal
 
-pub returns-then-len-most-clause-stop : goal.returns-then-len-most-clause-stop
-returns-then-len-most-clause-stop g c =
-    let long : c.args.most < length c.loop-i.rows.items = omega (arith, c.if-len-most.true, c.len.ensures, c.loop-i.rows.ok.0) in
-    more_by_part (g.T.Theory.has_label c.args.theory.now) (g.T.Theory.keeps_label c.args.theory.now) (signs_at g.T.Theory.atom_holds (take c.loop-i.i c.args.formulas.now)) (signs_at g.T.Theory.atom_holds c.args.formulas.now) (take c.loop-i.i) (signs_taken g.T.Theory.atom_holds c.args.formulas.now c.loop-i.i) c.args.most
-    (more_rows g.T.Theory.label_of (g.T.Theory.has_label c.args.theory.now) (g.T.Theory.keeps_label c.args.theory.now) (signs_at g.T.Theory.atom_holds (take c.loop-i.i c.args.formulas.now)) c.loop-i.rows.items c.args.most c.loop-i.invariant.rows long)
+pub split_numbered-requires-clause-within : goal.split_numbered-requires-clause-within
+split_numbered-requires-clause-within g c = rw (c.as_slice.ensures.keys, c.deref.ensures.value) (all_within g.T.Atom.PartialEq.eq c.in_ok-atoms.atoms.keys c.args.formulas.now c.in_ok-numbered.numbered.items c.in_ok-numbered.ensures (gathered g.T.Atom.PartialEq.eq g.met.T.Atom.Eq.laws c.args.formulas.now c.in_ok-atoms.atoms.keys c.in_ok-atoms.ensures))
 
-pub refine-requires-clause-are_atoms : goal.refine-requires-clause-are_atoms
-refine-requires-clause-are_atoms g c a = rw c.as_slice.ensures.keys (atoms_taken g.T.Atom.PartialEq.eq c.loop-i.atoms.keys c.add_atoms.new.atoms.keys c.args.formulas.now c.loop-i.i c.index-formulas-i.result a c.loop-i-test.true c.index-formulas-i.is (c.in_ok-add_atoms.ensures a) (c.loop-i.invariant.are_atoms a))
+pub split_numbered-requires-clause-fit : goal.split_numbered-requires-clause-fit
+split_numbered-requires-clause-fit g c = rw c.as_slice.ensures.keys (atoms_fit g.T.Atom.PartialEq.eq g.met.T.Atom.Eq.laws (g.T.Theory.atom_fits c.args.theory.now) (g.met.T.Theory.equal_atoms_fit c.args.theory.now) c.args.formulas.now c.in_ok-atoms.atoms.keys c.in_ok-atoms.ensures c.requires.fit)
 
-pub returns-in_err-rows-2-clause-stop : goal.returns-in_err-rows-2-clause-stop
-returns-in_err-rows-2-clause-stop g c =
-    let got = err_from_is_err_and c.from_residual-in_err-rows-2.result c.from_residual-in_err-rows-2.ensures.1 in
-    rw (got.1, got.2) (stop_by_part (g.T.Theory.has_label c.args.theory.now) (g.T.Theory.keeps_label c.args.theory.now) (signs_at g.T.Theory.atom_holds (take (c.loop-i.i + 1) c.args.formulas.now)) (signs_at g.T.Theory.atom_holds c.args.formulas.now) (take (c.loop-i.i + 1)) (signs_taken g.T.Theory.atom_holds c.args.formulas.now (c.loop-i.i + 1))
-    (λ w. g.T.Theory.chain_over c.args.theory.now (atoms_in_each (take (c.loop-i.i + 1) c.args.formulas.now)) w × g.T.Theory.chain_passes c.args.theory.now w) (λ w. g.T.Theory.chain_over c.args.theory.now (atoms_in_each c.args.formulas.now) w × g.T.Theory.chain_passes c.args.theory.now w) (g.T.Theory.chain_is_far c.args.theory.now)
-    (λ w over. (g.met.T.Theory.chain_grows c.args.theory.now _ _ w (taken_among g.T.Atom.PartialEq.eq g.met.T.Atom.Eq.laws c.args.formulas.now (c.loop-i.i + 1)) over.0, over.1))
-    (HasMoreRows (g.T.Theory.keeps_label c.args.theory.now) (signs_at g.T.Theory.atom_holds c.args.formulas.now) c.args.most) c.in_err-rows-2.field-0.0 c.in_err-rows-2.ensures.stop)
+pub returns-clause-rows : goal.returns-clause-rows
+returns-clause-rows g c =
+    let atoms = c.in_ok-atoms.atoms.keys in
+    let numbered = c.in_ok-numbered.numbered.items in
+    let are = gathered g.T.Atom.PartialEq.eq g.met.T.Atom.Eq.laws c.args.formulas.now atoms c.in_ok-atoms.ensures in
+    let found = rw (c.as_slice.ensures.keys, c.deref.ensures.value) at c.in_ok-rows.ensures.rows in
+    rw c.in_ok-without_notes.ensures (splits_as (g.T.Theory.meaning c.args.theory.now) (signs_at (number_holds g.T.Theory.atom_holds atoms) numbered) (signs_at g.T.Theory.atom_holds c.args.formulas.now) (λ l. same_signs g.T.Atom.PartialEq.eq atoms g.T.Theory.atom_holds g.met.T.Theory.equal_atoms c.args.formulas.now numbered l c.in_ok-numbered.ensures are) (rows_of c.in_ok-rows.rows.items) found)
 
-pub loop-i-preserved : goal.loop-i-preserved
-loop-i-preserved g c = record {
-  rows = c.in_ok-rows-2.ensures.rows;
-  are_atoms = λ a. atoms_taken g.T.Atom.PartialEq.eq c.loop-i.atoms.keys c.add_atoms.new.atoms.keys c.args.formulas.now c.loop-i.i c.index-formulas-i.result a c.loop-i-test.true c.index-formulas-i.is (c.in_ok-add_atoms.ensures a) (c.loop-i.invariant.are_atoms a);
-}
-
-pub returns-clause-stop : goal.returns-clause-stop
-returns-clause-stop g c =
-    let long : c.args.most < length c.loop-i.rows.items = omega (arith, c.if-len-most-2.false, c.len-2.ensures, c.loop-i.rows.ok.0) in
-    more_by_part (g.T.Theory.has_label c.args.theory.now) (g.T.Theory.keeps_label c.args.theory.now) (signs_at g.T.Theory.atom_holds (take c.loop-i.i c.args.formulas.now)) (signs_at g.T.Theory.atom_holds c.args.formulas.now) (take c.loop-i.i) (signs_taken g.T.Theory.atom_holds c.args.formulas.now c.loop-i.i) c.args.most
-    (more_rows g.T.Theory.label_of (g.T.Theory.has_label c.args.theory.now) (g.T.Theory.keeps_label c.args.theory.now) (signs_at g.T.Theory.atom_holds (take c.loop-i.i c.args.formulas.now)) c.loop-i.rows.items c.args.most c.loop-i.invariant.rows long)
+pub returns-in_err-rows-clause-stop : goal.returns-in_err-rows-clause-stop
+returns-in_err-rows-clause-stop g c =
+    let atoms = c.in_ok-atoms.atoms.keys in
+    let numbered = c.in_ok-numbered.numbered.items in
+    let are = gathered g.T.Atom.PartialEq.eq g.met.T.Atom.Eq.laws c.args.formulas.now atoms c.in_ok-atoms.ensures in
+    let same = λ (l : Label). same_signs g.T.Atom.PartialEq.eq atoms g.T.Theory.atom_holds g.met.T.Theory.equal_atoms c.args.formulas.now numbered l c.in_ok-numbered.ensures are in
+    let stop = rw (c.as_slice.ensures.keys, c.deref.ensures.value) at c.in_err-rows.ensures.stop in
+    let got = err_from_is_err_and c.from_residual-in_err-rows.result c.from_residual-in_err-rows.ensures.1 in
+    rw (got.1, got.2) (stop_as (g.T.Theory.meaning c.args.theory.now) (signs_at (number_holds g.T.Theory.atom_holds atoms) numbered) (signs_at g.T.Theory.atom_holds c.args.formulas.now) same atoms (atoms_in_each c.args.formulas.now)
+    (λ w over. chain_grows (g.T.Theory.meaning c.args.theory.now) g.T.Atom.PartialEq.eq (g.met.T.Theory.equal_is_own c.args.theory.now) g.met.T.Atom.Eq.laws atoms (atoms_in_each c.args.formulas.now) w (atoms_among g.T.Atom.PartialEq.eq g.met.T.Atom.Eq.laws c.args.formulas.now atoms c.in_ok-atoms.ensures) over)
+    (HasMoreRows (g.T.Theory.meaning c.args.theory.now) (signs_at (number_holds g.T.Theory.atom_holds atoms) numbered) c.args.most) (HasMoreRows (g.T.Theory.meaning c.args.theory.now) (signs_at g.T.Theory.atom_holds c.args.formulas.now) c.args.most)
+    (more_by_part (g.T.Theory.meaning c.args.theory.now) (signs_at (number_holds g.T.Theory.atom_holds atoms) numbered) (signs_at g.T.Theory.atom_holds c.args.formulas.now) (λ s. s) same c.args.most)
+    c.in_err-rows.field-0.0 stop)

@@ -1,7 +1,8 @@
-use Rattle.std.proofs.Common.{◌≡◌, Bool, true, false, ◌∙◌, subst}
+use Rattle.std.proofs.Common.{◌≡◌, Bool, true, false, ap, ◌∙◌, subst}
 use Rattle.cooper_solve.specs.Told.{puts_of}
 use Rattle.model_chain.specs.Literals.{remainders_in}
 use Rattle.lin_solve.specs.Plain.{plain_literals}
+use Rattle.lin_solve.specs.Shown.{bits_of, is_bounded}
 use Rattle.lin_solve.proofs.Pushed.{positives}
 use Rattle.lin_solve.specs.Tried.{TellsSides}
 use Rattle.lin_solve.proofs.Decided.{sat_told, wide_told, unsat_told, unsat_for, wide_for}
@@ -25,7 +26,7 @@ returns-in-Wide c =
     let t = subst (TellsSides ls false ss c.count_needed-count.result) c.in-Wide.is h in
     let w = wide_told ls false ss c.count_needed-count.result c.in-Wide.wide e c.count_needed-count.ensures t in
     let m = c.in_ok-chain_of-in-Wide.ensures {u = tt} in
-    wide_for c.args.literals.now c.in_ok-chain_of-in-Wide.field-0 false c.in-Wide.wide.sides.items (puts_of c.in-Wide.wide.puts.items) m.0 m.1 m.2 m.3 w.0 w.1 (λ f. absurd (no_false f))
+    wide_for c.args.literals.now c.in_ok-chain_of-in-Wide.field-0 false c.in-Wide.wide.sides.items (puts_of c.in-Wide.wide.puts.items) m.0 m.1 (ap is_bounded m.2) (ap bits_of m.2) w.0 w.1 (λ f. absurd (no_false f))
   where
     no_false : false ≡ true → ⊥
     no_false f = subst (λ (b : Bool). is_false b) f tt

@@ -1,8 +1,9 @@
-use Rattle.std.proofs.Common.{true, false, refl, ◌∙◌, subst}
+use Rattle.std.proofs.Common.{true, false, refl, ap, ◌∙◌, subst}
 use Rattle.model_chain.proofs.Made.{made}
 use Rattle.cooper_solve.specs.Told.{puts_of}
 use Rattle.model_chain.specs.Literals.{remainders_in}
 use Rattle.lin_solve.specs.Plain.{plain_literals}
+use Rattle.lin_solve.specs.Shown.{bits_of, is_bounded}
 use Rattle.lin_solve.proofs.Pushed.{positives}
 use Rattle.lin_solve.specs.Tried.{TellsSides}
 use Rattle.lin_solve.proofs.Decided.{sat_told, wide_told, unsat_told, unsat_for, kept_at, wide_for, far_for, far_of, far_told}
@@ -29,7 +30,7 @@ returns-in-Wide c =
     let far = c.args.far.now in
     let D = made ls false far.sides.items (puts_of far.puts.items) in
     let is = far_of ls far.sides.items (puts_of far.puts.items) (c.requires.sides ∙ c.requires.count) c.requires.far in
-    wide_for c.args.literals.now c.in_ok-chain_of-in-Wide.field-0 true c.in-Wide.wide.sides.items (puts_of c.in-Wide.wide.puts.items) m.0 m.1 m.2 m.3 w.0 w.1 (λ f. (D, refl, is))
+    wide_for c.args.literals.now c.in_ok-chain_of-in-Wide.field-0 true c.in-Wide.wide.sides.items (puts_of c.in-Wide.wide.puts.items) m.0 m.1 (ap is_bounded m.2) (ap bits_of m.2) w.0 w.1 (λ f. (D, refl, is))
 
 pub returns-in-Unsat : goal.returns-in-Unsat
 returns-in-Unsat c =
@@ -41,7 +42,7 @@ returns-in-Unsat c =
     let none = unsat_told ls true ss c.args.count e c.requires.count t in
     let m = c.in_ok-chain_of-in-Unsat.ensures {u = tt} in
     let far = c.args.far.now in
-    far_for c.args.literals.now c.in_ok-chain_of-in-Unsat.field-0 far.sides.items (puts_of far.puts.items) m.0 m.1 m.2 m.3 (c.requires.sides ∙ c.requires.count) c.requires.far
+    far_for c.args.literals.now c.in_ok-chain_of-in-Unsat.field-0 far.sides.items (puts_of far.puts.items) m.0 m.1 (ap is_bounded m.2) (ap bits_of m.2) (c.requires.sides ∙ c.requires.count) c.requires.far
     (λ us l kept holds. unsat_for ls true us c.requires.over (positives c.args.known.now (remainders_in ls) c.requires.known.0 c.requires.known.1) none l (λ f. kept_at us l kept) holds)
 
 pub unreachable-requires : goal.unreachable-requires

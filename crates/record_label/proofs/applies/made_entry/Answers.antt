@@ -5,6 +5,7 @@ use Rattle.std.proofs.lemmas.Int.{to_z-of_z}
 use Rattle.std.proofs.Math.IntN.{pos}
 use Rattle.model_tree.specs.Label.{whole}
 use Rattle.model_tree.specs.Signature.{wholes}
+use Rattle.model_tree.proofs.Sorts.{own_sorts}
 use Rattle.model_form.specs.Form.{value}
 use Rattle.model_form.proofs.Over.{value_agree}
 use Rattle.model_guard.specs.Forms.{wholes_in}
@@ -17,7 +18,7 @@ use Rattle.record_label.proofs.applies.made_entry.Goals as goal
 
 pub side_text-requires : goal.side_text-requires
 side_text-requires c =
-    subst (λ values. SideFits (length (texts_in (map field_of values))) c.in-Text.side) (sym c.values-in-Text.ensures) (side_fits_in c.args.theory.now (map field_of (entries_of c.args.value.now)) c.in-Text.side c.requires.value.0 (rw c.in-Text.is at c.requires.fits))
+    subst (λ values. SideFits (length (texts_in (map field_of values))) c.in-Text.side) (sym c.values-in-Text.ensures) (side_fits_in c.args.theory.now (map field_of (entries_of c.args.value.now)) c.in-Text.side (own_sorts c.args.theory.now (map field_of (entries_of c.args.value.now)) c.requires.value.0) (rw c.in-Text.is at c.requires.fits))
 
 pub returns-in-Number : goal.returns-in-Number
 returns-in-Number c =

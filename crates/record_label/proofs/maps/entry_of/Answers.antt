@@ -10,11 +10,11 @@ use Rattle.record_label.specs.Maps.{text_by, IsEntryOf}
 use Rattle.record_label.proofs.EntryFacts.{number_entry, truth_entry, text_entry, given_side}
 use Rattle.record_label.proofs.maps.entry_of.Goals as goal
 
-pub returns-in_ok-form_of-in-Int : goal.returns-in_ok-form_of-in-Int
-returns-in_ok-form_of-in-Int c =
+pub returns-in_ok-form_in_range-in-Int : goal.returns-in_ok-form_in_range-in-Int
+returns-in_ok-form_in_range-in-Int c =
     let fields = (plain_signature c.args.from.now).fields in
     let few : length fields ≤ 8 = subst (λ k. k ≤ 8) (sym (length-map c.args.from.now.fields.items plain_field)) c.requires.few in
-    rw c.in-Int.is (number_entry fields few (plain_expr c.args.expr.now) c.in_ok-form_of-in-Int.field-0 (rw c.in-Int.is at c.requires.sorted) (c.in_ok-form_of-in-Int.ensures {u = tt}))
+    rw c.in-Int.is (number_entry fields few (plain_expr c.args.expr.now) c.in_ok-form_in_range-in-Int.field-0 (rw c.in-Int.is at c.requires.sorted) (c.in_ok-form_in_range-in-Int.ensures {u = tt}))
 
 pub returns-in_ok-guard_of-in-Bool : goal.returns-in_ok-guard_of-in-Bool
 returns-in_ok-guard_of-in-Bool c =

@@ -5,4 +5,4 @@ use Rattle.record_label.proofs.labels.RowLabelsLabels.chain_maps.Goals as goal
 
 pub returns-in-Ok : goal.returns-in-Ok
 returns-in-Ok c =
-    map_says c.args.self.now (map plain_entry c.args.first.now.entries.items) c.are_few.ensures c.requires.first_fits (map plain_entry c.args.second.now.entries.items) _ c.in-Ok.ensures.0 c.in-Ok.ensures.1
+    map_says c.args.self.now (map plain_entry c.args.first.now.entries.items) c.are_few.ensures c.requires.first_fits (map plain_entry c.args.second.now.entries.items) c.in-Ok.ensures.written _ c.in-Ok.ensures.entries.0 c.in-Ok.ensures.entries.1

@@ -1,0 +1,93 @@
+-- What follows for atoms from what formulas are.
+use Rattle.std.proofs.Common.{◌≡◌, ◌≢◌, Bool, true, false, not, ◌&&◌, ◌||◌, Option, Some, None, IsSome, List, [], ◌∷◌, All, length, ℕ, zero, suc, ◌<◌, ◌⊎◌, inl, inr, refl, sym, ap, ◌∙◌, subst, get_or, arith}
+use Rattle.std.proofs.Math.ListN.{set}
+use Rattle.std.proofs.lemmas.List.{length-set, get_or-set_same, get_or-set_other}
+use Rattle.std.specs.List.{list_all, list_any}
+use Rattle.std.proofs.lemmas.Bool.{cases_eq}
+use Rattle.label_core.specs.declared.formula.Formula.{Formula}
+use Rattle.label_core.proofs.Formulas.{formula_holds_and, formula_holds_or, every_atom_of_and, every_atom_of_or}
+use Rattle.label_split.specs.Known.{Agrees, known_at, truth_at, Follows, holds_at, joined, Forces, IsOnly}
+use Rattle.label_split.proofs.Truths.{settled_holds}
+
+pub forces_more : (P : List Bool → Type 0) (a b c : List (Option Bool)) → Forces P a b → Forces P b c → Forces P a c
+forces_more P a b c f g = record {
+  many = g.many ∙ f.many;
+  grown = λ i s. g.grown i (subst IsSome (sym (f.grown i s)) s) ∙ f.grown i s;
+  follow = λ truths p h. g.follow truths p (f.follow truths p h);
+}
+
+pub forces_by : (P Q : List Bool → Type 0) (a b : List (Option Bool)) → ((truths : List Bool) → P truths → Follows a truths → Q truths) → Forces Q a b → Forces P a b
+forces_by P Q a b to f = record { many = f.many; grown = f.grown; follow = λ truths p h. f.follow truths (to truths p h) h }
+
+some_none : (x : Option Bool) → x ≡ None → ¬ IsSome x
+some_none None e s = cc
+some_none (Some b) e s = cc
+
+module _ (P : List Bool → Type 0) (known : List (Option Bool)) (k : ℕ) (b : Bool) (low : k < length known) (unknown : known_at known k ≡ None) where
+  one_grown : (i : ℕ) → (i ≡ k) ⊎ (i ≢ k) → IsSome (known_at known i) → known_at (set known k (Some b)) i ≡ known_at known i
+  one_grown i (inl e) s = let none : known_at known i ≡ None = ap (known_at known) e ∙ unknown in absurd (some_none (known_at known i) none s)
+  one_grown i (inr n) s = get_or-set_other known k i (Some b) None n
+
+  one_follows : (truths : List Bool) → truth_at truths k ≡ b → Follows known truths → (i : ℕ) → (i ≡ k) ⊎ (i ≢ k) → Agrees (known_at (set known k (Some b)) i) (truth_at truths i)
+  one_follows truths t f i (inl e) = subst (λ x. Agrees x (truth_at truths i)) (sym (ap (known_at (set known k (Some b))) e ∙ get_or-set_same known k (Some b) None low)) (sym t ∙ ap (truth_at truths) (sym e))
+  one_follows truths t f i (inr n) = subst (λ x. Agrees x (truth_at truths i)) (sym (get_or-set_other known k i (Some b) None n)) (f i)
+
+  pub forces_one : ((truths : List Bool) → P truths → truth_at truths k ≡ b) → Forces P known (set known k (Some b))
+  forces_one to = record {
+    many = length-set known k (Some b);
+    grown = λ i s. one_grown i (cases_eq i k) s;
+    follow = λ truths p f. λ i. one_follows truths (to truths p) f i (cases_eq i k);
+  }
+
+and_left : (a b : Bool) → (a && b) ≡ true → a ≡ true
+and_left true b e = refl
+and_left false b e = cc
+
+and_right : (a b : Bool) → (a && b) ≡ true → b ≡ true
+and_right true b e = e
+and_right false b e = cc
+
+or_left : (a b : Bool) → (a || b) ≡ false → a ≡ false
+or_left true b e = cc
+or_left false b e = refl
+
+or_right : (a b : Bool) → (a || b) ≡ false → b ≡ false
+or_right true b e = cc
+or_right false b e = e
+
+-- parts that are all neutral
+pub each_of_joined : (value : Bool) (truths : List Bool) (fs : List (Formula ℕ)) (k : ℕ) (f : Formula ℕ) → k < length fs → f ≡ get_or fs k f → joined value truths fs ≡ value → holds_at truths f ≡ value
+each_of_joined value truths [] k f low is e = absurd (omega arith)
+each_of_joined true truths (g ∷ gs) zero f low is e = ap (holds_at truths) is ∙ and_left (holds_at truths g) (list_all (holds_at truths) gs) e
+each_of_joined false truths (g ∷ gs) zero f low is e = ap (holds_at truths) is ∙ or_left (holds_at truths g) (list_any (holds_at truths) gs) e
+each_of_joined true truths (g ∷ gs) (suc k) f low is e = each_of_joined true truths gs k f (omega arith) is (and_right (holds_at truths g) (list_all (holds_at truths) gs) e)
+each_of_joined false truths (g ∷ gs) (suc k) f low is e = each_of_joined false truths gs k f (omega arith) is (or_right (holds_at truths g) (list_any (holds_at truths) gs) e)
+
+-- where all parts have the neutral value, so has the whole
+all_joined : (value : Bool) (truths : List Bool) (fs : List (Formula ℕ)) → All (λ f. holds_at truths f ≡ value) fs → joined value truths fs ≡ value
+all_joined true truths [] h = refl
+all_joined false truths [] h = refl
+all_joined true truths (f ∷ fs) h = λ i. h 0 f (omega arith) i && all_joined true truths fs (λ k d b. h (suc k) d (omega (arith, b))) i
+all_joined false truths (f ∷ fs) h = λ i. h 0 f (omega arith) i || all_joined false truths fs (λ k d b. h (suc k) d (omega (arith, b))) i
+
+only_one : (a value : Bool) → ¬ (a ≡ value) → a ≡ not value
+only_one true true n = absurd (n refl)
+only_one true false n = refl
+only_one false true n = refl
+only_one false false n = absurd (n refl)
+
+pub same_default : {X : Type 0} (xs : List X) (k : ℕ) (d e : X) → k < length xs → get_or xs k d ≡ get_or xs k e
+same_default [] k d e l = absurd (omega arith)
+same_default (x ∷ xs) zero d e l = refl
+same_default (x ∷ xs) (suc k) d e l = same_default xs k d e (omega arith)
+
+-- where the whole has the other value, and all parts but one the neutral one, that part has the other
+pub only_of_joined : (value holds : Bool) (truths : List Bool) (known : List (Option Bool)) (fs : List (Formula ℕ)) (k : ℕ) (f : Formula ℕ) → IsOnly known value fs k → f ≡ get_or fs k f → ¬ (holds ≡ value) → Follows known truths → joined value truths fs ≡ holds → holds_at truths f ≡ not value
+only_of_joined value holds truths known fs k f only is differs follows e =
+    only_one (holds_at truths f) value (λ here. differs (sym e ∙ all_joined value truths fs (λ m d low. by here m d low (cases_eq m k))))
+  where
+    by : holds_at truths f ≡ value → (m : ℕ) (d : Formula ℕ) → m < length fs → (m ≡ k) ⊎ (m ≢ k) → holds_at truths (get_or fs m d) ≡ value
+    by here m d low (inl e) = ap (holds_at truths) (ap (λ n. get_or fs n d) e ∙ same_default fs k d f only.low ∙ sym is) ∙ here
+    by here m d low (inr n) = settled_holds known truths (get_or fs m d) value (only.others m d low n) follows
+
+pub ruleset on_forcing = (formula_holds_and, formula_holds_or, every_atom_of_and, every_atom_of_or)

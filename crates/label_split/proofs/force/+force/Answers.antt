@@ -1,0 +1,18 @@
+use Rattle.std.proofs.Common.{◌≡◌, ◌∙◌, not}
+use Rattle.label_split.specs.Known.{joined, holds_at}
+use Rattle.label_split.proofs.Truths.{same_bools, other_bools}
+use Rattle.label_split.proofs.Forcing.{forces_more, forces_by, each_of_joined, only_of_joined}
+use Rattle.label_split.proofs.force.+force.Goals as goal
+
+pub force_parts-each-preserved : goal.force_parts-each-preserved
+force_parts-each-preserved t c =
+    forces_more (λ truths. joined c.args.value truths c.args.parts.now ≡ c.args.holds) c.args.known.now.signs.items c.each.known.signs.items c.force.new.known.signs.items c.each.invariant
+    (forces_by (λ truths. joined c.args.value truths c.args.parts.now ≡ c.args.holds) (λ truths. holds_at truths c.part-item.result ≡ c.args.value) c.each.known.signs.items c.force.new.known.signs.items
+    (λ truths e follows. each_of_joined c.args.value truths c.args.parts.now c.each.part-index c.part-item.result c.each-test.true c.part-item.is (e ∙ same_bools c.args.holds c.args.value c.if-holds-value.true))
+    c.force.ensures)
+
+pub force_parts-returns-in-Some : goal.force_parts-returns-in-Some
+force_parts-returns-in-Some t c =
+    forces_by (λ truths. joined c.args.value truths c.args.parts.now ≡ c.args.holds) (λ truths. holds_at truths c.index-parts-number.result ≡ not c.args.value) c.args.known.now.signs.items c.force-in-Some.new.known.signs.items
+    (λ truths e follows. only_of_joined c.args.value c.args.holds truths c.args.known.now.signs.items c.args.parts.now c.in-Some.number c.index-parts-number.result (c.in-Some.ensures {u = tt}) c.index-parts-number.is (other_bools c.args.holds c.args.value c.if-holds-value.false) follows e)
+    c.force-in-Some.ensures

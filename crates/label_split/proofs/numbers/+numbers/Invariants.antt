@@ -1,0 +1,7 @@
+use Rattle.std.proofs.Common.{◌≡◌, take, map}
+use Rattle.label_core.specs.Formula.{plain_formula}
+use Rattle.label_split.specs.Numbers.{numbered}
+use Rattle.label_split.proofs.numbers.+numbers.Given as goal
+
+abbrev pub invariant-number_each-loop-formula : goal.invariant-number_each-loop-formula
+invariant-number_each-loop-formula g l = map plain_formula l.made.items ≡ map (λ f. numbered g.A.PartialEq.eq l.atoms.keys (plain_formula f)) (take l.formula-index l.formulas)

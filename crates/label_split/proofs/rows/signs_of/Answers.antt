@@ -1,0 +1,7 @@
+use Rattle.std.proofs.Common.{◌∙◌, ◌++◌, ◌∷◌, [], ap₂, sym}
+use Rattle.label_split.specs.Numbers.{number_holds}
+use Rattle.label_split.proofs.Signs.{signs_of_more}
+use Rattle.label_split.proofs.rows.signs_of.Goals as goal
+
+pub loop-formula-preserved : goal.loop-formula-preserved
+loop-formula-preserved g c = c.in_ok-push.ensures.items ∙ ap₂ (λ xs x. xs ++ x ∷ []) c.loop-formula.invariant c.holds_of.ensures ∙ sym (signs_of_more (number_holds g.T.Theory.atom_holds c.args.atoms.now) c.args.formulas.now c.loop-formula.formula-index c.formula-item.result (g.T.Theory.label_of c.args.value.now) c.loop-formula-test.true c.formula-item.is)

@@ -1,0 +1,34 @@
+use Rattle.std.proofs.Common.{◌<◌, ◌+◌, [], take, length, refl, subst, arith}
+use Rattle.std.proofs.lemmas.Result.{err_from_is_err_and}
+use Rattle.label_split.specs.Numbers.{number_holds}
+use Rattle.label_split.specs.Signs.{signs_at}
+use Rattle.label_split.specs.Split.{SplitsInto, HasMoreRows}
+use Rattle.label_split.specs.Noted.{rows_of}
+use Rattle.label_split.proofs.Signs.{signs_taken}
+use Rattle.label_split.proofs.RowLists.{more_rows, more_by_part, stop_by_part, front_again, long_rows}
+use Rattle.label_split.proofs.rows.split_numbered.Goals as goal
+
+pub returns-then-len-most-clause-stop : goal.returns-then-len-most-clause-stop
+returns-then-len-most-clause-stop g c =
+    let long : c.args.most < length c.loop-i.rows.items = omega (arith, c.if-len-most.true, c.len.ensures, c.loop-i.rows.ok.0) in
+    more_by_part (g.T.Theory.meaning c.args.theory.now) (signs_at (number_holds g.T.Theory.atom_holds c.args.atoms.now) (take c.loop-i.i c.args.formulas.now)) (signs_at (number_holds g.T.Theory.atom_holds c.args.atoms.now) c.args.formulas.now) (take c.loop-i.i) (signs_taken (number_holds g.T.Theory.atom_holds c.args.atoms.now) c.args.formulas.now c.loop-i.i) c.args.most
+    (more_rows (g.T.Theory.meaning c.args.theory.now) (signs_at (number_holds g.T.Theory.atom_holds c.args.atoms.now) (take c.loop-i.i c.args.formulas.now)) (rows_of c.loop-i.rows.items) c.args.most c.loop-i.invariant (long_rows c.args.most c.loop-i.rows.items long))
+
+pub returns-in_err-rows-clause-stop : goal.returns-in_err-rows-clause-stop
+returns-in_err-rows-clause-stop g c =
+    let got = err_from_is_err_and c.from_residual.result c.from_residual.ensures.1 in
+    rw (got.1, got.2) (stop_by_part (g.T.Theory.meaning c.args.theory.now) (λ _. []) (signs_at (number_holds g.T.Theory.atom_holds c.args.atoms.now) c.args.formulas.now) (λ _. []) (λ l. refl) c.args.atoms.now c.args.atoms.now (λ w over. over) (HasMoreRows (g.T.Theory.meaning c.args.theory.now) (signs_at (number_holds g.T.Theory.atom_holds c.args.atoms.now) c.args.formulas.now) c.args.most) c.in_err-rows.field-0.0 c.in_err-rows.ensures.stop)
+
+pub refine-requires-clause-rows : goal.refine-requires-clause-rows
+refine-requires-clause-rows g c = subst (λ fs. SplitsInto (g.T.Theory.meaning c.args.theory.now) (signs_at (number_holds g.T.Theory.atom_holds c.args.atoms.now) fs) (rows_of c.loop-i.rows.items)) (front_again c.args.formulas.now c.loop-i.i c.loop-i-test.true) c.loop-i.invariant
+
+pub returns-in_err-rows-2-clause-stop : goal.returns-in_err-rows-2-clause-stop
+returns-in_err-rows-2-clause-stop g c =
+    let got = err_from_is_err_and c.from_residual-in_err-rows-2.result c.from_residual-in_err-rows-2.ensures.1 in
+    rw (got.1, got.2) (stop_by_part (g.T.Theory.meaning c.args.theory.now) (signs_at (number_holds g.T.Theory.atom_holds c.args.atoms.now) (take (c.loop-i.i + 1) c.args.formulas.now)) (signs_at (number_holds g.T.Theory.atom_holds c.args.atoms.now) c.args.formulas.now) (take (c.loop-i.i + 1)) (signs_taken (number_holds g.T.Theory.atom_holds c.args.atoms.now) c.args.formulas.now (c.loop-i.i + 1)) c.args.atoms.now c.args.atoms.now (λ w over. over) (HasMoreRows (g.T.Theory.meaning c.args.theory.now) (signs_at (number_holds g.T.Theory.atom_holds c.args.atoms.now) c.args.formulas.now) c.args.most) c.in_err-rows-2.field-0.0 c.in_err-rows-2.ensures.stop)
+
+pub returns-clause-stop : goal.returns-clause-stop
+returns-clause-stop g c =
+    let long : c.args.most < length c.loop-i.rows.items = omega (arith, c.if-len-most-2.false, c.len-2.ensures, c.loop-i.rows.ok.0) in
+    more_by_part (g.T.Theory.meaning c.args.theory.now) (signs_at (number_holds g.T.Theory.atom_holds c.args.atoms.now) (take c.loop-i.i c.args.formulas.now)) (signs_at (number_holds g.T.Theory.atom_holds c.args.atoms.now) c.args.formulas.now) (take c.loop-i.i) (signs_taken (number_holds g.T.Theory.atom_holds c.args.atoms.now) c.args.formulas.now c.loop-i.i) c.args.most
+    (more_rows (g.T.Theory.meaning c.args.theory.now) (signs_at (number_holds g.T.Theory.atom_holds c.args.atoms.now) (take c.loop-i.i c.args.formulas.now)) (rows_of c.loop-i.rows.items) c.args.most c.loop-i.invariant (long_rows c.args.most c.loop-i.rows.items long))

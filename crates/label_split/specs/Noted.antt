@@ -1,0 +1,19 @@
+-- Rows with notes, and samples for the last of some formulas.
+use Rattle.std.specs.Prelude.{◌≡◌, Bool, List, [], ◌∷◌, ◌++◌, map}
+use Rattle.model_tree.specs.Label.{Label}
+use Rattle.label_core.specs.Meaning.{Meaning}
+use Rattle.label_split.specs.declared.rows.SignRow.{SignRow}
+use Rattle.label_split.specs.declared.rows.Noted.{Noted}
+use Rattle.label_split.specs.declared.rows.Sample.{Sample}
+use Rattle.label_split.specs.declared.rows.Sample.TheVariants.{Nowhere, At, Unknown}
+use Rattle.label_split.specs.Split.{IsRow}
+
+abbrev pub rows_of : {V : Type 0} → List (Noted V) → List (SignRow V)
+rows_of noted = map (λ n. n.row) noted
+
+-- no label has the sign at the end; or a row
+module _ {A V W : Type 0} {label_of : V → Label} {holds : A → Label → Bool} (M : Meaning label_of holds W) where
+  abbrev pub IsSample : (Label → List Bool) → Bool → Sample V → Type 0
+  IsSample signs sign Nowhere = (l : Label) → M.has l → (before : List Bool) → ¬ (signs l ≡ before ++ sign ∷ [])
+  IsSample signs sign (At noted) = IsRow M signs noted.row
+  IsSample signs sign Unknown = Unit {0}

@@ -1,0 +1,44 @@
+-- Which expressions have the same pieces.
+use Rattle.std.proofs.Common.{◌≡◌, List, [], ◌++◌, refl, ap, sym, ◌∙◌, append_assoc, append-nil}
+use Rattle.model_grammar.specs.declared.Rel.{Rel}
+use Rattle.model_grammar.specs.Places.{nowhere, bare, bare_parts}
+use Rattle.model_grammar.specs.Syntax.{Expr, field, number, text, truth, negation, compare, minus, chain, Parts, no_parts, part}
+use Rattle.record_label.specs.declared.written.Mark.{Mark}
+use Rattle.record_label.specs.Written.{marks_of, marks_of_parts, WrittenAlike}
+
+mutual
+  -- an expression is all that stands in front of what follows its pieces
+  in_front : (a b : Expr) (xs ys : List Mark) → marks_of a ++ xs ≡ marks_of b ++ ys → (bare a ≡ bare b) × (xs ≡ ys)
+  in_front (field p s) (field q t) xs ys e = let same : s ≡ t = cc in let rest : xs ≡ ys = cc in (ap (field nowhere) same, rest)
+  in_front (number p m) (number q n) xs ys e = let same : m ≡ n = cc in let rest : xs ≡ ys = cc in (ap (number nowhere) same, rest)
+  in_front (text p s) (text q t) xs ys e = let same : s ≡ t = cc in let rest : xs ≡ ys = cc in (ap (text nowhere) same, rest)
+  in_front (truth p a) (truth q b) xs ys e = let same : a ≡ b = cc in let rest : xs ≡ ys = cc in (ap (truth nowhere) same, rest)
+  in_front (negation p a) (negation q b) xs ys e =
+      let rest : marks_of a ++ xs ≡ marks_of b ++ ys = cc in
+      let own = in_front a b xs ys rest in (ap (negation nowhere) own.0, own.1)
+  in_front (compare p r a b) (compare q s c d) xs ys e =
+      let rel : r ≡ s = cc in
+      let rest : (marks_of a ++ marks_of b) ++ xs ≡ (marks_of c ++ marks_of d) ++ ys = cc in
+      let first = in_front a c (marks_of b ++ xs) (marks_of d ++ ys) (sym (append_assoc (marks_of a) (marks_of b) xs) ∙ rest ∙ append_assoc (marks_of c) (marks_of d) ys) in
+      let second = in_front b d xs ys first.1 in (λ i. compare nowhere (rel i) (first.0 i) (second.0 i), second.1)
+  in_front (minus p a) (minus q b) xs ys e =
+      let rest : marks_of a ++ xs ≡ marks_of b ++ ys = cc in
+      let own = in_front a b xs ys rest in (ap (minus nowhere) own.0, own.1)
+  in_front (chain k p ps) (chain l q qs) xs ys e =
+      let kind : k ≡ l = cc in
+      let rest : marks_of_parts ps ++ xs ≡ marks_of_parts qs ++ ys = cc in
+      let own = parts_in_front ps qs xs ys rest in (λ i. chain (kind i) nowhere (own.0 i), own.1)
+  in_front a b xs ys e = absurd cc
+
+  parts_in_front : (ps qs : Parts) (xs ys : List Mark) → marks_of_parts ps ++ xs ≡ marks_of_parts qs ++ ys → (bare_parts ps ≡ bare_parts qs) × (xs ≡ ys)
+  parts_in_front no_parts no_parts xs ys e = let rest : xs ≡ ys = cc in (refl, rest)
+  parts_in_front (part m a ps) (part n b qs) xs ys e =
+      let marked : m ≡ n = cc in
+      let rest : (marks_of a ++ marks_of_parts ps) ++ xs ≡ (marks_of b ++ marks_of_parts qs) ++ ys = cc in
+      let first = in_front a b (marks_of_parts ps ++ xs) (marks_of_parts qs ++ ys) (sym (append_assoc (marks_of a) (marks_of_parts ps) xs) ∙ rest ∙ append_assoc (marks_of b) (marks_of_parts qs) ys) in
+      let second = parts_in_front ps qs xs ys first.1 in (λ i. part (marked i) (first.0 i) (second.0 i), second.1)
+  parts_in_front ps qs xs ys e = absurd cc
+
+-- expressions with the same pieces are the same, places aside
+pub alike : WrittenAlike
+alike a b e = (in_front a b [] [] (append-nil (marks_of a) ∙ e ∙ sym (append-nil (marks_of b)))).0
