@@ -1,15 +1,12 @@
 -- What is known of a table that is built.
-use Rattle.std.proofs.Common.{ℕ, ◌≡◌, Bool, List, map, sym, subst, subst₂, ◌∙◌}
+use Rattle.std.proofs.Common.{ℕ, ◌≡◌, List, map, sym, subst, subst₂, ◌∙◌}
 use Rattle.std.proofs.lemmas.Simd.{map-map}
 use Rattle.model_tree.specs.Label.{Label}
 use Rattle.model_sta.specs.Automaton.{Rule}
 use Rattle.model_sta.specs.Reached.{IsTable, IsComplete}
 use Rattle.model_sta.specs.Least.{rows_of, relabel_found, AreClasses}
 use Rattle.sta_classes.specs.Rows.{plain_class, founds}
-use Rattle.sta_classes.specs.Stop.{ClassStopsFor, StopsAtMore}
 use Rattle.sta_classes.specs.declared.class.Class.{Class}
-use Rattle.sta_classes.specs.declared.stop.ClassStop.{ClassStop}
-use Rattle.sta_classes.specs.declared.stop.ClassStop.TheVariants.{Classes, Wide, Memory}
 use Rattle.sta_classes.proofs.Rows.{rows_are}
 
 module _ {V : Type 0} (label : V → Label) (cap : ℕ) (has keeps : Label → Type 0) (cs : List (Class V)) where
@@ -25,14 +22,3 @@ module _ {V : Type 0} (label : V → Label) (cap : ℕ) (has keeps : Label → T
       → AreClasses cap ranks' has keeps rules' (map (relabel_found label) (map plain_class cs))
   built_is ranks ranks' rules rules' r m classes =
       subst (AreClasses cap ranks' has keeps rules') (sym (map-map (relabel_found label) plain_class cs)) (subst₂ (λ x y. AreClasses cap x has keeps y (founds label cs)) r m classes)
-
-module _ {W : Type 0} (has keeps : Label → Type 0) (truths : Label → List Bool) (gives far : W → Type 0) (many : Type 0) where
-  pub stop_of_split : (s : ClassStop W) → ClassStopsFor ⊥ has keeps truths gives far s → ClassStopsFor many has keeps truths gives far s
-  stop_of_split Classes h = absurd h
-  stop_of_split (Wide w) h = h
-  stop_of_split Memory h = tt
-
-  pub stop_of_search : (s : ClassStop W) → StopsAtMore many s → ClassStopsFor many has keeps truths gives far s
-  stop_of_search Classes h = h
-  stop_of_search (Wide w) h = absurd h
-  stop_of_search Memory h = tt

@@ -12,6 +12,7 @@ use Rattle.label_core.specs.Atoms.{EachHasEqual}
 use Rattle.label_core.specs.Formula.{plain_formula}
 use Rattle.label_core.specs.declared.formula.Formula as code
 use Rattle.label_split.specs.Signs.{signs_at, atoms_in_each, FormulasFit}
+use Rattle.label_core.specs.Meaning.{Meaning}
 use Rattle.label_split.specs.Split.{IsRow, SplitsInto, HasUnkeptRow}
 use Rattle.label_split.specs.declared.rows.SignRow.{SignRow}
 use Rattle.sta_core.specs.Machine.{PlainRule}
@@ -69,42 +70,42 @@ module _ {A : Type 0} (formulas : List (code.Formula A)) (c : ℕ) (rules : List
   pub atoms_among : (eq : A → A → Bool) → IsEquivalence eq → EachHasEqual eq (atoms_in_each formulas) (atoms_of_all (all_guards rules))
   atoms_among eq laws = subst (λ gs. EachHasEqual eq (atoms_of_all gs) (atoms_of_all (all_guards rules))) (sym same) (constructor_among eq laws c rules)
 
-  module _ (holds : A → Label → Bool) where
-    signs_are : (l : Label) → signs_at holds formulas l ≡ truths holds (guards_of c rules) l
-    signs_are l = sym (map-map (λ g. formula_holds (λ a. holds a l) g) plain_formula formulas) ∙ ap (λ gs. truths holds gs l) same
+  signs_are : (holds : A → Label → Bool) (l : Label) → signs_at holds formulas l ≡ truths holds (guards_of c rules) l
+  signs_are holds l = sym (map-map (λ g. formula_holds (λ a. holds a l) g) plain_formula formulas) ∙ ap (λ gs. truths holds gs l) same
 
-    pub split_of_guards : {V : Type 0} (label_of : V → Label) (has keeps : Label → Type 0) (rows : List (SignRow V)) → SplitsInto label_of has keeps (signs_at holds formulas) rows → SplitsInto label_of has keeps (truths holds (guards_of c rules)) rows
-    split_of_guards label_of has keeps rows h = subst (λ s. SplitsInto label_of has keeps s rows) (λ i l. signs_are l i) h
+  module _ {V W : Type 0} {label_of : V → Label} {holds : A → Label → Bool} (M : Meaning label_of holds W) where
+    pub split_of_guards : (rows : List (SignRow V)) → SplitsInto M (signs_at holds formulas) rows → SplitsInto M (truths holds (guards_of c rules)) rows
+    split_of_guards rows h = subst (λ s. SplitsInto M s rows) (λ i l. signs_are holds l i) h
 
-    pub unkept_of_guards : (has keeps : Label → Type 0) → HasUnkeptRow has keeps (signs_at holds formulas) → HasUnkeptRow has keeps (truths holds (all_guards rules))
-    unkept_of_guards has keeps (l, here, none) = (l, here, λ m kept alike. none m kept (signs_are m ∙ truths_within holds c m l rules alike ∙ sym (signs_are l)))
+    pub unkept_of_guards : HasUnkeptRow M (signs_at holds formulas) → HasUnkeptRow M (truths holds (all_guards rules))
+    unkept_of_guards (l, here, none) = (l, here, λ m kept alike. none m kept (signs_are holds m ∙ truths_within holds c m l rules alike ∙ sym (signs_are holds l)))
 
-module _ {A V : Type 0} (label_of : V → Label) (has keeps : Label → Type 0) (holds : A → Label → Bool) (rules : List (List (PlainRule A))) where
-  more_lists : (n : ℕ) (old : List (List (SignRow V))) (rows : List (SignRow V)) → AreSplit label_of has keeps holds n rules old → SplitsInto label_of has keeps (truths holds (guards_of n rules)) rows → AreSplit label_of has keeps holds (n + 1) rules (old ++ rows ∷ [])
+module _ {A V W : Type 0} {label_of : V → Label} {holds : A → Label → Bool} (M : Meaning label_of holds W) (rules : List (List (PlainRule A))) where
+  more_lists : (n : ℕ) (old : List (List (SignRow V))) (rows : List (SignRow V)) → AreSplit M n rules old → SplitsInto M (truths holds (guards_of n rules)) rows → AreSplit M (n + 1) rules (old ++ rows ∷ [])
   more_lists n old rows h made =
       let l : length (old ++ rows ∷ []) ≡ length old + 1 = length-append old (rows ∷ []) in
       let m : length old ≡ n = h.one_each in
       record {
         one_each = omega arith;
-        each = pushed (λ k xs. SplitsInto label_of has keeps (truths holds (guards_of k rules)) xs) old rows [] h.each (subst (λ k. SplitsInto label_of has keeps (truths holds (guards_of k rules)) rows) (sym m) made);
+        each = pushed (λ k xs. SplitsInto M (truths holds (guards_of k rules)) xs) old rows [] h.each (subst (λ k. SplitsInto M (truths holds (guards_of k rules)) rows) (sym m) made);
       }
 
-  pub lists_more : {G : Type 0} (n : ℕ) (old new : List (Vec (SignRow V) G)) (rows : Vec (SignRow V) G) → new ≡ old ++ rows ∷ [] → AreSplit label_of has keeps holds n rules (lists_of old) → SplitsInto label_of has keeps (truths holds (guards_of n rules)) rows.items
-      → AreSplit label_of has keeps holds (n + 1) rules (lists_of new)
-  lists_more n old new rows is h made = subst (AreSplit label_of has keeps holds (n + 1) rules) (sym (ap lists_of is ∙ lists_push old rows)) (more_lists n (lists_of old) rows.items h made)
+  pub lists_more : {G : Type 0} (n : ℕ) (old new : List (Vec (SignRow V) G)) (rows : Vec (SignRow V) G) → new ≡ old ++ rows ∷ [] → AreSplit M n rules (lists_of old) → SplitsInto M (truths holds (guards_of n rules)) rows.items
+      → AreSplit M (n + 1) rules (lists_of new)
+  lists_more n old new rows is h made = subst (AreSplit M (n + 1) rules) (sym (ap lists_of is ∙ lists_push old rows)) (more_lists n (lists_of old) rows.items h made)
 
   -- the values of the rows are labels for each constructor with which each label agrees
-  pub covers : (ranks : List ℕ) (lists : List (List (SignRow V))) → AreSplit label_of has keeps holds (length ranks) rules lists
-      → Covers ranks has (meaning_of holds rules) (λ c. map (λ r. label_of r.value) (get_or lists c []))
+  pub covers : (ranks : List ℕ) (lists : List (List (SignRow V))) → AreSplit M (length ranks) rules lists
+      → Covers ranks M.has (meaning_of holds rules) (λ c. map (λ r. label_of r.value) (get_or lists c []))
   covers ranks lists split c low l d =
       let at = split.each c (omega (arith, split.one_each)) in
       let (r, there, signs) = at.complete l d in
-      let sound = All-contains (IsRow label_of keeps (truths holds (guards_of c rules))) (get_or lists c []) r at.sound there in (
+      let sound = All-contains (IsRow M (truths holds (guards_of c rules))) (get_or lists c []) r at.sound there in (
         label_of r.value,
         contains_map (λ x. label_of x.value) (get_or lists c []) r there,
         all_agree holds c l (label_of r.value) rules (same_truths holds c l (label_of r.value) (guards_of c rules) (sym signs ∙ sound.1)),
       )
 
   -- each value is of a kept label
-  pub kept_value : (ranks : List ℕ) (lists : List (List (SignRow V))) → AreSplit label_of has keeps holds (length ranks) rules lists → (c : ℕ) → c < length ranks → All (λ r. keeps (label_of r.value)) (get_or lists c [])
+  pub kept_value : (ranks : List ℕ) (lists : List (List (SignRow V))) → AreSplit M (length ranks) rules lists → (c : ℕ) → c < length ranks → All (λ r. M.keeps (label_of r.value)) (get_or lists c [])
   kept_value ranks lists split c low k d l = ((split.each c (omega (arith, split.one_each))).sound k d l).0

@@ -1,11 +1,25 @@
+mod Bits
 pub mod Rows
 pub mod Kept
 pub mod Atoms
 pub mod Covered
 pub mod Grown
-pub mod Dropped
-pub mod Opened
+pub mod Loops
+pub mod Members
+pub mod Places
+pub mod Choices
+pub mod Alike
+pub mod Listed
+pub mod Offers
+pub mod Takes
+pub mod Offered
 pub mod Turns
+pub mod Firsts
+pub mod Opens
+pub mod Enough
+pub mod Shapes
+pub mod Adds
+pub mod Runs
 pub mod Trees
 pub mod Built
 pub mod Fired

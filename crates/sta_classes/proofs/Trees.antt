@@ -13,7 +13,7 @@ use Rattle.model_sta.proofs.Least.{AreKids, no_kids, more_kids, assembled, least
 use Rattle.sta_core.specs.Machine.{Machine, PlainRule}
 use Rattle.sta_core.specs.Sta.{automaton_of, rule_meaning}
 use Rattle.model_sta.specs.Pairwise.{Pairwise}
-use Rattle.sta_classes.specs.Plain.{PlainTable, class_row, IsBuilt}
+use Rattle.sta_classes.specs.Plain.{PlainTable, PlainPlace, class_row}
 use Rattle.sta_classes.specs.Rules.{meaning_of}
 use Rattle.sta_classes.specs.Rows.{plain_class, found_of, class_rows, class_rows_at}
 use Rattle.sta_classes.specs.declared.class.Class.{Class}
@@ -23,6 +23,10 @@ use Rattle.model_sta.proofs.Pairs.{pairwise_append}
 abbrev pub plain_founds : {V : Type 0} → (V → Label) → List (Class V) → List (Found Label)
 plain_founds label cs = map (relabel_found label) (map plain_class cs)
 
+-- the classes are those of the automaton, with its least trees
+abbrev pub BuiltBy : {A V : Type 0} → ℕ → (V → Label) → (A → Label → Bool) → (Label → Type 0) → (Label → Type 0) → PlainTable A V → Type 0
+BuiltBy cap label holds has keeps t = AreClasses cap t.machine.ranks has keeps (automaton_of holds t.machine) (map (relabel_found label) t.found)
+
 pub child_low : (js : List ℕ) (k i : ℕ) → Each (λ j. j < k) js → i < length js → get_or js i 0 < k
 child_low [] k i h l = absurd (omega arith)
 child_low (j ∷ js) k zero h l = h.0
@@ -30,14 +34,14 @@ child_low (j ∷ js) k (suc i) h l = child_low js k i h.1 (omega arith)
 
 -- what holds of the class at a place
 own_at : {V : Type 0} (label : V → Label) (P : ℕ → Found Label → Type 0) (found : List (Class V)) (k : ℕ) (x : Class V) → k < length found → x ≡ get_or found k x → EachNumbered P (plain_founds label found)
-    → P k (found_of label x) × (get_or (rows_of (plain_founds label found)) k [] ≡ x.row.items) × (get_or (counts_of (plain_founds label found)) k 0 ≡ x.nodes)
+    → P k (found_of label x) × (get_or (rows_of (plain_founds label found)) k [] ≡ x.row) × (get_or (counts_of (plain_founds label found)) k 0 ≡ x.nodes)
 own_at label P [] k x l at h = absurd (omega arith)
-own_at label P (y ∷ found) zero x l at h = (subst (λ z. P 0 (found_of label z)) (sym at) h.0, ap (λ z. z.row.items) (sym at), ap (λ z. z.nodes) (sym at))
+own_at label P (y ∷ found) zero x l at h = (subst (λ z. P 0 (found_of label z)) (sym at) h.0, ap (λ z. z.row) (sym at), ap (λ z. z.nodes) (sym at))
 own_at label P (y ∷ found) (suc k) x l at h = own_at label (λ j. P (suc j)) found k x (omega arith) at h.1
 
 module _ {V : Type 0} (label : V → Label) (cap : ℕ) (ranks : List ℕ) (D : Label → Type 0) (rules : List (List (Rule Label))) (found : List (Class V)) where
   pub own : (k : ℕ) (x : Class V) → k < length found → x ≡ get_or found k x → AreMade cap ranks D rules (plain_founds label found)
-      → IsMade cap ranks D rules (plain_founds label found) k (found_of label x) × (get_or (rows_of (plain_founds label found)) k [] ≡ x.row.items) × (get_or (counts_of (plain_founds label found)) k 0 ≡ x.nodes)
+      → IsMade cap ranks D rules (plain_founds label found) k (found_of label x) × (get_or (rows_of (plain_founds label found)) k [] ≡ x.row) × (get_or (counts_of (plain_founds label found)) k 0 ≡ x.nodes)
   own k x l at h = own_at label (IsMade cap ranks D rules (plain_founds label found)) found k x l at h
 
   kids_of : (k : ℕ) (js : List ℕ) (ts : List (Tree Label)) → Pairwise (λ i u. (i < k) × IsWitness cap ranks D rules (plain_founds label found) i u) js ts → AreKids cap ranks D rules (plain_founds label found) k js (trees_of ts)
@@ -85,16 +89,16 @@ module _ {V : Type 0} (label : V → Label) (cap : ℕ) (ranks : List ℕ) (has 
       }
 
 -- the same of the table that holds the classes
-module _ {A V : Type 0} (m : Machine A) (cs : List (Class V)) (t : PlainTable A V) (is_view : record { machine = m; found = map plain_class cs } ≡ t) (k : ℕ) (x : Class V) (known : k < length t.found) (at : x ≡ get_or cs k x) where
+module _ {A V : Type 0} (m : Machine A) (cs : List (Class V)) (ps : List (List PlainPlace)) (t : PlainTable A V) (is_view : record { machine = m; found = map plain_class cs; places = ps } ≡ t) (k : ℕ) (x : Class V) (known : k < length t.found) (at : x ≡ get_or cs k x) where
   low_here : k < length cs
   low_here =
       let n : length (map plain_class cs) ≡ length cs = length-map cs plain_class in
       let low : k < length (map plain_class cs) = subst (λ z. k < length z.found) (sym is_view) known in
       omega arith
 
-  pub row_here : x.row.items ≡ class_row t k
+  pub row_here : x.row ≡ class_row t k
   row_here =
-      ap (λ z. z.row.items) at ∙ sym (get_or-map (λ z. z.row.items) cs k x [] low_here)
+      ap (λ z. z.row) at ∙ sym (get_or-map (λ z. z.row) cs k x [] low_here)
       ∙ ap (λ z. get_or z k []) (sym (map-map (λ f. f.row) plain_class cs)) ∙ ap (λ z. class_row z k) is_view
 
   pub nodes_here : x.nodes ≡ get_or (counts_of t.found) k 0
@@ -125,9 +129,9 @@ module _ {A V : Type 0} (m : Machine A) (cs : List (Class V)) (t : PlainTable A 
         (built label cap m.ranks keeps (automaton_of holds m) cs k x v ts js i result low_here at made_here e all
         (subst (λ z. Pairwise (λ j u. (j < k) × IsWitness cap z.machine.ranks keeps (automaton_of holds z.machine) (map (relabel_found label) z.found) j u) (take i js) (map (relabel label) ts)) (sym is_view) h) same r)
 
-  module _ (label : V → Label) (cap : ℕ) (holds : A → Label → Bool) (has keeps : Label → Type 0) (is_built : IsBuilt cap label holds has keeps t) where
-    built_view : IsBuilt cap label holds has keeps (record { machine = m; found = map plain_class cs })
-    built_view = subst (IsBuilt cap label holds has keeps) (sym is_view) is_built
+  module _ (label : V → Label) (cap : ℕ) (holds : A → Label → Bool) (has keeps : Label → Type 0) (is_built : BuiltBy cap label holds has keeps t) where
+    built_view : BuiltBy cap label holds has keeps (record { machine = m; found = map plain_class cs; places = ps })
+    built_view = subst (BuiltBy cap label holds has keeps) (sym is_view) is_built
 
     pub none_here : cap ≤ x.nodes → HasNoTreeBelow cap t.machine.ranks has (automaton_of holds t.machine) (class_row t k)
     none_here b = subst (λ z. HasNoTreeBelow cap z.machine.ranks has (automaton_of holds z.machine) (class_row z k)) is_view (none_below label cap m.ranks has keeps (automaton_of holds m) cs k x low_here at built_view b)
@@ -140,7 +144,7 @@ module _ {A V : Type 0} (m : Machine A) (cs : List (Class V)) (t : PlainTable A 
         (subst (λ z. IsWitness cap z.machine.ranks keeps (automaton_of holds z.machine) (map (relabel_found label) z.found) k u) (sym is_view) w))
 
     -- the row has as many places as there are states
-    pub row_long : length x.row.items ≡ length m.rules
+    pub row_long : length x.row ≡ length m.rules
     row_long =
         let n : length (rows_of (plain_founds label cs)) ≡ length cs = length-map (plain_founds label cs) (λ f. f.row) ∙ length-map (map plain_class cs) (relabel_found label) ∙ length-map cs plain_class in
         let (tree_of, fits, is) = built_view.sets.reached k [] (omega (arith, n, low_here)) in
@@ -151,7 +155,7 @@ module _ {A V : Type 0} (m : Machine A) (cs : List (Class V)) (t : PlainTable A 
         set_long rules (node c l ts) = length-map rules (list_any (fires c l (sets_of rules ts)))
 
   -- what is known of the labels of the row's formula
-  pub guard_here : (holds : A → Label → Bool) (P : Type 0) (rules : List (List (PlainRule A))) (cs' : List (Class V)) (ks ks' : List ℕ) (row : Row) (c : ℕ) (l : Label) → rules ≡ m.rules → cs' ≡ cs → ks' ≡ ks → row ≡ x.row.items
+  pub guard_here : (holds : A → Label → Bool) (P : Type 0) (rules : List (List (PlainRule A))) (cs' : List (Class V)) (ks ks' : List ℕ) (row : Row) (c : ℕ) (l : Label) → rules ≡ m.rules → cs' ≡ cs → ks' ≡ ks → row ≡ x.row
       → P ↔ (step (meaning_of holds rules) c l (class_rows_at cs' ks') ≡ row) → P ↔ (step (automaton_of holds t.machine) c l (rows_at t.found ks) ≡ class_row t k)
   guard_here holds P rules cs' ks ks' row c l same classes numbers is h =
       let rows : class_rows cs' ≡ rows_of t.found = ap class_rows classes ∙ sym (map-map (λ f. f.row) plain_class cs) ∙ ap (λ z. rows_of z.found) is_view in

@@ -3,6 +3,7 @@ use Rattle.std.specs.Prelude.{ℕ, ◌≡◌, ◌<◌, ◌==◌, ◌&&◌, Bool,
 use Rattle.model_tree.specs.Label.{Label}
 use Rattle.model_tree.specs.Formula.{Formula, formula_holds, EveryAtom, formulas_of}
 use Rattle.label_core.specs.Formula.{atoms_in_all}
+use Rattle.label_core.specs.Meaning.{Meaning}
 use Rattle.label_split.specs.Split.{SplitsInto}
 use Rattle.label_split.specs.declared.rows.SignRow.{SignRow}
 use Rattle.model_sta.specs.Sets.{Row, rows_meet}
@@ -38,8 +39,8 @@ module _ {A : Type 0} where
   abbrev pub GuardsFit : (A → Type 0) → List (List (PlainRule A)) → Type 0
   GuardsFit fits rules = All (λ rs. All (λ r. EveryAtom fits r.guard) rs) rules
 
-module _ {A V : Type 0} (label_of : V → Label) (has keeps : Label → Type 0) (holds : A → Label → Bool) where
+module _ {A V W : Type 0} {label_of : V → Label} {holds : A → Label → Bool} (M : Meaning label_of holds W) where
   -- the rows of signs of the guards of each constructor
   pub record AreSplit (constructors : ℕ) (rules : List (List (PlainRule A))) (lists : List (List (SignRow V))) : Type 0 where
     pub one_each : length lists ≡ constructors
-    pub each : (c : ℕ) → c < length lists → SplitsInto label_of has keeps (truths holds (guards_of c rules)) (get_or lists c [])
+    pub each : (c : ℕ) → c < length lists → SplitsInto M (truths holds (guards_of c rules)) (get_or lists c [])

@@ -1,8 +1,15 @@
+pub mod Bits
+pub mod Grow
 pub mod Rules
 pub mod RowFormula
 pub mod Guards
 pub mod Rows
-pub mod Grow
-pub mod Next
+pub mod Searched
+pub mod Kinds
+pub mod Listed
+pub mod Lists
+pub mod Pending
+pub mod Places
 pub mod Plain
 pub mod Stop
+pub mod Meant

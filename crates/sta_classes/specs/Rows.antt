@@ -7,7 +7,7 @@ use Rattle.sta_classes.specs.declared.class.Class.{Class}
 
 module _ {V : Type 0} where
   abbrev pub plain_class : Class V → Found V
-  plain_class c = record { row = c.row.items; nodes = c.nodes; constructor = c.constructor; label = c.value; children = c.children.items }
+  plain_class c = record { row = c.row; nodes = c.nodes; constructor = c.constructor; label = c.value; children = c.children.items }
 
   -- the class over labels that it is
   abbrev pub found_of : (V → Label) → Class V → Found Label
@@ -17,7 +17,7 @@ module _ {V : Type 0} where
   founds label cs = map (found_of label) cs
 
   abbrev pub class_rows : List (Class V) → List Row
-  class_rows cs = map (λ c. c.row.items) cs
+  class_rows cs = map (λ c. c.row) cs
 
   abbrev pub class_rows_at : List (Class V) → List ℕ → List Row
   class_rows_at cs ks = map (λ k. get_or (class_rows cs) k []) ks

@@ -1,16 +1,18 @@
-//! A class, and the set of a node over classes.
+//! A class, and what counts of the classes of children.
 
-ghost use Rattle.std.specs.Prelude.{◌≡◌, ◌<◌, [], length, map, get_or, IfOk, Decides, All, Contains};
+ghost use Rattle.std.specs.Prelude.{◌≡◌, ◌<◌, [], length, map, get_or, IfOk, All};
 ghost use Rattle.std.specs.List.{list_any, list_all};
 ghost use Rattle.model_sta.specs.Sets.{has, rows_meet, fires, step};
 ghost use Rattle.model_sta.specs.Least.{cost};
 ghost use Rattle.model_tree.specs.Formula.{EveryAtom};
+ghost use Rattle.label_core.specs.Meaning.{KeepsValue};
 ghost use Rattle.sta_core.specs.Machine.{plain_rule};
 ghost use Rattle.sta_core.specs.Sta.{rule_meaning};
 ghost use Rattle.sta_classes.specs.Rules.{plain_rules, meaning_of};
 ghost use Rattle.sta_classes.specs.Guards.{GuardsFit};
-ghost use Rattle.sta_classes.specs.Rows.{class_rows, class_rows_at, class_counts_at};
+ghost use Rattle.sta_classes.specs.Rows.{class_rows_at, class_counts_at};
 
+use crate::row::Row;
 use fast_fault::Memory;
 use label_core::Theory;
 use sta_core::StaRule;
@@ -23,27 +25,19 @@ pub const CAP: u64 = 1_048_577;
 /// made from those of earlier classes.
 #[derive(Drop)]
 pub struct Class<V> {
-    pub row: Vec<bool>,
+    pub row: Row,
     pub nodes: u64,
     pub constructor: u32,
     pub value: V,
     pub children: Vec<usize>,
 }
 
-/// Whether the row has the state.
-pub fn row_has(row: &[bool], state: u64) -> bool
-    ensures { result ≡ has row.now state }
-{
-    let state = state as usize;
-    if state < row.len() { row[state] } else { false }
-}
-
 /// Whether the row has each of the states.
-fn row_has_each(row: &[bool], states: &[u64]) -> bool
+pub fn row_has_each(row: &Row, states: &[u64]) -> bool
     ensures { result ≡ list_all (has row.now) states.now }
 {
     for state in states {
-        if !row_has(row, *state) {
+        if !row.has(*state) {
             return false;
         }
     }
@@ -78,7 +72,7 @@ fn any_fires<T: Theory>(
     children: &[usize],
 ) -> bool
     requires fit { All (λ r. EveryAtom (T.atom_fits theory.now) (plain_rule r).guard) rules.now }
-    requires value { T.keeps_label theory.now (T.label_of value.now) }
+    requires value { KeepsValue (T.meaning theory.now) value.now }
     requires children { All (λ k. k < length found.now) children.now }
     ensures { result ≡ list_any (fires constructor (T.label_of value.now) (class_rows_at found.now children.now)) (map (λ r. rule_meaning T.atom_holds (plain_rule r)) rules.now) }
 {
@@ -102,36 +96,18 @@ pub fn step<T: Theory>(
     value: &T::Value,
     found: &[Class<T::Value>],
     children: &[usize],
-) -> Result<Vec<bool>, Memory>
+) -> Result<Row, Memory>
     requires fit { GuardsFit (T.atom_fits theory.now) (plain_rules rules.now) }
-    requires value { T.keeps_label theory.now (T.label_of value.now) }
+    requires value { KeepsValue (T.meaning theory.now) value.now }
     requires children { All (λ k. k < length found.now) children.now }
-    ensures { IfOk result (λ row. row.items ≡ step (meaning_of T.atom_holds (plain_rules rules.now)) constructor (T.label_of value.now) (class_rows_at found.now children.now)) }
+    ensures { IfOk result (λ row. row ≡ step (meaning_of T.atom_holds (plain_rules rules.now)) constructor (T.label_of value.now) (class_rows_at found.now children.now)) }
 {
-    let mut row = Vec::new(alloc);
-    for those in rules {
-        row.push(any_fires(theory, those, constructor, value, found, children))?;
+    let mut row = Row::new(alloc, rules.len())?;
+    for state in 0..rules.len() {
+        let fires = any_fires(theory, &rules[state], constructor, value, found, children);
+        row.put(state, fires);
     }
     Ok(row)
-}
-
-/// Whether the rows are one.
-pub fn same_row(left: &[bool], right: &[bool]) -> bool
-    ensures { Decides result (left.now ≡ right.now) }
-{
-    left == right
-}
-
-/// Whether some class has the row.
-pub fn is_known<V>(found: &[Class<V>], row: &[bool]) -> bool
-    ensures { Decides result (Contains (class_rows found.now) row.now) }
-{
-    for class in found {
-        if same_row(&class.row, row) {
-            return true;
-        }
-    }
-    false
 }
 
 /// The number of nodes over these children, up to the cap.

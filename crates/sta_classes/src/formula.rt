@@ -10,6 +10,7 @@ ghost use Rattle.sta_classes.specs.Rows.{class_rows_at};
 ghost use Rattle.sta_classes.specs.Rules.{plain_rules};
 
 use crate::class::{Class, demands_met};
+use crate::row::Row;
 use fast_fault::Memory;
 use label_core::{Duplicate, Formula, conjunction, disjunction, negation};
 use sta_core::StaRule;
@@ -81,7 +82,7 @@ pub fn row_formula<A: Duplicate + Drop, V>(
     constructor: u32,
     found: &[Class<V>],
     children: &[usize],
-    row: &[bool],
+    row: &Row,
 ) -> Result<Formula<A>, Memory>
     requires children { All (λ k. k < length found.now) children.now }
     requires row { length row.now ≡ length rules.now }
@@ -89,7 +90,14 @@ pub fn row_formula<A: Duplicate + Drop, V>(
 {
     let mut parts = Vec::new(alloc);
     for i in 0..rules.len() {
-        let part = state_formula(alloc, &rules[i], constructor, found, children, row[i])?;
+        let part = state_formula(
+            alloc,
+            &rules[i],
+            constructor,
+            found,
+            children,
+            row.has(i as u64),
+        )?;
         parts.push(part)?;
     }
     Ok(conjunction(parts))

@@ -4,7 +4,7 @@ ghost use Rattle.std.specs.Prelude.{◌≡◌, ◌++◌, map, IfOk, IfErr, OnOk}
 ghost use Rattle.label_core.specs.Formula.{plain_formula};
 ghost use Rattle.sta_core.specs.Machine.{plain_rule};
 ghost use Rattle.label_split.specs.Split.{SplitsInto};
-ghost use Rattle.sta_classes.specs.Guards.{state_guards, guards_of, all_guards, atoms_of_all, truths, GuardsFit, AreSplit};
+ghost use Rattle.sta_classes.specs.Guards.{state_guards, guards_of, all_guards, truths, GuardsFit, AreSplit};
 ghost use Rattle.sta_classes.specs.Rows.{lists_of};
 ghost use Rattle.sta_classes.specs.Rules.{plain_rules};
 ghost use Rattle.sta_classes.specs.Stop.{ClassStopsFor};
@@ -56,8 +56,8 @@ fn split_at<T: Theory>(
     constructor: u32,
 ) -> Result<Vec<SignRow<T::Value>>, ClassStop<T::Chain>>
     requires fit { GuardsFit (T.atom_fits theory.now) (plain_rules rules.now) }
-    ensures rows { IfOk result (λ rows. SplitsInto T.label_of (T.has_label theory.now) (T.keeps_label theory.now) (truths T.atom_holds (guards_of constructor (plain_rules rules.now))) rows.items) }
-    ensures stop { IfErr result (ClassStopsFor ⊥ (T.has_label theory.now) (T.keeps_label theory.now) (truths T.atom_holds (all_guards (plain_rules rules.now))) (λ chain. T.chain_over theory.now (atoms_of_all (all_guards (plain_rules rules.now))) chain × T.chain_passes theory.now chain) (T.chain_is_far theory.now)) }
+    ensures rows { IfOk result (λ rows. SplitsInto (T.meaning theory.now) (truths T.atom_holds (guards_of constructor (plain_rules rules.now))) rows.items) }
+    ensures stop { IfErr result (ClassStopsFor (T.meaning theory.now) ⊥ (all_guards (plain_rules rules.now))) }
 {
     let guards = guards_at(alloc, rules, constructor)?;
     match split(theory, alloc, &guards, u32::MAX) {
@@ -76,8 +76,8 @@ pub fn splits<T: Theory>(
     constructors: u32,
 ) -> Result<Vec<Vec<SignRow<T::Value>>>, ClassStop<T::Chain>>
     requires fit { GuardsFit (T.atom_fits theory.now) (plain_rules rules.now) }
-    ensures lists { IfOk result (λ all. AreSplit T.label_of (T.has_label theory.now) (T.keeps_label theory.now) T.atom_holds constructors (plain_rules rules.now) (lists_of all.items)) }
-    ensures stop { IfErr result (ClassStopsFor ⊥ (T.has_label theory.now) (T.keeps_label theory.now) (truths T.atom_holds (all_guards (plain_rules rules.now))) (λ chain. T.chain_over theory.now (atoms_of_all (all_guards (plain_rules rules.now))) chain × T.chain_passes theory.now chain) (T.chain_is_far theory.now)) }
+    ensures lists { IfOk result (λ all. AreSplit (T.meaning theory.now) constructors (plain_rules rules.now) (lists_of all.items)) }
+    ensures stop { IfErr result (ClassStopsFor (T.meaning theory.now) ⊥ (all_guards (plain_rules rules.now))) }
 {
     let mut all = Vec::new(alloc);
     for constructor in 0..constructors {

@@ -5,14 +5,17 @@
 #![tactic(auto)]
 
 mod class;
-mod copies;
 mod formula;
 mod guards;
+mod known;
+mod lists;
 mod pending;
+mod place;
+mod row;
 mod search;
 mod stop;
 mod table;
 
 pub use class::CAP;
 pub use stop::ClassStop;
-pub use table::{Table, classes};
+pub use table::{Table, classes, kinds_are_enough};

@@ -1,53 +1,145 @@
-//! Candidates for classes that are not settled yet.
+//! Sets that trees have, and of each that is no class yet the cheapest candidate.
 
-ghost use Rattle.std.specs.Prelude.{◌≡◌, ◌≤◌, ◌<◌, [], length, map, get_or, IfOk, MatchOption, OnOk, All};
-ghost use Rattle.sta_classes.specs.Grow.{IsWithout, IsTaken};
+ghost use Rattle.std.specs.Prelude.{◌≡◌, ◌≤◌, [], length, IfOk, OnOk, MatchOption};
+ghost use Rattle.sta_classes.specs.Rows.{found_of};
+ghost use Rattle.sta_classes.specs.Pending.{AreKept, IsOffered, IsTaken, IsDone, is_dearer, leaves, kept_at};
 
-use crate::class::{Class, same_row};
+use crate::class::{CAP, Class};
+use crate::row::Row;
 use fast_fault::Memory;
+use indexmap::IndexSet;
+use label_core::Theory;
 use std::alloc::Global;
+use std::collections::BinaryHeap;
 
-/// The place of a candidate with the fewest nodes.
-fn least_at<V>(pending: &[Class<V>]) -> usize
-    requires { 0 < length pending.now }
-    ensures low { result < length pending.now }
-    ensures least { All (λ p. get_or (map (λ c. c.nodes) pending.now) result 0 ≤ p.nodes) pending.now }
-{
-    let mut best = 0;
-    for i in 0..pending.len() {
-        if pending[i].nodes < pending[best].nodes {
-            best = i;
-        }
-    }
-    best
+/// A tree over trees of classes, but for its label.
+#[derive(Drop)]
+pub struct Over<'a> {
+    pub constructor: u32,
+    pub nodes: u64,
+    pub children: &'a [usize],
 }
 
-/// Drops the candidates with this set.
-fn drop_row<V: Drop>(alloc: Global, pending: &mut Vec<Class<V>>, row: &[bool]) -> Result<(), Memory>
-    ensures { OnOk result (IsWithout pending.old.items row.now pending.new.items) }
-{
-    let mut rest = Vec::new(alloc);
-    'rest: while let Some(class) = pending.pop() {
-        if !same_row(&class.row, row) {
-            rest.push(class)?;
-        }
+/// The sets that are known to be those of trees, and the cheapest candidate of each that is still pending.
+#[derive(Drop)]
+pub struct Pending<V> {
+    pub sets: IndexSet<Row>,
+    pub best: Vec<Option<Class<V>>>,
+    /// The numbers of pending sets, with what their candidates leave up to the cap.
+    pub order: BinaryHeap<(u64, usize)>,
+}
+
+impl Over<'_> {
+    /// The tree with a copy of the label.
+    fn class<T: Theory>(
+        &self,
+        theory: &T,
+        alloc: Global,
+        row: Row,
+        value: &T::Value,
+    ) -> Result<Class<T::Value>, Memory>
+        ensures { IfOk result (λ c. found_of T.label_of c ≡ record { row = row; nodes = self.now.nodes; constructor = self.now.constructor; label = T.label_of value.now; children = self.now.children.now }) }
+    {
+        let value = theory.copy_value(alloc, value)?;
+        let children = Vec::from_slice(alloc, self.children)?;
+        let constructor = self.constructor;
+        let nodes = self.nodes;
+        Ok(Class {
+            row,
+            nodes,
+            constructor,
+            value,
+            children,
+        })
     }
-    *pending = rest;
+}
+
+/// Whether there is a candidate that has more nodes than these.
+fn is_dearer<V>(candidate: &Option<Class<V>>, nodes: u64) -> bool
+    ensures { result ≡ is_dearer candidate.now nodes }
+{
+    match candidate {
+        Some(class) => nodes < class.nodes,
+        None => false,
+    }
+}
+
+/// Whether there is a candidate that leaves so many nodes up to the cap.
+fn leaves<V>(candidate: &Option<Class<V>>, room: u64) -> bool
+    ensures { result ≡ leaves candidate.now room }
+{
+    match candidate {
+        Some(class) => class.nodes <= CAP && CAP - class.nodes == room,
+        None => false,
+    }
+}
+
+/// Puts the candidate at the number, which is the next one or has one already.
+fn keep<V: Drop>(
+    best: &mut Vec<Option<Class<V>>>,
+    number: usize,
+    class: Class<V>,
+) -> Result<(), Memory>
+    requires { number ≤ length best.old.items }
+    ensures { OnOk result (best.new.items ≡ kept_at best.old.items number class) }
+{
+    if number == best.len() {
+        best.push(Some(class))?;
+        return Ok(());
+    }
+    best[number] = Some(class);
     Ok(())
 }
 
-/// Takes a candidate with the fewest nodes, and drops the others with its set.
-pub fn take_least<V: Drop>(
-    alloc: Global,
-    pending: &mut Vec<Class<V>>,
-) -> Result<Option<Class<V>>, Memory>
-    ensures { IfOk result (λ taken. MatchOption taken (pending.old.items ≡ []) (λ class. IsTaken pending.old.items class pending.new.items)) }
-{
-    if pending.is_empty() {
-        return Ok(None);
+impl<V: Drop> Pending<V> {
+    /// No sets yet.
+    pub fn new(alloc: Global) -> Pending<V>
+        ensures kept { AreKept result }
+        ensures none { result.best.items ≡ [] }
+    {
+        Pending {
+            sets: IndexSet::new(alloc),
+            best: Vec::new(alloc),
+            order: BinaryHeap::new(alloc),
+        }
     }
-    let place = least_at(pending);
-    let class = pending.swap_remove(place);
-    drop_row(alloc, pending, &class.row)?;
-    Ok(Some(class))
+
+    /// Keeps the tree for its set, if the set is new or has only candidates with more nodes.
+    pub fn offer<T: Theory<Value = V>>(
+        &mut self,
+        theory: &T,
+        alloc: Global,
+        row: Row,
+        over: &Over<'_>,
+        value: &V,
+    ) -> Result<(), Memory>
+        requires kept { AreKept self.old }
+        requires capped { over.now.nodes ≤ CAP }
+        ensures kept { OnOk result (AreKept self.new) }
+        ensures offered { OnOk result (IsOffered T.label_of self.old self.new (record { row = row; nodes = over.now.nodes; constructor = over.now.constructor; label = T.label_of value.now; children = over.now.children.now })) }
+    {
+        let (number, new) = self.sets.insert_full(row)?;
+        if !new && !is_dearer(&self.best[number], over.nodes) {
+            return Ok(());
+        }
+        let row = self.sets.as_slice()[number].copy(alloc)?;
+        let class = over.class(theory, alloc, row, value)?;
+        self.order.push((CAP - over.nodes, number))?;
+        keep(&mut self.best, number, class)?;
+        Ok(())
+    }
+
+    /// Takes the cheapest candidate.
+    pub fn take(&mut self) -> Option<Class<V>>
+        requires kept { AreKept self.old }
+        ensures kept { AreKept self.new }
+        ensures taken { MatchOption result (IsDone self.old self.new) (IsTaken self.old self.new) }
+    {
+        'order: while let Some(first) = self.order.pop() {
+            if leaves(&self.best[first.1], first.0) {
+                return self.best[first.1].take();
+            }
+        }
+        None
+    }
 }

@@ -1,20 +1,22 @@
 //! The classes in the order of their least trees.
 //!
-//! Each turn takes a candidate with the fewest nodes among those with a new set. It is a least tree of its class, since
-//! each other tree with a new set is over trees of classes that come later. Then come the candidates over children of
-//! which one is of the new class.
+//! Each turn takes a candidate with the fewest nodes. It is a least tree of its class, since each other tree with a new
+//! set is over trees of classes that come later. Then come the candidates over lists of kinds of which one is new.
 
-ghost use Rattle.std.specs.Prelude.{◌≡◌, ◌≤◌, ◌<◌, ◌+◌, ◌^◌, ◌==◌, ◌||◌, false, length, IfOk, IfErr, OnOk, All};
-ghost use Rattle.model_sta.specs.Reached.{IsComplete, HasMoreSets};
-ghost use Rattle.model_sta.specs.Least.{rows_of, AreClasses};
+ghost use Rattle.std.specs.Prelude.{ℕ, ◌≡◌, ◌≤◌, ◌<◌, ◌-◌, [], List, length, get_or, map, Contains, All, IfOk, IfErr, OnOk};
+ghost use Rattle.model_sta.specs.Least.{counts_of, nodes_at, cost};
 ghost use Rattle.sta_classes.specs.Rules.{plain_rules, meaning_of};
-ghost use Rattle.sta_classes.specs.Guards.{GuardsFit, AreSplit};
-ghost use Rattle.sta_classes.specs.Rows.{found_of, founds, lists_of};
-ghost use Rattle.sta_classes.specs.Grow.{Grown, candidate, Over, From, AnyOf};
+ghost use Rattle.sta_classes.specs.Rows.{founds, lists_of};
+ghost use Rattle.sta_classes.specs.Lists.{IsListWith};
+ghost use Rattle.sta_classes.specs.Meant.{AreFound, AreAllFound, HasMoreClasses};
+ghost use Rattle.sta_classes.specs.Pending.{IsBetter};
+ghost use Rattle.sta_classes.specs.Searched.{IsReady, AreKinds, IsSound, IsOpened, AreOpened, firsts_of};
 ghost use Rattle.sta_classes.specs.Stop.{StopsAtMore};
 
-use crate::class::{CAP, Class, cost_over, is_known, step};
-use crate::pending::take_least;
+use crate::class::{CAP, cost_over, step};
+use crate::known::Known;
+use crate::lists::lists_with;
+use crate::pending::{Over, Pending};
 use crate::stop::ClassStop;
 use fast_fault::Memory;
 use label_core::Theory;
@@ -22,220 +24,205 @@ use label_split::SignRow;
 use sta_core::StaRule;
 use std::alloc::Global;
 
-/// The candidate over these children.
-fn make<T: Theory>(
-    theory: &T,
-    alloc: Global,
-    rules: &[Vec<StaRule<T::Atom>>],
-    constructor: u32,
-    value: &T::Value,
-    found: &[Class<T::Value>],
-    children: &[usize],
-) -> Result<Class<T::Value>, Memory>
-    requires fit { GuardsFit (T.atom_fits theory.now) (plain_rules rules.now) }
-    requires value { T.keeps_label theory.now (T.label_of value.now) }
-    requires children { All (λ k. k < length found.now) children.now }
-    ensures { IfOk result (λ class. found_of T.label_of class ≡ candidate CAP (meaning_of T.atom_holds (plain_rules rules.now)) (founds T.label_of found.now) T.label_of constructor children.now value.now) }
-{
-    let nodes = cost_over(found, children);
-    let row = step(theory, alloc, rules, constructor, value, found, children)?;
-    let value = theory.copy_value(alloc, value)?;
-    let children = Vec::from_slice(alloc, children)?;
-    Ok(Class {
-        row,
-        nodes,
-        constructor,
-        value,
-        children,
-    })
+/// What a search for the classes of an automaton goes by.
+#[derive(Drop)]
+pub struct Search<'a, T: Theory> {
+    pub theory: &'a T,
+    pub alloc: Global,
+    pub ranks: &'a [u32],
+    pub rules: &'a [Vec<StaRule<T::Atom>>],
+    /// The rows of signs of the guards of each constructor's rules.
+    pub lists: &'a [Vec<SignRow<T::Value>>],
+    pub most: u32,
 }
 
-/// Adds the candidates over these children whose set is new.
-fn add_over<T: Theory>(
-    theory: &T,
-    alloc: Global,
-    rules: &[Vec<StaRule<T::Atom>>],
-    constructor: u32,
-    values: &[SignRow<T::Value>],
-    found: &[Class<T::Value>],
-    children: &[usize],
-    pending: &mut Vec<Class<T::Value>>,
-) -> Result<(), Memory>
-    requires fit { GuardsFit (T.atom_fits theory.now) (plain_rules rules.now) }
-    requires values { All (λ r. T.keeps_label theory.now (T.label_of r.value)) values.now }
-    requires children { All (λ k. k < length found.now) children.now }
-    ensures { OnOk result (Grown (founds T.label_of pending.old.items) (founds T.label_of pending.new.items) (Over CAP (meaning_of T.atom_holds (plain_rules rules.now)) (founds T.label_of found.now) (λ r. T.label_of r.value) constructor children.now values.now)) }
-{
-    for sign_row in values {
-        let class = make(
-            theory,
-            alloc,
-            rules,
-            constructor,
-            &sign_row.value,
-            found,
-            children,
-        )?;
-        if !is_known(found, &class.row) {
-            pending.push(class)?;
-        }
-    }
-    Ok(())
-}
-
-/// The first class that a further child may have, so that one of the children can be of the last class.
-fn first_child(classes: usize, left: u32, free: bool) -> usize
-    requires { 0 < left }
-    ensures within { result ≤ classes }
-    ensures needless { 0 < result → (free ≡ false) × (left ≡ 1) × (result + 1 ≡ classes) }
-{
-    if free || left > 1 || classes == 0 {
-        0
-    } else {
-        classes - 1
-    }
-}
-
-/// Whether a further child leaves the others free, since it is of the last class or they are free already.
-fn is_free(free: bool, child: usize, classes: usize) -> bool
-    requires { child < classes }
-    ensures { result ≡ (free || (child + 1 == classes)) }
-{
-    free || child + 1 == classes
-}
-
-/// Adds the candidates over children that begin with these and go on with as many as are left, and with one of the last
-/// class found unless they are free of that.
-fn add_from<T: Theory>(
-    theory: &T,
-    alloc: Global,
-    rules: &[Vec<StaRule<T::Atom>>],
-    constructor: u32,
-    values: &[SignRow<T::Value>],
-    found: &[Class<T::Value>],
-    children: &mut Vec<usize>,
-    left: u32,
-    free: bool,
-    pending: &mut Vec<Class<T::Value>>,
-) -> Result<(), Memory>
-    requires fit { GuardsFit (T.atom_fits theory.now) (plain_rules rules.now) }
-    requires values { All (λ r. T.keeps_label theory.now (T.label_of r.value)) values.now }
-    requires children { All (λ k. k < length found.now) children.old.items }
-    ensures kept { OnOk result (children.new.items ≡ children.old.items) }
-    ensures grown { OnOk result (Grown (founds T.label_of pending.old.items) (founds T.label_of pending.new.items) (From CAP (meaning_of T.atom_holds (plain_rules rules.now)) (founds T.label_of found.now) (λ r. T.label_of r.value) constructor children.old.items left free values.now)) }
-{
-    if left == 0 {
-        if free {
-            add_over(
-                theory,
-                alloc,
-                rules,
-                constructor,
-                values,
-                found,
-                children,
-                pending,
+impl<T: Theory> Search<'_, T> {
+    /// Offers the trees over these children with each of the labels.
+    fn offer_each(
+        &self,
+        known: &Known<T::Value>,
+        pending: &mut Pending<T::Value>,
+        over: &Over<'_>,
+    ) -> Result<(), Memory>
+        requires ready { IsReady (T.meaning self.now.theory.now) (T.atom_fits self.now.theory.now) self.now.ranks.now (plain_rules self.now.rules.now) (lists_of self.now.lists.now) }
+        requires low { over.now.constructor < length self.now.ranks.now }
+        requires wide { length over.now.children.now ≡ get_or self.now.ranks.now over.now.constructor 0 }
+        requires children { All (λ k. k < length known.now.classes.items) over.now.children.now }
+        requires nodes { over.now.nodes ≡ cost CAP (nodes_at (founds T.label_of known.now.classes.items) over.now.children.now) }
+        requires above { (k : ℕ) → k < length known.now.classes.items → get_or (counts_of (founds T.label_of known.now.classes.items)) k 0 ≤ over.now.nodes }
+        requires sound { IsSound self.now.ranks.now (T.meaning self.now.theory.now).has (T.meaning self.now.theory.now).keeps (meaning_of T.atom_holds (plain_rules self.now.rules.now)) T.label_of known.now.classes.items pending.old }
+        ensures sound { OnOk result (IsSound self.now.ranks.now (T.meaning self.now.theory.now).has (T.meaning self.now.theory.now).keeps (meaning_of T.atom_holds (plain_rules self.now.rules.now)) T.label_of known.now.classes.items pending.new) }
+        ensures better { OnOk result (IsBetter pending.old pending.new) }
+        ensures opened { OnOk result (IsOpened self.now.ranks.now (T.meaning self.now.theory.now).has (T.meaning self.now.theory.now).keeps (meaning_of T.atom_holds (plain_rules self.now.rules.now)) T.label_of known.now.classes.items pending.new over.now.constructor over.now.children.now) }
+    {
+        'labels: for sign_row in &self.lists[over.constructor as usize] {
+            let row = step(
+                self.theory,
+                self.alloc,
+                self.rules,
+                over.constructor,
+                &sign_row.value,
+                &known.classes,
+                over.children,
             )?;
+            pending.offer(self.theory, self.alloc, row, over, &sign_row.value)?;
         }
-        return Ok(());
+        Ok(())
     }
-    'each: for k in first_child(found.len(), left, free)..found.len() {
-        children.push(k)?;
-        add_from(
-            theory,
-            alloc,
-            rules,
+
+    /// Offers the trees over these children, and sees whether there are too many sets then.
+    fn open(
+        &self,
+        known: &Known<T::Value>,
+        pending: &mut Pending<T::Value>,
+        constructor: usize,
+        children: &[usize],
+    ) -> Result<(), ClassStop<T::Chain>>
+        requires ready { IsReady (T.meaning self.now.theory.now) (T.atom_fits self.now.theory.now) self.now.ranks.now (plain_rules self.now.rules.now) (lists_of self.now.lists.now) }
+        requires low { constructor < length self.now.ranks.now }
+        requires wide { length children.now ≡ get_or self.now.ranks.now constructor 0 }
+        requires children { All (λ k. k < length known.now.classes.items) children.now }
+        requires above { (k : ℕ) → k < length known.now.classes.items → get_or (counts_of (founds T.label_of known.now.classes.items)) k 0 ≤ cost CAP (nodes_at (founds T.label_of known.now.classes.items) children.now) }
+        requires sound { IsSound self.now.ranks.now (T.meaning self.now.theory.now).has (T.meaning self.now.theory.now).keeps (meaning_of T.atom_holds (plain_rules self.now.rules.now)) T.label_of known.now.classes.items pending.old }
+        ensures sound { OnOk result (IsSound self.now.ranks.now (T.meaning self.now.theory.now).has (T.meaning self.now.theory.now).keeps (meaning_of T.atom_holds (plain_rules self.now.rules.now)) T.label_of known.now.classes.items pending.new) }
+        ensures better { OnOk result (IsBetter pending.old pending.new) }
+        ensures opened { OnOk result (IsOpened self.now.ranks.now (T.meaning self.now.theory.now).has (T.meaning self.now.theory.now).keeps (meaning_of T.atom_holds (plain_rules self.now.rules.now)) T.label_of known.now.classes.items pending.new constructor children.now) }
+        ensures few { OnOk result (length pending.new.sets.keys ≤ self.now.most) }
+        ensures stop { IfErr result (StopsAtMore (HasMoreClasses (T.meaning self.now.theory.now) (record { ranks = self.now.ranks.now; rules = plain_rules self.now.rules.now }) self.now.most)) }
+    {
+        let nodes = cost_over(&known.classes, children);
+        let constructor = constructor as u32;
+        let over = Over {
             constructor,
-            values,
-            found,
+            nodes,
             children,
-            left - 1,
-            is_free(free, k, found.len()),
-            pending,
-        )?;
-        let _ = children.pop();
-    }
-    Ok(())
-}
-
-/// Adds the candidates over classes found, with a child of the last one unless they are free of that.
-fn add_all<T: Theory>(
-    theory: &T,
-    alloc: Global,
-    ranks: &[u32],
-    rules: &[Vec<StaRule<T::Atom>>],
-    lists: &[Vec<SignRow<T::Value>>],
-    found: &[Class<T::Value>],
-    free: bool,
-    pending: &mut Vec<Class<T::Value>>,
-) -> Result<(), Memory>
-    requires fit { GuardsFit (T.atom_fits theory.now) (plain_rules rules.now) }
-    requires few { length ranks.now < 2 ^ 32 }
-    requires lists { AreSplit T.label_of (T.has_label theory.now) (T.keeps_label theory.now) T.atom_holds (length ranks.now) (plain_rules rules.now) (lists_of lists.now) }
-    ensures { OnOk result (Grown (founds T.label_of pending.old.items) (founds T.label_of pending.new.items) (AnyOf CAP (meaning_of T.atom_holds (plain_rules rules.now)) (founds T.label_of found.now) (λ r. T.label_of r.value) (length ranks.now) ranks.now free (lists_of lists.now))) }
-{
-    'constructors: for constructor in 0..ranks.len() {
-        let mut children = Vec::new(alloc);
-        add_from(
-            theory,
-            alloc,
-            rules,
-            constructor as u32,
-            &lists[constructor],
-            found,
-            &mut children,
-            ranks[constructor],
-            free,
-            pending,
-        )?;
-    }
-    Ok(())
-}
-
-/// The classes in the order of their least trees, where they are not more than `most`.
-pub fn search<T: Theory>(
-    theory: &T,
-    alloc: Global,
-    ranks: &[u32],
-    rules: &[Vec<StaRule<T::Atom>>],
-    lists: &[Vec<SignRow<T::Value>>],
-    most: u32,
-) -> Result<Vec<Class<T::Value>>, ClassStop<T::Chain>>
-    requires fit { GuardsFit (T.atom_fits theory.now) (plain_rules rules.now) }
-    requires few { length ranks.now < 2 ^ 32 }
-    requires lists { AreSplit T.label_of (T.has_label theory.now) (T.keeps_label theory.now) T.atom_holds (length ranks.now) (plain_rules rules.now) (lists_of lists.now) }
-    ensures classes { IfOk result (λ found. AreClasses CAP ranks.now (T.has_label theory.now) (T.keeps_label theory.now) (meaning_of T.atom_holds (plain_rules rules.now)) (founds T.label_of found.items)) }
-    ensures complete { IfOk result (λ found. IsComplete ranks.now (T.has_label theory.now) (meaning_of T.atom_holds (plain_rules rules.now)) (rows_of (founds T.label_of found.items))) }
-    ensures few { IfOk result (λ found. length found.items ≤ most) }
-    ensures stop { IfErr result (StopsAtMore (HasMoreSets ranks.now (T.keeps_label theory.now) (meaning_of T.atom_holds (plain_rules rules.now)) most)) }
-{
-    let mut found = Vec::new(alloc);
-    let mut pending = Vec::new(alloc);
-    add_all(
-        theory,
-        alloc,
-        ranks,
-        rules,
-        lists,
-        &found,
-        true,
-        &mut pending,
-    )?;
-    'search: while let Some(class) = take_least(alloc, &mut pending)? {
-        if found.len() == most as usize {
+        };
+        self.offer_each(known, pending, &over)?;
+        if pending.sets.len() > self.most as usize {
             return Err(ClassStop::Classes);
         }
-        found.push(class)?;
-        add_all(
-            theory,
-            alloc,
-            ranks,
-            rules,
-            lists,
-            &found,
-            false,
-            &mut pending,
-        )?;
+        Ok(())
     }
-    Ok(found)
+
+    /// Offers the trees of no children.
+    fn open_leaves(
+        &self,
+        known: &Known<T::Value>,
+        pending: &mut Pending<T::Value>,
+    ) -> Result<(), ClassStop<T::Chain>>
+        requires ready { IsReady (T.meaning self.now.theory.now) (T.atom_fits self.now.theory.now) self.now.ranks.now (plain_rules self.now.rules.now) (lists_of self.now.lists.now) }
+        requires none { known.now.classes.items ≡ [] }
+        requires sound { IsSound self.now.ranks.now (T.meaning self.now.theory.now).has (T.meaning self.now.theory.now).keeps (meaning_of T.atom_holds (plain_rules self.now.rules.now)) T.label_of known.now.classes.items pending.old }
+        requires few { length pending.old.sets.keys ≤ self.now.most }
+        ensures sound { OnOk result (IsSound self.now.ranks.now (T.meaning self.now.theory.now).has (T.meaning self.now.theory.now).keeps (meaning_of T.atom_holds (plain_rules self.now.rules.now)) T.label_of known.now.classes.items pending.new) }
+        ensures opened { OnOk result ((c : ℕ) → c < length self.now.ranks.now → get_or self.now.ranks.now c 0 ≡ 0 → IsOpened self.now.ranks.now (T.meaning self.now.theory.now).has (T.meaning self.now.theory.now).keeps (meaning_of T.atom_holds (plain_rules self.now.rules.now)) T.label_of known.now.classes.items pending.new c []) }
+        ensures few { OnOk result (length pending.new.sets.keys ≤ self.now.most) }
+        ensures stop { IfErr result (StopsAtMore (HasMoreClasses (T.meaning self.now.theory.now) (record { ranks = self.now.ranks.now; rules = plain_rules self.now.rules.now }) self.now.most)) }
+    {
+        'constructors: for constructor in 0..self.ranks.len() {
+            if self.ranks[constructor] == 0 {
+                self.open(known, pending, constructor, &[])?;
+            }
+        }
+        Ok(())
+    }
+
+    /// Offers the trees over lists of kinds with the last class at this place, and at none before it.
+    fn open_place(
+        &self,
+        known: &Known<T::Value>,
+        pending: &mut Pending<T::Value>,
+        constructor: usize,
+        place: usize,
+    ) -> Result<(), ClassStop<T::Chain>>
+        requires ready { IsReady (T.meaning self.now.theory.now) (T.atom_fits self.now.theory.now) self.now.ranks.now (plain_rules self.now.rules.now) (lists_of self.now.lists.now) }
+        requires kinds { AreKinds self.now.ranks.now self.now.rules.now known.now.classes.items known.now.places.items }
+        requires some { 0 < length known.now.classes.items }
+        requires low { constructor < length self.now.ranks.now }
+        requires place { place < get_or self.now.ranks.now constructor 0 }
+        requires sound { IsSound self.now.ranks.now (T.meaning self.now.theory.now).has (T.meaning self.now.theory.now).keeps (meaning_of T.atom_holds (plain_rules self.now.rules.now)) T.label_of known.now.classes.items pending.old }
+        requires few { length pending.old.sets.keys ≤ self.now.most }
+        ensures sound { OnOk result (IsSound self.now.ranks.now (T.meaning self.now.theory.now).has (T.meaning self.now.theory.now).keeps (meaning_of T.atom_holds (plain_rules self.now.rules.now)) T.label_of known.now.classes.items pending.new) }
+        ensures better { OnOk result (IsBetter pending.old pending.new) }
+        ensures opened { OnOk result ((ks : List ℕ) → IsListWith (firsts_of (get_or (lists_of known.now.places.items) constructor [])) place (length known.now.classes.items - 1) (get_or self.now.ranks.now constructor 0) ks → IsOpened self.now.ranks.now (T.meaning self.now.theory.now).has (T.meaning self.now.theory.now).keeps (meaning_of T.atom_holds (plain_rules self.now.rules.now)) T.label_of known.now.classes.items pending.new constructor ks) }
+        ensures few { OnOk result (length pending.new.sets.keys ≤ self.now.most) }
+        ensures stop { IfErr result (StopsAtMore (HasMoreClasses (T.meaning self.now.theory.now) (record { ranks = self.now.ranks.now; rules = plain_rules self.now.rules.now }) self.now.most)) }
+    {
+        let last = known.classes.len() - 1;
+        let lists = lists_with(self.alloc, &known.places[constructor], place, last)?;
+        'lists: for children in &lists {
+            self.open(known, pending, constructor, children)?;
+        }
+        Ok(())
+    }
+
+    /// Offers the trees of this constructor over lists of kinds of which the last class is one.
+    fn open_last(
+        &self,
+        known: &Known<T::Value>,
+        pending: &mut Pending<T::Value>,
+        constructor: usize,
+    ) -> Result<(), ClassStop<T::Chain>>
+        requires ready { IsReady (T.meaning self.now.theory.now) (T.atom_fits self.now.theory.now) self.now.ranks.now (plain_rules self.now.rules.now) (lists_of self.now.lists.now) }
+        requires kinds { AreKinds self.now.ranks.now self.now.rules.now known.now.classes.items known.now.places.items }
+        requires some { 0 < length known.now.classes.items }
+        requires low { constructor < length self.now.ranks.now }
+        requires sound { IsSound self.now.ranks.now (T.meaning self.now.theory.now).has (T.meaning self.now.theory.now).keeps (meaning_of T.atom_holds (plain_rules self.now.rules.now)) T.label_of known.now.classes.items pending.old }
+        requires few { length pending.old.sets.keys ≤ self.now.most }
+        ensures sound { OnOk result (IsSound self.now.ranks.now (T.meaning self.now.theory.now).has (T.meaning self.now.theory.now).keeps (meaning_of T.atom_holds (plain_rules self.now.rules.now)) T.label_of known.now.classes.items pending.new) }
+        ensures better { OnOk result (IsBetter pending.old pending.new) }
+        ensures opened { OnOk result ((j : ℕ) (ks : List ℕ) → j < get_or self.now.ranks.now constructor 0 → IsListWith (firsts_of (get_or (lists_of known.now.places.items) constructor [])) j (length known.now.classes.items - 1) (get_or self.now.ranks.now constructor 0) ks → IsOpened self.now.ranks.now (T.meaning self.now.theory.now).has (T.meaning self.now.theory.now).keeps (meaning_of T.atom_holds (plain_rules self.now.rules.now)) T.label_of known.now.classes.items pending.new constructor ks) }
+        ensures few { OnOk result (length pending.new.sets.keys ≤ self.now.most) }
+        ensures stop { IfErr result (StopsAtMore (HasMoreClasses (T.meaning self.now.theory.now) (record { ranks = self.now.ranks.now; rules = plain_rules self.now.rules.now }) self.now.most)) }
+    {
+        let last = known.classes.len() - 1;
+        'places: for place in 0..known.places[constructor].len() {
+            if known.places[constructor][place].begins(last) {
+                self.open_place(known, pending, constructor, place)?;
+            }
+        }
+        Ok(())
+    }
+
+    /// Offers the trees over lists of kinds of which the last class is one.
+    fn open_new(
+        &self,
+        known: &Known<T::Value>,
+        pending: &mut Pending<T::Value>,
+    ) -> Result<(), ClassStop<T::Chain>>
+        requires ready { IsReady (T.meaning self.now.theory.now) (T.atom_fits self.now.theory.now) self.now.ranks.now (plain_rules self.now.rules.now) (lists_of self.now.lists.now) }
+        requires kinds { AreKinds self.now.ranks.now self.now.rules.now known.now.classes.items known.now.places.items }
+        requires some { 0 < length known.now.classes.items }
+        requires sound { IsSound self.now.ranks.now (T.meaning self.now.theory.now).has (T.meaning self.now.theory.now).keeps (meaning_of T.atom_holds (plain_rules self.now.rules.now)) T.label_of known.now.classes.items pending.old }
+        requires few { length pending.old.sets.keys ≤ self.now.most }
+        ensures sound { OnOk result (IsSound self.now.ranks.now (T.meaning self.now.theory.now).has (T.meaning self.now.theory.now).keeps (meaning_of T.atom_holds (plain_rules self.now.rules.now)) T.label_of known.now.classes.items pending.new) }
+        ensures better { OnOk result (IsBetter pending.old pending.new) }
+        ensures opened { OnOk result (AreOpened self.now.ranks.now (T.meaning self.now.theory.now).has (T.meaning self.now.theory.now).keeps (meaning_of T.atom_holds (plain_rules self.now.rules.now)) T.label_of known.now.classes.items known.now.places.items pending.new (λ c ks. Contains ks (length known.now.classes.items - 1))) }
+        ensures few { OnOk result (length pending.new.sets.keys ≤ self.now.most) }
+        ensures stop { IfErr result (StopsAtMore (HasMoreClasses (T.meaning self.now.theory.now) (record { ranks = self.now.ranks.now; rules = plain_rules self.now.rules.now }) self.now.most)) }
+    {
+        'constructors: for constructor in 0..self.ranks.len() {
+            self.open_last(known, pending, constructor)?;
+        }
+        Ok(())
+    }
+
+    /// All classes, where there are not more than `most`.
+    pub fn run(&self) -> Result<Known<T::Value>, ClassStop<T::Chain>>
+        requires ready { IsReady (T.meaning self.now.theory.now) (T.atom_fits self.now.theory.now) self.now.ranks.now (plain_rules self.now.rules.now) (lists_of self.now.lists.now) }
+        ensures classes { IfOk result (λ known. AreFound (T.meaning self.now.theory.now) CAP self.now.ranks.now (plain_rules self.now.rules.now) known.classes.items) }
+        ensures complete { IfOk result (λ known. AreAllFound (T.meaning self.now.theory.now) CAP self.now.ranks.now (plain_rules self.now.rules.now) known.classes.items) }
+        ensures kinds { IfOk result (λ known. AreKinds self.now.ranks.now self.now.rules.now known.classes.items known.places.items) }
+        ensures few { IfOk result (λ known. length known.classes.items ≤ self.now.most) }
+        ensures stop { IfErr result (StopsAtMore (HasMoreClasses (T.meaning self.now.theory.now) (record { ranks = self.now.ranks.now; rules = plain_rules self.now.rules.now }) self.now.most)) }
+    {
+        let mut known = Known::new(self.alloc, self.ranks, self.rules)?;
+        let mut pending = Pending::new(self.alloc);
+        self.open_leaves(&known, &mut pending)?;
+        'turns: while let Some(class) = pending.take() {
+            known.add(self.alloc, class)?;
+            self.open_new(&known, &mut pending)?;
+        }
+        Ok(known)
+    }
 }

@@ -9,6 +9,7 @@ ghost use Rattle.model_tree.specs.Tree.{relabel, relabel_all, trees_of, EveryLab
 ghost use Rattle.model_sta.specs.Automaton.{is_accepted, meet_demands, rule_applies};
 ghost use Rattle.model_tree.specs.Formula.{EveryAtom};
 ghost use Rattle.label_core.specs.Formula.{plain_formula};
+ghost use Rattle.label_core.specs.Meaning.{KeepsValue};
 ghost use Rattle.sta_core.specs.Fits.{RuleFits, RulesFit};
 ghost use Rattle.sta_core.specs.Machine.{plain_rule};
 ghost use Rattle.sta_core.specs.Sta.{automaton_of, rule_meaning, AtomsFit};
@@ -102,7 +103,7 @@ pub struct Lang<A> {
 pub fn accepts<T: Theory>(theory: &T, sta: &Sta<T::Atom>, state: u64, tree: &Tree<T::Value>) -> bool
     requires fits { AtomsFit (T.atom_fits theory.now) sta.now }
     requires state { state < length sta.now.rules }
-    requires labels { EveryLabel (λ v. T.keeps_label theory.now (T.label_of v)) tree.now }
+    requires labels { EveryLabel (KeepsValue (T.meaning theory.now)) tree.now }
     ensures { result ≡ is_accepted (automaton_of T.atom_holds sta.now) (relabel T.label_of tree.now) state }
 {
     for rule in sta.rules_of(state) {
@@ -125,7 +126,7 @@ fn applies<T: Theory>(
     requires fits { AtomsFit (T.atom_fits theory.now) sta.now }
     requires atoms { EveryAtom (T.atom_fits theory.now) (plain_formula rule.now.guard) }
     requires demands { All (λ d. All (λ n. n < length sta.now.rules) d.items) rule.now.demands.items }
-    requires labels { EveryLabel (λ v. T.keeps_label theory.now (T.label_of v)) tree.now }
+    requires labels { EveryLabel (KeepsValue (T.meaning theory.now)) tree.now }
     ensures { result ≡ rule_applies (automaton_of T.atom_holds sta.now) (relabel T.label_of tree.now) (rule_meaning T.atom_holds (plain_rule rule.now)) }
 {
     rule.constructor == tree.constructor()
@@ -144,7 +145,7 @@ fn children_meet<T: Theory>(
 ) -> bool
     requires fits { AtomsFit (T.atom_fits theory.now) sta.now }
     requires demands { All (λ d. All (λ n. n < length sta.now.rules) d.items) demands.now }
-    requires labels { All (EveryLabel (λ v. T.keeps_label theory.now (T.label_of v))) children.now }
+    requires labels { All (EveryLabel (KeepsValue (T.meaning theory.now))) children.now }
     ensures { result ≡ meet_demands (automaton_of T.atom_holds sta.now) (relabel_all T.label_of (trees_of children.now)) (map (λ d. d.items) demands.now) }
 {
     let mut i = 0;
@@ -171,7 +172,7 @@ fn accepted_by_each<T: Theory>(
 ) -> bool
     requires fits { AtomsFit (T.atom_fits theory.now) sta.now }
     requires states { All (λ s. s < length sta.now.rules) states.now }
-    requires labels { EveryLabel (λ v. T.keeps_label theory.now (T.label_of v)) tree.now }
+    requires labels { EveryLabel (KeepsValue (T.meaning theory.now)) tree.now }
     ensures { result ≡ list_all (is_accepted (automaton_of T.atom_holds sta.now) (relabel T.label_of tree.now)) states.now }
 {
     for state in states {

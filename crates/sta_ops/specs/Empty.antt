@@ -1,33 +1,42 @@
--- What is said of a language that is asked for a tree.
-use Rattle.std.specs.Prelude.{◌≡◌, ℕ, ◌≤◌, ◌<◌, true, List}
+-- What is said of a language that is asked for a tree, and of two that are asked for a tree in exactly one of them.
+use Rattle.std.specs.Prelude.{ℕ, Bool, List}
 use Rattle.model_tree.specs.Label.{Label}
-use Rattle.model_tree.specs.Tree.{LabelTree, relabel, node_count, depth}
+use Rattle.model_tree.specs.Tree.{LabelTree}
 use Rattle.model_sta.specs.Automaton.{Rule, is_accepted}
-use Rattle.model_sta.specs.Sets.{Fits}
+use Rattle.label_core.specs.Meaning.{Meaning}
+use Rattle.sta_core.specs.Machine.{Machine}
+use Rattle.sta_core.specs.Sta.{automaton_of}
+use Rattle.sta_core.specs.declared.Lang.{Lang}
 use Rattle.sta_ops.specs.declared.emptiness.Found.{Found}
-use Rattle.sta_ops.specs.declared.emptiness.Found.TheVariants.{Absent, Shown, TooBig}
+use Rattle.sta_ops.specs.Asked.{differ, IsAskedTree, IsLeastAsked, HasBigAsked, IsAnswer}
+use Rattle.sta_ops.specs.Rules.{beside}
 
-module _ (ranks : List ℕ) (has keeps : Label → Type 0) (rules : List (List (Rule Label))) (state : ℕ) where
+module _ (ranks : List ℕ) (D keeps : Label → Type 0) (rules : List (List (Rule Label))) (state : ℕ) where
   -- a tree of the language, over all labels of the meaning
-  pub record IsTreeOf (t : LabelTree) : Type 0 where
-    pub fits : Fits ranks has t
-    pub accepted : is_accepted rules t state ≡ true
+  abbrev pub IsTreeOf : LabelTree → Type 0
+  IsTreeOf = IsAskedTree ranks D keeps (λ t. is_accepted rules t state)
 
-  -- A tree of kept labels that is in the language, with the least number of nodes of all that are.
-  pub record IsLeastOf (most : ℕ) (t : LabelTree) : Type 0 where
-    pub fits : Fits ranks keeps t
-    pub accepted : is_accepted rules t state ≡ true
-    pub least : (u : LabelTree) → IsTreeOf u → node_count t ≤ node_count u
-    pub small : node_count t ≤ 1048576
-    pub shallow : depth t ≤ most
+  -- a least one
+  abbrev pub IsLeastOf : ℕ → LabelTree → Type 0
+  IsLeastOf = IsLeastAsked ranks D keeps (λ t. is_accepted rules t state)
 
-  -- there are trees in the language, and each has more nodes than one that is shown
-  pub record HasBigAlone : Type 0 where
-    pub tree : LabelTree
-    pub right : IsTreeOf tree
-    pub big : (t : LabelTree) → IsTreeOf t → 1048576 < node_count t
+  -- only trees with more nodes than one that is shown
+  abbrev pub HasBigAlone : Type 0
+  HasBigAlone = HasBigAsked ranks D keeps (λ t. is_accepted rules t state)
 
-abbrev pub IsEmptyAnswer : {V : Type 0} → (V → Label) → List ℕ → (Label → Type 0) → (Label → Type 0) → List (List (Rule Label)) → ℕ → ℕ → Found V → Type 0
-IsEmptyAnswer label_of ranks has keeps rules state most Absent = (t : LabelTree) → ¬ (IsTreeOf ranks has keeps rules state t)
-IsEmptyAnswer label_of ranks has keeps rules state most (Shown tree) = IsLeastOf ranks has keeps rules state most (relabel label_of tree)
-IsEmptyAnswer label_of ranks has keeps rules state most TooBig = HasBigAlone ranks has keeps rules state
+module _ {A V W : Type 0} {label_of : V → Label} {holds : A → Label → Bool} (M : Meaning label_of holds W) where
+  -- what is answered of a state's language
+  abbrev pub IsEmptyAnswer : Machine A → ℕ → ℕ → Found V → Type 0
+  IsEmptyAnswer sta state most = IsAnswer M sta.ranks (λ t. is_accepted (automaton_of holds sta) t state) most
+
+  -- the tree is in exactly one of the languages
+  abbrev pub in_one : Lang A → Lang A → LabelTree → Bool
+  in_one a b t = differ (is_accepted (automaton_of holds a.sta) t a.state) (is_accepted (automaton_of holds b.sta) t b.state)
+
+  -- what is answered of two
+  abbrev pub IsEqualAnswer : Lang A → Lang A → ℕ → Found V → Type 0
+  IsEqualAnswer a b most = IsAnswer M a.sta.ranks (in_one a b) most
+
+-- both automata as one
+abbrev pub side_by_side : {A : Type 0} → Lang A → Lang A → Machine A
+side_by_side a b = record { ranks = a.sta.ranks; rules = beside a.sta.rules b.sta.rules }

@@ -1,2 +1,5 @@
 pub mod Empty
 pub mod LeastClass
+pub mod Rules
+pub mod Languages
+pub mod Asked

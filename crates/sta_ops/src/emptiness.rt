@@ -1,14 +1,17 @@
 //! Whether a language has trees, and a least one.
 
-ghost use Rattle.std.specs.Prelude.{◌≡◌, ◌<◌, length, IfOk, IfErr, IfSome, MatchOption};
+ghost use Rattle.std.specs.Prelude.{◌≡◌, ◌≤◌, ◌<◌, length, IfOk, IfErr, IfSome, MatchOption};
 ghost use Rattle.model_sta.specs.Least.{rows_of, counts_of};
-ghost use Rattle.model_sta.specs.Reached.{HasMoreSets};
+ghost use Rattle.model_sta.specs.Sets.{set_of};
 ghost use Rattle.sta_core.specs.Sta.{automaton_of, AtomsFit};
-ghost use Rattle.sta_classes.specs.Guards.{all_guards, atoms_of_all, truths};
-ghost use Rattle.sta_classes.specs.Stop.{ClassStopsFor};
+ghost use Rattle.sta_classes.specs.Meant.{StopsClasses, IsTableOf, IsBuilt};
+ghost use Rattle.sta_classes.specs.Plain.{class_row};
+ghost use Rattle.sta_classes.specs.declared.class.TheConstants.{CAP};
+ghost use Rattle.sta_ops.specs.Asked.{has_asked, IsAnswer};
 ghost use Rattle.sta_ops.specs.Empty.{IsEmptyAnswer};
 ghost use Rattle.sta_ops.specs.LeastClass.{is_better, HasNoClass, IsLeastClass};
 
+use fast_fault::Memory;
 use fast_tree::Tree;
 use label_core::Theory;
 use sta_classes::{ClassStop, Table, classes};
@@ -23,6 +26,29 @@ pub enum Found<V> {
     TooBig,
 }
 
+/// What the states that accept a tree are asked for: one, or exactly one of two.
+#[derive(Clone, Copy)]
+pub enum Asked {
+    Has(u64),
+    Differs(u64, u64),
+}
+
+/// Whether the trees of the class have what is asked.
+fn is_asked<A, V>(table: &Table<A, V>, class: u32, asked: Asked) -> bool
+    requires { class < length table.now.found }
+    ensures { result ≡ has_asked asked (class_row table.now class) }
+{
+    match asked {
+        Asked::Has(state) => table.has(class, state),
+        Asked::Differs(one, other) => {
+            if table.has(class, one) {
+                return !table.has(class, other);
+            }
+            table.has(class, other)
+        }
+    }
+}
+
 /// Whether the class has a smaller least tree than the best one so far.
 fn is_better<A, V>(table: &Table<A, V>, class: u32, best: Option<u32>) -> bool
     requires class { class < length table.now.found }
@@ -35,17 +61,39 @@ fn is_better<A, V>(table: &Table<A, V>, class: u32, best: Option<u32>) -> bool
     }
 }
 
-/// A class of the state with the smallest least tree, if the state has a class.
-fn least_class<A, V>(table: &Table<A, V>, state: u64) -> Option<u32>
-    ensures { MatchOption result (HasNoClass (rows_of table.now.found) (counts_of table.now.found) state) (IsLeastClass (rows_of table.now.found) (counts_of table.now.found) state) }
+/// A class that has what is asked, with the smallest least tree, if there is one.
+fn least_class<A, V>(table: &Table<A, V>, asked: Asked) -> Option<u32>
+    ensures { MatchOption result (HasNoClass (rows_of table.now.found) (counts_of table.now.found) (has_asked asked)) (IsLeastClass (rows_of table.now.found) (counts_of table.now.found) (has_asked asked)) }
 {
     let mut best = None;
     'classes: for class in 0..table.len() {
-        if table.has(class, state) && is_better(table, class, best) {
+        if is_asked(table, class, asked) && is_better(table, class, best) {
             best = Some(class);
         }
     }
     best
+}
+
+/// A least tree whose states are as asked. It has a depth of at most `most`.
+pub fn least_tree<T: Theory>(
+    theory: &T,
+    alloc: Global,
+    table: &Table<T::Atom, T::Value>,
+    asked: Asked,
+    most: u32,
+) -> Result<Found<T::Value>, Memory>
+    requires table { IsTableOf (T.meaning theory.now) table.now.machine table.now }
+    requires built { IsBuilt (T.meaning theory.now) CAP table.now }
+    requires few { length table.now.found ≤ most }
+    ensures { IfOk result (IsAnswer (T.meaning theory.now) table.now.machine.ranks (λ t. has_asked asked (set_of (automaton_of T.atom_holds table.now.machine) t)) most) }
+{
+    match least_class(table, asked) {
+        None => Ok(Found::Absent),
+        Some(class) => match table.witness(theory, alloc, class)? {
+            Some(tree) => Ok(Found::Shown(tree)),
+            None => Ok(Found::TooBig),
+        },
+    }
 }
 
 /// Whether the language has trees, and a least one. It has a depth of at most `most`.
@@ -56,15 +104,10 @@ pub fn empty<T: Theory>(
     most: u32,
 ) -> Result<Found<T::Value>, ClassStop<T::Chain>>
     requires fit { AtomsFit (T.atom_fits theory.now) lang.now.sta }
-    ensures found { IfOk result (IsEmptyAnswer T.label_of lang.now.sta.ranks (T.has_label theory.now) (T.keeps_label theory.now) (automaton_of T.atom_holds lang.now.sta) lang.now.state most) }
-    ensures stop { IfErr result (ClassStopsFor (HasMoreSets lang.now.sta.ranks (T.keeps_label theory.now) (automaton_of T.atom_holds lang.now.sta) most) (T.has_label theory.now) (T.keeps_label theory.now) (truths T.atom_holds (all_guards lang.now.sta.rules)) (λ chain. T.chain_over theory.now (atoms_of_all (all_guards lang.now.sta.rules)) chain × T.chain_passes theory.now chain) (T.chain_is_far theory.now)) }
+    ensures found { IfOk result (IsEmptyAnswer (T.meaning theory.now) lang.now.sta lang.now.state most) }
+    ensures stop { IfErr result (StopsClasses (T.meaning theory.now) lang.now.sta most) }
 {
     let table = classes(theory, alloc, &lang.sta, most)?;
-    match least_class(&table, lang.state) {
-        None => Ok(Found::Absent),
-        Some(class) => match table.witness(theory, alloc, class)? {
-            Some(tree) => Ok(Found::Shown(tree)),
-            None => Ok(Found::TooBig),
-        },
-    }
+    let found = least_tree(theory, alloc, &table, Asked::Has(lang.state), most)?;
+    Ok(found)
 }

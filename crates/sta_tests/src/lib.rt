@@ -6,6 +6,7 @@ ghost use Rattle.model_tree.specs.Tree.{EveryLabel};
 ghost use Rattle.flat_label.specs.Bools.{IsBools, bools_label};
 ghost use Rattle.label_core.specs.Pair.{OfAtom};
 ghost use Rattle.label_split.specs.Signs.{FormulasFit};
+ghost use Rattle.lin_solve.specs.Wholes.{CompareFits};
 ghost use Rattle.sta_core.specs.Sta.{AtomsFit};
 
 use fast_fault::Memory;
@@ -13,6 +14,8 @@ use fast_tree::Tree;
 use flat_label::{BoolAtom, Bools, Never};
 use label_core::{Formula, Pair, PairAtom, Theory, Verdict};
 use label_split::{SplitStop, find, split};
+use lin_form::Form;
+use lin_solve::{Compare, Ints, Relation};
 use sta_core::{Sta, StaRule, accepts};
 use std::alloc::Global;
 
@@ -113,6 +116,61 @@ fn has_left_alone(alloc: Global) -> Result<bool, Memory> {
             let copy = theory.copy_value(alloc, &value)?;
             copy == value && value.left[..] == [true] && value.right[..] == [false]
         }
+        _ => false,
+    })
+}
+
+/// A field, and not the same field, as two formulas.
+fn field_and_not(alloc: Global) -> Result<Vec<Formula<BoolAtom>>, Memory>
+    ensures { IfOk result (λ formulas. FormulasFit (λ a. a.field < 1) formulas.items) }
+{
+    let again = Formula::Atom(BoolAtom { field: 0 });
+    let mut formulas = Vec::new(alloc);
+    formulas.push(Formula::Atom(BoolAtom { field: 0 }))?;
+    formulas.push(Formula::Not(Box::new(alloc, again)?))?;
+    Ok(formulas)
+}
+
+/// Whether it is found that no label has a field and has it not.
+fn finds_none(alloc: Global) -> Result<bool, Memory> {
+    let theory = Bools::new(1);
+    let formulas = field_and_not(alloc)?;
+    Ok(match find(&theory, alloc, &formulas)? {
+        Verdict::Unsat => true,
+        _ => false,
+    })
+}
+
+/// That a whole number is above 2^63 - 1.
+fn above(alloc: Global) -> Result<Compare, Memory>
+    ensures { IfOk result (CompareFits 1) }
+{
+    Ok(Compare {
+        left: Form::number(alloc, 9223372036854775807)?,
+        relation: Relation::Less,
+        right: Form::field(alloc, 0)?,
+    })
+}
+
+/// The bits of the chain for a whole number above 2^63 - 1, if one is too wide.
+fn width_above(alloc: Global) -> Result<Option<u32>, Memory> {
+    let theory = Ints::new(1);
+    let mut formulas = Vec::new(alloc);
+    formulas.push(Formula::Atom(above(alloc)?))?;
+    Ok(match find(&theory, alloc, &formulas)? {
+        Verdict::Wide(chain) => Some(chain.width.bits()),
+        _ => None,
+    })
+}
+
+/// Whether a far chain is found where both parts of a pair are above 2^63 - 1.
+fn both_are_far(alloc: Global) -> Result<bool, Memory> {
+    let theory = Pair::new(Ints::new(1), Ints::new(1));
+    let mut formulas = Vec::new(alloc);
+    formulas.push(Formula::Atom(PairAtom::Left(above(alloc)?)))?;
+    formulas.push(Formula::Atom(PairAtom::Right(above(alloc)?)))?;
+    Ok(match find(&theory, alloc, &formulas)? {
+        Verdict::Wide(chain) => theory.far(&chain),
         _ => false,
     })
 }

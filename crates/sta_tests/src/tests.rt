@@ -38,3 +38,17 @@ fn a_pair_has_the_left_field_alone(rt: HostRuntime) -> Result<(), Fail> {
     assert!(rt; has_left_alone(rt.alloc()).ok().ok_or("memory")?);
     Ok(())
 }
+
+#[test]
+fn none_has_a_field_and_has_it_not(rt: HostRuntime) -> Result<(), Fail> {
+    assert!(rt; finds_none(rt.alloc()).ok().ok_or("memory")?);
+    Ok(())
+}
+
+#[test]
+fn numbers_above_the_range_are_too_wide(rt: HostRuntime) -> Result<(), Fail> {
+    let width = width_above(rt.alloc()).ok().ok_or("memory")?;
+    assert!(rt; width == Some(64));
+    assert!(rt; both_are_far(rt.alloc()).ok().ok_or("memory")?);
+    Ok(())
+}

@@ -15,7 +15,7 @@ loop-i-preserved g c =
     let low : c.loop-i.i < length c.args.row.now = omega (arith, c.loop-i-test.true, c.requires.row) in
     let qs = class_rows_at c.args.found.now c.args.children.now in
     ap (map plain_formula) c.in_ok-push.ensures.items ∙ map-append plain_formula c.loop-i.parts.items (c.in_ok-part.part ∷ [])
-    ∙ ap₂ (λ fs f. fs ++ f ∷ []) c.loop-i.invariant (c.in_ok-part.ensures ∙ ap (λ rs. signed (get_or c.args.row.now c.loop-i.i false) (some_fires c.args.constructor qs (map plain_rule rs))) c.deref.ensures.value)
+    ∙ ap₂ (λ fs f. fs ++ f ∷ []) c.loop-i.invariant (c.in_ok-part.ensures ∙ ap (λ b. signed b (some_fires c.args.constructor qs (map plain_rule c.deref.result.now))) c.has.ensures ∙ ap (λ rs. signed (get_or c.args.row.now c.loop-i.i false) (some_fires c.args.constructor qs (map plain_rule rs))) c.deref.ensures.value)
     ∙ sym (formulas_taken c.args.constructor qs (λ those. map plain_rule those.items) c.args.rules.now c.args.row.now c.loop-i.i c.index-rules-i.result (get_or c.args.row.now c.loop-i.i false) c.loop-i-test.true c.requires.row c.index-rules-i.is (same_default c.args.row.now c.loop-i.i false _ low))
 
 pub returns : goal.returns

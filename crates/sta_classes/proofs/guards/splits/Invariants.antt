@@ -4,4 +4,4 @@ use Rattle.sta_classes.specs.Rows.{lists_of}
 use Rattle.sta_classes.proofs.guards.splits.Given as goal
 
 abbrev pub invariant-loop-constructor : goal.invariant-loop-constructor
-invariant-loop-constructor g l = AreSplit g.T.Theory.label_of (g.T.Theory.has_label l.theory) (g.T.Theory.keeps_label l.theory) g.T.Theory.atom_holds l.constructor (plain_rules l.rules) (lists_of l.all.items)
+invariant-loop-constructor g l = AreSplit (g.T.Theory.meaning l.theory) l.constructor (plain_rules l.rules) (lists_of l.all.items)

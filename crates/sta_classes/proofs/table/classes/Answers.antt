@@ -1,20 +1,39 @@
-use Rattle.std.proofs.Common.{ap, sym, ◌∙◌}
+use Rattle.std.proofs.Common.{ap, sym, subst, arith, length}
 use Rattle.sta_core.specs.Sta.{automaton_of}
+use Rattle.sta_classes.specs.Guards.{GuardsFit, AreSplit}
+use Rattle.sta_classes.specs.Plain.{AreShaped}
 use Rattle.sta_classes.specs.Rules.{plain_rules, meaning_of}
+use Rattle.sta_classes.specs.Rows.{lists_of}
 use Rattle.sta_classes.specs.declared.class.TheConstants.{CAP}
 use Rattle.sta_classes.proofs.Built.{table_is, built_is}
+use Rattle.sta_classes.proofs.Shapes.{shaped, has_kinds}
 use Rattle.sta_classes.proofs.table.classes.Goals as goal
+
+pub run-requires : goal.run-requires
+run-requires g c = record {
+  ready = record {
+    fit = subst (GuardsFit (g.T.Theory.atom_fits c.args.theory.now)) (sym c.rules-rules.ensures.rules) c.requires.fit;
+    few = omega (arith, c.if-ranks.false, ap length c.ranks.ensures, ap length c.ranks-ranks.ensures);
+    lists_are = subst (AreSplit (g.T.Theory.meaning c.args.theory.now) (length c.ranks-ranks.result.now) (plain_rules c.rules-rules.result.now)) (ap lists_of (sym c.deref.ensures.value)) c.in_ok-lists.ensures.lists;
+  };
+}
+
+pub invariant_of-result : goal.invariant_of-result
+invariant_of-result g c = (
+  omega (arith, c.in_ok-known.ensures.few, c.ranges.most.fits),
+  subst (λ r. AreShaped r (length c.in_ok-known.known.classes.items) c.in_ok-known.known.places.items) c.ranks-ranks.ensures (shaped g.T.Theory.atom_holds c.ranks-ranks.result.now c.rules-rules.result.now c.in_ok-known.known.classes.items c.in_ok-known.known.places.items c.in_ok-known.ensures.kinds),
+)
 
 pub returns-clause-table : goal.returns-clause-table
 returns-clause-table g c =
-    table_is g.T.Theory.label_of CAP (g.T.Theory.has_label c.args.theory.now) (g.T.Theory.keeps_label c.args.theory.now) c.in_ok-classes.classes.items c.ranks-ranks.result.now c.args.sta.now.ranks
-    (meaning_of g.T.Theory.atom_holds (plain_rules c.rules-rules.result.now)) (automaton_of g.T.Theory.atom_holds c.args.sta.now) c.ranks-ranks.ensures (ap (meaning_of g.T.Theory.atom_holds) c.rules-rules.ensures.rules) c.in_ok-classes.ensures.classes c.in_ok-classes.ensures.complete
+    table_is g.T.Theory.label_of CAP (g.T.Theory.meaning c.args.theory.now).has (g.T.Theory.meaning c.args.theory.now).keeps c.in_ok-known.known.classes.items c.ranks-ranks.result.now c.args.sta.now.ranks
+    (meaning_of g.T.Theory.atom_holds (plain_rules c.rules-rules.result.now)) (automaton_of g.T.Theory.atom_holds c.args.sta.now) c.ranks-ranks.ensures (ap (meaning_of g.T.Theory.atom_holds) c.rules-rules.ensures.rules) c.in_ok-known.ensures.classes c.in_ok-known.ensures.complete
 
 pub returns-clause-built : goal.returns-clause-built
 returns-clause-built g c =
-    built_is g.T.Theory.label_of CAP (g.T.Theory.has_label c.args.theory.now) (g.T.Theory.keeps_label c.args.theory.now) c.in_ok-classes.classes.items c.ranks-ranks.result.now c.in_ok-ranks.ranks.items
-    (meaning_of g.T.Theory.atom_holds (plain_rules c.rules-rules.result.now)) (meaning_of g.T.Theory.atom_holds (plain_rules c.in_ok-rules.rules.items)) (sym c.in_ok-ranks.ensures.items)
-    (ap (meaning_of g.T.Theory.atom_holds) (sym c.in_ok-rules.ensures)) c.in_ok-classes.ensures.classes
+    built_is g.T.Theory.label_of CAP (g.T.Theory.meaning c.args.theory.now).has (g.T.Theory.meaning c.args.theory.now).keeps c.in_ok-known.known.classes.items c.ranks-ranks.result.now c.args.sta.now.ranks
+    (meaning_of g.T.Theory.atom_holds (plain_rules c.rules-rules.result.now)) (automaton_of g.T.Theory.atom_holds c.args.sta.now) c.ranks-ranks.ensures (ap (meaning_of g.T.Theory.atom_holds) c.rules-rules.ensures.rules) c.in_ok-known.ensures.classes
 
-pub returns-clause-machine : goal.returns-clause-machine
-returns-clause-machine g c = λ i. record { ranks = (c.in_ok-ranks.ensures.items ∙ c.ranks-ranks.ensures) i; rules = (c.in_ok-rules.ensures ∙ c.rules-rules.ensures.rules) i }
+pub returns-clause-kinds : goal.returns-clause-kinds
+returns-clause-kinds g c =
+    has_kinds g.T.Theory.atom_holds c.ranks-ranks.result.now c.rules-rules.result.now c.in_ok-known.known.classes.items c.in_ok-known.known.places.items c.in_ok-known.ensures.kinds c.args.sta.now c.ranks-ranks.ensures c.rules-rules.ensures.rules

@@ -7,16 +7,16 @@ use Rattle.sta_classes.proofs.table.Table.+build.Goals as goal
 
 pub build-requires : goal.build-requires
 build-requires g t c κs within =
-    let low : get_or c.deref-child-items.result.now c.children.child-index 0 < c.args.class = child_here _ c.self.inside.classes.items c.args.self.now c.self.view_is c.args.class c.index-made.result.now c.requires.known c.index-made.ensures g.T.Theory.label_of CAP g.T.Theory.atom_holds (g.T.Theory.keeps_label c.args.theory.now) c.requires.made c.deref-child-items.result.now c.children.child-index c.deref-child-items.ensures.value c.children-test.true in
+    let low : get_or c.deref-child-items.result.now c.children.child-index 0 < c.args.class = child_here _ c.self.inside.known.classes.items _ c.args.self.now c.self.view_is c.args.class c.index-made.result.now c.requires.known c.index-made.ensures g.T.Theory.label_of CAP g.T.Theory.atom_holds (g.T.Theory.meaning c.args.theory.now).keeps c.requires.made c.deref-child-items.result.now c.children.child-index c.deref-child-items.ensures.value c.children-test.true in
     (omega arith, (within.0, (within.1.0, (within.1.1.0, (within.1.1.1, (c.requires.made, omega (arith, low, c.requires.known)))))))
 
 pub children-preserved : goal.children-preserved
 children-preserved g t c =
-    let low = child_here _ c.self.inside.classes.items c.args.self.now c.self.view_is c.args.class c.index-made.result.now c.requires.known c.index-made.ensures g.T.Theory.label_of CAP g.T.Theory.atom_holds (g.T.Theory.keeps_label c.args.theory.now) c.requires.made c.deref-child-items.result.now c.children.child-index c.deref-child-items.ensures.value c.children-test.true in
-    kids_here _ c.self.inside.classes.items c.args.self.now c.self.view_is c.args.class c.index-made.result.now c.requires.known c.index-made.ensures g.T.Theory.label_of CAP g.T.Theory.atom_holds (g.T.Theory.keeps_label c.args.theory.now) c.requires.made c.deref-child-items.result.now c.children.child-index _ _ (relabel g.T.Theory.label_of c.in_ok-tree.tree) c.children-test.true
+    let low = child_here _ c.self.inside.known.classes.items _ c.args.self.now c.self.view_is c.args.class c.index-made.result.now c.requires.known c.index-made.ensures g.T.Theory.label_of CAP g.T.Theory.atom_holds (g.T.Theory.meaning c.args.theory.now).keeps c.requires.made c.deref-child-items.result.now c.children.child-index c.deref-child-items.ensures.value c.children-test.true in
+    kids_here _ c.self.inside.known.classes.items _ c.args.self.now c.self.view_is c.args.class c.index-made.result.now c.requires.known c.index-made.ensures g.T.Theory.label_of CAP g.T.Theory.atom_holds (g.T.Theory.meaning c.args.theory.now).keeps c.requires.made c.deref-child-items.result.now c.children.child-index _ _ (relabel g.T.Theory.label_of c.in_ok-tree.tree) c.children-test.true
     (ap (λ ts. map (relabel g.T.Theory.label_of) ts) c.in_ok-push.ensures.items ∙ map-append (relabel g.T.Theory.label_of) c.children.children.items (c.in_ok-tree.tree ∷ [])) low c.in_ok-tree.ensures c.children.invariant
 
 pub returns : goal.returns
 returns g t c =
-    built_here _ c.self.inside.classes.items c.args.self.now c.self.view_is c.args.class c.index-made.result.now c.requires.known c.index-made.ensures g.T.Theory.label_of CAP g.T.Theory.atom_holds (g.T.Theory.keeps_label c.args.theory.now) c.requires.made
+    built_here _ c.self.inside.known.classes.items _ c.args.self.now c.self.view_is c.args.class c.index-made.result.now c.requires.known c.index-made.ensures g.T.Theory.label_of CAP g.T.Theory.atom_holds (g.T.Theory.meaning c.args.theory.now).keeps c.requires.made
     c.in_ok-label.label c.children.children.items c.deref-child-items.result.now c.children.child-index c.new.result c.deref-child-items.ensures.value c.children-test.false c.children.invariant c.in_ok-label.ensures c.new.ensures

@@ -11,5 +11,5 @@ decreases-build g l = l.class
 
 abbrev pub invariant-children : goal.invariant-children
 invariant-children g l =
-    Pairwise (λ j u. (j < l.class) × IsWitness CAP l.self.machine.ranks (g.T.Theory.keeps_label l.theory) (automaton_of g.T.Theory.atom_holds l.self.machine) (map (relabel_found g.T.Theory.label_of) l.self.found) j u)
+    Pairwise (λ j u. (j < l.class) × IsWitness CAP l.self.machine.ranks (g.T.Theory.meaning l.theory).keeps (automaton_of g.T.Theory.atom_holds l.self.machine) (map (relabel_found g.T.Theory.label_of) l.self.found) j u)
     (take l.child-index l.child-items) (map (relabel g.T.Theory.label_of) l.children.items)

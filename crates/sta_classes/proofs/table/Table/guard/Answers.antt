@@ -1,4 +1,4 @@
-use Rattle.std.proofs.Common.{◌≡◌, ◌↔◌, IsTrue, ap, sym, subst, subst₂, ◌∙◌, length, map}
+use Rattle.std.proofs.Common.{◌≡◌, ◌↔◌, IsTrue, refl, ap, sym, subst, subst₂, ◌∙◌, length, map}
 use Rattle.std.proofs.lemmas.List.{length-map}
 use Rattle.model_tree.specs.Formula.{formula_holds}
 use Rattle.model_sta.specs.Sets.{step}
@@ -15,25 +15,23 @@ use Rattle.sta_classes.proofs.table.Table.guard.Goals as goal
 
 pub row_formula-requires-clause-row : goal.row_formula-requires-clause-row
 row_formula-requires-clause-row g c =
-    ap length c.deref-4.ensures.value
-    ∙ row_long (record { ranks = c.self.inside.ranks.items; rules = plain_rules c.self.inside.rules.items }) c.self.inside.classes.items c.args.self.now c.self.view_is c.args.class c.index.result.now c.requires.known c.index.ensures g.T.Theory.label_of CAP g.T.Theory.atom_holds (g.T.Theory.has_label c.args.theory.now) (g.T.Theory.keeps_label c.args.theory.now) c.requires.built
-    ∙ length-map c.self.inside.rules.items (λ those. map plain_rule those.items) ∙ sym (ap length c.deref.ensures.value)
+    row_long c.self.inside.sta.now c.self.inside.known.classes.items _ c.args.self.now c.self.view_is c.args.class c.index.result.now c.requires.known c.index.ensures g.T.Theory.label_of CAP g.T.Theory.atom_holds (g.T.Theory.meaning c.args.theory.now).has (g.T.Theory.meaning c.args.theory.now).keeps c.requires.built
+    ∙ sym (ap length c.rules.ensures.rules) ∙ length-map c.rules.result.now (λ those. map plain_rule those.items)
 
 pub returns-clause-holds : goal.returns-clause-holds
 returns-clause-holds g c l =
-    let qs = class_rows_at c.deref-2.result.now c.deref-3.result.now in
-    let rules = plain_rules c.deref.result.now in
-    let long : length c.deref-4.result.now ≡ length rules =
-    ap length c.deref-4.ensures.value
-    ∙ row_long (record { ranks = c.self.inside.ranks.items; rules = plain_rules c.self.inside.rules.items }) c.self.inside.classes.items c.args.self.now c.self.view_is c.args.class c.index.result.now c.requires.known c.index.ensures g.T.Theory.label_of CAP g.T.Theory.atom_holds (g.T.Theory.has_label c.args.theory.now) (g.T.Theory.keeps_label c.args.theory.now) c.requires.built
-    ∙ sym (ap (λ rs. length (plain_rules rs)) c.deref.ensures.value) in
-    guard_here (record { ranks = c.self.inside.ranks.items; rules = plain_rules c.self.inside.rules.items }) c.self.inside.classes.items c.args.self.now c.self.view_is c.args.class c.index.result.now c.requires.known c.index.ensures g.T.Theory.atom_holds
-    (IsTrue (formula_holds (λ a. g.T.Theory.atom_holds a l) (plain_formula c.in_ok-formula.formula))) rules c.deref-2.result.now c.args.children.now c.deref-3.result.now c.deref-4.result.now c.args.constructor l
-    (ap plain_rules c.deref.ensures.value) c.deref-2.ensures.value (c.deref-3.ensures.value ∙ c.in_ok-children.ensures) c.deref-4.ensures.value
-    (subst (λ f. IsTrue (formula_holds (λ a. g.T.Theory.atom_holds a l) f) ↔ (step (meaning_of g.T.Theory.atom_holds rules) c.args.constructor l qs ≡ c.deref-4.result.now)) (sym c.in_ok-formula.ensures)
-    (row_holds c.args.constructor qs g.T.Theory.atom_holds l rules c.deref-4.result.now long))
+    let qs = class_rows_at c.deref.result.now c.deref-2.result.now in
+    let rules = plain_rules c.rules.result.now in
+    let long : length c.index.result.now.row ≡ length rules =
+    row_long c.self.inside.sta.now c.self.inside.known.classes.items _ c.args.self.now c.self.view_is c.args.class c.index.result.now c.requires.known c.index.ensures g.T.Theory.label_of CAP g.T.Theory.atom_holds (g.T.Theory.meaning c.args.theory.now).has (g.T.Theory.meaning c.args.theory.now).keeps c.requires.built
+    ∙ sym (ap length c.rules.ensures.rules) in
+    guard_here c.self.inside.sta.now c.self.inside.known.classes.items _ c.args.self.now c.self.view_is c.args.class c.index.result.now c.requires.known c.index.ensures g.T.Theory.atom_holds
+    (IsTrue (formula_holds (λ a. g.T.Theory.atom_holds a l) (plain_formula c.in_ok-formula.formula))) rules c.deref.result.now c.args.children.now c.deref-2.result.now c.index.result.now.row c.args.constructor l
+    c.rules.ensures.rules c.deref.ensures.value (c.deref-2.ensures.value ∙ c.in_ok-children.ensures) refl
+    (subst (λ f. IsTrue (formula_holds (λ a. g.T.Theory.atom_holds a l) f) ↔ (step (meaning_of g.T.Theory.atom_holds rules) c.args.constructor l qs ≡ c.index.result.now.row)) (sym c.in_ok-formula.ensures)
+    (row_holds c.args.constructor qs g.T.Theory.atom_holds l rules c.index.result.now.row long))
 
 pub returns-clause-atoms : goal.returns-clause-atoms
 returns-clause-atoms g c =
-    subst₂ (λ f rs. EachHasEqual g.A.PartialEq.eq (atoms_in f) (atoms_of_all (all_guards rs))) (sym c.in_ok-formula.ensures) (ap plain_rules c.deref.ensures.value ∙ ap (λ z. z.machine.rules) c.self.view_is)
-    (row_atoms c.args.constructor (class_rows_at c.deref-2.result.now c.deref-3.result.now) g.A.PartialEq.eq g.met.A.Eq.laws (plain_rules c.deref.result.now) c.deref-4.result.now)
+    subst₂ (λ f rs. EachHasEqual g.A.PartialEq.eq (atoms_in f) (atoms_of_all (all_guards rs))) (sym c.in_ok-formula.ensures) (c.rules.ensures.rules ∙ ap (λ z. z.machine.rules) c.self.view_is)
+    (row_atoms c.args.constructor (class_rows_at c.deref.result.now c.deref-2.result.now) g.A.PartialEq.eq g.met.A.Eq.laws (plain_rules c.rules.result.now) c.index.result.now.row)

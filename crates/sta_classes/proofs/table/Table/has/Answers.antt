@@ -5,4 +5,4 @@ use Rattle.sta_classes.proofs.table.Table.has.Goals as goal
 
 pub returns : goal.returns
 returns g c =
-    c.row_has.ensures ∙ ap (λ q. has q c.args.state) (c.deref.ensures.value ∙ row_here _ c.self.inside.classes.items c.args.self.now c.self.view_is c.args.class c.index.result.now c.requires c.index.ensures)
+    c.has.ensures ∙ ap (λ q. has q c.args.state) (row_here _ c.self.inside.known.classes.items _ c.args.self.now c.self.view_is c.args.class c.index.result.now c.requires c.index.ensures)

@@ -4,7 +4,7 @@ use Rattle.sta_classes.proofs.Trees.{none_here, shown_here}
 use Rattle.sta_classes.proofs.table.Table.witness.Goals as goal
 
 pub returns-then-index-ge-CAP : goal.returns-then-index-ge-CAP
-returns-then-index-ge-CAP g c = none_here _ c.self.inside.classes.items c.args.self.now c.self.view_is c.args.class c.index.result.now c.requires.known c.index.ensures g.T.Theory.label_of CAP g.T.Theory.atom_holds (g.T.Theory.has_label c.args.theory.now) (g.T.Theory.keeps_label c.args.theory.now) c.requires.built c.if-index-ge-CAP.true
+returns-then-index-ge-CAP g c = none_here _ c.self.inside.known.classes.items _ c.args.self.now c.self.view_is c.args.class c.index.result.now c.requires.known c.index.ensures g.T.Theory.label_of CAP g.T.Theory.atom_holds (g.T.Theory.meaning c.args.theory.now).has (g.T.Theory.meaning c.args.theory.now).keeps c.requires.built c.if-index-ge-CAP.true
 
 pub returns : goal.returns
-returns g c = shown_here _ c.self.inside.classes.items c.args.self.now c.self.view_is c.args.class c.index.result.now c.requires.known c.index.ensures g.T.Theory.label_of CAP g.T.Theory.atom_holds (g.T.Theory.has_label c.args.theory.now) (g.T.Theory.keeps_label c.args.theory.now) c.requires.built c.if-index-ge-CAP.false (relabel g.T.Theory.label_of c.in_ok-tree.tree) c.in_ok-tree.ensures
+returns g c = shown_here _ c.self.inside.known.classes.items _ c.args.self.now c.self.view_is c.args.class c.index.result.now c.requires.known c.index.ensures g.T.Theory.label_of CAP g.T.Theory.atom_holds (g.T.Theory.meaning c.args.theory.now).has (g.T.Theory.meaning c.args.theory.now).keeps c.requires.built c.if-index-ge-CAP.false (relabel g.T.Theory.label_of c.in_ok-tree.tree) c.in_ok-tree.ensures

@@ -1,0 +1,122 @@
+-- The search from its first turn to its last.
+use Rattle.std.proofs.Common.{ℕ, Vec, ◌≡◌, ◌<◌, ◌+◌, ◌-◌, inl, inr, Bool, List, [], ◌∷◌, ◌++◌, length, get_or, Contains, refl, sym, ap, subst, ◌∙◌, arith}
+use Rattle.std.proofs.lemmas.Bool.{cases_lt}
+use Rattle.std.proofs.lemmas.List.{length_push}
+use Rattle.model_tree.specs.Label.{Label}
+use Rattle.model_sta.specs.Reached.{IsComplete}
+use Rattle.model_sta.specs.Least.{rows_of}
+use Rattle.label_core.specs.Meaning.{Meaning}
+use Rattle.sta_core.specs.declared.StaRule.{StaRule}
+use Rattle.sta_classes.specs.Rules.{plain_rules, meaning_of}
+use Rattle.sta_classes.specs.Rows.{founds, class_rows, lists_of}
+use Rattle.sta_classes.specs.Lists.{IsListWith}
+use Rattle.sta_classes.specs.Pending.{AreKept, IsBetter, IsTaken, IsDone}
+use Rattle.sta_classes.specs.Searched.{firsts_of, listed_at, ArePlaces, AreKinds, NextPlaces, IsSound, IsOpened, AreOpened}
+use Rattle.sta_classes.specs.declared.class.Class.{Class}
+use Rattle.sta_classes.specs.declared.place.Place.{Place}
+use Rattle.sta_classes.specs.declared.pending.Pending.{Pending}
+use Rattle.sta_classes.proofs.Firsts.{listed_low, cheapest, kinds_more, all_opened, first_place}
+use Rattle.sta_classes.proofs.Listed.{map_at}
+use Rattle.sta_classes.proofs.Opens.{list_with}
+use Rattle.sta_classes.proofs.Places.{listed_first}
+use Rattle.sta_classes.proofs.Turns.{opened_later, sound_taken, all_found}
+
+module _ {A V W G : Type 0} {label_of : V → Label} {holds : A → Label → Bool} (M : Meaning label_of holds W) (ranks : List ℕ) (rules : List (Vec (StaRule A) G)) where
+  abbrev pub Sound : List (Class V) → Pending V → Type 0
+  Sound classes s = IsSound ranks M.has M.keeps (meaning_of holds (plain_rules rules)) label_of classes s
+
+  abbrev pub Opened : List (Class V) → Pending V → ℕ → List ℕ → Type 0
+  Opened classes s c ks = IsOpened ranks M.has M.keeps (meaning_of holds (plain_rules rules)) label_of classes s c ks
+
+  -- the trees of no children with the constructors before one more
+  pub leaves_more : (classes : List (Class V)) (old new : Pending V) → Sound classes old → IsBetter old new → (n : ℕ) → ((c : ℕ) → c < n → get_or ranks c 0 ≡ 0 → Opened classes old c []) → (get_or ranks n 0 ≡ 0 → Opened classes new n [])
+      → (c : ℕ) → c < n + 1 → get_or ranks c 0 ≡ 0 → Opened classes new c []
+  leaves_more classes old new sound better n before here c low zero_rank = elim (cases_lt c n) [
+    | inl below ↦ opened_later ranks M.has M.keeps (meaning_of holds (plain_rules rules)) label_of classes old new sound c [] better (before c below zero_rank)
+    | inr past ↦
+        let same : c ≡ n = omega (arith, past, low) in
+        subst (λ k. Opened classes new k []) (sym same) (here (ap (λ k. get_or ranks k 0) (sym same) ∙ zero_rank))
+  ]
+
+module _ {A V W G H : Type 0} {label_of : V → Label} {holds : A → Label → Bool} (M : Meaning label_of holds W) (ranks : List ℕ) (rules : List (Vec (StaRule A) G)) where
+  abbrev pub AllOpened : List (Class V) → List (Vec Place H) → Pending V → Type 0
+  AllOpened classes places s = AreOpened ranks M.has M.keeps (meaning_of holds (plain_rules rules)) label_of classes places s (λ c ks. (k : ℕ) → k ≡ k)
+
+  -- before there are classes, the trees of no children are all
+  pub run_first : (classes : List (Class V)) (places : List (Vec Place H)) (s : Pending V) → classes ≡ [] → AreKinds ranks rules classes places → ((c : ℕ) → c < length ranks → get_or ranks c 0 ≡ 0 → Opened M ranks rules classes s c []) → AllOpened classes places s
+  run_first classes places s none kinds leaves c low [] wide listed want = leaves c low (sym wide)
+  run_first classes places s none kinds leaves c low (k ∷ ks) wide listed want =
+      let inside : k < length classes = listed_low holds ranks rules classes places kinds c 0 k low (omega (arith, wide)) (listed 0 (omega arith)) in
+      absurd (omega (arith, inside, ap length none))
+
+  module _ (classes : List (Class V)) (places : List (Vec Place H)) (old mid : Pending V) (sound : Sound M ranks rules classes old) (kinds : AreKinds ranks rules classes places) (opened : AllOpened classes places old) where
+    -- where nothing is pending, all sets are found
+    pub run_last : IsDone old mid → IsComplete ranks M.has (meaning_of holds (plain_rules rules)) (rows_of (founds label_of classes))
+    run_last done =
+        all_found ranks M.has M.keeps (meaning_of holds (plain_rules rules)) label_of classes old mid sound (listed_at places) (cheapest holds ranks rules classes places kinds label_of sound.rising)
+        (λ c low ks over. opened c low ks over.0 over.1 (λ k. refl)) done
+
+    module _ (c : Class V) (taken : IsTaken old mid c) (kept : AreKept mid) (classes' : List (Class V)) (places' : List (Vec Place H)) (is : classes' ≡ classes ++ c ∷ []) (many : length places' ≡ length places)
+        (next : (n : ℕ) → n < length places → NextPlaces c.row (get_or (lists_of places) n []) (get_or (lists_of places') n [])) where
+      pub run_sound : Sound M ranks rules classes' mid
+      run_sound =
+          subst (λ z. Sound M ranks rules z mid) (sym is)
+          (sound_taken ranks M.has M.keeps (meaning_of holds (plain_rules rules)) label_of classes old mid sound (listed_at places) (cheapest holds ranks rules classes places kinds label_of sound.rising)
+          (λ n low ks over. opened n low ks over.0 over.1 (λ k. refl)) c taken kept)
+
+      pub run_kinds : AreKinds ranks rules classes' places'
+      run_kinds = kinds_more ranks M.has M.keeps (meaning_of holds (plain_rules rules)) label_of rules classes classes' c places places' kinds is many next
+
+      pub run_some : 0 < length classes'
+      run_some = omega (arith, ap length is, length_push classes c)
+
+      pub run_opened : (s : Pending V) → IsBetter mid s → AreOpened ranks M.has M.keeps (meaning_of holds (plain_rules rules)) label_of classes' places' s (λ n ks. Contains ks (length classes' - 1)) → AllOpened classes' places' s
+      run_opened s better touched =
+          let last : length classes' - 1 ≡ length classes = omega (arith, ap length is, length_push classes c) in
+          all_opened ranks M.has M.keeps (meaning_of holds (plain_rules rules)) label_of rules classes classes' c places places' kinds is next mid s run_sound better
+          (λ n low ks wide listed want. opened_later ranks M.has M.keeps (meaning_of holds (plain_rules rules)) label_of classes old mid sound n ks taken.better (opened n low ks wide listed want))
+          (subst (λ k. AreOpened ranks M.has M.keeps (meaning_of holds (plain_rules rules)) label_of classes' places' s (λ n ks. Contains ks k)) last touched)
+
+  -- the lists with the last class at places before one more
+  pub last_more : (classes : List (Class V)) (places : List (Vec Place H)) (old new : Pending V) → Sound M ranks rules classes old → IsBetter old new → (c n : ℕ)
+      → ((j : ℕ) (ks : List ℕ) → j < n → j < get_or ranks c 0 → IsListWith (firsts_of (get_or (lists_of places) c [])) j (length classes - 1) (get_or ranks c 0) ks → Opened M ranks rules classes old c ks)
+      → ((ks : List ℕ) → n < get_or ranks c 0 → IsListWith (firsts_of (get_or (lists_of places) c [])) n (length classes - 1) (get_or ranks c 0) ks → Opened M ranks rules classes new c ks)
+      → (j : ℕ) (ks : List ℕ) → j < n + 1 → j < get_or ranks c 0 → IsListWith (firsts_of (get_or (lists_of places) c [])) j (length classes - 1) (get_or ranks c 0) ks → Opened M ranks rules classes new c ks
+  last_more classes places old new sound better c n before here j ks low inside listed = elim (cases_lt j n) [
+    | inl below ↦ opened_later ranks M.has M.keeps (meaning_of holds (plain_rules rules)) label_of classes old new sound c ks better (before j ks below inside listed)
+    | inr past ↦
+        let same : j ≡ n = omega (arith, past, low) in
+        here ks (omega (arith, same, inside)) (subst (λ k. IsListWith (firsts_of (get_or (lists_of places) c [])) k (length classes - 1) (get_or ranks c 0) ks) same listed)
+  ]
+
+  -- where the last class is not the first of its kind at a place, no list has it there
+  pub last_absent : (classes : List (Class V)) (places : List (Vec Place H)) → AreKinds ranks rules classes places → (c n : ℕ) → c < length ranks → n < get_or ranks c 0 → (p : Place) → get_or (get_or (lists_of places) c []) n p ≡ p
+      → ¬ (get_or p.firsts.items (get_or p.kind_of.items (length classes - 1) 0) 0 ≡ length classes - 1) → (ks : List ℕ) → IsListWith (firsts_of (get_or (lists_of places) c [])) n (length classes - 1) (get_or ranks c 0) ks → ⊥
+  last_absent classes places kinds c n c_low n_low p at other ks listed =
+      let of : ArePlaces rules (class_rows classes) c (get_or ranks c 0) (get_or (lists_of places) c []) = kinds.each c c_low in
+      let low : n < length (get_or (lists_of places) c []) = omega (arith, n_low, of.many) in
+      let (are, numbered) = of.each n p low at in
+      let (there, may) = listed.1 n n_low in
+      let firsts : get_or (firsts_of (get_or (lists_of places) c [])) n [] ≡ p.firsts.items = map_at (λ z. z.firsts.items) (get_or (lists_of places) c []) n p [] low ∙ ap (λ z. z.firsts.items) at in
+      other (listed_first p.states.items p.kind_of.items p.firsts.items p.kinds.keys (class_rows classes) [] numbered (length classes - 1) (subst (Contains p.firsts.items) (may.0 refl) (subst (λ l. Contains l (get_or ks n 0)) firsts there)))
+
+  -- the lists with the last class of constructors before one more
+  pub new_more : (classes : List (Class V)) (places : List (Vec Place H)) (old new : Pending V) → Sound M ranks rules classes old → IsBetter old new → (n : ℕ)
+      → ((c : ℕ) → c < n → (j : ℕ) (ks : List ℕ) → j < get_or ranks c 0 → IsListWith (firsts_of (get_or (lists_of places) c [])) j (length classes - 1) (get_or ranks c 0) ks → Opened M ranks rules classes old c ks)
+      → ((j : ℕ) (ks : List ℕ) → j < get_or ranks n 0 → IsListWith (firsts_of (get_or (lists_of places) n [])) j (length classes - 1) (get_or ranks n 0) ks → Opened M ranks rules classes new n ks)
+      → (c : ℕ) → c < n + 1 → (j : ℕ) (ks : List ℕ) → j < get_or ranks c 0 → IsListWith (firsts_of (get_or (lists_of places) c [])) j (length classes - 1) (get_or ranks c 0) ks → Opened M ranks rules classes new c ks
+  new_more classes places old new sound better n before here c low j ks inside listed = elim (cases_lt c n) [
+    | inl below ↦ opened_later ranks M.has M.keeps (meaning_of holds (plain_rules rules)) label_of classes old new sound c ks better (before c below j ks inside listed)
+    | inr past ↦
+        let same : c ≡ n = omega (arith, past, low) in
+        subst (λ k. Opened M ranks rules classes new k ks) (sym same)
+        (here j ks (subst (λ k. j < get_or ranks k 0) same inside) (subst (λ k. IsListWith (firsts_of (get_or (lists_of places) k [])) j (length classes - 1) (get_or ranks k 0) ks) same listed))
+  ]
+
+  -- a list with the last class is one by the first place where it stands
+  pub run_touched : (classes : List (Class V)) (places : List (Vec Place H)) (s : Pending V)
+      → ((c : ℕ) → c < length ranks → (j : ℕ) (ks : List ℕ) → j < get_or ranks c 0 → IsListWith (firsts_of (get_or (lists_of places) c [])) j (length classes - 1) (get_or ranks c 0) ks → Opened M ranks rules classes s c ks)
+      → AreOpened ranks M.has M.keeps (meaning_of holds (plain_rules rules)) label_of classes places s (λ n ks. Contains ks (length classes - 1))
+  run_touched classes places s h c low ks wide listed at =
+      let (j, j_low, is, none) = first_place ks (length classes - 1) at in
+      h c low j ks (omega (arith, j_low, wide)) (list_with (firsts_of (get_or (lists_of places) c [])) (get_or ranks c 0) (length classes - 1) j ks wide listed is none)

@@ -1,6 +1,0 @@
-use Rattle.std.proofs.lemmas.Slice.Eq.{slice_eq-Decides}
-use Rattle.std.specs.Cmp.{booleans_Decides}
-use Rattle.sta_classes.proofs.class.same_row.Goals as goal
-
-pub returns : goal.returns
-returns c = slice_eq-Decides booleans_Decides _ _ _ c.eq.ensures

@@ -1,0 +1,7 @@
+use Rattle.sta_classes.specs.Grow.{Grown}
+use Rattle.sta_classes.specs.Places.{AsksFor}
+use Rattle.sta_classes.proofs.Grown.{Before, Some}
+use Rattle.sta_classes.proofs.place.demanded.Given as goal
+
+abbrev pub invariant-states : goal.invariant-states
+invariant-states g l = Grown l.initial.list.items l.list.items (Before (λ those. Some (AsksFor l.constructor l.place) those.items) l.rules l.those-index)

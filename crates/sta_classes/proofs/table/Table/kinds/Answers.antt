@@ -1,0 +1,9 @@
+use Rattle.std.proofs.Common.{arith}
+use Rattle.sta_classes.proofs.Shapes.{in_places, in_place}
+use Rattle.sta_classes.proofs.table.Table.kinds.Goals as goal
+
+pub index-requires : goal.index-requires
+index-requires g c = omega (arith, in_places c.self.inside.sta.now c.self.inside.known.classes.items c.self.inside.known.places.items c.args.self.now c.self.view_is c.self.invariant.1 c.args.constructor c.args.place c.requires.constructor c.requires.place, c.self.inside.known.places.ok.0)
+
+pub index-requires-2 : goal.index-requires-2
+index-requires-2 g c = omega (arith, in_place c.self.inside.sta.now c.self.inside.known.classes.items c.self.inside.known.places.items c.args.self.now c.self.view_is c.self.invariant.1 c.args.constructor c.args.place c.requires.constructor c.requires.place c.index.result.now c.index.ensures, c.index.result.now.ok.0)

@@ -1,0 +1,68 @@
+-- How far a search for classes is.
+use Rattle.std.specs.Prelude.{ℕ, ◌^◌, ◌≡◌, ◌<◌, ◌≤◌, ◌↔◌, Bool, List, [], map, get_or, length, Contains, Vec}
+use Rattle.model_tree.specs.Label.{Label}
+use Rattle.model_sta.specs.Automaton.{Rule}
+use Rattle.model_sta.specs.Sets.{Row, step}
+use Rattle.model_sta.specs.Least.{rows_of, counts_of, rows_at, nodes_at, cost, IsMade, AreClasses}
+use Rattle.label_core.specs.Meaning.{Meaning}
+use Rattle.label_split.specs.declared.rows.SignRow.{SignRow}
+use Rattle.sta_core.specs.Machine.{PlainRule}
+use Rattle.sta_core.specs.declared.StaRule.{StaRule}
+use Rattle.sta_classes.specs.Guards.{GuardsFit, AreSplit}
+use Rattle.sta_classes.specs.Rows.{found_of, founds, class_rows, lists_of}
+use Rattle.sta_classes.specs.Places.{AreAsked, IsNumbered, IsNext}
+use Rattle.sta_classes.specs.Pending.{IsPending, IsSettled, IsMet, AreKept, count_none}
+use Rattle.sta_classes.specs.declared.class.Class.{Class}
+use Rattle.sta_classes.specs.declared.class.TheConstants.{CAP}
+use Rattle.sta_classes.specs.declared.place.Place.{Place}
+use Rattle.sta_classes.specs.declared.pending.Pending.{Pending}
+
+-- the guards fit, and the rows of signs of those of each constructor are there
+module _ {A V W : Type 0} {label_of : V → Label} {holds : A → Label → Bool} (M : Meaning label_of holds W) where
+  pub record IsReady (fits : A → Type 0) (ranks : List ℕ) (rules : List (List (PlainRule A))) (lists : List (List (SignRow V))) : Type 0 where
+    pub fit : GuardsFit fits rules
+    pub few : length ranks < 2 ^ 32
+    pub lists_are : AreSplit M (length ranks) rules lists
+
+-- the first classes of the kinds at each place of a constructor
+abbrev pub firsts_of : List Place → List (List ℕ)
+firsts_of places = map (λ p. p.firsts.items) places
+
+-- the same at one place
+abbrev pub listed_at : {G : Type 0} → List (Vec Place G) → ℕ → ℕ → List ℕ
+listed_at places c j = get_or (firsts_of (get_or (lists_of places) c [])) j []
+
+-- the places of a constructor, with the kinds of classes with these sets
+pub record ArePlaces {A G : Type 0} (rules : List (Vec (StaRule A) G)) (rows : List Row) (c rank : ℕ) (places : List Place) : Type 0 where
+  pub many : length places ≡ rank
+  pub each : (j : ℕ) (p : Place) → j < length places → get_or places j p ≡ p → AreAsked rules c j p.states.items × IsNumbered rows p
+
+-- the same places with one more class of this set: what is listed is as it was, or has that class behind it
+pub record NextPlaces (row : Row) (old new : List Place) : Type 0 where
+  pub many : length new ≡ length old
+  pub each : (j : ℕ) (p q : Place) → j < length old → get_or old j p ≡ p → get_or new j q ≡ q → IsNext row p q
+
+-- the kinds at each place of each constructor, by the classes that are found
+module _ {A V G H : Type 0} (ranks : List ℕ) (rules : List (Vec (StaRule A) G)) (classes : List (Class V)) (places : List (Vec Place H)) where
+  pub record AreKinds : Type 0 where
+    pub many : length places ≡ length ranks
+    pub each : (c : ℕ) → c < length ranks → ArePlaces rules (class_rows classes) c (get_or ranks c 0) (get_or (lists_of places) c [])
+
+module _ {V : Type 0} (ranks : List ℕ) (has keeps : Label → Type 0) (rules : List (List (Rule Label))) (label : V → Label) where
+  -- what is found are classes in the order of their least trees, and what is pending are trees over them
+  pub record IsSound (found : List (Class V)) (s : Pending V) : Type 0 where
+    pub classes : AreClasses CAP ranks has keeps rules (founds label found)
+    pub rising : (i k : ℕ) → i ≤ k → k < length found → get_or (counts_of (founds label found)) i 0 ≤ get_or (counts_of (founds label found)) k 0
+    pub kept : AreKept s
+    pub made : (i : ℕ) (c : Class V) → IsPending s i c → IsMade CAP ranks keeps rules (founds label found) (length found) (found_of label c)
+    pub above : (i : ℕ) (c : Class V) → IsPending s i c → (k : ℕ) → k < length found → get_or (counts_of (founds label found)) k 0 ≤ c.nodes
+    pub settled : (q : Row) → IsSettled s q ↔ Contains (rows_of (founds label found)) q
+    pub count : count_none s.best.items ≡ length found
+
+  -- each tree over these children has a set that is met
+  abbrev pub IsOpened : List (Class V) → Pending V → ℕ → List ℕ → Type 0
+  IsOpened found s c ks = (l : Label) → has l → IsMet s (step rules c l (rows_at (founds label found) ks)) (cost CAP (nodes_at (founds label found) ks))
+
+  -- the same for all lists of kinds that are wanted
+  abbrev pub AreOpened : {H : Type 0} → List (Class V) → List (Vec Place H) → Pending V → (ℕ → List ℕ → Type 0) → Type 0
+  AreOpened found places s W = (c : ℕ) → c < length ranks → (ks : List ℕ) → length ks ≡ get_or ranks c 0 → ((j : ℕ) → j < length ks → Contains (listed_at places c j) (get_or ks j 0)) → W c ks → IsOpened found s c ks

@@ -1,0 +1,102 @@
+//! The classes that are found, and their kinds at each place.
+
+ghost use Rattle.std.specs.Prelude.{ℕ, ◌≡◌, ◌<◌, ◌^◌, ◌++◌, ◌∷◌, [], length, get_or, IfOk, OnOk};
+ghost use Rattle.sta_classes.specs.Rows.{lists_of};
+ghost use Rattle.sta_classes.specs.Searched.{AreKinds, ArePlaces, NextPlaces};
+
+use crate::class::Class;
+use crate::place::Place;
+use crate::row::Row;
+use fast_fault::Memory;
+use sta_core::StaRule;
+use std::alloc::Global;
+
+/// The classes that are found, and the kinds at each place of each constructor.
+#[derive(Drop)]
+pub struct Known<V> {
+    pub classes: Vec<Class<V>>,
+    pub places: Vec<Vec<Place>>,
+}
+
+/// The places of a constructor.
+fn places_of<A>(
+    alloc: Global,
+    rules: &[Vec<StaRule<A>>],
+    constructor: u32,
+    rank: u32,
+) -> Result<Vec<Place>, Memory>
+    ensures { IfOk result (λ places. ArePlaces rules.now [] constructor rank places.items) }
+{
+    let mut places = Vec::new(alloc);
+    'places: for place in 0..rank {
+        places.push(Place::new(alloc, rules, constructor, place as usize)?)?;
+    }
+    Ok(places)
+}
+
+/// The places of each constructor.
+fn all_places<A>(
+    alloc: Global,
+    ranks: &[u32],
+    rules: &[Vec<StaRule<A>>],
+) -> Result<Vec<Vec<Place>>, Memory>
+    requires few { length ranks.now < 2 ^ 32 }
+    ensures many { IfOk result (λ all. length all.items ≡ length ranks.now) }
+    ensures each { IfOk result (λ all. (c : ℕ) → c < length ranks.now → ArePlaces rules.now [] c (get_or ranks.now c 0) (get_or (lists_of all.items) c [])) }
+{
+    let mut all = Vec::new(alloc);
+    'constructors: for constructor in 0..ranks.len() {
+        let rank = ranks[constructor];
+        all.push(places_of(alloc, rules, constructor as u32, rank)?)?;
+    }
+    Ok(all)
+}
+
+/// Tells the kind of one more class at each of the places.
+fn add_to(alloc: Global, places: &mut Vec<Place>, row: &Row) -> Result<(), Memory>
+    ensures { OnOk result (NextPlaces row.now places.old.items places.new.items) }
+{
+    'places: for place in 0..places.len() {
+        places[place].add(alloc, row)?;
+    }
+    Ok(())
+}
+
+/// Tells the kind of one more class at each place of each constructor.
+fn add_to_all(alloc: Global, all: &mut Vec<Vec<Place>>, row: &Row) -> Result<(), Memory>
+    ensures many { OnOk result (length all.new.items ≡ length all.old.items) }
+    ensures each { OnOk result ((c : ℕ) → c < length all.old.items → NextPlaces row.now (get_or (lists_of all.old.items) c []) (get_or (lists_of all.new.items) c [])) }
+{
+    'constructors: for constructor in 0..all.len() {
+        add_to(alloc, &mut all[constructor], row)?;
+    }
+    Ok(())
+}
+
+impl<V: Drop> Known<V> {
+    /// No classes yet.
+    pub fn new<A>(
+        alloc: Global,
+        ranks: &[u32],
+        rules: &[Vec<StaRule<A>>],
+    ) -> Result<Known<V>, Memory>
+        requires few { length ranks.now < 2 ^ 32 }
+        ensures none { IfOk result (λ known. known.classes.items ≡ []) }
+        ensures kinds { IfOk result (λ known. AreKinds ranks.now rules.now known.classes.items known.places.items) }
+    {
+        let classes = Vec::new(alloc);
+        let places = all_places(alloc, ranks, rules)?;
+        Ok(Known { classes, places })
+    }
+
+    /// One more class.
+    pub fn add(&mut self, alloc: Global, class: Class<V>) -> Result<(), Memory>
+        ensures classes { OnOk result (self.new.classes.items ≡ self.old.classes.items ++ class ∷ []) }
+        ensures many { OnOk result (length self.new.places.items ≡ length self.old.places.items) }
+        ensures each { OnOk result ((c : ℕ) → c < length self.old.places.items → NextPlaces class.row (get_or (lists_of self.old.places.items) c []) (get_or (lists_of self.new.places.items) c [])) }
+    {
+        add_to_all(alloc, &mut self.places, &class.row)?;
+        self.classes.push(class)?;
+        Ok(())
+    }
+}

@@ -1,0 +1,159 @@
+//! The kinds of classes at one place of a constructor.
+
+ghost use Rattle.std.specs.Prelude.{◌≡◌, ◌<◌, ◌++◌, ◌∷◌, [], length, map, get_or, cond, Contains, IfOk, OnOk, Decides};
+ghost use Rattle.sta_core.specs.declared.StaRule.{StaRule as Rule};
+ghost use Rattle.model_sta.specs.Sets.{has};
+ghost use Rattle.sta_classes.specs.Grow.{Grown};
+ghost use Rattle.sta_classes.specs.Places.{AsksFor, AreAsked, IsNumbered, IsNext};
+
+use crate::row::Row;
+use fast_fault::Memory;
+use indexmap::IndexSet;
+use sta_core::StaRule;
+use std::alloc::Global;
+
+/// What the rules of a constructor demand at one place, and of which kind each class is there.
+#[derive(Drop)]
+pub struct Place {
+    /// The states that some rule demands.
+    pub states: Vec<u64>,
+    /// Which of them the classes of each kind have.
+    pub kinds: IndexSet<Row>,
+    /// The first class of each kind.
+    pub firsts: Vec<usize>,
+    /// The kind of each class.
+    pub kind_of: Vec<usize>,
+}
+
+/// Adds the state, unless it is there.
+fn add_state(state: u64, list: &mut Vec<u64>) -> Result<(), Memory>
+    ensures { OnOk result (Grown list.old.items list.new.items (λ s. state ≡ s)) }
+{
+    if list.contains(&state) {
+        return Ok(());
+    }
+    list.push(state)?;
+    Ok(())
+}
+
+/// Adds the states.
+fn add_states(states: &[u64], list: &mut Vec<u64>) -> Result<(), Memory>
+    ensures { OnOk result (Grown list.old.items list.new.items (Contains states.now)) }
+{
+    'states: for state in states {
+        add_state(*state, list)?;
+    }
+    Ok(())
+}
+
+/// Adds the states that the rule demands at the place, if it has the constructor.
+fn add_of_rule<A>(
+    rule: &StaRule<A>,
+    constructor: u32,
+    place: usize,
+    list: &mut Vec<u64>,
+) -> Result<(), Memory>
+    ensures { OnOk result (Grown list.old.items list.new.items (AsksFor constructor place rule.now)) }
+{
+    if rule.constructor != constructor {
+        return Ok(());
+    }
+    if place >= rule.demands.len() {
+        return Ok(());
+    }
+    add_states(&rule.demands[place], list)?;
+    Ok(())
+}
+
+/// Adds the states that the rules with the constructor demand at the place.
+fn add_of_rules<A>(
+    rules: &[StaRule<A>],
+    constructor: u32,
+    place: usize,
+    list: &mut Vec<u64>,
+) -> Result<(), Memory>
+    ensures { OnOk result (Grown list.old.items list.new.items (λ s. (r : Rule A) × Contains rules.now r × AsksFor constructor place r s)) }
+{
+    'rules: for rule in rules {
+        add_of_rule(rule, constructor, place, list)?;
+    }
+    Ok(())
+}
+
+/// The states that rules with the constructor demand at the place.
+fn demanded<A>(
+    alloc: Global,
+    rules: &[Vec<StaRule<A>>],
+    constructor: u32,
+    place: usize,
+) -> Result<Vec<u64>, Memory>
+    ensures { IfOk result (λ list. AreAsked rules.now constructor place list.items) }
+{
+    let mut list = Vec::new(alloc);
+    'states: for those in rules {
+        add_of_rules(those, constructor, place, &mut list)?;
+    }
+    Ok(list)
+}
+
+/// Which of the states the row has.
+fn chosen(alloc: Global, states: &[u64], row: &Row) -> Result<Row, Memory>
+    ensures { IfOk result (λ made. made ≡ map (has row.now) states.now) }
+{
+    let mut made = Row::new(alloc, states.len())?;
+    for i in 0..states.len() {
+        made.put(i, row.has(states[i]));
+    }
+    Ok(made)
+}
+
+/// Puts the class behind the list, if it is the first of its kind.
+fn note(firsts: &mut Vec<usize>, class: usize, new: bool) -> Result<(), Memory>
+    ensures { OnOk result (firsts.new.items ≡ cond new (firsts.old.items ++ class ∷ []) firsts.old.items) }
+{
+    if new {
+        firsts.push(class)?;
+    }
+    Ok(())
+}
+
+impl Place {
+    /// The place, before there are classes.
+    pub fn new<A>(
+        alloc: Global,
+        rules: &[Vec<StaRule<A>>],
+        constructor: u32,
+        place: usize,
+    ) -> Result<Place, Memory>
+        ensures states { IfOk result (λ made. AreAsked rules.now constructor place made.states.items) }
+        ensures numbered { IfOk result (IsNumbered []) }
+    {
+        let states = demanded(alloc, rules, constructor, place)?;
+        Ok(Place {
+            states,
+            kinds: IndexSet::new(alloc),
+            firsts: Vec::new(alloc),
+            kind_of: Vec::new(alloc),
+        })
+    }
+
+    /// Tells the kind of one more class.
+    pub fn add(&mut self, alloc: Global, row: &Row) -> Result<(), Memory>
+        ensures { OnOk result (IsNext row.now self.old self.new) }
+    {
+        let key = chosen(alloc, &self.states, row)?;
+        let (kind, new) = self.kinds.insert_full(key)?;
+        note(&mut self.firsts, self.kind_of.len(), new)?;
+        self.kind_of.push(kind)?;
+        Ok(())
+    }
+
+    /// Whether the class is the first of its kind.
+    pub fn begins(&self, class: usize) -> bool
+        requires known { class < length self.now.kind_of.items }
+        requires low { get_or self.now.kind_of.items class 0 < length self.now.firsts.items }
+        ensures { Decides result (get_or self.now.firsts.items (get_or self.now.kind_of.items class 0) 0 ≡ class) }
+    {
+        self.firsts[self.kind_of[class]] == class
+    }
+}
