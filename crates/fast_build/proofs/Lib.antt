@@ -1,10 +1,13 @@
 pub mod Elements
 pub mod Naming
 pub mod Grown
+pub mod Stands
 pub mod Standing
 pub mod Declaring
 pub mod Reaching
 pub mod Guarding
+pub mod WellFormed
 pub mod Meaning
 pub mod Rounds
 pub mod Whole
+pub mod Carried

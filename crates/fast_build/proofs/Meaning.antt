@@ -1,6 +1,5 @@
 -- What the states of an automaton accept: the trees of the languages that they stand for.
-use Rattle.std.proofs.Common.{◌≡◌, ℕ, ◌<◌, ◌==◌, Bool, true, false, cond, ◌&&◌, ◌||◌, List, [], ◌∷◌, map, filter, length, get_or, All, Contains, refl, sym, ap, ap₂, subst, ◌∙◌}
-use Rattle.std.specs.Prelude.{not}
+use Rattle.std.proofs.Common.{◌≡◌, ◌⊎◌, inl, inr, ◌↔◌, ℕ, suc, ◌<◌, ◌==◌, Bool, true, false, cond, ◌&&◌, ◌||◌, List, [], ◌∷◌, None, map, filter, length, get_or, Contains, refl, sym, ap, ap₂, subst, ◌∙◌, arith}
 use Rattle.std.specs.List.{list_any, list_all}
 use Rattle.std.proofs.Math.ListN.{get_or-map}
 use Rattle.std.proofs.lemmas.List.{length-map}
@@ -9,92 +8,188 @@ use Rattle.model_tree.specs.Tree.{node, Trees, no_trees, tree, LabelTree}
 use Rattle.model_tree.specs.Signature.{PlainSignature, names_of, ranks_of, HasSorts, sorts_of, HasType, EachHasType}
 use Rattle.model_tree.specs.Formula.{formula_holds}
 use Rattle.model_program.specs.Syntax.{Name, Demand}
-use Rattle.model_grammar.specs.Syntax.{Rule, Item}
-use Rattle.model_names.specs.Declared.{same_text, rules_of}
+use Rattle.model_grammar.specs.Syntax.{named, Rule, Item}
+use Rattle.model_names.specs.Declared.{name_of, same_text, rules_of}
 use Rattle.model_meaning.specs.Types.{input_of}
-use Rattle.model_meaning.specs.Languages.{is_in, are_in, guard_holds, heads}
+use Rattle.model_meaning.specs.Languages.{heads}
+use Rattle.model_meaning.specs.Reached.{definition_of}
+use Rattle.model_meaning.specs.Meaning.{IsInLanguage, Applies}
+use Rattle.model_meaning.specs.Laws.{AreDemanded, AreByRules}
+use Rattle.model_meaning.proofs.Members.{one_of, none_of}
 use Rattle.model_sta.specs.Automaton.{is_accepted, meet_demands}
 use Rattle.model_sta.specs.Automaton as machines
 use Rattle.sta_core.specs.Machine.{PlainRule}
 use Rattle.sta_core.specs.Sta.{rule_meaning}
-use Rattle.fast_build.specs.Numbers.{number_in, numbers_for, numbers_for_each}
-use Rattle.fast_build.specs.Reached.{demanded_by, demanded_in}
+use Rattle.fast_build.specs.Numbers.{numbers_for, numbers_for_each}
 use Rattle.fast_build.specs.Rules.{IsRuleFor, AreRulesFor}
 use Rattle.record_label.specs.Rows.{RowAtom, row_holds}
-use Rattle.fast_build.specs.Stands.{are_apart}
+use Rattle.fast_build.proofs.Stands.{are_apart}
 use Rattle.fast_build.proofs.Guarding.{guard_means}
-use Rattle.fast_build.proofs.Naming.{named_by_number, numbered_below, number_named}
-use Rattle.fast_build.proofs.Elements.{all_left, all_right}
-use Rattle.std.proofs.lemmas.List.Elements.{All-head, All-tail}
+use Rattle.fast_build.proofs.Naming.{number_named}
+
+-- ---- tests of lists
+
+both_true : (a b : Bool) → (a && b) ≡ true → (a ≡ true) × (b ≡ true)
+both_true true b e = (refl, e)
+both_true false b e = absurd (cc)
+
+true_both : (a b : Bool) → a ≡ true → b ≡ true → (a && b) ≡ true
+true_both a b e f = rw e f
+
+either_true : (a b : Bool) → (a || b) ≡ true → (a ≡ true) ⊎ (b ≡ true)
+either_true true b e = inl refl
+either_true false b e = inr e
+
+first_or : (a b : Bool) → a ≡ true → (a || b) ≡ true
+first_or a b e = rw e refl
+
+second_or : (a b : Bool) → b ≡ true → (a || b) ≡ true
+second_or true b e = refl
+second_or false b e = e
 
 and_assoc : (a b c : Bool) → ((a && b) && c) ≡ (a && (b && c))
 and_assoc true b c = refl
 and_assoc false b c = refl
 
-module _ (items : List Item) (t : PlainSignature) (names : List (List ℕ)) (rules : List (List (PlainRule RowAtom)))
-    (typed : (k : ℕ) → k < length names → input_of items (get_or names k []) ≡ t)
-    (closed : (k : ℕ) → k < length names → All (Contains names) (demanded_in (rules_of items (get_or names k []))))
-    (are : (k : ℕ) → k < length names → AreRulesFor t names (get_or rules k []) (rules_of items (get_or names k [])))
-    (apart : are_apart (names_of t) ≡ true) where
-  abbrev automaton : List (List (machines.Rule Label))
+here : {A : Type 0} (x : A) (xs : List A) → Contains (x ∷ xs) x
+here x xs = (0, omega arith, refl)
+
+later_in : {A : Type 0} (x y : A) (xs : List A) → Contains xs y → Contains (x ∷ xs) y
+later_in x y xs (k, low, is) = (suc k, omega (arith, low), is)
+
+-- Each name has a number by `place`, that of a state.
+module _ (items : List Item) (laws : AreByRules items) (t : PlainSignature) (place : List ℕ → ℕ) (rules : List (List (PlainRule RowAtom))) where
+  abbrev pub automaton : List (List (machines.Rule Label))
   automaton = map (map (rule_meaning row_holds)) rules
 
-  abbrev Means : LabelTree → Type 0
-  Means u = (k : ℕ) → k < length names → is_in items u (get_or names k []) ≡ is_accepted automaton u k
+  -- the state of the name has its language, at a tree
+  abbrev pub Means : List ℕ → LabelTree → Type 0
+  Means n u = IsInLanguage items (named (name_of n)) u ↔ is_accepted automaton u (place n) ≡ true
 
-  abbrev Meets : Trees Label → Type 0
-  Meets us = (given : List Demand) → All (Contains names) (demanded_by given) → (vars : List Name) → are_in items us vars given ≡ meet_demands automaton us (numbers_for_each names given vars)
+  -- The state of a language has rules for its rules, which demand names that have states.
+  pub record IsByRules (Among : List ℕ → Type 0) (n : List ℕ) : Type 0 where
+    pub typed : input_of items n ≡ t
+    pub undefined : definition_of items n ≡ None
+    pub demands : (r : Rule) (d : Demand) → Contains (rules_of items n) r → Contains r.given d → Among d.language.text
+    pub are : AreRulesFor t place (get_or rules (place n) []) (rules_of items n)
 
-  -- the demands on one variable
-  demands_match : (u : LabelTree) → Means u → (given : List Demand) → All (Contains names) (demanded_by given) → (var : List ℕ)
-      → list_all (λ d. not (same_text d.child.text var) || is_in items u d.language.text) given ≡ list_all (is_accepted automaton u) (numbers_for names given var)
-  demands_match u means [] there var = refl
-  demands_match u means (d ∷ ds) there var =
-      let has : Contains names d.language.text = All-head (Contains names) d.language.text (demanded_by ds) there in
-      let same : is_in items u d.language.text ≡ is_accepted automaton u (number_in names d.language.text) = ap (is_in items u) (sym (named_by_number names d.language.text has)) ∙ means (number_in names d.language.text) (numbered_below names d.language.text has) in
-      by (same_text d.child.text var) same (demands_match u means ds (All-tail (Contains names) d.language.text (demanded_by ds) there) var)
-    where
-      by : (wanted : Bool) → is_in items u d.language.text ≡ is_accepted automaton u (number_in names d.language.text)
-          → list_all (λ e. not (same_text e.child.text var) || is_in items u e.language.text) ds ≡ list_all (is_accepted automaton u) (numbers_for names ds var)
-          → ((not wanted || is_in items u d.language.text) && list_all (λ e. not (same_text e.child.text var) || is_in items u e.language.text) ds)
-          ≡ list_all (is_accepted automaton u) (map (λ e. number_in names e.language.text) (cond wanted (d ∷ filter (λ e. same_text e.child.text var) ds) (filter (λ e. same_text e.child.text var) ds)))
-      by true e f = ap₂ (λ x y. x && y) e f
-      by false e f = f
+  -- That of a definition was built before, and has the language that it means.
+  abbrev pub IsAttached : List ℕ → Type 0
+  IsAttached n = (u : LabelTree) → HasType t u → Means n u
 
-  meet_more : (u : LabelTree) (us : Trees Label) → Means u → Meets us → Meets (tree u us)
-  meet_more u us means meets given there [] = refl
-  meet_more u us means meets given there (v ∷ vars) = ap₂ (λ x y. x && y) (demands_match u means given there v.text) (meets given there vars)
+  module _ (Among : List ℕ → Type 0) (each : (n : List ℕ) → Among n → IsByRules Among n ⊎ IsAttached n) (apart : are_apart (names_of t) ≡ true) where
+    -- ---- demands
 
-  -- one rule
-  rule_match : (c : ℕ) (l : Label) (us : Trees Label) → c < length t.constructors → HasSorts (sorts_of t) l → Meets us → (r : Rule) (p : PlainRule RowAtom) → IsRuleFor t names p r → All (Contains names) (demanded_by r.given)
-      → (heads t r c l && are_in items us r.vars r.given) ≡ ((p.constructor == c) && (formula_holds (λ a. row_holds a l) p.guard && meet_demands automaton us p.demands))
-  rule_match c l us low sorted meets r p is there =
-      and_assoc (same_text (get_or (names_of t) c []) r.ctor.text) (guard_holds t.fields r.guard l) (are_in items us r.vars r.given)
-      ∙ ap₂ (λ x y. x && y) (number_named t r.ctor.text p.constructor c apart is.numbered low)
-      (ap₂ (λ x y. x && y) (sym (guard_means t.fields r.guard p.guard l is.guard sorted)) (meets r.given there r.vars ∙ ap (meet_demands automaton us) (sym is.demands)))
+    -- the names that are demanded have states
+    abbrev Demanded : List Demand → Type 0
+    Demanded given = (d : Demand) → Contains given d → Among d.language.text
 
-  rules_match : (c : ℕ) (l : Label) (us : Trees Label) → c < length t.constructors → HasSorts (sorts_of t) l → Meets us → (rs : List Rule) (ps : List (PlainRule RowAtom)) → AreRulesFor t names ps rs → All (Contains names) (demanded_in rs)
-      → list_any (λ r. heads t r c l && are_in items us r.vars r.given) rs ≡ list_any (λ r. (r.constructor == c) && (r.guard l && meet_demands automaton us r.demands)) (map (rule_meaning row_holds) ps)
-  rules_match c l us low sorted meets [] [] is there = refl
-  rules_match c l us low sorted meets [] (p ∷ ps) is there = absurd is
-  rules_match c l us low sorted meets (r ∷ rs) [] is there = absurd is
-  rules_match c l us low sorted meets (r ∷ rs) (p ∷ ps) is there =
-      ap₂ (λ x y. x || y) (rule_match c l us low sorted meets r p is.0 (all_left (Contains names) (demanded_by r.given) (demanded_in rs) there))
-      (rules_match c l us low sorted meets rs ps is.1 (all_right (Contains names) (demanded_by r.given) (demanded_in rs) there))
+    abbrev MeansAll : LabelTree → Type 0
+    MeansAll u = (n : List ℕ) → Among n → Means n u
 
-  node_match : (c : ℕ) (l : Label) (us : Trees Label) → c < length t.constructors → HasSorts (sorts_of t) l → Meets us → Means (node c l us)
-  node_match c l us low sorted meets k below =
-      (λ i. list_any (λ r. heads (typed k below i) r c l && are_in items us r.vars r.given) (rules_of items (get_or names k [])))
-      ∙ rules_match c l us low sorted meets (rules_of items (get_or names k [])) (get_or rules k []) (are k below) (closed k below)
-      ∙ ap (list_any (λ r. (r.constructor == c) && (r.guard l && meet_demands automaton us r.demands))) (sym (get_or-map (map (rule_meaning row_holds)) rules k []))
+    -- each child is in every language that is demanded of its variable
+    abbrev Wanted : List Demand → List ℕ → LabelTree → Type 0
+    Wanted given var u = (d : Demand) → Contains given d → same_text d.child.text var ≡ true → IsInLanguage items (named d.language) u
 
-  ctors_many : length (ranks_of t) ≡ length t.constructors
-  ctors_many = length-map _ _
+    wanted_more : (u : LabelTree) (d : Demand) (ds : List Demand) (var : List ℕ) → Means d.language.text u → (Wanted ds var u ↔ list_all (is_accepted automaton u) (numbers_for place ds var) ≡ true)
+        → Wanted (d ∷ ds) var u ↔ list_all (is_accepted automaton u) (numbers_for place (d ∷ ds) var) ≡ true
+    wanted_more u d ds var means rest = by (same_text d.child.text var) refl
+      where
+        by : (b : Bool) → same_text d.child.text var ≡ b
+            → Wanted (d ∷ ds) var u ↔ list_all (is_accepted automaton u) (map (λ e. place e.language.text) (cond b (d ∷ filter (λ e. same_text e.child.text var) ds) (filter (λ e. same_text e.child.text var) ds))) ≡ true
+        by true same = (
+          λ h. true_both (is_accepted automaton u (place d.language.text)) (list_all (is_accepted automaton u) (numbers_for place ds var)) (means.0 (h d (here d ds) same)) (rest.0 (λ e at is. h e (later_in d e ds at) is)),
+          λ h e at is. (let two = both_true (is_accepted automaton u (place d.language.text)) (list_all (is_accepted automaton u) (numbers_for place ds var)) h in
+              elim (one_of d e ds at) [ inl one ↦ subst (λ (x : Demand). IsInLanguage items (named x.language) u) one (means.1 two.0) | inr later ↦ rest.1 two.1 e later is ]),
+        )
+        by false other = (
+          λ h. rest.0 (λ e at is. h e (later_in d e ds at) is),
+          λ h e at is. elim (one_of d e ds at) [
+            | inl one ↦ (let no : false ≡ true = sym other ∙ (ap (λ (x : Demand). same_text x.child.text var) one ∙ is) in absurd (cc))
+            | inr later ↦ rest.1 h e later is
+          ],
+        )
 
-  mutual
-    pub means : (u : LabelTree) → HasType t u → Means u
-    means (node c l us) h = node_match c l us (subst (λ (n : ℕ). c < n) ctors_many h.0) h.2 (meets us h.3)
+    wanted_match : (u : LabelTree) → MeansAll u → (given : List Demand) → Demanded given → (var : List ℕ) → Wanted given var u ↔ list_all (is_accepted automaton u) (numbers_for place given var) ≡ true
+    wanted_match u means [] there var = (λ h. refl, λ h d at is. absurd (none_of d at))
+    wanted_match u means (d ∷ ds) there var = wanted_more u d ds var (means d.language.text (there d (here d ds))) (wanted_match u means ds (λ e at. there e (later_in d e ds at)) var)
 
-    meets : (us : Trees Label) → EachHasType t us → Meets us
-    meets no_trees h = λ given there vars. refl
-    meets (tree u us) h = meet_more u us (means u h.0) (meets us h.1)
+    abbrev Meets : Trees Label → Type 0
+    Meets us = (given : List Demand) → Demanded given → (vars : List Name) → AreDemanded items us vars given ↔ meet_demands automaton us (numbers_for_each place given vars) ≡ true
+
+    meets_more : (u : LabelTree) (us : Trees Label) → MeansAll u → Meets us → Meets (tree u us)
+    meets_more u us means meets given there [] = (λ h. refl, λ h. tt)
+    meets_more u us means meets given there (v ∷ vars) =
+        let first = wanted_match u means given there v.text in
+        let rest = meets given there vars in (
+          λ h. true_both (list_all (is_accepted automaton u) (numbers_for place given v.text)) (meet_demands automaton us (numbers_for_each place given vars)) (first.0 h.0) (rest.0 h.1),
+          λ h. (let two = both_true (list_all (is_accepted automaton u) (numbers_for place given v.text)) (meet_demands automaton us (numbers_for_each place given vars)) h in (first.1 two.0, rest.1 two.1)),
+        )
+
+    -- ---- rules
+
+    module _ (c : ℕ) (l : Label) (us : Trees Label) (low : c < length t.constructors) (sorted : HasSorts (sorts_of t) l) (meets : Meets us) where
+      head_match : (r : Rule) (p : PlainRule RowAtom) → IsRuleFor t place p r → heads t r c l ≡ ((p.constructor == c) && formula_holds (λ a. row_holds a l) p.guard)
+      head_match r p is = ap₂ (λ x y. x && y) (number_named t r.ctor.text p.constructor c apart is.numbered low) (sym (guard_means t.fields r.guard p.guard l is.guard sorted))
+
+      rule_match : (r : Rule) (p : PlainRule RowAtom) → IsRuleFor t place p r → Demanded r.given
+          → Applies items t r (node c l us) ↔ ((p.constructor == c) && (formula_holds (λ a. row_holds a l) p.guard && meet_demands automaton us p.demands)) ≡ true
+      rule_match r p is there =
+          let law = laws.applies t r c l us in
+          let same : meet_demands automaton us (numbers_for_each place r.given r.vars) ≡ meet_demands automaton us p.demands = ap (meet_demands automaton us) (sym is.demands) in
+          let whole = and_assoc (p.constructor == c) (formula_holds (λ a. row_holds a l) p.guard) (meet_demands automaton us p.demands) in (
+            λ h. (let two = law.0 h in
+                sym whole ∙ true_both ((p.constructor == c) && formula_holds (λ a. row_holds a l) p.guard) (meet_demands automaton us p.demands) (sym (head_match r p is) ∙ two.0) (sym same ∙ (meets r.given there r.vars).0 two.1)),
+            λ h. (let two = both_true ((p.constructor == c) && formula_holds (λ a. row_holds a l) p.guard) (meet_demands automaton us p.demands) (whole ∙ h) in
+                law.1 (head_match r p is ∙ two.0, (meets r.given there r.vars).1 (same ∙ two.1))),
+          )
+
+      abbrev SomeApplies : List Rule → Type 0
+      SomeApplies rs = (r : Rule) × Contains rs r × Applies items t r (node c l us)
+
+      rules_match : (rs : List Rule) (ps : List (PlainRule RowAtom)) → AreRulesFor t place ps rs → ((r : Rule) → Contains rs r → Demanded r.given)
+          → SomeApplies rs ↔ list_any (λ r. (r.constructor == c) && (r.guard l && meet_demands automaton us r.demands)) (map (rule_meaning row_holds) ps) ≡ true
+      rules_match [] [] are there = (λ h. absurd (none_of h.0 h.1), λ h. absurd (cc))
+      rules_match [] (p ∷ ps) are there = absurd are
+      rules_match (r ∷ rs) [] are there = absurd are
+      rules_match (r ∷ rs) (p ∷ ps) are there =
+          let first = rule_match r p are.0 (there r (here r rs)) in
+          let rest = rules_match rs ps are.1 (λ s at. there s (later_in r s rs at)) in
+          let own = (p.constructor == c) && (formula_holds (λ a. row_holds a l) p.guard && meet_demands automaton us p.demands) in
+          let others = list_any (λ r. (r.constructor == c) && (r.guard l && meet_demands automaton us r.demands)) (map (rule_meaning row_holds) ps) in (
+            λ h. elim (one_of r h.0 rs h.1) [
+              | inl one ↦ first_or own others (first.0 (subst (λ s. Applies items t s (node c l us)) (sym one) h.2))
+              | inr later ↦ second_or own others (rest.0 (h.0, later, h.2))
+            ],
+            λ h. elim (either_true own others h) [
+              | inl e ↦ (r, here r rs, first.1 e)
+              | inr e ↦ (let s = rest.1 e in (s.0, later_in r s.0 rs s.1, s.2))
+            ],
+          )
+
+      by_rules : (n : List ℕ) → IsByRules Among n → Means n (node c l us)
+      by_rules n b =
+          let law = laws.by_rules (name_of n) b.undefined (node c l us) in
+          let match = rules_match (rules_of items n) (get_or rules (place n) []) b.are (λ r at d given. b.demands r d at given) in
+          let state : get_or automaton (place n) [] ≡ map (rule_meaning row_holds) (get_or rules (place n) []) = get_or-map (map (rule_meaning row_holds)) rules (place n) [] in
+          let same : list_any (λ r. (r.constructor == c) && (r.guard l && meet_demands automaton us r.demands)) (get_or automaton (place n) []) ≡ list_any (λ r. (r.constructor == c) && (r.guard l && meet_demands automaton us r.demands)) (map (rule_meaning row_holds) (get_or rules (place n) []))
+          = ap (list_any (λ r. (r.constructor == c) && (r.guard l && meet_demands automaton us r.demands))) state in (
+            λ h. (let r = law.0 h in same ∙ match.0 (r.0, r.1, subst (λ s. Applies items s r.0 (node c l us)) b.typed r.2)),
+            λ h. (let r = match.1 (sym same ∙ h) in law.1 (r.0, r.1, subst (λ s. Applies items s r.0 (node c l us)) (sym b.typed) r.2)),
+          )
+
+    -- ---- trees
+
+    by_each : (u : LabelTree) → HasType t u → ((n : List ℕ) → IsByRules Among n → Means n u) → MeansAll u
+    by_each u h own n at = elim (each n at) [ inl b ↦ own n b | inr attached ↦ attached u h ]
+
+    ctors_many : length (ranks_of t) ≡ length t.constructors
+    ctors_many = length-map _ _
+
+    mutual
+      pub means : (u : LabelTree) → HasType t u → MeansAll u
+      means (node c l us) h = by_each (node c l us) h (by_rules c l us (subst (λ (n : ℕ). c < n) ctors_many h.0) h.2 (meets us h.3))
+
+      meets : (us : Trees Label) → EachHasType t us → Meets us
+      meets no_trees h = λ given there vars. (λ k. refl, λ k. tt)
+      meets (tree u us) h = meets_more u us (means u h.0) (meets us h.1)

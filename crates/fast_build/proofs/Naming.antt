@@ -1,7 +1,7 @@
 -- Numbers of names.
 use Rattle.std.proofs.Common.{◌≡◌, ℕ, zero, suc, ◌+◌, ◌<◌, ◌==◌, Bool, true, false, cond, List, [], ◌∷◌, Option, Some, None, map, length, get_or, Contains, refl, sym, ap, ◌∙◌, arith}
-use Rattle.std.specs.Prelude.{not, find, nat_lt, position, is_some}
-use Rattle.std.specs.List.{list_any, position_or_len}
+use Rattle.std.specs.Prelude.{not, find, nat_lt, position, is_some, ◌≢◌}
+use Rattle.std.specs.List.{list_any, position_or_len, AllPairs}
 use Rattle.std.proofs.lemmas.Slice.Eq.{bytes_eq-Decides}
 use Rattle.std.proofs.lemmas.Bool.Decides.{nat_tests}
 use Rattle.std.proofs.lemmas.List.{get_or-map, length-map}
@@ -11,7 +11,7 @@ use Rattle.fast_tree.specs.declared.signature.CtorOf as code
 use Rattle.fast_tree.specs.Signatures.{plain_constructor}
 use Rattle.std.proofs.lemmas.List.Folds.{list_any_at}
 use Rattle.fast_build.specs.Numbers.{find_constructor, ctor_at, IsNumbered, number_in}
-use Rattle.fast_build.specs.Stands.{are_apart}
+use Rattle.fast_build.proofs.Stands.{are_apart}
 use Rattle.fast_build.proofs.Elements.{first_true, second_true}
 
 pub same_from_test : (x y : List ℕ) → same_text x y ≡ true → x ≡ y
@@ -42,6 +42,17 @@ numbered_below names name at = (number_at names name at).0
 
 pub named_by_number : (names : List (List ℕ)) (name : List ℕ) → Contains names name → get_or names (number_in names name) [] ≡ name
 named_by_number names name at = (number_at names name at).1
+
+-- where no name stands twice, the number of the name at a place is the place
+pub number_at_place : (names : List (List ℕ)) (k : ℕ) → k < length names → AllPairs (λ one other. one ≢ other) names → number_in names (get_or names k []) ≡ k
+number_at_place [] k low pairs = absurd (omega (arith, low))
+number_at_place (n ∷ ns) zero low pairs = ap (λ b. cond (not b) (1 + number_in ns n) 0) (same_itself n)
+number_at_place (n ∷ ns) (suc k) low pairs =
+    by (same_text (get_or ns k []) n) refl (number_at_place ns k (omega (arith, low)) (λ i j d before below. pairs (suc i) (suc j) d (omega (arith, before)) (omega (arith, below))))
+  where
+    by : (b : Bool) → same_text (get_or ns k []) n ≡ b → number_in ns (get_or ns k []) ≡ k → cond (not b) (1 + number_in ns (get_or ns k [])) 0 ≡ suc k
+    by true same later = absurd (pairs 0 (suc k) [] (omega arith) (omega (arith, low)) (sym (same_from_test (get_or ns k []) n same)))
+    by false other later = ap (λ m. 1 + m) later ∙ one_more k
 
 -- the first place at which a test passes is that of what is found
 place_map : {A B : Type 0} (p : B → Bool) (f : A → B) (xs : List A) → position_or_len (λ x. p (f x)) xs ≡ position_or_len p (map f xs)

@@ -5,10 +5,10 @@ use Rattle.model_program.specs.Syntax.{Demand}
 use Rattle.model_grammar.specs.Syntax.{Rule, LangItem, Item}
 use Rattle.model_names.specs.Declared.{same_text, rules_of}
 use Rattle.model_meaning.specs.Types.{signature_at, input_of}
-use Rattle.model_meaning.specs.Reached.{Reaches, itself, by_demand, by_lookahead, by_call, by_definition}
+use Rattle.model_meaning.specs.Reached.{Reaches, itself, by_demand, by_lookahead, by_call}
 use Rattle.fast_build.specs.Items.{find_lang}
-use Rattle.fast_build.specs.Stands.{demand_stands, rule_stands, AllStand}
-use Rattle.fast_build.proofs.Standing.{demands_there, rules_are, no_out_rules, no_definition, type_is, same_type}
+use Rattle.fast_build.proofs.Stands.{demand_stands, rule_stands, AllStand}
+use Rattle.fast_build.proofs.Standing.{demands_there, rules_are, no_out_rules, type_is, same_type}
 use Rattle.fast_build.proofs.Elements.{test_of_contained}
 use Rattle.fast_build.proofs.Naming.{same_from_test}
 
@@ -39,7 +39,6 @@ reached_of items of name _ stand at itself = at
 reached_of items of name _ stand at (by_demand before r d reached among named) = demanded items of before r d stand (reached_of items of name before stand at reached) among named
 reached_of items of name _ stand at (by_lookahead before r d reached among named) = let b = reached_of items of name before stand at reached in absurd (none_contained _ r (no_out_rules items before b.lang b.found) among)
 reached_of items of name _ stand at (by_call before r q reached among called) = let b = reached_of items of name before stand at reached in absurd (none_contained _ r (no_out_rules items before b.lang b.found) among)
-reached_of items of name _ stand at (by_definition before x n reached is named) = let b = reached_of items of name before stand at reached in let no : None ≡ Some x = sym (no_definition items before b.lang b.found) ∙ is in absurd (cc)
 
 pub reached_type : (items : List Item) (of name other : List ℕ) → AllStand items → IsOf items of name → Reaches items name other → input_of items other ≡ input_of items name
 reached_type items of name other stand at reached =

@@ -12,7 +12,7 @@ use Rattle.model_grammar.specs.Syntax.{Rule, LangItem, Item}
 use Rattle.model_names.specs.Declared.{same_text, rules_of}
 use Rattle.model_meaning.specs.Reached.{Reaches, itself, by_demand}
 use Rattle.fast_build.specs.Items.{find_lang}
-use Rattle.fast_build.specs.Stands.{AllStand}
+use Rattle.fast_build.proofs.Stands.{AllStand}
 use Rattle.fast_build.specs.Reached.{demanded_by, demanded_in, IsGrown, AreReached, AreClosed}
 use Rattle.fast_build.proofs.Reaching.{reached_of}
 use Rattle.fast_build.proofs.Declaring.{own_text, lang_declared}
@@ -47,6 +47,18 @@ demanded_some (r ∷ rs) name at = by (in_parts (demanded_by r.given) (demanded_
     by : Contains (demanded_by r.given) name ⊎ Contains (demanded_in rs) name → (Contains (demanded_in rs) name → IsDemanded rs name) → IsDemanded (r ∷ rs) name
     by (inl (k, low, is)) later = let one = demanded_one r.given name k low is in record { rule = r; among = Contains-get_or (r ∷ rs) 0 r (omega arith); demand = one.0; named = one.1; is = one.2 }
     by (inr at) later = let rest = later at in record { rule = rest.rule; among = later_contained r rest.rule rs rest.among; demand = rest.demand; named = rest.named; is = rest.is }
+
+-- what is demanded by one of the rules is among all that are demanded
+pub in_demanded : (rules : List Rule) (r : Rule) (d : Demand) → Contains rules r → Contains r.given d → Contains (demanded_in rules) d.language.text
+in_demanded [] r d (k, low, is) given = absurd (omega (arith, low))
+in_demanded (s ∷ rs) r d (zero, low, is) given =
+    Contains-append_left (demanded_by s.given) (demanded_in rs) d.language.text (named_of s.given d (subst (λ (x : Rule). Contains x.given d) (sym is) given))
+  where
+    named_of : (ds : List Demand) (e : Demand) → Contains ds e → Contains (demanded_by ds) e.language.text
+    named_of [] e (k, low, is) = absurd (omega (arith, low))
+    named_of (x ∷ ds) e (zero, low, is) = (0, omega arith, ap (λ (y : Demand). y.language.text) is)
+    named_of (x ∷ ds) e (suc k, low, is) = later_contained x.language.text e.language.text (demanded_by ds) (named_of ds e (k, omega (arith, low), is))
+in_demanded (s ∷ rs) r d (suc k, low, is) given = Contains-append_right (demanded_by s.given) (demanded_in rs) d.language.text (in_demanded rs r d (k, omega (arith, low), is) given)
 
 module _ (items : List Item) (name : List ℕ) where
   demanded_reached : (other last : List ℕ) → Reaches items name other → Contains (demanded_in (rules_of items other)) last → Reaches items name last

@@ -12,7 +12,7 @@ use Rattle.model_names.specs.Kinds.{language, own_kind, own_type, declared_type,
 use Rattle.model_meaning.specs.Types.{signature_of, signature_at, input_of, no_signature}
 use Rattle.fast_build.specs.Items.{own_lang, find_lang}
 use Rattle.fast_build.specs.Numbers.{find_constructor, has_ctor}
-use Rattle.fast_build.specs.Stands.{has_rank, demand_stands, rule_stands}
+use Rattle.fast_build.proofs.Stands.{has_rank, demand_stands, rule_stands}
 use Rattle.fast_build.proofs.Elements.{first_true, second_true}
 
 some_found : {A : Type 0} (f : A → Bool) (found : Option A) → option_map_or f found false ≡ true → is_some found ≡ true

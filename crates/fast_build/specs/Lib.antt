@@ -4,3 +4,4 @@ pub mod Reached
 pub mod Stands
 pub mod Rules
 pub mod Automaton
+pub mod Carried

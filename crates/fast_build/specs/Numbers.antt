@@ -22,13 +22,14 @@ pub record IsNumbered (ctors : List PlainConstructor) (name : List ℕ) (n : ℕ
 abbrev pub number_in : List (List ℕ) → List ℕ → ℕ
 number_in names name = position_or_len (same_text name) names
 
--- the numbers of the languages that are demanded of a variable
-abbrev pub numbers_for : List (List ℕ) → List Demand → List ℕ → List ℕ
-numbers_for names given var = map (λ d. number_in names d.language.text) (filter (λ d. same_text d.child.text var) given)
+module _ (place : List ℕ → ℕ) where
+  -- the numbers of the languages that are demanded of a variable
+  abbrev pub numbers_for : List Demand → List ℕ → List ℕ
+  numbers_for given var = map (λ d. place d.language.text) (filter (λ d. same_text d.child.text var) given)
 
--- the same for each variable
-abbrev pub numbers_for_each : List (List ℕ) → List Demand → List Name → List (List ℕ)
-numbers_for_each names given vars = map (λ v. numbers_for names given v.text) vars
+  -- the same for each variable
+  abbrev pub numbers_for_each : List Demand → List Name → List (List ℕ)
+  numbers_for_each given vars = map (λ v. numbers_for given v.text) vars
 
 -- the rule has a constructor of the type
 abbrev pub has_ctor : PlainSignature → Rule → Bool

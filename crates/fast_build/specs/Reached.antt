@@ -1,10 +1,10 @@
 -- The languages that a language reaches.
 use Rattle.std.specs.Prelude.{◌≡◌, ℕ, List, ◌∷◌, ◌++◌, map, Contains, All, Some}
-use Rattle.std.specs.List.{flat_map}
+use Rattle.std.specs.List.{flat_map, IsDistinct}
 use Rattle.fast_syntax.specs.Plain.{plain_lang}
 use Rattle.model_program.specs.Syntax.{Demand}
 use Rattle.model_grammar.specs.Syntax.{Rule, Item}
-use Rattle.model_names.specs.Declared.{rules_of}
+use Rattle.model_names.specs.Declared.{same_text, rules_of}
 use Rattle.model_meaning.specs.Reached.{Reaches}
 use Rattle.fast_build.specs.declared.reached.Reached.{Reached}
 use Rattle.fast_build.specs.Items.{find_lang}
@@ -37,4 +37,5 @@ AreClosed items names these = All (λ n. All (Contains names) (demanded_in (rule
 pub record IsReached (items : List Item) (name : List ℕ) (r : Reached) : Type 0 where
   pub reached : AreReached items name r.names.keys
   pub closed : AreClosed items r.names.keys r.names.keys
+  pub once : IsDistinct same_text r.names.keys
   pub langs : map (find_lang items) r.names.keys ≡ map (λ l. Some (plain_lang l.now)) r.langs.items

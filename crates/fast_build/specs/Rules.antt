@@ -15,12 +15,13 @@ abbrev pub IsGuardFor : List PlainField → Option Expr → Formula RowAtom → 
 IsGuardFor fields None f = f ≡ yes
 IsGuardFor fields (Some e) f = (is_guard fields e ≡ true) × IsGuardOf fields e f
 
-module _ (t : PlainSignature) (names : List (List ℕ)) where
+-- each name has the number that place gives it
+module _ (t : PlainSignature) (place : List ℕ → ℕ) where
   -- it has the number of the constructor, the guard, and the demands on each child
   pub record IsRuleFor (p : PlainRule RowAtom) (r : Rule) : Type 0 where
     pub numbered : IsNumbered t.constructors r.ctor.text p.constructor
     pub guard : IsGuardFor t.fields r.guard p.guard
-    pub demands : p.demands ≡ numbers_for_each names r.given r.vars
+    pub demands : p.demands ≡ numbers_for_each place r.given r.vars
 
   abbrev pub AreRulesFor : List (PlainRule RowAtom) → List Rule → Type 0
   AreRulesFor ps rs = Pairwise IsRuleFor ps rs

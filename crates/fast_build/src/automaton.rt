@@ -1,26 +1,31 @@
 //! The automaton of a language.
 
-ghost use Rattle.std.specs.Prelude.{◌≡◌, ◌≤◌, IfOk, map, length, true, is_some, All, Contains};
+ghost use Rattle.std.specs.Prelude.{◌≡◌, ◌≤◌, ℕ, IfOk, List, Some, map, length, true, is_some, All, Contains};
 ghost use Rattle.std.specs.List.{list_all};
 ghost use Rattle.fast_tree.specs.Signatures.{plain_signature};
 ghost use Rattle.fast_syntax.specs.Plain.{plain_lang};
+ghost use Rattle.model_grammar.specs.Syntax.{named};
+ghost use Rattle.model_names.specs.Declared.{name_of};
+ghost use Rattle.model_names.specs.Kinds.{type_of};
 ghost use Rattle.model_meaning.specs.Types.{input_of};
 ghost use Rattle.program_check.specs.Tells.{IsChecked};
 ghost use Rattle.sta_core.specs.Machine.{plain_rule as machine_rule};
 ghost use Rattle.fast_build.specs.Items.{items_of, find_lang};
-ghost use Rattle.fast_build.specs.Stands.{AllStand, GuardStands};
-ghost use Rattle.fast_build.specs.Numbers.{has_ctor};
+ghost use Rattle.fast_build.specs.Stands.{GuardStands};
+ghost use Rattle.fast_build.specs.Numbers.{number_in, has_ctor};
 ghost use Rattle.fast_build.specs.Reached.{demanded_in};
 ghost use Rattle.fast_build.specs.Rules.{AreStatesFor};
 ghost use Rattle.fast_build.specs.Automaton.{IsAutomatonOf};
+ghost use Rattle.fast_build.specs.Carried.{IsBuiltFor};
 
+use crate::named::lang;
 use crate::reached::{Reached, reach};
 use crate::rules::rules_for;
 use fast_fault::{Memory, Text};
 use fast_tree::{CtorOf, Signature};
 use program_check::Checked;
 use record_label::RowAtom;
-use sta_core::{Sta, StaRule};
+use sta_core::{Lang, Sta, StaRule};
 use std::alloc::Global;
 
 fn ranks_of(alloc: Global, constructors: &[CtorOf]) -> Result<Vec<u32>, Memory>
@@ -43,7 +48,7 @@ fn states_for(
     requires ctors { All (λ l. list_all (has_ctor (plain_signature signature.now)) (plain_lang l.now).rules ≡ true) reached.now.langs.items }
     requires guarded { All (λ l. All (λ r. GuardStands (plain_signature signature.now).fields r.guard) (plain_lang l.now).rules) reached.now.langs.items }
     requires named { All (λ l. All (Contains reached.now.names.keys) (demanded_in (plain_lang l.now).rules)) reached.now.langs.items }
-    ensures { IfOk result (λ states. AreStatesFor (plain_signature signature.now) reached.now.names.keys (map (λ those. map machine_rule those.items) states.items) (map (λ l. (plain_lang l.now).rules) reached.now.langs.items)) }
+    ensures { IfOk result (λ states. AreStatesFor (plain_signature signature.now) (number_in reached.now.names.keys) (map (λ those. map machine_rule those.items) states.items) (map (λ l. (plain_lang l.now).rules) reached.now.langs.items)) }
 {
     let mut states = Vec::new(alloc);
     'langs: for lang in &reached.langs {
@@ -52,15 +57,14 @@ fn states_for(
     Ok(states)
 }
 
-/// The automaton of the language of this name, which is of trees of this type. State 0 is the language itself.
-pub fn language(
+/// The automaton of the language of this name, whose trees have this type.
+fn automaton(
     alloc: Global,
     checked: &Checked,
     signature: &Signature,
     name: &Text,
 ) -> Result<Sta<RowAtom>, Memory>
     requires checked { IsChecked checked.now }
-    requires stand { AllStand (items_of checked.now) }
     requires there { is_some (find_lang (items_of checked.now) name.now) ≡ true }
     requires typed { input_of (items_of checked.now) name.now ≡ plain_signature signature.now }
     ensures { IfOk result (IsAutomatonOf (items_of checked.now) name.now) }
@@ -69,4 +73,22 @@ pub fn language(
     let ranks = ranks_of(alloc, &signature.constructors)?;
     let states = states_for(alloc, signature, &reached)?;
     Ok(Sta::new(ranks, states))
+}
+
+/// The automaton of the language of this name, with a state for each language that it reaches.
+pub fn languages(alloc: Global, checked: &Checked, name: &Text) -> Result<Lang<RowAtom>, Memory>
+    requires checked { IsChecked checked.now }
+    requires there { is_some (find_lang (items_of checked.now) name.now) ≡ true }
+    ensures start { IfOk result (λ l. l.state ≡ 0) }
+    ensures automaton { IfOk result (λ l. IsAutomatonOf (items_of checked.now) name.now l.sta) }
+    ensures carried { IfOk result (λ l. (type : List ℕ) → type_of (items_of checked.now) (named (name_of name.now)) ≡ Some type → IsBuiltFor (items_of checked.now) name.now type l.sta l.state) }
+{
+    let Some(own) = lang(checked, name) else {
+        unreachable!()
+    };
+    let Some(signature) = checked.signature(&own.of.text) else {
+        unreachable!()
+    };
+    let sta = automaton(alloc, checked, signature, name)?;
+    Ok(Lang { sta, state: 0 })
 }

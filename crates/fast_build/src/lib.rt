@@ -1,4 +1,4 @@
-//! Automata of programs: for a language, one automaton of exactly the languages that it reaches.
+//! Automata of programs: for a language, one automaton with one state for each language that it reaches.
 //!
 //! Its promise: a state of the automaton accepts exactly the trees of the type that are in the language of its number.
 #![tactic(auto)]
@@ -9,5 +9,5 @@ mod numbers;
 mod reached;
 mod rules;
 
-pub use automaton::language;
+pub use automaton::languages;
 pub use named::lang;

@@ -4,7 +4,7 @@ ghost use Rattle.std.specs.Prelude.{◌≡◌, IfOk, map, is_some, true, All, Co
 ghost use Rattle.fast_tree.specs.Signatures.{plain_constructor};
 ghost use Rattle.fast_syntax.specs.View.{plain_demand, plain_name};
 ghost use Rattle.model_names.specs.Declared.{same_text};
-ghost use Rattle.fast_build.specs.Numbers.{find_constructor, IsNumbered, numbers_for, numbers_for_each};
+ghost use Rattle.fast_build.specs.Numbers.{find_constructor, IsNumbered, number_in, numbers_for, numbers_for_each};
 ghost use Rattle.fast_build.specs.Reached.{demanded_by};
 
 use fast_fault::{Memory, Text};
@@ -43,7 +43,7 @@ fn demands_on(
     var: &Text,
 ) -> Result<Vec<u64>, Memory>
     requires { All (Contains names.now.keys) (demanded_by (map plain_demand given.now)) }
-    ensures { IfOk result (λ numbers. numbers.items ≡ numbers_for names.now.keys (map plain_demand given.now) var.now) }
+    ensures { IfOk result (λ numbers. numbers.items ≡ numbers_for (number_in names.now.keys) (map plain_demand given.now) var.now) }
 {
     let mut numbers = Vec::new(alloc);
     'given: for demand in given {
@@ -65,7 +65,7 @@ pub fn demands_on_each(
     vars: &[Name],
 ) -> Result<Vec<Vec<u64>>, Memory>
     requires { All (Contains names.now.keys) (demanded_by (map plain_demand given.now)) }
-    ensures { IfOk result (λ demands. map (λ d. d.items) demands.items ≡ numbers_for_each names.now.keys (map plain_demand given.now) (map plain_name vars.now)) }
+    ensures { IfOk result (λ demands. map (λ d. d.items) demands.items ≡ numbers_for_each (number_in names.now.keys) (map plain_demand given.now) (map plain_name vars.now)) }
 {
     let mut demands = Vec::new(alloc);
     'vars: for var in vars {

@@ -9,7 +9,7 @@ ghost use Rattle.label_core.specs.Formula.{plain_formula};
 ghost use Rattle.sta_core.specs.Machine.{plain_rule as machine_rule};
 ghost use Rattle.fast_build.specs.Reached.{demanded_by, demanded_in};
 ghost use Rattle.fast_build.specs.Rules.{IsGuardFor, IsRuleFor, AreRulesFor};
-ghost use Rattle.fast_build.specs.Numbers.{has_ctor};
+ghost use Rattle.fast_build.specs.Numbers.{number_in, has_ctor};
 ghost use Rattle.fast_build.specs.Stands.{GuardStands};
 
 use crate::numbers::{constructor_number, demands_on_each};
@@ -18,7 +18,6 @@ use fast_syntax::items::Rule;
 use fast_tree::Signature;
 use indexmap::IndexSet;
 use label_core::Formula;
-use lin_form::FormStop;
 use record_label::{RowAtom, guard_of};
 use sta_core::StaRule;
 use std::alloc::Global;
@@ -30,11 +29,7 @@ fn guard_for(alloc: Global, signature: &Signature, rule: &Rule) -> Result<Formul
     ensures { IfOk result (λ f. IsGuardFor (plain_signature signature.now).fields (plain_rule rule.now).guard (plain_formula f)) }
 {
     match &rule.guard {
-        Some(guard) => match guard_of(alloc, guard, signature) {
-            Ok(formula) => Ok(formula),
-            Err(FormStop::Memory) => Err(Memory),
-            Err(FormStop::Range(_)) => unreachable!(),
-        },
+        Some(guard) => guard_of(alloc, guard, signature),
         None => Ok(Formula::Yes),
     }
 }
@@ -50,7 +45,7 @@ fn rule_for(
     requires ctor { has_ctor (plain_signature signature.now) (plain_rule rule.now) ≡ true }
     requires guarded { GuardStands (plain_signature signature.now).fields (plain_rule rule.now).guard }
     requires named { All (Contains names.now.keys) (demanded_by (map plain_demand rule.now.given.items)) }
-    ensures { IfOk result (λ r. IsRuleFor (plain_signature signature.now) names.now.keys (machine_rule r) (plain_rule rule.now)) }
+    ensures { IfOk result (λ r. IsRuleFor (plain_signature signature.now) (number_in names.now.keys) (machine_rule r) (plain_rule rule.now)) }
 {
     Ok(StaRule {
         constructor: constructor_number(&signature.constructors, &rule.ctor.text)?,
@@ -70,7 +65,7 @@ pub fn rules_for(
     requires ctors { list_all (has_ctor (plain_signature signature.now)) (map plain_rule rules.now) ≡ true }
     requires guarded { All (λ r. GuardStands (plain_signature signature.now).fields r.guard) (map plain_rule rules.now) }
     requires named { All (Contains names.now.keys) (demanded_in (map plain_rule rules.now)) }
-    ensures { IfOk result (λ made. AreRulesFor (plain_signature signature.now) names.now.keys (map machine_rule made.items) (map plain_rule rules.now)) }
+    ensures { IfOk result (λ made. AreRulesFor (plain_signature signature.now) (number_in names.now.keys) (map machine_rule made.items) (map plain_rule rules.now)) }
 {
     let mut made = Vec::new(alloc);
     'rules: for rule in rules {

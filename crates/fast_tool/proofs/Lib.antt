@@ -4,6 +4,5 @@ pub mod Wide
 pub mod Tables
 pub mod AllBuilt
 pub mod Judging
-pub mod WellFormed
 pub mod Runs
 pub mod Texts

@@ -1,5 +1,5 @@
 -- What the automaton of a language tells of the language.
-use Rattle.std.proofs.Common.{◌≡◌, ℕ, suc, ◌<◌, ◌≤◌, inl, inr, Bool, true, false, List, [], ◌∷◌, Some, map, length, get_or, All, refl, sym, ap, subst, ◌∙◌, arith}
+use Rattle.std.proofs.Common.{◌≡◌, ◌↔◌, ℕ, suc, ◌<◌, ◌≤◌, inl, inr, Bool, true, false, List, [], ◌∷◌, Some, map, length, get_or, All, refl, sym, ap, subst, ◌∙◌, arith}
 use Rattle.std.specs.Option.{option_map}
 use Rattle.std.proofs.lemmas.List.{length-map, get_or-map}
 use Rattle.std.proofs.lemmas.List.Elements.{All-nil, All-cons, All-tail}
@@ -7,21 +7,19 @@ use Rattle.model_tree.specs.Label.{Label}
 use Rattle.model_tree.specs.Tree.{node, LabelTree}
 use Rattle.model_tree.specs.Signature.{PlainSignature, ranks_of, sorts_of, HasSorts, HasType}
 use Rattle.model_program.specs.Syntax.{Name, TypeItem}
-use Rattle.model_grammar.specs.Syntax.{empty, named, LangItem, lang, assertion, Item}
-use Rattle.model_names.specs.Declared.{find_type, find_item}
+use Rattle.model_grammar.specs.Syntax.{empty, named, LangItem, assertion, Item}
+use Rattle.model_names.specs.Declared.{name_of, find_type}
 use Rattle.model_names.specs.Kinds.{kind_of, type_of}
 use Rattle.model_meaning.specs.Types.{input_of}
-use Rattle.model_meaning.specs.Languages.{is_in}
-use Rattle.model_meaning.specs.Closed.{closed}
-use Rattle.model_meaning.specs.Meaning.{input_type, signature_named}
+use Rattle.model_meaning.specs.Meaning.{IsInLanguage, input_type, signature_named}
 use Rattle.model_meaning.specs.Values.{Printed}
-use Rattle.model_meaning.specs.Truth.{IsTrue, Shows, IsAmong}
+use Rattle.model_meaning.specs.Truth.{ExactlyOne, IsTrue, Shows, IsAmong}
 use Rattle.model_meaning.specs.Reached.{Reaches}
-use Rattle.model_meaning.proofs.Named.{input_type_of_name, lang_closed, lang_inside, inside_lang}
-use Rattle.model_run.specs.Outcomes.{IsPrintable}
+use Rattle.model_meaning.proofs.Named.{input_type_of_name}
 use Rattle.model_run.specs.Parts.{AreApart, HasMoreTrees}
-use Rattle.model_run.specs.Causes.{AreAllLarge, IsTooWide, judged_empty, HasCause, more_classes, too_wide, too_large}
-use Rattle.model_run.proofs.Apart.{name_of, apart_by_reached}
+use Rattle.model_run.specs.Items.{judged_empty, by_expressions}
+use Rattle.model_run.specs.Causes.{AreAllLarge, IsTooWide, HasCause, more_classes, too_wide, too_large}
+use Rattle.model_run.proofs.Apart.{apart_by_reached}
 use Rattle.model_sta.specs.Automaton.{Rule, is_accepted}
 use Rattle.model_sta.specs.Sets.{Row, has, set_of, Fits}
 use Rattle.model_sta.specs.Reached.{IsReached, Apart, HasMoreSets}
@@ -30,6 +28,7 @@ use Rattle.sta_core.specs.Machine.{Machine}
 use Rattle.sta_core.specs.Sta.{automaton_of}
 use Rattle.sta_ops.specs.Empty.{IsLeastOf, HasBigAlone}
 use Rattle.sta_ops.specs.Empty as ops
+use Rattle.record_label.specs.Meaning.{row_meaning}
 use Rattle.record_label.specs.Rows.{RowAtom, row_holds, KeepsSorts}
 use Rattle.model_chain.specs.Each.{EachTwo}
 use Rattle.model_chain.specs.Chains.{Passes, IsFar}
@@ -39,14 +38,14 @@ use Rattle.label_core.specs.Pair.{lefts}
 use Rattle.label_split.specs.Split.{HasUnkeptRow}
 use Rattle.lin_solve.specs.declared.chain.Chain.{Chain}
 use Rattle.lin_solve.specs.Plain.{plain_literals}
-use Rattle.lin_solve.specs.Shown.{plain_chain}
+use Rattle.lin_solve.specs.Shown.{bits_of, plain_chain, PassesWidth}
 use Rattle.lin_solve.specs.contracts.compare.ComparePartialEq.TheImpl.{ghosts as compares}
 use Rattle.sta_classes.specs.Guards.{all_guards, atoms_of_all, truths}
 use Rattle.fast_build.specs.Items.{find_lang}
-use Rattle.fast_build.specs.Stands.{LangStands, AllStand}
+use Rattle.fast_build.proofs.Stands.{LangStands, AllStand}
 use Rattle.fast_build.specs.Automaton.{IsAutomatonOf}
-use Rattle.fast_build.proofs.Standing.{kind_is, type_named, item_there}
-use Rattle.fast_build.proofs.Reaching.{reached_of}
+use Rattle.fast_build.proofs.Standing.{kind_is, type_named}
+use Rattle.fast_tool.specs.Decided.{IsInLimits}
 use Rattle.fast_tool.proofs.Wide.{wide}
 use Rattle.fast_tool.proofs.Typed.{fits_from_type, type_from_fits, fits_if_kept, kept_if_fits}
 
@@ -64,6 +63,13 @@ differing (a ∷ p) (b ∷ q) many apart =
     by false false later = later refl
     by true false later = (0, omega arith, λ e. let no : true ≡ false = e in absurd (cc))
     by false true later = (0, omega arith, λ e. let no : false ≡ true = e in absurd (cc))
+
+-- two facts that tests tell, which differ
+exactly_one : (A B : Type 0) (a b : Bool) → A ↔ a ≡ true → B ↔ b ≡ true → ¬ (a ≡ b) → ExactlyOne A B
+exactly_one A B true true f g apart = absurd (apart refl)
+exactly_one A B true false f g apart = inl (f.1 refl, λ other. (let no : false ≡ true = g.0 other in cc))
+exactly_one A B false true f g apart = inr (g.1 refl, λ other. (let no : false ≡ true = f.0 other in cc))
+exactly_one A B false false f g apart = absurd (apart refl)
 
 module _ (items : List Item) (n : Name) (l : LangItem) (stand : AllStand items) (found : find_lang items n.text ≡ Some l) (t : PlainSignature) (typed : input_of items n.text ≡ t) (m : Machine RowAtom)
     (is : IsAutomatonOf items n.text m) where
@@ -89,22 +95,19 @@ module _ (items : List Item) (n : Name) (l : LangItem) (stand : AllStand items) 
   claim_type_is : input_type items (named n) ≡ input_of items n.text
   claim_type_is = input_type_of_name items n
 
-  own_item : (item : Item) × (find_item items n.text ≡ Some item) × (item.body ≡ lang l)
-  own_item = item_there items n.text l found
+  inside : (u : LabelTree) → IsAmong items (kind_of items (named n)) (named n) u → IsInLanguage items (named n) u
+  inside u among = subst (λ k. IsAmong items k (named n) u) (kind_is items n l found) among
 
-  inside : (u : LabelTree) → IsAmong items (kind_of items (named n)) (named n) u → is_in items u n.text ≡ true
-  inside u among = lang_inside items n own_item.0 l own_item.1 own_item.2 u (subst (λ k. IsAmong items k (named n) u) (kind_is items n l found) among)
-
-  among : (u : LabelTree) → is_in items u n.text ≡ true → IsAmong items (kind_of items (named n)) (named n) u
-  among u e = subst (λ k. IsAmong items k (named n) u) (sym (kind_is items n l found)) (inside_lang items n own_item.0 l own_item.1 own_item.2 u e)
+  among : (u : LabelTree) → IsInLanguage items (named n) u → IsAmong items (kind_of items (named n)) (named n) u
+  among u own = subst (λ k. IsAmong items k (named n) u) (sym (kind_is items n l found)) own
 
   tree_in : (u : LabelTree) → Shows items (empty (named n)) u → ops.IsTreeOf m.ranks D K rules 0 u
   tree_in u shows =
       let h = subst (λ s. HasType s u) claim_type_is shows.0 in
-      record { fits = fits u h; accepted = sym (is.means u h 0 (omega arith)) ∙ inside u shows.1 }
+      record { fits = fits u h; accepted = (is.means 0 (omega arith) u h).0 (inside u shows.1) }
 
   in_tree : (u : LabelTree) → Fits m.ranks D u → is_accepted rules u 0 ≡ true → Shows items (empty (named n)) u
-  in_tree u h accepted = (subst (λ s. HasType s u) (sym claim_type_is) (types u h), among u (is.means u (types u h) 0 (omega arith) ∙ accepted))
+  in_tree u h accepted = (subst (λ s. HasType s u) (sym claim_type_is) (types u h), among u ((is.means 0 (omega arith) u (types u h)).1 accepted))
 
   -- no tree is in the language
   pub none_in : ((u : LabelTree) → ¬ (ops.IsTreeOf m.ranks D K rules 0 u)) → IsTrue items (empty (named n))
@@ -115,7 +118,7 @@ module _ (items : List Item) (n : Name) (l : LangItem) (stand : AllStand items) 
   large_in big = record { tree = big.tree; right = in_tree big.tree big.right.fits big.right.accepted; large = λ u right. big.big u (tree_in u right) }
 
   -- a least tree of the language shows that it isn't empty
-  pub shown_in : (most : ℕ) → most ≤ 2000 → (u : LabelTree) → IsLeastOf m.ranks D K rules 0 most u → Shows items (empty (named n)) u × IsPrintable u
+  pub shown_in : (most : ℕ) → most ≤ 2000 → (u : LabelTree) → IsLeastOf m.ranks D K rules 0 most u → Shows items (empty (named n)) u × IsInLimits u
   shown_in most low u least = (
     in_tree u (fits_if_kept m.ranks (sorts_of t) u least.fits) least.accepted,
     record { kept = kept_if_fits m.ranks (sorts_of t) u least.fits; small = least.small; shallow = omega (arith, least.shallow, low) },
@@ -128,15 +131,17 @@ module _ (items : List Item) (n : Name) (l : LangItem) (stand : AllStand items) 
   abbrev type : List ℕ
   type = own.type.name.text
 
-  type_of_name : (other : Name) (k : LangItem) → find_lang items other.text ≡ Some k → k.of.text ≡ l.of.text → type_of items (named other) ≡ Some type
-  type_of_name other k there same = type_named items other k there ∙ ap (λ text. option_map (λ (s : TypeItem). s.name.text) (find_type items text)) same ∙ ap (option_map (λ (s : TypeItem). s.name.text)) own.found
+  type_is : type_of items (named n) ≡ Some type
+  type_is = type_named items n l found ∙ ap (option_map (λ (s : TypeItem). s.name.text)) own.found
 
   signature_is : signature_named items (Some type) ≡ input_of items n.text
-  signature_is = ap (signature_named items) (sym (type_of_name n l found refl)) ∙ claim_type_is
+  signature_is = ap (signature_named items) (sym type_is) ∙ claim_type_is
 
   -- the set of a tree tells in which of the languages it is
-  told : (u : LabelTree) → Fits m.ranks D u → (k : ℕ) → k < length (n.text ∷ is.others) → has (set_of rules u) k ≡ is_in items u (get_or (n.text ∷ is.others) k [])
-  told u h k low = set_is_accepted rules u k ∙ sym (is.means u (types u h) k low)
+  told : (u : LabelTree) → Fits m.ranks D u → (k : ℕ) → k < length (n.text ∷ is.others) → IsInLanguage items (named (name_of (get_or (n.text ∷ is.others) k []))) u ↔ has (set_of rules u) k ≡ true
+  told u h k low =
+      let means = is.means k low u (types u h) in
+      (λ own. set_is_accepted rules u k ∙ means.0 own, λ holds. means.1 (sym (set_is_accepted rules u k) ∙ holds))
 
   many_rules : length rules ≡ length (n.text ∷ is.others)
   many_rules = length-map _ _ ∙ is.states
@@ -150,13 +155,13 @@ module _ (items : List Item) (n : Name) (l : LangItem) (stand : AllStand items) 
       let at = differing (set_of rules u) (set_of rules v) (set_long u ∙ sym (set_long v)) apart in
       let low : at.0 < length (n.text ∷ is.others) = subst (λ (k : ℕ). at.0 < k) (set_long u ∙ many_rules) at.1 in
       let other = get_or (n.text ∷ is.others) at.0 [] in
-      let there = reached_of items l.of.text n.text other stand (record { lang = l; found = found; of_is = refl }) (is.reached at.0 [] low) in
+      let beside = is.languages at.0 [] low in
       apart_by_reached items n type u v (record {
         other = other;
         reached = is.reached at.0 [] low;
-        kind = kind_is items (name_of other) there.lang there.found;
-        on = type_of_name (name_of other) there.lang there.found there.of_is;
-        apart = λ e. at.2 (told u h at.0 low ∙ e ∙ sym (told v g at.0 low));
+        kind = beside.kind;
+        on = beside.type ∙ type_is;
+        apart = exactly_one (IsInLanguage items (named (name_of other)) u) (IsInLanguage items (named (name_of other)) v) (has (set_of rules u) at.0) (has (set_of rules v) at.0) (told u h at.0 low) (told v g at.0 low) at.2;
       })
 
   -- a tree for each of different sets
@@ -198,26 +203,29 @@ module _ (items : List Item) (n : Name) (l : LangItem) (stand : AllStand items) 
       }
 
   -- the expressions by which an assertion of it is judged
-  judged_is : judged_empty (kind_of items (named n)) (closed items (named n)) ≡ named n
-  judged_is = ap (λ k. judged_empty k (closed items (named n))) (kind_is items n l found) ∙ lang_closed items n own_item.0 l own_item.1 own_item.2
+  judged_is : judged_empty (kind_of items (named n)) (named n) ≡ named n
+  judged_is = ap (λ k. judged_empty k (named n)) (kind_is items n l found)
 
   pub many_cause : (wanted : Bool) (most : ℕ) (trees : List Printed) → HasMoreSets m.ranks K rules most → HasCause items most trees (assertion (record { wanted = wanted; claim = empty (named n) })) (more_classes most)
-  many_cause wanted most trees sets = (refl, refl, subst (λ x. HasMoreTrees items (x ∷ []) most) (sym judged_is) (more_trees most sets))
+  many_cause wanted most trees sets = (refl, by_expressions _ refl, subst (λ x. HasMoreTrees items (x ∷ []) most) (sym judged_is) (more_trees most sets))
 
   -- a chain over its guards
   on_type : (other : List ℕ) → Reaches items n.text other → type_of items (named (name_of other)) ≡ Some type
-  on_type other reached = let there = reached_of items l.of.text n.text other stand (record { lang = l; found = found; of_is = refl }) reached in type_of_name (name_of other) there.lang there.found there.of_is
+  on_type other reached =
+      let at = is.all other reached in
+      let beside = is.languages at.0 other at.1 in
+      subst (λ name. type_of items (named (name_of name)) ≡ Some type) at.2 (beside.type ∙ type_is)
 
   sorts_are : sorts_of t ≡ sorts_of (signature_named items (Some type))
   sorts_are = ap sorts_of (sym (signature_is ∙ typed))
 
-  pub wide_cause : (wanted : Bool) (most : ℕ) (trees : List Printed) (c : Chain) → EachHasEqual compares.eq (atoms_of c.literals.items) (lefts (atoms_of_all (all_guards m.rules))) × EachTwo (λ j k. ¬ (j ≡ k)) (plain_literals c.literals.items) → Passes c.bits (plain_chain c)
-      → (IsFar (plain_chain c) → HasUnkeptRow D K (truths row_holds (all_guards m.rules))) → HasCause items most trees (assertion (record { wanted = wanted; claim = empty (named n) })) (too_wide c.bits)
+  pub wide_cause : (wanted : Bool) (most : ℕ) (trees : List Printed) (c : Chain) → EachHasEqual compares.eq (atoms_of c.literals.items) (lefts (atoms_of_all (all_guards m.rules))) × EachTwo (λ j k. ¬ (j ≡ k)) (plain_literals c.literals.items) → PassesWidth c
+      → (IsFar (plain_chain c) → HasUnkeptRow (row_meaning (sorts_of t)) (truths row_holds (all_guards m.rules))) → HasCause items most trees (assertion (record { wanted = wanted; claim = empty (named n) })) (too_wide (bits_of c.width))
   wide_cause wanted most trees c over passes unkept = (
-    refl,
-    subst (λ x. IsTooWide items (x ∷ []) c.bits) (sym judged_is)
-        (wide items n type m signature_is on_type is.guards c over.0 over.1 passes (λ far. subst (λ s. HasUnkeptRow (HasSorts s) (KeepsSorts s) (truths row_holds (all_guards m.rules))) sorts_are (unkept far))),
+    by_expressions _ refl,
+    subst (λ x. IsTooWide items (x ∷ []) (bits_of c.width)) (sym judged_is)
+        (wide items n type m signature_is on_type is.guards c over.0 over.1 passes (λ far. subst (λ s. HasUnkeptRow (row_meaning s) (truths row_holds (all_guards m.rules))) sorts_are (unkept far))),
   )
 
   pub large_cause : (wanted : Bool) (most : ℕ) (trees : List Printed) → HasBigAlone m.ranks D K rules 0 → HasCause items most trees (assertion (record { wanted = wanted; claim = empty (named n) })) too_large
-  large_cause wanted most trees big = inr (inl (large_in big))
+  large_cause wanted most trees big = inl (inr (inl (large_in big)))

@@ -11,13 +11,13 @@ use Rattle.model_grammar.specs.Syntax.{Item}
 use Rattle.model_grammar.specs.Grammar.{IsProgram}
 use Rattle.model_grammar.specs.Texts.{IsText}
 use Rattle.model_checks.specs.Programs.{is_well_formed, refusal_of}
-use Rattle.model_run.specs.Words.{Form, usage_line}
+use Rattle.model_run.specs.Words.{CommandForm, usage_line}
 use Rattle.model_run.specs.Lines.{refusal_line, checked_line}
 use Rattle.model_run.specs.Built.{unbuilt_at}
 use Rattle.model_run.specs.Scripts.{Ending, whole, unfinished, Writes}
 use Rattle.model_refusals.specs.Refusals.{start}
 use Rattle.model_run.specs.Texts.{IsChecked, IsRefused}
-use Rattle.model_run.specs.Report.{IsTextRefused, CheckReport, RunReport, FormReport, StatusReport, UsageReport, IsWords, IsReport, Reports, items_script}
+use Rattle.model_run.specs.Report.{IsTextRefused, CheckReport, RunReport, CommandReport, StatusReport, UsageReport, IsWords, IsReport, Reports, items_script}
 use Rattle.fast_tool.specs.Taken.{IsProgramOf, HeldReport, TextAnswer}
 use Rattle.fast_tool.specs.Runs.{IsFault, EndsWith, ItemsReport}
 use Rattle.fast_tool.proofs.Runs.{appends_none}
@@ -118,14 +118,14 @@ built_report file limit items status before after built r = reports_map (Writes 
 
 -- ---- the words
 
-pub with_form : (words : List (List ℕ)) (held : List ℕ → Option (List ℕ)) (form : Form) (status : Status) (before after : Option (List ℕ)) → IsWords words form → Reports (StatusReport (FormReport form held)) status before after → Reports (IsReport words held) status before after
+pub with_form : (words : List (List ℕ)) (held : List ℕ → Option (List ℕ)) (form : CommandForm) (status : Status) (before after : Option (List ℕ)) → IsWords words form → Reports (StatusReport (CommandReport form held)) status before after → Reports (IsReport words held) status before after
 with_form words held form status before after i (report, r, a) = (report, inl (form, i, r), a)
 
 fault_usage : (report back : List ℕ) (status : Status) → IsFault status → report ++ back ≡ usage_line → UsageReport status report
 fault_usage report back status (inl f) e = rw f (back, e)
 fault_usage report back status (inr f) e = rw f (back, e)
 
-pub without_form : (words : List (List ℕ)) (held : List ℕ → Option (List ℕ)) (status : Status) (before after : Option (List ℕ)) → ((form : Form) → ¬ (IsWords words form)) → EndsWith before after usage_line Words status → Reports (IsReport words held) status before after
+pub without_form : (words : List (List ℕ)) (held : List ℕ → Option (List ℕ)) (status : Status) (before after : Option (List ℕ)) → ((form : CommandForm) → ¬ (IsWords words form)) → EndsWith before after usage_line Words status → Reports (IsReport words held) status before after
 without_form words held status before after none (inl (e, b)) = rw e (usage_line, inr (none, refl), b)
 without_form words held status before after none (inr (f, (front, back, e, b))) = (front, inr (none, fault_usage front back status f e), b)
 

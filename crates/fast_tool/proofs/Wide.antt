@@ -6,6 +6,7 @@ use Rattle.model_tree.specs.Signature.{PlainField, HasSorts, sorts_of}
 use Rattle.model_tree.specs.Formula.{Formula, formula_holds}
 use Rattle.model_program.specs.Syntax.{Name}
 use Rattle.model_grammar.specs.Syntax.{Expr, X, named, Item}
+use Rattle.model_names.specs.Declared.{name_of}
 use Rattle.model_names.specs.Kinds.{type_of}
 use Rattle.model_meaning.specs.Types.{input_of}
 use Rattle.model_meaning.specs.Languages.{guard_holds}
@@ -18,9 +19,8 @@ use Rattle.model_chain.specs.Chains as chains
 use Rattle.model_chain.specs.Chains.{Passes, IsFar}
 use Rattle.model_chain.specs.Each.{EachTwo}
 use Rattle.model_guard.specs.Guards.{is_guard}
-use Rattle.model_run.specs.Seen.{tested, IsTestOfName, IsCompareIn, IsCompare, Agree, HasFarLabel, IsSameCompare}
+use Rattle.model_run.specs.Seen.{tested, IsTest, of_language, guard_of_rule, IsCompareIn, IsCompare, compare_of_guard, Agree, HasFarLabel, IsSameCompare}
 use Rattle.model_run.specs.Causes.{IsTooWide}
-use Rattle.model_run.proofs.Apart.{name_of}
 use Rattle.label_core.specs.Atoms.{has_equal, EachHasEqual}
 use Rattle.label_core.specs.Formula.{atoms_in}
 use Rattle.label_core.specs.Lit.{atoms_of}
@@ -32,13 +32,14 @@ use Rattle.label_split.proofs.SameAtoms.{all_atoms}
 use Rattle.lin_solve.specs.declared.compare.Compare.{Compare}
 use Rattle.lin_solve.specs.declared.chain.Chain.{Chain}
 use Rattle.lin_solve.specs.Plain.{plain_compare, plain_relation, plain_literal, plain_literals}
-use Rattle.lin_solve.specs.Shown.{plain_chain}
+use Rattle.lin_solve.specs.Shown.{bits_of, plain_chain, PassesWidth}
 use Rattle.lin_solve.proofs.Alike.{parts_of_equal}
 use Rattle.lin_solve.specs.contracts.compare.ComparePartialEq.TheImpl.{ghosts as compares}
 use Rattle.sta_core.specs.Machine.{PlainRule, Machine}
 use Rattle.sta_core.proofs.Meaning.{All_from_map}
 use Rattle.sta_classes.specs.Guards.{all_guards, atoms_of_all, truths}
 use Rattle.record_label.specs.Rows.{RowAtom, row_holds, KeepsSorts}
+use Rattle.record_label.specs.Meaning.{row_meaning}
 use Rattle.record_label.specs.Guards.{written_in}
 use Rattle.fast_build.specs.Rules.{IsGuardFor}
 use Rattle.fast_build.specs.Automaton.{IsGuardReached}
@@ -92,13 +93,13 @@ module _ (items : List Item) (n : Name) (type : List ℕ) (m : Machine RowAtom) 
   -- the formula of a guard that the name has on the type
   record IsSeen (f : Formula RowAtom) : Type 0 where
     guard : Option Expr
-    tests : (e : Expr) → guard ≡ Some e → IsTestOfName items n type e
+    tests : (e : Expr) → guard ≡ Some e → IsTest items n type e
     is : IsGuardFor fields guard f
 
   seen : (f : Formula RowAtom) → IsGuardReached items n.text f → IsSeen f
   seen f (other, reached, r, at, is) = record {
     guard = r.guard;
-    tests = λ e same. (name_of other, reached, on other reached, inl (r, at, same));
+    tests = λ e same. of_language n (name_of other) type r e reached (on other reached) at same;
     is = subst (λ s. IsGuardFor s.fields r.guard f) (sym signature_is) is;
   }
 
@@ -108,10 +109,10 @@ module _ (items : List Item) (n : Name) (type : List ℕ) (m : Machine RowAtom) 
   -- ---- comparisons that are written
 
   abbrev IsSeenAtom : RowAtom → Type 0
-  IsSeenAtom (Left c) = (e : Expr) × IsTestOfName items n type e × IsCompareIn fields e (plain_compare c)
+  IsSeenAtom (Left c) = (e : Expr) × IsTest items n type e × IsCompareIn fields e (plain_compare c)
   IsSeenAtom (Right a) = Unit {0}
 
-  seen_atom : (e : Expr) → IsTestOfName items n type e → is_guard fields e ≡ true → (a : RowAtom) → Contains (written_in fields e) a → IsSeenAtom a
+  seen_atom : (e : Expr) → IsTest items n type e → is_guard fields e ≡ true → (a : RowAtom) → Contains (written_in fields e) a → IsSeenAtom a
   seen_atom e test guard (Left c) at = (e, test, written fields e guard c at)
   seen_atom e test guard (Right a) at = tt
 
@@ -137,21 +138,21 @@ module _ (items : List Item) (n : Name) (type : List ℕ) (m : Machine RowAtom) 
       let own = get_or c.literals.items k d in
       let found = equal_one compares.eq (λ b. IsSeenAtom (Left b)) own.atom (lefts (atoms_of_all (all_guards m.rules))) (lefts_listed IsSeenAtom (atoms_of_all (all_guards m.rules)) all_atoms_seen)
       (All_from_map (λ a. IsTrue (has_equal compares.eq (lefts (atoms_of_all (all_guards m.rules))) a)) (λ x. x.atom) c.literals.items each k d low) in
-      (named n, (0, omega arith, refl), plain_compare found.0, inl (found.1.0, found.1.1, found.1.2), same_compare own.atom found.0 found.2))
+      (named n, (0, omega arith, refl), plain_compare found.0, compare_of_guard n type found.1.0 (plain_compare found.0) found.1.1 found.1.2, same_compare own.atom found.0 found.2))
 
   -- ---- labels that differ at no guard
 
   abbrev Has : Label → Type 0
   Has = HasSorts (sorts_of (signature_named items (Some type)))
 
-  same_written : (l k : Label) → Agree items (named n ∷ []) type l k → (guard : Option Expr) → ((e : Expr) → guard ≡ Some e → IsTestOfName items n type e) → guard_holds fields guard l ≡ guard_holds fields guard k
+  same_written : (l k : Label) → Agree items (named n ∷ []) type l k → (guard : Option Expr) → ((e : Expr) → guard ≡ Some e → IsTest items n type e) → guard_holds fields guard l ≡ guard_holds fields guard k
   same_written l k agree None tests = refl
-  same_written l k agree (Some e) tests = agree (named n) (0, omega arith, refl) (tested fields e) (e, tests e refl, refl)
+  same_written l k agree (Some e) tests = agree (named n) (0, omega arith, refl) (tested fields e) (guard_of_rule n type e (tests e refl))
 
   same_guard : (l k : Label) → Has l → Has k → Agree items (named n ∷ []) type l k → (f : Formula RowAtom) → IsSeen f → formula_holds (λ a. row_holds a k) f ≡ formula_holds (λ a. row_holds a l) f
   same_guard l k has_l has_k agree f s = guard_means fields s.guard f k s.is has_k ∙ sym (same_written l k agree s.guard s.tests) ∙ sym (guard_means fields s.guard f l s.is has_l)
 
-  far : HasUnkeptRow Has (KeepsSorts (sorts_of (signature_named items (Some type)))) (truths row_holds (all_guards m.rules)) → HasFarLabel items (named n ∷ []) type
+  far : HasUnkeptRow (row_meaning (sorts_of (signature_named items (Some type)))) (truths row_holds (all_guards m.rules)) → HasFarLabel items (named n ∷ []) type
   far (l, has, none) = (
     l,
     has,
@@ -160,6 +161,6 @@ module _ (items : List Item) (n : Name) (type : List ℕ) (m : Machine RowAtom) 
   )
 
   -- the chain of an automaton's guards
-  pub wide : (c : Chain) → EachHasEqual compares.eq (atoms_of c.literals.items) (lefts (atoms_of_all (all_guards m.rules))) → EachTwo (λ l k. ¬ (l ≡ k)) (plain_literals c.literals.items) → Passes c.bits (plain_chain c)
-      → (IsFar (plain_chain c) → HasUnkeptRow Has (KeepsSorts (sorts_of (signature_named items (Some type)))) (truths row_holds (all_guards m.rules))) → IsTooWide items (named n ∷ []) c.bits
-  wide c each once passes unkept = record { type = type; chain = plain_chain c; over = over c each; once = once; passes = passes; far = λ narrow. far (unkept (far_of c.bits (plain_chain c) passes narrow)) }
+  pub wide : (c : Chain) → EachHasEqual compares.eq (atoms_of c.literals.items) (lefts (atoms_of_all (all_guards m.rules))) → EachTwo (λ l k. ¬ (l ≡ k)) (plain_literals c.literals.items) → PassesWidth c
+      → (IsFar (plain_chain c) → HasUnkeptRow (row_meaning (sorts_of (signature_named items (Some type)))) (truths row_holds (all_guards m.rules))) → IsTooWide items (named n ∷ []) (bits_of c.width)
+  wide c each once passes unkept = record { type = type; chain = plain_chain c; over = over c each; once = once; passes = passes; far = λ narrow. far (unkept (far_of (bits_of c.width) (plain_chain c) passes narrow)) }

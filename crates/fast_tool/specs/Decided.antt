@@ -1,12 +1,13 @@
 -- What is found of a language, and what an item gives.
-use Rattle.std.specs.Prelude.{◌≡◌, ℕ, Bool, List}
-use Rattle.model_tree.specs.Tree.{relabel}
+use Rattle.std.specs.Prelude.{◌≡◌, ◌≤◌, ℕ, Bool, true, List}
+use Rattle.model_tree.specs.Tree.{LabelTree, relabel, node_count, depth}
+use Rattle.model_tree.specs.Kept.{is_kept}
 use Rattle.fast_tree.specs.Entries.{label_meaning}
 use Rattle.model_program.specs.Syntax.{Name}
 use Rattle.model_grammar.specs.Syntax.{AssertItem, Body, assertion, Item, empty, named}
 use Rattle.model_meaning.specs.Values.{Printed}
 use Rattle.model_meaning.specs.Truth.{IsTrue, Shows}
-use Rattle.model_run.specs.Outcomes.{Outcome, IsPrintable, IsVerdict, IsOutcome, silent, line_of, says_fail}
+use Rattle.model_run.specs.Outcomes.{Outcome, IsVerdict, IsOutcome, silent, line_of, says_fail}
 use Rattle.model_run.specs.Causes.{HasCause, more_classes, too_wide, too_large}
 use Rattle.model_run.specs.Causes as model
 use Rattle.fast_tool.specs.declared.verdicts.Verdict.{Verdict}
@@ -26,10 +27,16 @@ plain_stop stop.TreeSize = too_large
 abbrev pub IsCauseOf : List Item → ℕ → Body → Stop → Type 0
 IsCauseOf items limit body s = (trees : List Printed) → HasCause items limit trees body (plain_stop s)
 
+-- what a line may show, if its texts can be shown
+pub record IsInLimits (t : LabelTree) : Type 0 where
+  pub kept : is_kept t ≡ true
+  pub small : node_count t ≤ 1048576
+  pub shallow : depth t ≤ 2000
+
 -- that the language is empty, a tree that shows that it isn't, or a cause to stop at an assertion of it
 abbrev pub IsDecided : List Item → ℕ → Name → Decided → Type 0
 IsDecided items limit name decided.Empty = IsTrue items (empty (named name))
-IsDecided items limit name (decided.Shows t) = Shows items (empty (named name)) (relabel label_meaning t) × IsPrintable (relabel label_meaning t)
+IsDecided items limit name (decided.Shows t) = Shows items (empty (named name)) (relabel label_meaning t) × IsInLimits (relabel label_meaning t)
 IsDecided items limit name (decided.Stopped s) = (wanted : Bool) → IsCauseOf items limit (assertion (record { wanted = wanted; claim = empty (named name) })) s
 
 -- it has the line of an outcome, and fails where that says so

@@ -5,10 +5,8 @@ use Rattle.model_run.specs.Built.{is_built}
 use Rattle.program_check.specs.declared.programs.Checked.{Checked}
 use Rattle.program_check.specs.Tells.{IsChecked}
 use Rattle.fast_build.specs.Items.{items_of}
-use Rattle.fast_build.specs.Stands.{AllStand}
 
--- it is checked, its languages stand, and each item is built
+-- it is checked, and each item is built
 pub record MayRun (c : Checked) : Type 0 where
   pub checked : IsChecked c
-  pub stand : AllStand (items_of c)
   pub built : list_all (is_built (items_of c)) (items_of c) ≡ true

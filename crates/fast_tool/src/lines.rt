@@ -1,7 +1,8 @@
 //! The lines of verdicts.
 
-ghost use Rattle.std.specs.Prelude.{◌≡◌, ◌++◌, IfOk, string_bytes, codes, decimal};
+ghost use Rattle.std.specs.Prelude.{◌≡◌, ◌++◌, IfOk, string_bytes, codes, decimal, true};
 ghost use Rattle.model_tree.specs.Tree.{relabel};
+ghost use Rattle.model_tree.specs.Scalars.{has_scalars};
 ghost use Rattle.model_tree.specs.Signature.{HasType};
 ghost use Rattle.fast_tree.specs.Entries.{label_meaning};
 ghost use Rattle.fast_tree.specs.Signatures.{plain_signature};
@@ -40,7 +41,8 @@ pub fn tree_line(
     tree: &Tree<Label>,
 ) -> Result<Vec<u8>, Memory>
     requires { HasType (plain_signature signature.now) (relabel label_meaning tree.now) }
-    ensures { IfOk result (λ text. text.items ≡ line_of (tree_verdict line passes (plain_signature signature.now) (relabel label_meaning tree.now))) }
+    ensures text { IfOk result (λ text. text.items ≡ line_of (tree_verdict line passes (plain_signature signature.now) (relabel label_meaning tree.now))) }
+    ensures scalars { IfOk result (λ _. has_scalars (relabel label_meaning tree.now) ≡ true) }
 {
     let mut text = head(alloc, line, passes)?.into_bytes();
     text.push(b' ')?;

@@ -401,7 +401,7 @@ assert 7 pass
 ";
 
 /// Command lines, texts, exit codes and reports.
-const RUNS: [(&str, &str, u8, &str); 26] = [
+const RUNS: [(&str, &str, u8, &str); 27] = [
     ("run F", EIGHT, 0, EIGHT_REPORT),
     ("run F", "", 0, ""),
     ("check F", "", 0, "checked 0 items\n"),
@@ -429,6 +429,12 @@ const RUNS: [(&str, &str, u8, &str); 26] = [
         "type N[x : Int]{z(0)}\nlang big : N { z() where x > 9223372036854775807 }\nassert-false (is-empty big)",
         4,
         "refused 31 Width at F:3:1 64\n",
+    ),
+    (
+        "run F",
+        "type N[a : Int, b : Int, c : Int, d : Int, e : Int, f : Int]{z(0)}\nlang w : N { z() where 2147483647 * a = 2147483629 * b and 2147483587 * b = 2147483579 * c and 2147483563 * c = 2147483549 * d and 2147483543 * d = 2147483497 * e and 2147483489 * e = 2147483477 * f and a > 0 }\nassert-false (is-empty w)",
+        4,
+        "refused 31 Width at F:3:1 128\n",
     ),
     (
         "run F",

@@ -4,9 +4,9 @@ ghost use Rattle.std.specs.Prelude.{◌≡◌, ◌≢◌, ◌≤◌, ℕ, List, 
 ghost use Rattle.fast_fault.specs.Written.{Rose};
 ghost use Rattle.fast_fault.specs.declared.status.Status.TheVariants.{SinkFault, TextFault};
 ghost use Rattle.fast_syntax.specs.Plain.{plain_program};
-ghost use Rattle.model_run.specs.Words.{Form, check_form, run_form};
+ghost use Rattle.model_run.specs.Words.{CommandForm, check_form, run_form};
 ghost use Rattle.model_run.specs.Lines.{checked_line};
-ghost use Rattle.model_run.specs.Report.{CheckReport, StatusReport, FormReport, IsReport, Reports, IsDoable, IsDoneOrStopped};
+ghost use Rattle.model_run.specs.Report.{CheckReport, StatusReport, CommandReport, IsReport, Reports, IsDoable, IsDoneOrStopped};
 
 use crate::items::run_program;
 use crate::reading::take_checked;
@@ -47,7 +47,7 @@ fn check_file<T: TextSource, K: Sink>(
     texts: &mut T,
     sink: &mut K,
 ) -> Status
-    ensures report { Reports (StatusReport (FormReport (check_form file.now) (T.held texts.old))) result (K.written sink.old) (K.written sink.new) }
+    ensures report { Reports (StatusReport (CommandReport (check_form file.now) (T.held texts.old))) result (K.written sink.old) (K.written sink.new) }
     ensures rose { result ≡ SinkFault → Rose (K.faults sink.old) (K.faults sink.new) }
     ensures take_rose { result ≡ TextFault → Rose (T.faults texts.old) (T.faults texts.new) }
 {
@@ -64,7 +64,7 @@ fn run_file<T: TextSource, K: Sink>(
     texts: &mut T,
     sink: &mut K,
 ) -> Status
-    ensures report { Reports (StatusReport (FormReport (run_form file.now None) (T.held texts.old))) result (K.written sink.old) (K.written sink.new) }
+    ensures report { Reports (StatusReport (CommandReport (run_form file.now None) (T.held texts.old))) result (K.written sink.old) (K.written sink.new) }
     ensures rose { result ≡ SinkFault → Rose (K.faults sink.old) (K.faults sink.new) }
     ensures take_rose { result ≡ TextFault → Rose (T.faults texts.old) (T.faults texts.new) }
 {
@@ -107,7 +107,7 @@ pub fn run<T: TextSource, K: Sink>(
     ensures text_fault { result ≡ TextFault → Rose (T.faults texts.old) (T.faults texts.new) }
     // Where nothing in the words, the text or its items stands in the way, nothing but a fault or want of memory stops the
     // report.
-    ensures complete { (form : Form) → IsDoable (map string_bytes words.now) (T.held texts.old) form → IsDoneOrStopped result }
+    ensures complete { (form : CommandForm) → IsDoable (map string_bytes words.now) (T.held texts.old) form → IsDoneOrStopped result }
 {
     obey(alloc, words, texts, sink)
 }

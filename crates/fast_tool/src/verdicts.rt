@@ -2,6 +2,7 @@
 
 ghost use Rattle.std.specs.Prelude.{◌≡◌, ◌≤◌, IfOk, is_some, true};
 ghost use Rattle.model_tree.specs.Tree.{relabel};
+ghost use Rattle.model_tree.specs.Scalars.{has_scalars};
 ghost use Rattle.model_tree.specs.Signature.{HasType};
 ghost use Rattle.fast_tree.specs.Entries.{label_meaning};
 ghost use Rattle.fast_tree.specs.Signatures.{plain_signature};
@@ -14,14 +15,13 @@ ghost use Rattle.fast_tool.specs.Declarations.{MayRun};
 ghost use Rattle.fast_tool.specs.Decided.{IsDecided, SaysOf, IsAsserted};
 
 use crate::lines::{plain_line, tree_line};
-use fast_build::language;
+use fast_build::languages;
 use fast_fault::Memory;
 use fast_syntax::Name;
 use fast_tree::{Label, Signature, Tree};
 use program_check::Checked;
 use record_label::RowLabels;
 use sta_classes::ClassStop;
-use sta_core::Lang;
 use sta_ops::{Found, empty};
 use std::alloc::Global;
 
@@ -60,14 +60,14 @@ fn decide(
     requires shallow { limit ≤ 2000 }
     ensures { IfOk result (IsDecided (items_of checked.now) limit (plain_name name.now)) }
 {
-    let sta = language(alloc, checked, signature, &name.text)?;
+    let lang = languages(alloc, checked, &name.text)?;
     let theory = RowLabels::new(alloc, signature)?;
-    match empty(&theory, alloc, &Lang { sta, state: 0 }, limit) {
+    match empty(&theory, alloc, &lang, limit) {
         Ok(Found::Absent) => Ok(Decided::Empty),
         Ok(Found::Shown(tree)) => Ok(Decided::Shows(tree)),
         Ok(Found::TooBig) => Ok(Decided::Stopped(Stop::TreeSize)),
         Err(ClassStop::Classes) => Ok(Decided::Stopped(Stop::Classes(limit))),
-        Err(ClassStop::Wide(chain)) => Ok(Decided::Stopped(Stop::Width(chain.bits))),
+        Err(ClassStop::Wide(chain)) => Ok(Decided::Stopped(Stop::Width(chain.width.bits()))),
         Err(ClassStop::Memory) => Err(Memory),
     }
 }
@@ -88,7 +88,8 @@ fn tree_verdict(
     tree: &Tree<Label>,
 ) -> Result<Verdict, Memory>
     requires { HasType (plain_signature signature.now) (relabel label_meaning tree.now) }
-    ensures { IfOk result (SaysOf (tree_verdict line passes (plain_signature signature.now) (relabel label_meaning tree.now))) }
+    ensures says { IfOk result (SaysOf (tree_verdict line passes (plain_signature signature.now) (relabel label_meaning tree.now))) }
+    ensures scalars { IfOk result (λ _. has_scalars (relabel label_meaning tree.now) ≡ true) }
 {
     Ok(Verdict {
         line: tree_line(alloc, line, passes, signature, tree)?,

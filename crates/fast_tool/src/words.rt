@@ -1,9 +1,9 @@
 //! The words of a command line.
 
 ghost use Rattle.std.specs.Prelude.{◌≡◌, [], ◌∷◌, map, string_bytes, IfSome, IfNone};
-ghost use Rattle.model_run.specs.Words.{Form};
+ghost use Rattle.model_run.specs.Words.{CommandForm};
 ghost use Rattle.model_run.specs.Report.{IsWords};
-ghost use Rattle.fast_tool.specs.Commands.{form_of};
+ghost use Rattle.fast_tool.specs.Commands.{command_form};
 
 /// What the words ask for.
 pub enum Command<'w> {
@@ -15,8 +15,8 @@ pub enum Command<'w> {
 
 /// The command of two words.
 fn of_two<'w>(verb: &str, file: &'w str) -> Option<Command<'w>>
-    ensures some { IfSome result (λ c. IsWords (verb.now ∷ file.now ∷ []) (form_of c)) }
-    ensures none { IfNone result ((form : Form) → ¬ (IsWords (verb.now ∷ file.now ∷ []) form)) }
+    ensures some { IfSome result (λ c. IsWords (verb.now ∷ file.now ∷ []) (command_form c)) }
+    ensures none { IfNone result ((form : CommandForm) → ¬ (IsWords (verb.now ∷ file.now ∷ []) form)) }
 {
     if file.is_empty() {
         None
@@ -31,8 +31,8 @@ fn of_two<'w>(verb: &str, file: &'w str) -> Option<Command<'w>>
 
 /// The command that the words are, if they are one.
 pub fn read_words<'w>(words: &'w [String]) -> Option<Command<'w>>
-    ensures some { IfSome result (λ c. IsWords (map string_bytes words.now) (form_of c)) }
-    ensures none { IfNone result ((form : Form) → ¬ (IsWords (map string_bytes words.now) form)) }
+    ensures some { IfSome result (λ c. IsWords (map string_bytes words.now) (command_form c)) }
+    ensures none { IfNone result ((form : CommandForm) → ¬ (IsWords (map string_bytes words.now) form)) }
 {
     match words {
         [verb, file] => of_two(verb.as_str(), file.as_str()),

@@ -3,7 +3,7 @@ use Rattle.fast_syntax.specs.Plain.{plain_rule}
 use Rattle.sta_core.specs.Machine.{plain_rule as machine_rule}
 use Rattle.sta_core.proofs.Meaning.{All_from_map}
 use Rattle.model_sta.proofs.Pairs.{pairwise_more}
-use Rattle.fast_build.specs.Numbers.{has_ctor}
+use Rattle.fast_build.specs.Numbers.{number_in, has_ctor}
 use Rattle.fast_build.specs.Rules.{IsRuleFor}
 use Rattle.fast_build.specs.Stands.{GuardStands}
 use Rattle.fast_build.proofs.Elements.{all_mapped, all_here, mapped_at, mapped_below}
@@ -25,5 +25,5 @@ rule_for-requires-clause-named c =
 
 pub rules-preserved : goal.rules-preserved
 rules-preserved c =
-    pairwise_more (IsRuleFor (plain_signature c.args.signature.now) c.args.names.now.keys) machine_rule plain_rule c.rules.made.items c.push.new.self.items c.in_ok-rule_for.field-0
+    pairwise_more (IsRuleFor (plain_signature c.args.signature.now) (number_in c.args.names.now.keys)) machine_rule plain_rule c.rules.made.items c.push.new.self.items c.in_ok-rule_for.field-0
     c.args.rules.now c.rules.rule-index c.rule-item.result c.rules-test.true c.rule-item.is c.in_ok-push.ensures.items c.in_ok-rule_for.ensures c.rules.invariant

@@ -1,7 +1,6 @@
 use Rattle.std.proofs.Common.{sym}
 use Rattle.fast_syntax.specs.Plain.{plain_program}
 use Rattle.fast_tool.proofs.AllBuilt.{all_built}
-use Rattle.fast_tool.proofs.WellFormed.{all_stand}
 use Rattle.fast_tool.proofs.Texts.{built_report}
 use Rattle.fast_tool.proofs.items.run_program.Goals as goal
 
@@ -10,7 +9,6 @@ run_items-requires g c =
     let items = plain_program c.args.checked.now.program in
     record {
       checked = c.requires;
-      stand = all_stand items c.requires.well_formed;
       built = all_built items (sym c.in-None.ensures);
     }
 

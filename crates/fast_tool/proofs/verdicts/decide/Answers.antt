@@ -9,12 +9,17 @@ use Rattle.model_sta.specs.Reached.{HasMoreSets}
 use Rattle.model_chain.specs.Chains.{IsFar}
 use Rattle.label_split.specs.Split.{HasUnkeptRow}
 use Rattle.lin_solve.specs.Shown.{plain_chain}
-use Rattle.sta_classes.specs.Guards.{all_guards, truths}
+use Rattle.lin_solve.proofs.Once.{plain_different}
+use Rattle.sta_classes.specs.Guards.{all_guards, atoms_of_all, truths}
 use Rattle.sta_core.specs.Sta.{automaton_of, AtomsFit}
 use Rattle.sta_ops.specs.Empty.{IsTreeOf, IsLeastOf, HasBigAlone}
+use Rattle.record_label.specs.Derived.{same_compares, compares_laws}
+use Rattle.record_label.specs.Meaning.{row_meaning}
 use Rattle.record_label.specs.Rows.{row_holds, RowFits, KeepsSorts}
+use Rattle.record_label.proofs.ChainFacts.{compares_over}
 use Rattle.fast_build.specs.Items.{items_of}
 use Rattle.fast_build.proofs.Standing.{lang_there, type_is}
+use Rattle.fast_build.proofs.WellFormed.{all_stand}
 use Rattle.fast_tool.proofs.Tables.{none_in, shown_in, large_cause, many_cause, wide_cause}
 use Rattle.fast_tool.proofs.verdicts.decide.Goals as goal
 
@@ -24,11 +29,11 @@ new-requires c =
     let n = plain_name c.args.name.now in
     let at = lang_there items n.text c.requires.there in
     let t = plain_signature c.args.signature.now in
-    let few = subst (λ (s : PlainSignature). length s.fields ≤ 8) (sym (type_is items n.text at.0 at.1) ∙ c.requires.typed) (c.requires.runs.stand n.text at.0 at.1).few in
+    let few = subst (λ (s : PlainSignature). length s.fields ≤ 8) (sym (type_is items n.text at.0 at.1) ∙ c.requires.typed) (all_stand items c.requires.runs.checked.well_formed n.text at.0 at.1).few in
     subst (λ k. k ≤ 8) (length-map c.args.signature.now.fields.items plain_field) few
 
 pub empty-requires : goal.empty-requires
-empty-requires c = record { fit = subst (λ s. AtomsFit (RowFits s) c.in_ok-sta.sta) (ap sorts_of c.requires.typed ∙ sym c.in_ok-theory.ensures) c.in_ok-sta.ensures.fit }
+empty-requires c = record { fit = subst (λ s. AtomsFit (RowFits s) c.in_ok-lang.lang.sta) (ap sorts_of c.requires.typed ∙ sym c.in_ok-theory.ensures) c.in_ok-lang.ensures.automaton.fit }
 
 pub returns-in-Ok-Absent : goal.returns-in-Ok-Absent
 returns-in-Ok-Absent c =
@@ -36,8 +41,9 @@ returns-in-Ok-Absent c =
     let n = plain_name c.args.name.now in
     let at = lang_there items n.text c.requires.there in
     let t = plain_signature c.args.signature.now in
-    none_in items n at.0 c.requires.runs.stand at.1 t c.requires.typed c.in_ok-sta.sta c.in_ok-sta.ensures
-    (subst (λ s. (u : LabelTree) → ¬ (IsTreeOf c.in_ok-sta.sta.ranks (HasSorts s) (KeepsSorts s) (automaton_of row_holds c.in_ok-sta.sta) 0 u)) c.in_ok-theory.ensures (rw c.in-Ok-Absent.field-0-is at c.in-Ok-Absent.ensures.found))
+    none_in items n at.0 (all_stand items c.requires.runs.checked.well_formed) at.1 t c.requires.typed c.in_ok-lang.lang.sta c.in_ok-lang.ensures.automaton
+    (subst (λ s. (u : LabelTree) → ¬ (IsTreeOf c.in_ok-lang.lang.sta.ranks (HasSorts s) (KeepsSorts s) (automaton_of row_holds c.in_ok-lang.lang.sta) 0 u)) c.in_ok-theory.ensures
+    (subst (λ k. (u : LabelTree) → ¬ (IsTreeOf c.in_ok-lang.lang.sta.ranks (HasSorts c.in_ok-theory.theory) (KeepsSorts c.in_ok-theory.theory) (automaton_of row_holds c.in_ok-lang.lang.sta) k u)) c.in_ok-lang.ensures.start (rw c.in-Ok-Absent.field-0-is at c.in-Ok-Absent.ensures.found)))
 
 pub returns-in-Ok-Shown : goal.returns-in-Ok-Shown
 returns-in-Ok-Shown c =
@@ -46,8 +52,9 @@ returns-in-Ok-Shown c =
     let at = lang_there items n.text c.requires.there in
     let t = plain_signature c.args.signature.now in
     let u = relabel label_meaning c.in-Ok-Shown.tree in
-    let least = subst (λ s. IsLeastOf c.in_ok-sta.sta.ranks (HasSorts s) (KeepsSorts s) (automaton_of row_holds c.in_ok-sta.sta) 0 c.args.limit u) c.in_ok-theory.ensures (rw c.in-Ok-Shown.field-0-is at c.in-Ok-Shown.ensures.found) in
-    shown_in items n at.0 c.requires.runs.stand at.1 t c.requires.typed c.in_ok-sta.sta c.in_ok-sta.ensures c.args.limit c.requires.shallow u least
+    let own = subst (λ k. IsLeastOf c.in_ok-lang.lang.sta.ranks (HasSorts c.in_ok-theory.theory) (KeepsSorts c.in_ok-theory.theory) (automaton_of row_holds c.in_ok-lang.lang.sta) k c.args.limit u) c.in_ok-lang.ensures.start (rw c.in-Ok-Shown.field-0-is at c.in-Ok-Shown.ensures.found) in
+    let least = subst (λ s. IsLeastOf c.in_ok-lang.lang.sta.ranks (HasSorts s) (KeepsSorts s) (automaton_of row_holds c.in_ok-lang.lang.sta) 0 c.args.limit u) c.in_ok-theory.ensures own in
+    shown_in items n at.0 (all_stand items c.requires.runs.checked.well_formed) at.1 t c.requires.typed c.in_ok-lang.lang.sta c.in_ok-lang.ensures.automaton c.args.limit c.requires.shallow u least
 
 pub returns-in-Ok-TooBig : goal.returns-in-Ok-TooBig
 returns-in-Ok-TooBig c =
@@ -55,8 +62,9 @@ returns-in-Ok-TooBig c =
     let n = plain_name c.args.name.now in
     let at = lang_there items n.text c.requires.there in
     let t = plain_signature c.args.signature.now in
-    let big = subst (λ s. HasBigAlone c.in_ok-sta.sta.ranks (HasSorts s) (KeepsSorts s) (automaton_of row_holds c.in_ok-sta.sta) 0) c.in_ok-theory.ensures (rw c.in-Ok-TooBig.field-0-is at c.in-Ok-TooBig.ensures.found) in
-    λ wanted trees. large_cause items n at.0 c.requires.runs.stand at.1 t c.requires.typed c.in_ok-sta.sta c.in_ok-sta.ensures wanted c.args.limit trees big
+    let own = subst (λ k. HasBigAlone c.in_ok-lang.lang.sta.ranks (HasSorts c.in_ok-theory.theory) (KeepsSorts c.in_ok-theory.theory) (automaton_of row_holds c.in_ok-lang.lang.sta) k) c.in_ok-lang.ensures.start (rw c.in-Ok-TooBig.field-0-is at c.in-Ok-TooBig.ensures.found) in
+    let big = subst (λ s. HasBigAlone c.in_ok-lang.lang.sta.ranks (HasSorts s) (KeepsSorts s) (automaton_of row_holds c.in_ok-lang.lang.sta) 0) c.in_ok-theory.ensures own in
+    λ wanted trees. large_cause items n at.0 (all_stand items c.requires.runs.checked.well_formed) at.1 t c.requires.typed c.in_ok-lang.lang.sta c.in_ok-lang.ensures.automaton wanted c.args.limit trees big
 
 pub returns-in-Err-Classes : goal.returns-in-Err-Classes
 returns-in-Err-Classes c =
@@ -64,8 +72,8 @@ returns-in-Err-Classes c =
     let n = plain_name c.args.name.now in
     let at = lang_there items n.text c.requires.there in
     let t = plain_signature c.args.signature.now in
-    let many = subst (λ s. HasMoreSets c.in_ok-sta.sta.ranks (KeepsSorts s) (automaton_of row_holds c.in_ok-sta.sta) c.args.limit) c.in_ok-theory.ensures (rw c.in-Err-Classes.field-0-is at c.in-Err-Classes.ensures.stop) in
-    λ wanted trees. many_cause items n at.0 c.requires.runs.stand at.1 t c.requires.typed c.in_ok-sta.sta c.in_ok-sta.ensures wanted c.args.limit trees many
+    let many = subst (λ s. HasMoreSets c.in_ok-lang.lang.sta.ranks (KeepsSorts s) (automaton_of row_holds c.in_ok-lang.lang.sta) c.args.limit) c.in_ok-theory.ensures (rw c.in-Err-Classes.field-0-is at c.in-Err-Classes.ensures.stop) in
+    λ wanted trees. many_cause items n at.0 (all_stand items c.requires.runs.checked.well_formed) at.1 t c.requires.typed c.in_ok-lang.lang.sta c.in_ok-lang.ensures.automaton wanted c.args.limit trees many
 
 pub returns-in-Err-Wide : goal.returns-in-Err-Wide
 returns-in-Err-Wide c =
@@ -74,5 +82,6 @@ returns-in-Err-Wide c =
     let at = lang_there items n.text c.requires.there in
     let t = plain_signature c.args.signature.now in
     let stop = rw c.in-Err-Wide.field-0-is at c.in-Err-Wide.ensures.stop in
-    let unkept = subst (λ s. IsFar (plain_chain c.in-Err-Wide.chain) → HasUnkeptRow (HasSorts s) (KeepsSorts s) (truths row_holds (all_guards c.in_ok-sta.sta.rules))) c.in_ok-theory.ensures stop.1 in
-    λ wanted trees. wide_cause items n at.0 c.requires.runs.stand at.1 t c.requires.typed c.in_ok-sta.sta c.in_ok-sta.ensures wanted c.args.limit trees c.in-Err-Wide.chain stop.0.0 stop.0.1 unkept
+    let unkept = subst (λ s. IsFar (plain_chain c.in-Err-Wide.chain) → HasUnkeptRow (row_meaning s) (truths row_holds (all_guards c.in_ok-lang.lang.sta.rules))) c.in_ok-theory.ensures stop.1 in
+    let over = compares_over c.in_ok-theory.theory (atoms_of_all (all_guards c.in_ok-lang.lang.sta.rules)) c.in-Err-Wide.chain stop.0.0 in
+    λ wanted trees. rw c.bits.ensures (wide_cause items n at.0 (all_stand items c.requires.runs.checked.well_formed) at.1 t c.requires.typed c.in_ok-lang.lang.sta c.in_ok-lang.ensures.automaton wanted c.args.limit trees c.in-Err-Wide.chain (over.0, plain_different same_compares compares_laws c.in-Err-Wide.chain.literals.items over.1) stop.0.1 unkept)

@@ -25,8 +25,8 @@ returns-in_ok-verdict-in-Shows c =
     let type : plain_signature c.args.signature.now ≡ input_type items (named n) = sym (input_type_of_name items n ∙ c.requires.typed) in
     record {
       outcome = tree_verdict c.args.line (not c.args.wanted) (plain_signature c.args.signature.now) (relabel label_meaning c.in-Shows.tree);
-      may = λ trees. (refl, type, (refl, found.0), found.1);
-      says = c.in_ok-verdict-in-Shows.ensures;
+      may = λ trees. (refl, type, (refl, found.0), record { kept = found.1.kept; scalars = c.in_ok-verdict-in-Shows.ensures.scalars; small = found.1.small; shallow = found.1.shallow });
+      says = c.in_ok-verdict-in-Shows.ensures.says;
     }
 
 pub returns-in-Stopped : goal.returns-in-Stopped

@@ -16,10 +16,11 @@ use Rattle.model_checks.specs.Rules.{find_ctor}
 use Rattle.model_checks.specs.Programs.{is_well_formed}
 use Rattle.model_checks.specs.Sound.{are_distinct, names_of_ctors, IsSoundType, IsSoundGuard, IsSoundDemand, IsSoundRule, IsSoundLang, IsSound}
 use Rattle.model_checks.proofs.SoundWhole.{sound, finds}
-use Rattle.model_run.proofs.SoundGuards.{sound_guard}
+use Rattle.meaning_laws.proofs.SoundGuards.{sound_guard}
 use Rattle.fast_build.specs.Items.{own_lang, find_lang}
 use Rattle.fast_build.specs.Numbers.{find_constructor}
-use Rattle.fast_build.specs.Stands.{are_apart, has_rank, GuardStands, demand_stands, rule_stands, LangStands, AllStand}
+use Rattle.fast_build.specs.Stands.{GuardStands}
+use Rattle.fast_build.proofs.Stands.{are_apart, has_rank, demand_stands, rule_stands, LangStands, AllStand}
 use Rattle.fast_build.proofs.Standing.{item_there}
 
 same_itself : (x : List ℕ) → same_text x x ≡ true
