@@ -10,7 +10,7 @@ use Rattle.model_program.specs.declared.Word.TheVariants.{Not, True, False, Id, 
 use Rattle.model_program.specs.Lexeme.{Lexeme}
 use Rattle.model_program.specs.Pieces.{Digits, Text}
 use Rattle.model_program.specs.Cuts.{Piece}
-use Rattle.model_program.specs.Reads.{IsOther}
+use Rattle.model_program.specs.Joined.{IsOther}
 use Rattle.model_program.specs.TokenTexts.{IsTextOf, HaveTexts}
 use Rattle.model_grammar.specs.declared.Rel.{Rel}
 use Rattle.model_grammar.specs.declared.Rel.TheVariants as rel

@@ -10,7 +10,7 @@ use Rattle.model_program.specs.Lexeme.{Lexeme}
 use Rattle.model_program.specs.Syntax.{Name, FieldItem, CtorItem, TypeItem, Demand}
 use Rattle.model_program.specs.Pieces.{Digits}
 use Rattle.model_program.specs.Cuts.{Piece, lexemes_after}
-use Rattle.model_program.specs.Reads.{◌⌢◌}
+use Rattle.model_program.specs.Joined.{◌⌢◌}
 use Rattle.model_program.specs.Grammar.{IsAt, IsName, IsNumber, Many, AreVars, IsGiven, IsDemand, IsCtor, IsSort, IsField, AreFieldsOrNone, AreCtors, IsTypeItem, assert_word}
 use Rattle.model_program.specs.TokenTexts.{HaveTexts}
 use Rattle.model_grammar.specs.Nesting.{nested_at}

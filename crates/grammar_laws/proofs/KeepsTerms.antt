@@ -5,7 +5,7 @@ use Rattle.model_program.specs.declared.Word.TheVariants.{Id, Comma, Bar, Square
 use Rattle.model_program.specs.Lexeme.{Lexeme}
 use Rattle.model_program.specs.Syntax.{Name}
 use Rattle.model_program.specs.Cuts.{Piece}
-use Rattle.model_program.specs.Reads.{◌⌢◌}
+use Rattle.model_program.specs.Joined.{◌⌢◌}
 use Rattle.model_program.specs.Grammar.{IsSign, IsName, IsComma, Further, Items, Any, Many}
 use Rattle.model_program.specs.TokenTexts.{HaveTexts}
 use Rattle.model_grammar.specs.declared.Op1.{Op1}

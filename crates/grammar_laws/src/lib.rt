@@ -7,7 +7,7 @@ ghost use Rattle.model_program.specs.Lexeme.{Lexeme};
 ghost use Rattle.model_program.specs.Cuts.{lexemes_after};
 ghost use Rattle.model_program.specs.TokenTexts.{HaveTexts};
 ghost use Rattle.model_program.specs.declared.Word.TheVariants.{RoundOpen};
-ghost use Rattle.model_program.specs.Reads.{IsNext};
+ghost use Rattle.model_program.specs.Joined.{IsNext};
 ghost use Rattle.model_grammar.specs.declared.Level.{Level};
 ghost use Rattle.model_grammar.specs.Expressions.{IsExpr};
 ghost use Rattle.model_grammar.specs.Syntax.{Expr, Item};

@@ -4,7 +4,7 @@ use Rattle.std.specs.Str.Parse.{digits_value}
 use Rattle.model_program.specs.declared.Word.{Word}
 use Rattle.model_program.specs.declared.Word.TheVariants.{Comma, Minus, Number, RoundOpen, Id, Quoted, True, False}
 use Rattle.model_program.specs.Lexeme.{Lexeme}
-use Rattle.model_program.specs.Reads.{IsOther}
+use Rattle.model_program.specs.Joined.{IsOther}
 use Rattle.model_grammar.specs.declared.Level.TheVariants.{Unary, Prim}
 use Rattle.model_grammar.specs.Syntax.{Expr, number}
 use Rattle.model_grammar.specs.Expressions.{IsExpr, IsE, negative_number, minus_of, no_minus, field_name, constant_number, constant_text, constant_true, constant_false, brackets, many_before, remainder_before, compared_before, negative}

@@ -2,11 +2,12 @@
 use Rattle.std.proofs.Common.{◌≡◌, List, [], ◌∷◌, ◌++◌, refl, sym, ap, ◌∙◌, subst, append_assoc, append-nil, Option, ◌⊎◌, inl, inr}
 use Rattle.model_program.specs.declared.Word.{Word}
 use Rattle.model_program.specs.Lexeme.{Lexeme}
-use Rattle.model_program.specs.Reads.{◌⌢◌, IsRead, Fails, IsNext, IsOther, StartsIn, Nothing, closed}
+use Rattle.model_program.specs.Joined.{◌⌢◌, IsNext, IsOther, Nothing, ◌⊗◌}
+use Rattle.read_forms.specs.Reads.{IsRead, Fails, StartsIn, closed}
 use Rattle.model_program.specs.Grammar.{IsSign, sign, Many}
-use Rattle.model_program.proofs.Forms.{◌⊗◌, Ends, Makes, HasSample, AllStartIn, as_read, as_fails, then_read, then_fails, first_fails, regroup, starts_joined, stops_next, stops_other, other_than, alternative, remade}
-use Rattle.model_program.proofs.Words.{sign_starts, sample_sign}
-use Rattle.model_program.proofs.Lists.{IsPartWay}
+use Rattle.read_forms.proofs.Forms.{Ends, Makes, HasSample, AllStartIn, as_read, as_fails, then_read, then_fails, first_fails, regroup, starts_joined, stops_next, stops_other, other_than, alternative, remade}
+use Rattle.read_forms.proofs.Words.{sign_starts, sample_sign}
+use Rattle.read_forms.proofs.Lists.{IsPartWay}
 
 -- items and the sign that closes them
 abbrev pub closing_of : {A : Type 0} → (A → List Lexeme → Type 0) → Word → List A × Unit {0} → List Lexeme → Type 0

@@ -9,7 +9,7 @@ use Rattle.std.specs.Char.{digit_value}
 use Rattle.std.specs.Str.Parse.{AllDigits, digits_value, digits_value_after}
 use Rattle.std.proofs.Math.Nat.{pow-suc, pow-succ', pow-le-pow_right, mul-le-mul_right, mul_assoc}
 use Rattle.model_program.specs.Lexeme.{Lexeme}
-use Rattle.model_program.specs.Reads.{IsRead, closed}
+use Rattle.read_forms.specs.Reads.{IsRead, closed}
 use Rattle.model_program.specs.Grammar.{IsDigits, IsNumber}
 
 -- so many of the characters are digits, and write the value; the rest are left

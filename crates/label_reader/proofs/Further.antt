@@ -3,9 +3,10 @@ use Rattle.std.proofs.Common.{◌≡◌, ◌≤◌, Bool, false, List, [], ◌�
 use Rattle.std.proofs.lemmas.List.{length-append}
 use Rattle.model_program.specs.declared.Word.TheVariants.{RoundClose}
 use Rattle.model_program.specs.Lexeme.{Lexeme}
-use Rattle.model_program.specs.Reads.{IsRead, Fails, IsNext, IsOther, closed}
+use Rattle.model_program.specs.Joined.{IsNext, IsOther}
+use Rattle.read_forms.specs.Reads.{IsRead, Fails, closed}
 use Rattle.model_program.specs.Grammar.{IsSign}
-use Rattle.model_program.proofs.Lists.{IsPartWay}
+use Rattle.read_forms.proofs.Lists.{IsPartWay}
 use Rattle.model_grammar.specs.declared.Chain.{Chain}
 use Rattle.model_grammar.specs.declared.Level.TheVariants.{Prim}
 use Rattle.model_grammar.specs.Operators.{IsMany, is_marking}

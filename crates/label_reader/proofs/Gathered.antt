@@ -3,8 +3,8 @@ use Rattle.std.proofs.Common.{◌≡◌, ◌+◌, ◌≤◌, Bool, false, List, 
 use Rattle.std.proofs.lemmas.List.{length-append}
 use Rattle.model_program.specs.declared.Word.{Word}
 use Rattle.model_program.specs.Lexeme.{Lexeme}
-use Rattle.model_program.specs.Reads.{IsRead, Fails}
-use Rattle.model_program.proofs.Lists.{IsPartWay}
+use Rattle.read_forms.specs.Reads.{IsRead, Fails}
+use Rattle.read_forms.proofs.Lists.{IsPartWay}
 use Rattle.model_grammar.specs.declared.Chain.{Chain}
 use Rattle.model_grammar.specs.declared.Chain.TheVariants.{Disjunction, Conjunction, Product}
 use Rattle.model_grammar.specs.declared.Chain.TheVariants as kinds

@@ -4,11 +4,12 @@ use Rattle.std.specs.Str.Parse.{digits_value}
 use Rattle.model_program.specs.declared.Word.{Word}
 use Rattle.model_program.specs.declared.Word.TheVariants.{And, Or, True, False, Id, Number, Quoted, RoundOpen, RoundClose, Equal, NotEqual, AtMost, AtLeast, Less, Greater, Plus, Minus, Star, Percent}
 use Rattle.model_program.specs.Lexeme.{Lexeme}
-use Rattle.model_program.specs.Reads.{◌⌢◌, GoesOnAs, Stops, IsRead, Fails, IsNext, IsOther, StartsIn, closed}
+use Rattle.model_program.specs.Joined.{◌⌢◌, IsNext, IsOther, ◌⊗◌}
+use Rattle.read_forms.specs.Reads.{GoesOnAs, Stops, IsRead, Fails, StartsIn, closed}
 use Rattle.model_program.specs.Grammar.{IsWord, IsSign, sign, Many}
-use Rattle.model_program.proofs.Forms.{◌⊗◌, Ends, Makes, HasSample, as_read, as_fails, then_read, then_fails, first_fails, ends_closed, ends_starting, sample_as, sample_pair, starts_append, starts_wider, starts_joined, starts_as, starts_stops, stops_of, stops_other_than, alternative, remade, other_than}
-use Rattle.model_program.proofs.Words.{sign_starts, next_of, sample_sign}
-use Rattle.model_program.proofs.Lists.{IsPartWay}
+use Rattle.read_forms.proofs.Forms.{Ends, Makes, HasSample, as_read, as_fails, then_read, then_fails, first_fails, ends_closed, ends_starting, sample_as, sample_pair, starts_append, starts_wider, starts_joined, starts_as, starts_stops, stops_of, stops_other_than, alternative, remade, other_than}
+use Rattle.read_forms.proofs.Words.{sign_starts, next_of, sample_sign}
+use Rattle.read_forms.proofs.Lists.{IsPartWay}
 use Rattle.model_grammar.specs.declared.Chain.{Chain}
 use Rattle.model_grammar.specs.declared.Chain.TheVariants.{Disjunction, Conjunction, Product}
 use Rattle.model_grammar.specs.declared.Chain.TheVariants as kinds

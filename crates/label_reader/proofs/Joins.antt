@@ -3,8 +3,9 @@ use Rattle.std.proofs.Common.{◌≡◌, List, [], ◌∷◌, ◌++◌, refl, sy
 use Rattle.std.proofs.lemmas.List.{append_cancel_right}
 use Rattle.model_program.specs.declared.Word.{Word}
 use Rattle.model_program.specs.Lexeme.{Lexeme}
-use Rattle.model_program.specs.Reads.{◌⌢◌, GoesOnAs, Stops, IsRead, IsRefused, Fails, IsOther}
-use Rattle.model_program.proofs.Forms.{Ends, HasSample, goes_on_behind, regroup}
+use Rattle.model_program.specs.Joined.{◌⌢◌, IsOther}
+use Rattle.read_forms.specs.Reads.{GoesOnAs, Stops, IsRead, IsRefused, Fails}
+use Rattle.read_forms.proofs.Forms.{Ends, HasSample, goes_on_behind, regroup}
 
 -- a form, and one behind it that depends on the value of the first
 abbrev pub Chained : {A B : Type 0} → (A → List Lexeme → Type 0) → (A → B → List Lexeme → Type 0) → A × B → List Lexeme → Type 0

@@ -3,11 +3,12 @@ use Rattle.std.proofs.Common.{◌≡◌, ◌<◌, List, [], ◌∷◌, ◌++◌,
 use Rattle.model_program.specs.declared.Word.{Word}
 use Rattle.model_program.specs.declared.Word.TheVariants.{And, Or, Not, Id, Equal, NotEqual, AtMost, AtLeast, Less, Greater, Plus, Minus, Star, Percent}
 use Rattle.model_program.specs.Lexeme.{Lexeme}
-use Rattle.model_program.specs.Reads.{◌⌢◌, Stops, IsRead, Fails, IsNext, IsOther, StartsIn, Nothing}
+use Rattle.model_program.specs.Joined.{◌⌢◌, IsNext, IsOther, Nothing, ◌⊗◌}
+use Rattle.read_forms.specs.Reads.{Stops, IsRead, Fails, StartsIn}
 use Rattle.model_program.specs.Grammar.{IsWord}
-use Rattle.model_program.proofs.Forms.{◌⊗◌, Ends, Makes, HasSample, AllStartIn, as_read, as_fails, then_read, then_fails, first_fails, ends_closed, starts_append, starts_wider, stops_of, stops_fewer, stops_next, stops_other, alternative, remade, left_out, stands}
-use Rattle.model_program.proofs.Words.{sample_token}
-use Rattle.model_program.proofs.Lists.{IsPartWay}
+use Rattle.read_forms.proofs.Forms.{Ends, Makes, HasSample, AllStartIn, as_read, as_fails, then_read, then_fails, first_fails, ends_closed, starts_append, starts_wider, stops_of, stops_fewer, stops_next, stops_other, alternative, remade, left_out, stands}
+use Rattle.read_forms.proofs.Words.{sample_token}
+use Rattle.read_forms.proofs.Lists.{IsPartWay}
 use Rattle.model_grammar.specs.declared.Chain.{Chain}
 use Rattle.model_grammar.specs.declared.Chain.TheVariants.{Disjunction, Conjunction, Product}
 use Rattle.model_grammar.specs.declared.Chain.TheVariants as kinds

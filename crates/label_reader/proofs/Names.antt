@@ -4,8 +4,8 @@ use Rattle.model_program.specs.declared.Word.{Word}
 use Rattle.model_program.specs.declared.Word.TheVariants.{Id}
 use Rattle.model_program.specs.Lexeme.{Lexeme}
 use Rattle.model_program.specs.Grammar.{IsWord, name_of, IsName}
-use Rattle.model_program.proofs.Forms.{Makes, HasSample, AllStartIn, remade, sample_as}
-use Rattle.model_program.proofs.Words.{sample_word, word_starts}
+use Rattle.read_forms.proofs.Forms.{Makes, HasSample, AllStartIn, remade, sample_as}
+use Rattle.read_forms.proofs.Words.{sample_word, word_starts}
 
 pub name_makes : (goes_on : Word → Type 0) (tokens : List Lexeme) → Makes (IsWord Id) IsName name_of goes_on tokens
 name_makes goes_on tokens = remade (λ t ts is_word. (t, is_word, refl)) (λ n ts is_name. (is_name.0, is_name.1, is_name.2))

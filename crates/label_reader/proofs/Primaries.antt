@@ -4,11 +4,12 @@ use Rattle.std.specs.Str.Parse.{digits_value}
 use Rattle.model_program.specs.declared.Word.{Word}
 use Rattle.model_program.specs.declared.Word.TheVariants.{True, False, Id, Number, Quoted, RoundOpen, Minus}
 use Rattle.model_program.specs.Lexeme.{Lexeme}
-use Rattle.model_program.specs.Reads.{◌⌢◌, GoesOnAs, Stops, IsRead, IsRefused, IsNext, IsOther, StartsIn, closed}
+use Rattle.model_program.specs.Joined.{◌⌢◌, IsNext, IsOther, ◌⊗◌}
+use Rattle.read_forms.specs.Reads.{GoesOnAs, Stops, IsRead, IsRefused, StartsIn, closed}
 use Rattle.model_program.specs.Grammar.{IsWord, IsDigits}
 use Rattle.model_program.specs.Quotes.{IsQuoted, no_units}
-use Rattle.model_program.proofs.Forms.{◌⊗◌, Makes, HasSample, AllStartIn, stops_next, stops_other, stops_other_than, alternative, other_than}
-use Rattle.model_program.proofs.Words.{sample_token, word_starts}
+use Rattle.read_forms.proofs.Forms.{Makes, HasSample, AllStartIn, stops_next, stops_other, stops_other_than, alternative, other_than}
+use Rattle.read_forms.proofs.Words.{sample_token, word_starts}
 use Rattle.model_grammar.specs.declared.Chain.TheVariants.{Product}
 use Rattle.model_grammar.specs.declared.Level.TheVariants.{Unary, Prim}
 use Rattle.model_grammar.specs.Syntax.{Expr, field, number, text, truth, minus, compare}

@@ -3,7 +3,8 @@ use Rattle.std.specs.Prelude.{◌≡◌, pos, List, [], ◌∷◌, ◌++◌, ◌
 use Rattle.std.specs.Str.Parse.{digits_value}
 use Rattle.model_program.specs.declared.Word.TheVariants.{RoundClose, Percent, Number}
 use Rattle.model_program.specs.Lexeme.{Lexeme}
-use Rattle.model_program.specs.Reads.{◌⌢◌, Stops, StartsIn}
+use Rattle.model_program.specs.Joined.{◌⌢◌}
+use Rattle.read_forms.specs.Reads.{Stops, StartsIn}
 use Rattle.model_program.specs.Grammar.{sign, IsDigits}
 use Rattle.model_grammar.specs.declared.Rel.{Rel}
 use Rattle.model_grammar.specs.declared.Chain.{Chain}

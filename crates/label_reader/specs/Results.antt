@@ -2,7 +2,7 @@
 use Rattle.std.specs.Prelude.{List, map, Option, Some, None, Result, Ok, Err}
 use Rattle.model_program.specs.declared.Word.{Word}
 use Rattle.model_program.specs.Lexeme.{Lexeme}
-use Rattle.model_program.specs.Reads.{IsRead, Fails}
+use Rattle.read_forms.specs.Reads.{IsRead, Fails}
 use Rattle.fast_lex.specs.declared.Token.{Token}
 use Rattle.fast_lex.specs.Tokens.{lexeme}
 use Rattle.label_reader.specs.declared.stop.Stop.{Stop}

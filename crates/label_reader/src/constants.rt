@@ -3,7 +3,7 @@
 ghost use Rattle.std.specs.Prelude.{◌≡◌, ◌∷◌, [], MatchOption, IfOk, pos, ◌<◌, ◌^◌, Some, None};
 ghost use Rattle.std.specs.Str.{chars};
 ghost use Rattle.std.specs.Str.Parse.{digits_value};
-ghost use Rattle.model_program.specs.Reads.{closed};
+ghost use Rattle.read_forms.specs.Reads.{closed};
 ghost use Rattle.model_program.specs.declared.Word as Word;
 ghost use Rattle.model_program.specs.Grammar.{IsDigits};
 ghost use Rattle.fast_lex.specs.Units.{IsQuotedText};

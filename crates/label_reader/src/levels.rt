@@ -2,7 +2,8 @@
 
 ghost use Rattle.std.specs.Prelude.{◌≡◌, ◌∷◌, [], MatchResult};
 ghost use Rattle.model_program.specs.declared.Word.TheVariants.{RoundOpen, Minus};
-ghost use Rattle.model_program.specs.Reads.{closed, IsOther};
+ghost use Rattle.model_program.specs.Joined.{IsOther};
+ghost use Rattle.read_forms.specs.Reads.{closed};
 ghost use Rattle.model_grammar.specs.declared.Chain.TheVariants as kinds;
 ghost use Rattle.model_grammar.specs.declared.Level.TheVariants.{Neg, Cmp, Unary, Prim};
 ghost use Rattle.model_grammar.specs.Operators.{IsMany};

@@ -3,7 +3,7 @@
 ghost use Rattle.std.specs.Prelude.{◌≡◌, ◌∷◌, true, false, MatchOption};
 ghost use Rattle.model_grammar.specs.Operators.{IsSignOf, IsMany, rel_word, is_marking};
 ghost use Rattle.model_grammar.specs.Expressions.{operand};
-ghost use Rattle.model_program.specs.Reads.{Stops};
+ghost use Rattle.read_forms.specs.Reads.{Stops};
 ghost use Rattle.model_grammar.specs.declared.Level.TheVariants.{Prim};
 ghost use Rattle.fast_lex.specs.Tokens.{lexeme};
 ghost use Rattle.label_reader.specs.Results.{lexemes};

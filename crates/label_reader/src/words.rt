@@ -1,7 +1,8 @@
 //! Single tokens: signs, keywords, names and numbers.
 
 ghost use Rattle.std.specs.Prelude.{◌≡◌, ◌∷◌, true, false, MatchOption};
-ghost use Rattle.model_program.specs.Reads.{IsRead, closed, IsNext, IsOther};
+ghost use Rattle.model_program.specs.Joined.{IsNext, IsOther};
+ghost use Rattle.read_forms.specs.Reads.{IsRead, closed};
 ghost use Rattle.model_program.specs.Grammar.{IsWord, IsSign, IsName, IsComma, comma};
 ghost use Rattle.fast_lex.specs.Tokens.{lexeme};
 ghost use Rattle.label_reader.specs.Results.{lexemes, Reads};

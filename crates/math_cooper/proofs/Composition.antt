@@ -12,15 +12,15 @@ use Rattle.std.proofs.Math.Nat.{div-mul_cancel, one-dvd, pos_of_dvd_of_pos, mul-
 use Rattle.std.proofs.lemmas.Nat.Gcd.{le_of_dvd, dvd_refl}
 use Rattle.math_int.proofs.Lcms.{lcm_is, gcd_some, gcd_by}
 use Rattle.std.proofs.lemmas.List.Elements.{All-contains, All-cons, All-head, All-tail, All-nil, Contains-append_right}
-use Rattle.math_cooper.specs.System.{Condition, Form, form_value, unit_all, low_form, high_form, IsLowAt, IsHighAt, IsCommonAt, RepeatsAt, lead}
-use Rattle.math_cooper.specs.Puts.{Put, Least, IsScale, IsPeriod, NoneLow, NoneHigh, IsAt, IsPut, Step, after, Absent, Occurs, cut, InSystem, OfScale, OfForm, BeforePut, IsNumber, IsWide, AllFit, Passes128, IsSolution}
+use Rattle.math_cooper.specs.System.{Condition, Affine, affine_value, unit_all, low_form, high_form, IsLowAt, IsHighAt, IsCommonAt, RepeatsAt, lead}
+use Rattle.math_cooper.specs.Puts.{Put, Least, IsScale, IsPeriod, NoneLow, NoneHigh, IsAt, IsPut, Step, after, Absent, Occurs, cut, InSystem, OfScale, OfAffine, BeforePut, IsNumber, IsWide, AllFit, Passes128, IsSolution}
 
 -- the deeper chain passes: so does the one with the put in front
-pub passes-put : (i : ℕ) (S : List Condition) (p : Put) (ps : List Put) (c D : ℕ) (g : Form) → Occurs i S → Step i S p c D g → Passes128 i (after i c g S) ps → Passes128 (suc i) S (p ∷ ps)
+pub passes-put : (i : ℕ) (S : List Condition) (p : Put) (ps : List Put) (c D : ℕ) (g : Affine) → Occurs i S → Step i S p c D g → Passes128 i (after i c g S) ps → Passes128 (suc i) S (p ∷ ps)
 passes-put i S p ps c D g o s (z, n, w) = (z, inr (inr (inr (o, c, D, g, s, inr n))), w)
 
 -- a number of the put is too wide
-pub passes-form : (i : ℕ) (S : List Condition) (p : Put) (c D : ℕ) (g : Form) → Occurs i S → Step i S p c D g → (z : ℤ) → OfForm g z → IsWide z → Passes128 (suc i) S (p ∷ [])
+pub passes-form : (i : ℕ) (S : List Condition) (p : Put) (c D : ℕ) (g : Affine) → Occurs i S → Step i S p c D g → (z : ℤ) → OfAffine g z → IsWide z → Passes128 (suc i) S (p ∷ [])
 passes-form i S p c D g o s z n w = (z, inr (inr (inr (o, c, D, g, s, inl n))), w)
 
 -- c, a multiplier, a number of the system with x', or D is too wide: no choice is needed
@@ -38,7 +38,7 @@ pub passes-over : (i : ℕ) (S : List Condition) (ps : List Put) → Absent i S 
 passes-over i S [] a (z, n, w) = (z, inr (inl (a, n)), w)
 passes-over i S (p ∷ ps) a (z, n, w) = (z, inr (inl (a, n)), w)
 
-pub solution-put : (i : ℕ) (S : List Condition) (p : Put) (ps : List Put) (c D : ℕ) (g : Form) (ws : List ℤ) (x : ℤ) → Occurs i S → Step i S p c D g → form_value g ws ≡ pos c *ℤ x → IsSolution i (after i c g S) ps ws → IsSolution (suc i) S (p ∷ ps) (ws ++ x ∷ [])
+pub solution-put : (i : ℕ) (S : List Condition) (p : Put) (ps : List Put) (c D : ℕ) (g : Affine) (ws : List ℤ) (x : ℤ) → Occurs i S → Step i S p c D g → affine_value g ws ≡ pos c *ℤ x → IsSolution i (after i c g S) ps ws → IsSolution (suc i) S (p ∷ ps) (ws ++ x ∷ [])
 solution-put i S p ps c D g ws x o s e h = inr (o, c, D, g, s, ws, x, refl, e, h)
 
 -- ---- a step is the only one of its put
@@ -60,7 +60,7 @@ any_default (z ∷ L) (suc k) x y h = any_default L k x y (omega arith)
 at_once : (S : List Condition) (k : ℕ) (a b : Condition) → IsAt S k a → IsAt S k b → a ≡ b
 at_once S k a b h l = sym h.1 ∙ any_default S k a b h.0 ∙ l.1
 
-pub put_once : (i : ℕ) (S : List Condition) (p : Put) (g h : Form) → IsPut i S p g → IsPut i S p h → g ≡ h
+pub put_once : (i : ℕ) (S : List Condition) (p : Put) (g h : Affine) → IsPut i S p g → IsPut i S p h → g ≡ h
 put_once i S p g h (inl (b, at, l, e)) (inl (d, at2, l2, f)) = e ∙ ap (λ x. low_form i x p.offset) (at_once S p.bound b d at at2) ∙ sym f
 put_once i S p g h (inl (b, at, l, e)) (inr (inl (n, d, at2, l2, f))) = absurd (low_no i S p.bound b at l n)
 put_once i S p g h (inl (b, at, l, e)) (inr (inr (n, m, e2, f2))) = absurd (low_no i S p.bound b at l n)
@@ -77,7 +77,7 @@ scale_once i S c d = least_once (λ m. All (IsCommonAt i m) S) c d
 period_once : (i : ℕ) (S : List Condition) (c d : ℕ) → IsPeriod i S c → IsPeriod i S d → c ≡ d
 period_once i S c d = least_once (λ m. All (RepeatsAt i m) S) c d
 
-form_once : (i : ℕ) (S : List Condition) (p : Put) (d c E D : ℕ) (f g : Form) → Step i S p d E f → Step i S p c D g → f ≡ g
+form_once : (i : ℕ) (S : List Condition) (p : Put) (d c E D : ℕ) (f g : Affine) → Step i S p d E f → Step i S p c D g → f ≡ g
 form_once i S p d c E D f g t s = put_once i (unit_all i c S) p f g (subst (λ x. IsPut i (unit_all i x S) p f) (scale_once i S d c t.is_scale s.is_scale) t.is_put) s.is_put
 
 -- ---- a chain all of whose numbers fit
@@ -91,12 +91,12 @@ fits-before i S c D hc hd scale period z (o, d, h, inl n) = scale z (subst (λ x
 fits-before i S c D hc hd scale period z (o, d, h, inr (E, k, e)) =
     subst (FitsSigned w128) (sym (e ∙ ap pos (period_once i (unit_all i c S) E D (subst (λ x. IsPeriod i (unit_all i x S) E) (scale_once i S d c h hc) k) hd))) period
 
-pub fits-put : (i : ℕ) (S : List Condition) (p : Put) (ps : List Put) (c D : ℕ) (g : Form) → Occurs i S → Step i S p c D g → AllFit (InSystem S) → AllFit (BeforePut i S) → AllFit (OfForm g) → AllFit (IsNumber i (after i c g S) ps) → AllFit (IsNumber (suc i) S (p ∷ ps))
+pub fits-put : (i : ℕ) (S : List Condition) (p : Put) (ps : List Put) (c D : ℕ) (g : Affine) → Occurs i S → Step i S p c D g → AllFit (InSystem S) → AllFit (BeforePut i S) → AllFit (OfAffine g) → AllFit (IsNumber i (after i c g S) ps) → AllFit (IsNumber (suc i) S (p ∷ ps))
 fits-put i S p ps c D g o s here before form deep z (inl n) = here z n
 fits-put i S p ps c D g o s here before form deep z (inr (inl (a, n))) = absurd (never_both i S a o)
 fits-put i S p ps c D g o s here before form deep z (inr (inr (inl n))) = before z n
 fits-put i S p ps c D g o s here before form deep z (inr (inr (inr (o2, d, E, f, t, inl n)))) =
-    form z (subst (λ x. OfForm x z) (form_once i S p d c E D f g t s) n)
+    form z (subst (λ x. OfAffine x z) (form_once i S p d c E D f g t s) n)
 fits-put i S p ps c D g o s here before form deep z (inr (inr (inr (o2, d, E, f, t, inr n)))) =
     deep z (subst (λ x. IsNumber i (after i x g S) ps z) (scale_once i S d c t.is_scale s.is_scale) (subst (λ x. IsNumber i (after i d x S) ps z) (form_once i S p d c E D f g t s) n))
 

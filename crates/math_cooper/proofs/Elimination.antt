@@ -5,7 +5,7 @@ use Rattle.std.specs.List.{All, Contains, slice_index_or}
 use Rattle.std.proofs.lemmas.Int.{ints}
 use Rattle.std.proofs.lemmas.List.Elements.{All-nil, All-cons, All-head, All-tail, All-map, All-contains, Contains-append_right}
 use Rattle.math_cooper.specs.Line.{Line, HoldsAt}
-use Rattle.math_cooper.specs.System.{Condition, Holds, Solves, line, Form, form_value, put, put_all, low_form, high_form, free_form, IsUnitAt, RepeatsAt, IsLowAt, IsHighAt, IsSolvable, HasWidth}
+use Rattle.math_cooper.specs.System.{Condition, Holds, Solves, line, Affine, affine_value, put, put_all, low_form, high_form, free_form, IsUnitAt, RepeatsAt, IsLowAt, IsHighAt, IsSolvable, HasWidth}
 use Rattle.math_cooper.proofs.OneVariable.{IsUnitBoth, Repeats, NotLow, IsLow, IsHigh, LowPut, HighPut, Puts, mirror, cooper}
 use Rattle.math_cooper.proofs.Systems.{line_in, line_out, put_in, put_out, low_value, high_value, free_value, low_length, high_length, free_length}
 
@@ -48,11 +48,11 @@ not_high_line i vs c n l = let q = n l.0 in let e = l.1 in omega (arith, ints)
 
 -- ---- a solution of a put is one of the system
 
-pub put_sound : (i : ℕ) (g : Form) (ws : List ℤ) (S : List Condition) → length ws ≡ i → length g.coefficients ≡ i → All (HasWidth (i + 1)) S → Solves ws (put_all i g S) → Solves (ws ++ form_value g ws ∷ []) S
-put_sound i g ws S h e w s k d l = line_out i ws (form_value g ws) (slice_index_or S k d) h (put_out i g ws (slice_index_or S k d) e (w k d l) (all_unmap (Holds ws) (put i g) S s k d l))
+pub put_sound : (i : ℕ) (g : Affine) (ws : List ℤ) (S : List Condition) → length ws ≡ i → length g.coefficients ≡ i → All (HasWidth (i + 1)) S → Solves ws (put_all i g S) → Solves (ws ++ affine_value g ws ∷ []) S
+put_sound i g ws S h e w s k d l = line_out i ws (affine_value g ws) (slice_index_or S k d) h (put_out i g ws (slice_index_or S k d) e (w k d l) (all_unmap (Holds ws) (put i g) S s k d l))
 
 -- a system that holds at the form's value for variable i holds with the form put
-put_complete : (i : ℕ) (g : Form) (ws : List ℤ) (S : List Condition) (x : ℤ) → form_value g ws ≡ x → length g.coefficients ≡ i → All (HasWidth (i + 1)) S → All (HoldsAt x) (map (line i ws) S) → Solves ws (put_all i g S)
+put_complete : (i : ℕ) (g : Affine) (ws : List ℤ) (S : List Condition) (x : ℤ) → affine_value g ws ≡ x → length g.coefficients ≡ i → All (HasWidth (i + 1)) S → All (HoldsAt x) (map (line i ws) S) → Solves ws (put_all i g S)
 put_complete i g ws S x e h w s = All-map (Holds ws) (put i g) S (λ k d l. put_in i g ws (slice_index_or S k d) h (w k d l) (subst (λ y. HoldsAt y (line i ws (slice_index_or S k d))) (sym e) (all_unmap (HoldsAt x) (line i ws) S s k d l)))
 
 -- ---- the theorem
@@ -104,7 +104,7 @@ eliminate i D S some unit rep wide s =
     let m = contains_unmap f S p.line p.in_list in
     let low : IsLowAt i m.0 = low_line i ws m.0 (subst IsLow (sym m.2) p.low) in
     let width = All-contains (HasWidth (i + 1)) S m.0 wide m.1 in
-    let is : form_value (low_form i m.0 p.offset) ws ≡ neg_ℤ p.line.rest +ℤ pos p.offset = low_value i m.0 p.offset ws ∙ ap (λ r. neg_ℤ r +ℤ pos p.offset) (rest_is i ws m.0 p.line m.2) in
+    let is : affine_value (low_form i m.0 p.offset) ws ≡ neg_ℤ p.line.rest +ℤ pos p.offset = low_value i m.0 p.offset ws ∙ ap (λ r. neg_ℤ r +ℤ pos p.offset) (rest_is i ws m.0 p.line m.2) in
     inl (record {
       bound = m.0;
       in_system = m.1;
@@ -120,7 +120,7 @@ eliminate i D S some unit rep wide s =
           let m = contains_unmap f S p.line p.in_list in
           let high : IsHighAt i m.0 = high_line i ws m.0 (subst IsHigh (sym m.2) p.high) in
           let width = All-contains (HasWidth (i + 1)) S m.0 wide m.1 in
-          let is : form_value (high_form i m.0 p.offset) ws ≡ p.line.rest -ℤ pos p.offset = high_value i m.0 p.offset ws ∙ ap (λ r. r -ℤ pos p.offset) (rest_is i ws m.0 p.line m.2) in
+          let is : affine_value (high_form i m.0 p.offset) ws ≡ p.line.rest -ℤ pos p.offset = high_value i m.0 p.offset ws ∙ ap (λ r. r -ℤ pos p.offset) (rest_is i ws m.0 p.line m.2) in
           inl (record {
             bound = m.0;
             in_system = m.1;

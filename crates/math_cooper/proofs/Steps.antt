@@ -6,7 +6,7 @@ use Rattle.std.specs.List.{All, slice_index_or}
 use Rattle.std.proofs.lemmas.Int.{ints}
 use Rattle.std.proofs.lemmas.List.Elements.{All-map, All-contains}
 use Rattle.math_cooper.specs.Line.{Meets}
-use Rattle.math_cooper.specs.System.{Condition, Holds, Solves, IsSolvable, HasWidth, Form, form_value, lead, unit_all, put, put_all, low_form, high_form, free_form}
+use Rattle.math_cooper.specs.System.{Condition, Holds, Solves, IsSolvable, HasWidth, Affine, affine_value, lead, unit_all, put, put_all, low_form, high_form, free_form}
 use Rattle.math_cooper.specs.Puts.{Put, IsScale, IsPeriod, IsPut, Step, after, Absent, cut, cut_one, IsSolution}
 use Rattle.math_cooper.specs.Laws.{SomePut}
 use Rattle.math_cooper.proofs.Systems.{dot-push, put_width, low_length, high_length, free_length}
@@ -15,12 +15,12 @@ use Rattle.math_cooper.proofs.Scaling.{times_cancel, unit_all_out, unit_all_solv
 
 -- ---- widths
 
-pub form_length : (i : ℕ) (S : List Condition) (p : Put) (g : Form) → All (HasWidth (i + 1)) S → IsPut i S p g → length g.coefficients ≡ i
-form_length i S p g w (inl (b, at, l, e)) = ap (λ (f : Form). length f.coefficients) e ∙ low_length i p.offset b (All-contains (HasWidth (i + 1)) S b w (p.bound, at.0, at.1))
-form_length i S p g w (inr (inl (n, b, at, l, e))) = ap (λ (f : Form). length f.coefficients) e ∙ high_length i p.offset b (All-contains (HasWidth (i + 1)) S b w (p.bound, at.0, at.1))
-form_length i S p g w (inr (inr (n, m, k, e))) = ap (λ (f : Form). length f.coefficients) e ∙ free_length i p.offset
+pub form_length : (i : ℕ) (S : List Condition) (p : Put) (g : Affine) → All (HasWidth (i + 1)) S → IsPut i S p g → length g.coefficients ≡ i
+form_length i S p g w (inl (b, at, l, e)) = ap (λ (f : Affine). length f.coefficients) e ∙ low_length i p.offset b (All-contains (HasWidth (i + 1)) S b w (p.bound, at.0, at.1))
+form_length i S p g w (inr (inl (n, b, at, l, e))) = ap (λ (f : Affine). length f.coefficients) e ∙ high_length i p.offset b (All-contains (HasWidth (i + 1)) S b w (p.bound, at.0, at.1))
+form_length i S p g w (inr (inr (n, m, k, e))) = ap (λ (f : Affine). length f.coefficients) e ∙ free_length i p.offset
 
-pub after_width : (i c : ℕ) (g : Form) (S : List Condition) → All (HasWidth (i + 1)) S → All (HasWidth i) (after i c g S)
+pub after_width : (i c : ℕ) (g : Affine) (S : List Condition) → All (HasWidth (i + 1)) S → All (HasWidth i) (after i c g S)
 after_width i c g S w = let u = unit_all_width i c S w in All-map (HasWidth i) (put i g) (unit_all i c S) (λ k d l. put_width i g (get_or (unit_all i c S) k d) (u k d l))
 
 pub cut_width : (i : ℕ) (S : List Condition) → All (HasWidth (i + 1)) S → All (HasWidth i) (cut i S)
@@ -48,11 +48,11 @@ over_solvable i S a s =
 
 -- ---- a put
 
-pub back_of : (i : ℕ) (S : List Condition) (p : Put) (c D : ℕ) (g : Form) (ws : List ℤ) → All (HasWidth (i + 1)) S → Step i S p c D g → length ws ≡ i → Solves ws (after i c g S) → (x : ℤ) × (form_value g ws ≡ pos c *ℤ x) × Solves (ws ++ x ∷ []) S
+pub back_of : (i : ℕ) (S : List Condition) (p : Put) (c D : ℕ) (g : Affine) (ws : List ℤ) → All (HasWidth (i + 1)) S → Step i S p c D g → length ws ≡ i → Solves ws (after i c g S) → (x : ℤ) × (affine_value g ws ≡ pos c *ℤ x) × Solves (ws ++ x ∷ []) S
 back_of i S p c D g ws w s h solves =
     let u = unit_all_width i c S w in
     let wide = put_sound i g ws (unit_all i c S) h (form_length i (unit_all i c S) p g u s.is_put) u solves in
-    unit_all_out i c S ws (form_value g ws) h s.is_scale.0 w s.is_scale.1 wide
+    unit_all_out i c S ws (affine_value g ws) h s.is_scale.0 w s.is_scale.1 wide
 
 wider : (n : ℕ) (S : List Condition) → All (HasWidth (suc n)) S → All (HasWidth (n + 1)) S
 wider n S = subst (λ m. All (HasWidth m) S) (sym (add-one n))
@@ -63,7 +63,7 @@ longer i ws x h = omega (arith, length-append ws (x ∷ []))
 over_both : (i : ℕ) (S : List Condition) (ws vs : List ℤ) → vs ≡ ws ++ pos 0 ∷ [] → Absent i S → (length ws ≡ i) × Solves ws (cut i S) → (length vs ≡ suc i) × Solves vs S
 over_both i S ws vs e a r = subst (λ us. (length us ≡ suc i) × Solves us S) (sym e) (longer i ws (pos 0) r.0, over_out i S ws (pos 0) r.0 a r.1)
 
-put_both : (i : ℕ) (S : List Condition) (p : Put) (c D : ℕ) (g : Form) (ws vs : List ℤ) (x : ℤ) → All (HasWidth (i + 1)) S → Step i S p c D g → vs ≡ ws ++ x ∷ [] → form_value g ws ≡ pos c *ℤ x → (length ws ≡ i) × Solves ws (after i c g S) → (length vs ≡ suc i) × Solves vs S
+put_both : (i : ℕ) (S : List Condition) (p : Put) (c D : ℕ) (g : Affine) (ws vs : List ℤ) (x : ℤ) → All (HasWidth (i + 1)) S → Step i S p c D g → vs ≡ ws ++ x ∷ [] → affine_value g ws ≡ pos c *ℤ x → (length ws ≡ i) × Solves ws (after i c g S) → (length vs ≡ suc i) × Solves vs S
 put_both i S p c D g ws vs x w s e v r =
     let back = back_of i S p c D g ws w s r.0 r.1 in
     let same : back.0 ≡ x = times_cancel c back.0 x s.is_scale.0 (sym back.1 ∙ v) in
@@ -81,7 +81,7 @@ solution_solves (suc i) S (p ∷ ps) vs w (inr (o, c, D, g, s, ws, x, e, v, h)) 
 pub step_complete : (i : ℕ) (S : List Condition) (c D : ℕ) → All (HasWidth (i + 1)) S → IsScale i S c → IsPeriod i (unit_all i c S) D → IsSolvable (i + 1) S → SomePut i S c D
 step_complete i S c D w scale period s =
     let T = unit_all i c S in
-    let make : (p : Put) (g : Form) → p.variable ≡ i → p.offset < D → IsPut i T p g → IsSolvable i (put_all i g T) → SomePut i S c D =
+    let make : (p : Put) (g : Affine) → p.variable ≡ i → p.offset < D → IsPut i T p g → IsSolvable i (put_all i g T) → SomePut i S c D =
     λ p g names below is solvable. (p, g, record { is_scale = scale; is_period = period; names = names; below = below; is_put = is }, solvable) in
     ⊎_elim
     (λ (q : LowPutAt i D T). make (record { variable = i; bound = q.in_system.0; offset = q.offset }) (low_form i q.bound q.offset) refl q.below (inl (q.bound, (q.in_system.1, q.in_system.2), q.low, refl)) q.solvable)

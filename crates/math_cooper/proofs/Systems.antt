@@ -4,7 +4,7 @@ use Rattle.std.proofs.Math.IntN.{ℤ, pos, ◌+ℤ◌, ◌-ℤ◌, ◌*ℤ◌, n
 use Rattle.std.proofs.Math.ListN.{length-map, length-replicate}
 use Rattle.std.proofs.lemmas.Int.{ints}
 use Rattle.math_cooper.specs.Line.{Meets, HoldsAt}
-use Rattle.math_cooper.specs.System.{dot, Condition, Holds, lead, line, add_times, Form, form_value, put, low_form, high_form, free_form, HasWidth}
+use Rattle.math_cooper.specs.System.{dot, Condition, Holds, lead, line, add_times, Affine, affine_value, put, low_form, high_form, free_form, HasWidth}
 use Rattle.math_int.proofs.Laws.{times-assoc, times-add, add-times, neg-times}
 
 -- one more value at the end
@@ -65,15 +65,15 @@ put-value a k gk f g vs h = omega (arith, ints, dot-add_times a f g vs h, times-
 front : (i : ℕ) (g : List ℤ) (f : List ℤ) → length g ≡ i → length f ≡ i + 1 → length g ≤ length (take i f)
 front i g f e h = omega (arith, length-take i f)
 
-pub put_in : (i : ℕ) (g : Form) (ws : List ℤ) (c : Condition) → length g.coefficients ≡ i → HasWidth (i + 1) c → HoldsAt (form_value g ws) (line i ws c) → Holds ws (put i g c)
+pub put_in : (i : ℕ) (g : Affine) (ws : List ℤ) (c : Condition) → length g.coefficients ≡ i → HasWidth (i + 1) c → HoldsAt (affine_value g ws) (line i ws c) → Holds ws (put i g c)
 unfolding line put
 put_in i g ws c h w k = subst (Meets c.kind) (sym (put-value (lead i c) c.constant g.constant (take i c.coefficients) g.coefficients ws (front i g.coefficients c.coefficients h w))) k
 
-pub put_out : (i : ℕ) (g : Form) (ws : List ℤ) (c : Condition) → length g.coefficients ≡ i → HasWidth (i + 1) c → Holds ws (put i g c) → HoldsAt (form_value g ws) (line i ws c)
+pub put_out : (i : ℕ) (g : Affine) (ws : List ℤ) (c : Condition) → length g.coefficients ≡ i → HasWidth (i + 1) c → Holds ws (put i g c) → HoldsAt (affine_value g ws) (line i ws c)
 unfolding line put
 put_out i g ws c h w k = subst (Meets c.kind) (put-value (lead i c) c.constant g.constant (take i c.coefficients) g.coefficients ws (front i g.coefficients c.coefficients h w)) k
 
-pub put_width : (i : ℕ) (g : Form) (c : Condition) → HasWidth (i + 1) c → HasWidth i (put i g c)
+pub put_width : (i : ℕ) (g : Affine) (c : Condition) → HasWidth (i + 1) c → HasWidth i (put i g c)
 unfolding put
 put_width i g c w = length-add_times (lead i c) (take i c.coefficients) g.coefficients ∙ omega (arith, length-take i c.coefficients)
 
@@ -85,15 +85,15 @@ dot-neg [] vs = refl
 dot-neg (a ∷ f) [] = refl
 dot-neg (a ∷ f) (v ∷ vs) = omega (arith, ints, dot-neg f vs, neg-times a v)
 
-pub low_value : (i : ℕ) (b : Condition) (j : ℕ) (ws : List ℤ) → form_value (low_form i b j) ws ≡ neg_ℤ (line i ws b).rest +ℤ pos j
+pub low_value : (i : ℕ) (b : Condition) (j : ℕ) (ws : List ℤ) → affine_value (low_form i b j) ws ≡ neg_ℤ (line i ws b).rest +ℤ pos j
 unfolding line low_form
 low_value i b j ws = omega (arith, ints, dot-neg (take i b.coefficients) ws)
 
-pub high_value : (i : ℕ) (b : Condition) (j : ℕ) (ws : List ℤ) → form_value (high_form i b j) ws ≡ (line i ws b).rest -ℤ pos j
+pub high_value : (i : ℕ) (b : Condition) (j : ℕ) (ws : List ℤ) → affine_value (high_form i b j) ws ≡ (line i ws b).rest -ℤ pos j
 unfolding line high_form
 high_value i b j ws = omega (arith, ints)
 
-pub free_value : (i j : ℕ) (ws : List ℤ) → form_value (free_form i j) ws ≡ pos j
+pub free_value : (i j : ℕ) (ws : List ℤ) → affine_value (free_form i j) ws ≡ pos j
 unfolding free_form
 free_value i j ws = omega (arith, ints, dot-zeros i ws)
 

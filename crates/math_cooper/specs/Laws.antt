@@ -1,12 +1,12 @@
 -- What a step of Cooper's method keeps.
 use Rattle.std.specs.Prelude.{ℕ, suc, ℤ, ◌↔◌, List, length, ◌≡◌}
 use Rattle.std.specs.List.{All}
-use Rattle.math_cooper.specs.System.{Condition, Form, Solves, IsSolvable, HasWidth, unit_all}
+use Rattle.math_cooper.specs.System.{Condition, Affine, Solves, IsSolvable, HasWidth, unit_all}
 use Rattle.math_cooper.specs.Puts.{Put, IsScale, IsPeriod, Step, after, IsSolution}
 
 -- some put of variable i leaves a system with a solution
 abbrev pub SomePut : ℕ → List Condition → ℕ → ℕ → Type 0
-SomePut i S c D = (p : Put) × (g : Form) × Step i S p c D g × IsSolvable i (after i c g S)
+SomePut i S c D = (p : Put) × (g : Affine) × Step i S p c D g × IsSolvable i (after i c g S)
 
 -- a system has a solution exactly where the system after one of its puts has
 abbrev pub StepDecides : Type 0

@@ -3,7 +3,7 @@ use Rattle.std.specs.Prelude.{ℕ, zero, suc, ℤ, pos, ◌*ℤ◌, ◌≡◌, �
 use Rattle.std.specs.List.{All, Contains}
 use Rattle.std.specs.Int.{w128}
 use Rattle.math_cooper.specs.Line.{DividedBy}
-use Rattle.math_cooper.specs.System.{Condition, Form, Solves, lead, unit_all, put_all, low_form, high_form, free_form, form_value, IsCommonAt, RepeatsAt, IsLowAt, IsHighAt}
+use Rattle.math_cooper.specs.System.{Condition, Affine, Solves, lead, unit_all, put_all, low_form, high_form, free_form, affine_value, IsCommonAt, RepeatsAt, IsLowAt, IsHighAt}
 
 -- a put: the variable, the number of the constraint whose bound is taken, and the offset
 pub record Put : Type 0 where
@@ -34,14 +34,14 @@ abbrev pub IsAt : List Condition → ℕ → Condition → Type 0
 IsAt S k b = (k < length S) × (slice_index_or S k b ≡ b)
 
 -- g is what p puts for variable i: a lower bound where there is one, else an upper one where there is one, else the offset
-abbrev pub IsPut : ℕ → List Condition → Put → Form → Type 0
+abbrev pub IsPut : ℕ → List Condition → Put → Affine → Type 0
 IsPut i S p g =
     ((b : Condition) × IsAt S p.bound b × IsLowAt i b × (g ≡ low_form i b p.offset))
     ⊎ ((NoneLow i S × (b : Condition) × IsAt S p.bound b × IsHighAt i b × (g ≡ high_form i b p.offset))
     ⊎ (NoneLow i S × NoneHigh i S × (p.bound ≡ length S) × (g ≡ free_form i p.offset)))
 
 -- the system after the put of g for c times variable i
-abbrev pub after : ℕ → ℕ → Form → List Condition → List Condition
+abbrev pub after : ℕ → ℕ → Affine → List Condition → List Condition
 after i c g S = put_all i g (unit_all i c S)
 
 -- variable i occurs in no constraint, or in some
@@ -79,11 +79,11 @@ OfScale i S c z = (z ≡ pos c) ⊎ (IsMultiplier i S c z ⊎ InSystem (unit_all
 abbrev pub IsPeriodOf : ℕ → List Condition → ℕ → ℤ → Type 0
 IsPeriodOf i S c z = (D : ℕ) × IsPeriod i (unit_all i c S) D × (z ≡ pos D)
 
-abbrev pub OfForm : Form → ℤ → Type 0
-OfForm g z = Contains g.coefficients z ⊎ (z ≡ g.constant)
+abbrev pub OfAffine : Affine → ℤ → Type 0
+OfAffine g z = Contains g.coefficients z ⊎ (z ≡ g.constant)
 
 -- p puts g for variable i: a step of Cooper's method, with its c and D
-pub record Step (i : ℕ) (S : List Condition) (p : Put) (c D : ℕ) (g : Form) : Type 0 where
+pub record Step (i : ℕ) (S : List Condition) (p : Put) (c D : ℕ) (g : Affine) : Type 0 where
   pub is_scale : IsScale i S c
   pub is_period : IsPeriod i (unit_all i c S) D
   pub names : p.variable ≡ i
@@ -102,7 +102,7 @@ IsNumber (suc i) S (p ∷ ps) z =
     InSystem S z
     ⊎ ((Absent i S × IsNumber i (cut i S) (p ∷ ps) z)
     ⊎ (BeforePut i S z
-    ⊎ (Occurs i S × (c : ℕ) × (D : ℕ) × (g : Form) × Step i S p c D g × (OfForm g z ⊎ IsNumber i (after i c g S) ps z))))
+    ⊎ (Occurs i S × (c : ℕ) × (D : ℕ) × (g : Affine) × Step i S p c D g × (OfAffine g z ⊎ IsNumber i (after i c g S) ps z))))
 
 abbrev pub IsWide : ℤ → Type 0
 IsWide z = FitsSigned w128 z → ⊥
@@ -124,4 +124,4 @@ IsSolution zero S (p ∷ ps) vs = ⊥
 IsSolution (suc i) S [] vs = Absent i S × (ws : List ℤ) × (vs ≡ ws ++ pos 0 ∷ []) × IsSolution i (cut i S) [] ws
 IsSolution (suc i) S (p ∷ ps) vs =
     (Absent i S × (ws : List ℤ) × (vs ≡ ws ++ pos 0 ∷ []) × IsSolution i (cut i S) (p ∷ ps) ws)
-    ⊎ (Occurs i S × (c : ℕ) × (D : ℕ) × (g : Form) × Step i S p c D g × (ws : List ℤ) × (x : ℤ) × (vs ≡ ws ++ x ∷ []) × (form_value g ws ≡ pos c *ℤ x) × IsSolution i (after i c g S) ps ws)
+    ⊎ (Occurs i S × (c : ℕ) × (D : ℕ) × (g : Affine) × Step i S p c D g × (ws : List ℤ) × (x : ℤ) × (vs ≡ ws ++ x ∷ []) × (affine_value g ws ≡ pos c *ℤ x) × IsSolution i (after i c g S) ps ws)

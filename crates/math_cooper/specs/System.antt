@@ -45,28 +45,28 @@ add_times a (x ∷ f) [] = x ∷ f
 add_times a (x ∷ f) (y ∷ g) = (x +ℤ (a *ℤ y)) ∷ add_times a f g
 
 -- a form: what is put for a variable
-pub record Form : Type 0 where
+pub record Affine : Type 0 where
   pub constant : ℤ
   pub coefficients : List ℤ
 
-abbrev pub form_value : Form → List ℤ → ℤ
-form_value g vs = dot g.coefficients vs +ℤ g.constant
+abbrev pub affine_value : Affine → List ℤ → ℤ
+affine_value g vs = dot g.coefficients vs +ℤ g.constant
 
 -- the constraint with the form put for variable i
-unfoldable pub put : ℕ → Form → Condition → Condition
+unfoldable pub put : ℕ → Affine → Condition → Condition
 put i g c = record { kind = c.kind; constant = c.constant +ℤ (lead i c *ℤ g.constant); coefficients = add_times (lead i c) (take i c.coefficients) g.coefficients }
 
 -- the bound of b on variable i from below, and j more; from above, and j less; and j alone
-unfoldable pub low_form : ℕ → Condition → ℕ → Form
+unfoldable pub low_form : ℕ → Condition → ℕ → Affine
 low_form i b j = record { constant = neg_ℤ b.constant +ℤ pos j; coefficients = map neg_ℤ (take i b.coefficients) }
 
-unfoldable pub high_form : ℕ → Condition → ℕ → Form
+unfoldable pub high_form : ℕ → Condition → ℕ → Affine
 high_form i b j = record { constant = b.constant -ℤ pos j; coefficients = take i b.coefficients }
 
-unfoldable pub free_form : ℕ → ℕ → Form
+unfoldable pub free_form : ℕ → ℕ → Affine
 free_form i j = record { constant = pos j; coefficients = replicate i (pos 0) }
 
-abbrev pub put_all : ℕ → Form → List Condition → List Condition
+abbrev pub put_all : ℕ → Affine → List Condition → List Condition
 put_all i g S = map (put i g) S
 
 -- ---- a step's first part

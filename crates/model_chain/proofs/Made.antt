@@ -4,7 +4,7 @@ use Rattle.std.proofs.Math.IntN.{ℤ}
 use Rattle.math_cooper.specs.Puts.{Put, AllFit, IsNumber, Passes128, IsSolution}
 use Rattle.math_cooper.proofs.Composition.{not-passes}
 use Rattle.model_chain.specs.Literals.{Literal, needs_side, count_sides, own_side, later_sides}
-use Rattle.model_chain.specs.Chains.{Choice, side, take_put, Chain, first_system, count_variables, side_choices, sides_in, puts_in, IsChosen, HasWide, IsOutside, IsFar}
+use Rattle.model_chain.specs.Chains.{Choice, side, take_put, Chain, first_system, count_variables, side_choices, sides_in, puts_in, IsChosen, HasWide, HasFarValue, IsFar}
 
 abbrev pub choices_of : List Literal → List Bool → List Put → List Choice
 choices_of ls sides ps = side_choices 0 ls sides ++ map take_put ps
@@ -52,7 +52,7 @@ pub wide_chain : (ls : List Literal) (bounded : Bool) (sides : List Bool) (ps : 
 wide_chain ls bounded sides ps e h =
     (chosen ls bounded sides ps e, subst (λ ss. Passes128 (count_variables ls) (first_system ls bounded ss) (puts_in (choices_of ls sides ps))) (sym (made-sides 0 ls sides ps e)) (subst (Passes128 (count_variables ls) (first_system ls bounded sides)) (sym (made-puts 0 ls sides ps)) h))
 
-pub far_chain : (ls : List Literal) (sides : List Bool) (ps : List Put) (vs : List ℤ) → length sides ≡ count_sides ls → AllFit (IsNumber (count_variables ls) (first_system ls false sides) ps) → IsSolution (count_variables ls) (first_system ls false sides) ps vs → IsOutside vs → IsFar (made ls false sides ps)
+pub far_chain : (ls : List Literal) (sides : List Bool) (ps : List Put) (vs : List ℤ) → length sides ≡ count_sides ls → AllFit (IsNumber (count_variables ls) (first_system ls false sides) ps) → IsSolution (count_variables ls) (first_system ls false sides) ps vs → HasFarValue vs → IsFar (made ls false sides ps)
 far_chain ls sides ps vs e fit solution out =
     let es = made-sides 0 ls sides ps e in
     let ep = made-puts 0 ls sides ps in

@@ -10,7 +10,7 @@ use Rattle.math_cooper.proofs.Steps.{solution_solves}
 use Rattle.model_form.specs.Form.{value, modulo}
 use Rattle.model_form.proofs.Over.{AgreeBelow}
 use Rattle.model_chain.specs.Literals.{Literal, AreLiteralsOver, HoldsAll, remainders_in, count_sides, field_in}
-use Rattle.model_chain.specs.Chains.{Chain, first_system, count_variables, sides_in, puts_in, IsFar, IsOutside}
+use Rattle.model_chain.specs.Chains.{Chain, first_system, count_variables, sides_in, puts_in, IsFar, HasFarValue}
 use Rattle.model_chain.specs.Sides.{HoldWith}
 use Rattle.model_chain.specs.Laws.{AreDivisorsPositive}
 use Rattle.model_chain.proofs.Exact.{first_out, first_in, hold_agree, OccurringFit}
@@ -45,16 +45,16 @@ solution_holds ls bounded sides ps vs over s =
     let h = first_out ls bounded sides vs over r.1 in
     (length-take-le 8 vs (omega arith), hold_agree ls sides vs (take 8 vs) (agree_take vs) over h.0, h.1)
 
-pub outside_take : (vs : List ℤ) → IsOutside vs → IsOutside (take 8 vs)
+pub outside_take : (vs : List ℤ) → HasFarValue vs → HasFarValue (take 8 vs)
 outside_take vs (k, l, n) = (k, l, λ f. n (subst (FitsSigned w64) (sym (agree_take vs k l)) f))
 
-pub far_has_values : (C : Chain) → AreLiteralsOver 8 C.literals → IsFar C → (us : List ℤ) × (length us ≡ 8) × HoldsAll C.literals us × IsOutside us
+pub far_has_values : (C : Chain) → AreLiteralsOver 8 C.literals → IsFar C → (us : List ℤ) × (length us ≡ 8) × HoldsAll C.literals us × HasFarValue us
 far_has_values C over (b, n, c, (vs, s, out)) =
     let h = solution_holds C.literals false (sides_in C.choices) (puts_in C.choices) vs over s in
     (take 8 vs, h.0, hold_out C.literals (sides_in C.choices) (take 8 vs) h.1, outside_take vs out)
 
 -- a bounded system has no solution outside the label range
-pub bounded_inside : (ls : List Literal) (sides : List Bool) (ps : List Put) (vs : List ℤ) → AreLiteralsOver 8 ls → IsSolution (count_variables ls) (first_system ls true sides) ps vs → ¬ (IsOutside vs)
+pub bounded_inside : (ls : List Literal) (sides : List Bool) (ps : List Put) (vs : List ℤ) → AreLiteralsOver 8 ls → IsSolution (count_variables ls) (first_system ls true sides) ps vs → ¬ (HasFarValue vs)
 bounded_inside ls sides ps vs over s (k, l, out) = by (cases_Bool (field_in k ls))
   where
     by : (field_in k ls ≡ true) ⊎ (field_in k ls ≡ false) → ⊥

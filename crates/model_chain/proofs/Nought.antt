@@ -7,7 +7,7 @@ use Rattle.std.proofs.lemmas.Int.{ints}
 use Rattle.std.proofs.lemmas.Bool.{cases_lt}
 use Rattle.std.proofs.lemmas.List.{length-map, length-replicate, get_or_append_left, get_or-append-add, get_or-map, get_or-take, get_or-replicate}
 use Rattle.std.proofs.lemmas.List.Elements.{All-nil, All-cons, All-append, All-map, All-contains}
-use Rattle.math_cooper.specs.System.{Condition, HasWidth, Form, lead, sign, add_times, put, low_form, high_form, free_form, times_condition, unit, unit_by, unit_all, divides_condition}
+use Rattle.math_cooper.specs.System.{Condition, HasWidth, Affine, lead, sign, add_times, put, low_form, high_form, free_form, times_condition, unit, unit_by, unit_all, divides_condition}
 use Rattle.math_cooper.specs.Puts.{Put, IsPut, Absent, cut, cut_one, after, IsSolution}
 use Rattle.math_cooper.proofs.Scaling.{unit_all_width}
 use Rattle.math_cooper.proofs.Steps.{solution_solves, cut_width, after_width}
@@ -53,21 +53,21 @@ module _ (i k : ℕ) (low : k < i) where
       let P : Condition → Type 0 = λ d. lead k d ≡ pos 0 in
       All-append P (map (unit i c) S) (divides_condition i c ∷ []) (All-map P (unit i c) S (λ j d l. unit_nought c (get_or S j d) (w j d l) (a j d l))) (All-cons P (divides_condition i c) [] (divides_nought c) (All-nil P))
 
-  form_nought : (R : List Condition) (p : Put) (g : Form) → All (HasWidth (i + 1)) R → Absent k R → IsPut i R p g → get_or g.coefficients k (pos 0) ≡ pos 0
+  form_nought : (R : List Condition) (p : Put) (g : Affine) → All (HasWidth (i + 1)) R → Absent k R → IsPut i R p g → get_or g.coefficients k (pos 0) ≡ pos 0
   unfolding low_form high_form free_form
   form_nought R p g w a (inl (b, at, l, e)) =
       let many : length b.coefficients ≡ i + 1 = All-contains (HasWidth (i + 1)) R b w (p.bound, at.0, at.1) in
       let row = take i b.coefficients in
-      ap (λ (f : Form). get_or f.coefficients k (pos 0)) e ∙ map_nought neg_ℤ row k refl (let t = length-take i b.coefficients in omega arith) (taken b.coefficients (All-contains (λ d. lead k d ≡ pos 0) R b a (p.bound, at.0, at.1)))
+      ap (λ (f : Affine). get_or f.coefficients k (pos 0)) e ∙ map_nought neg_ℤ row k refl (let t = length-take i b.coefficients in omega arith) (taken b.coefficients (All-contains (λ d. lead k d ≡ pos 0) R b a (p.bound, at.0, at.1)))
   form_nought R p g w a (inr (inl (n, b, at, l, e))) =
-      ap (λ (f : Form). get_or f.coefficients k (pos 0)) e ∙ taken b.coefficients (All-contains (λ d. lead k d ≡ pos 0) R b a (p.bound, at.0, at.1))
-  form_nought R p g w a (inr (inr (n, m, s, e))) = ap (λ (f : Form). get_or f.coefficients k (pos 0)) e ∙ get_or-replicate i k (pos 0) (pos 0) low
+      ap (λ (f : Affine). get_or f.coefficients k (pos 0)) e ∙ taken b.coefficients (All-contains (λ d. lead k d ≡ pos 0) R b a (p.bound, at.0, at.1))
+  form_nought R p g w a (inr (inr (n, m, s, e))) = ap (λ (f : Affine). get_or f.coefficients k (pos 0)) e ∙ get_or-replicate i k (pos 0) (pos 0) low
 
-  put_nought : (g : Form) (d : Condition) → HasWidth (i + 1) d → get_or g.coefficients k (pos 0) ≡ pos 0 → lead k d ≡ pos 0 → lead k (put i g d) ≡ pos 0
+  put_nought : (g : Affine) (d : Condition) → HasWidth (i + 1) d → get_or g.coefficients k (pos 0) ≡ pos 0 → lead k d ≡ pos 0 → lead k (put i g d) ≡ pos 0
   unfolding put
   put_nought g d w e z = sum_nought (lead i d) (take i d.coefficients) g.coefficients k (let n : length d.coefficients ≡ i + 1 = w in let t = length-take i d.coefficients in omega arith) (taken d.coefficients z) e
 
-  after_absent : (c : ℕ) (g : Form) (p : Put) (S : List Condition) → All (HasWidth (i + 1)) S → IsPut i (unit_all i c S) p g → Absent k S → Absent k (after i c g S)
+  after_absent : (c : ℕ) (g : Affine) (p : Put) (S : List Condition) → All (HasWidth (i + 1)) S → IsPut i (unit_all i c S) p g → Absent k S → Absent k (after i c g S)
   after_absent c g p S w is a =
       let R = unit_all i c S in
       let u = unit_all_width i c S w in

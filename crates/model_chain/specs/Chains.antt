@@ -56,13 +56,13 @@ abbrev pub HasWide : Chain → Type 0
 HasWide C = IsChosen C × Passes128 (count_variables C.literals) (first_system C.literals C.bounded (sides_in C.choices)) (puts_in C.choices)
 
 -- a solution is outside the label range: one of its fields is
-abbrev pub IsOutside : List ℤ → Type 0
-IsOutside values = (k : ℕ) × (k < 8) × (IsLabelNumber (slice_index_or values k (pos 0)) → ⊥)
+abbrev pub HasFarValue : List ℤ → Type 0
+HasFarValue values = (k : ℕ) × (k < 8) × (IsLabelNumber (slice_index_or values k (pos 0)) → ⊥)
 
 -- the chain is unbounded, no number of it is outside 128 bits, and its solution is outside the label range
 abbrev pub IsFar : Chain → Type 0
 IsFar C = (C.bounded ≡ false) × (HasWide C → ⊥) × IsChosen C
-    × ((values : List ℤ) × IsSolution (count_variables C.literals) (first_system C.literals false (sides_in C.choices)) (puts_in C.choices) values × IsOutside values)
+    × ((values : List ℤ) × IsSolution (count_variables C.literals) (first_system C.literals false (sides_in C.choices)) (puts_in C.choices) values × HasFarValue values)
 
 -- by 128 bits a number is too wide, and where the chain is bounded some unbounded one of its literals is far; by 64 it is far
 abbrev pub Passes : ℕ → Chain → Type 0

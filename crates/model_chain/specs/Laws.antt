@@ -3,7 +3,7 @@ use Rattle.std.specs.Prelude.{ℤ, ◌≡◌, ◌<◌, ◌↔◌, Bool, false, L
 use Rattle.std.specs.List.{All}
 use Rattle.math_cooper.specs.System.{Solves}
 use Rattle.model_chain.specs.Literals.{Literal, AreLiteralsOver, HoldsAll, remainders_in, count_sides}
-use Rattle.model_chain.specs.Chains.{Chain, first_system, IsFar, IsOutside}
+use Rattle.model_chain.specs.Chains.{Chain, first_system, IsFar, HasFarValue}
 
 -- each remainder in the literals is by a positive number
 abbrev pub AreDivisorsPositive : List Literal → Type 0
@@ -17,4 +17,4 @@ HoldWhereSolved = (ls : List Literal) (us : List ℤ) → AreLiteralsOver 8 ls �
 
 -- the literals of a far chain hold at values of which one is outside the label range
 abbrev pub FarHasValues : Type 0
-FarHasValues = (C : Chain) → AreLiteralsOver 8 C.literals → IsFar C → (us : List ℤ) × (length us ≡ 8) × HoldsAll C.literals us × IsOutside us
+FarHasValues = (C : Chain) → AreLiteralsOver 8 C.literals → IsFar C → (us : List ℤ) × (length us ≡ 8) × HoldsAll C.literals us × HasFarValue us

@@ -1,4 +1,3 @@
-pub mod Each
 pub mod Literals
 pub mod Chains
 pub mod Sides

@@ -3,7 +3,7 @@ use Rattle.std.proofs.Common.{◌≡◌, ℕ, List, [], ◌∷◌, ◌++◌, ref
 use Rattle.model_program.specs.Lexeme.{Lexeme}
 use Rattle.model_program.specs.Pieces.{IsLongest, word_of}
 use Rattle.model_program.specs.Cuts.{Piece, texts_of, lexeme_at, lexemes_after}
-use Rattle.model_program.proofs.Forms.{◌⊗◌}
+use Rattle.model_program.specs.Joined.{◌⊗◌}
 use Rattle.model_grammar.specs.Printed.{blank}
 use Rattle.model_grammar.proofs.Laid.{IsParted, AreLaid}
 use Rattle.model_grammar.proofs.Standing.{blank_longest}

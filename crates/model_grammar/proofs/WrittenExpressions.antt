@@ -15,7 +15,7 @@ use Rattle.model_program.proofs.Families.{digit_no_name}
 use Rattle.model_program.specs.Spellings.{spelling, spelled, keywords}
 use Rattle.model_program.specs.Pieces.{IsName, Name, Digits, Text, IsLongest}
 use Rattle.model_program.specs.Cuts.{Piece, texts_of, lexemes_after, place_after}
-use Rattle.model_program.specs.Reads.{IsOther}
+use Rattle.model_program.specs.Joined.{IsOther}
 use Rattle.model_program.specs.TokenTexts.{IsTextOf, HaveTexts}
 use Rattle.model_grammar.specs.declared.Rel.{Rel}
 use Rattle.model_grammar.specs.declared.Rel.TheVariants as rel

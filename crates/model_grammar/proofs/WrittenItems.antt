@@ -12,10 +12,9 @@ use Rattle.model_program.specs.Spellings.{spelled, keywords}
 use Rattle.model_program.specs.Syntax.{Name, FieldItem, CtorItem, TypeItem, Demand}
 use Rattle.model_program.specs.Pieces.{Digits}
 use Rattle.model_program.specs.Cuts.{Piece, texts_of}
-use Rattle.model_program.specs.Reads.{◌⌢◌}
+use Rattle.model_program.specs.Joined.{◌⌢◌, ◌⊗◌}
 use Rattle.model_program.specs.Grammar.{IsSign, IsAt, IsName, IsNumber, IsComma, Items, Any, Many, AreVars, IsGiven, IsDemand, IsCtor, IsSort, IsField, sort_text, AreFieldsOrNone, AreCtors, IsTypeItem, assert_word}
 use Rattle.model_program.specs.TokenTexts.{IsTextOf, HaveTexts}
-use Rattle.model_program.proofs.Forms.{◌⊗◌}
 use Rattle.model_grammar.specs.Syntax.{Expr, Rule, OutRule, TreeItem, LangItem, TransItem, DefItem, Claim, equal, member, empty, type_check, Body, sorts, tree, lang, trans, def, assertion, Item}
 use Rattle.model_grammar.specs.Places.{nowhere, bare_name, bare_field, bare_ctor, bare_type, bare_demand, bare_guard, bare_rule, bare_out_rule, bare_into, bare_tree, bare_lang, bare_trans, bare_def, bare_claim, bare_item, bare_items}
 use Rattle.model_grammar.specs.Terms.{IsX, IsOut}

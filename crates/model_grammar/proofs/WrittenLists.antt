@@ -3,10 +3,9 @@ use Rattle.std.proofs.Common.{List, [], ◌∷◌, ◌++◌, map, refl, sym, ap,
 use Rattle.model_program.specs.declared.Word.TheVariants.{Comma, Bar}
 use Rattle.model_program.specs.Lexeme.{Lexeme}
 use Rattle.model_program.specs.Cuts.{Piece}
-use Rattle.model_program.specs.Reads.{◌⌢◌}
+use Rattle.model_program.specs.Joined.{◌⌢◌, ◌⊗◌}
 use Rattle.model_program.specs.Grammar.{IsSign, IsComma, Further, Items, Any, Many}
 use Rattle.model_program.specs.TokenTexts.{HaveTexts}
-use Rattle.model_program.proofs.Forms.{◌⊗◌}
 use Rattle.model_grammar.specs.Terms.{IsLater, Row}
 use Rattle.model_grammar.specs.Printed.{behind_commas, with_commas, behind_blanks, behind_bars}
 use Rattle.model_grammar.proofs.Laid.{IsParted}
@@ -55,55 +54,55 @@ blanks_touch printed [] after parted = parted
 blanks_touch printed (x ∷ xs) after parted = refl
 
 module _ {A C : Type 0} (f : A → C) (p : A → List Lexeme → Type 0) (printed : A → List Piece) where
-  abbrev Each : List A → Type 0
-  Each xs = AllWritten f p printed xs
+  abbrev AreEachWritten : List A → Type 0
+  AreEachWritten xs = AllWritten f p printed xs
 
   -- ,? item ..
-  pub further_commas : (xs : List A) → Each xs → Written IsParted (map f) (Further IsComma p) xs (behind_commas printed xs)
+  pub further_commas : (xs : List A) → AreEachWritten xs → Written IsParted (map f) (Further IsComma p) xs (behind_commas printed xs)
   further_commas [] all = nothing_written [] refl
   further_commas (x ∷ xs) all =
       as_written {p = IsSign Comma ⊗ (p ⊗ Further IsComma p)} (λ v. v.1.0 ∷ v.1.1) (λ v ts s. first_as (λ us is. inr is) s) (λ v same i. (same i).1.0 ∷ (same i).1.1)
       (joined (λ after fine. refl) (sign_written Comma tt) (spaced (joined (commas_touch printed xs) all.0 (further_commas xs all.1))))
 
   -- .. and where an item without a comma doesn't begin with `-`
-  pub later_commas : (xs : List A) → Each xs → Written IsParted (map f) (Many (IsLater p)) xs (behind_commas printed xs)
+  pub later_commas : (xs : List A) → AreEachWritten xs → Written IsParted (map f) (Many (IsLater p)) xs (behind_commas printed xs)
   later_commas [] all = nothing_written [] refl
   later_commas (x ∷ xs) all =
       as_written {p = IsSign Comma ⊗ (p ⊗ Many (IsLater p))} (λ v. v.1.0 ∷ v.1.1) (λ v ts s. first_as (λ us is. inl is) (regrouped s)) (λ v same i. (same i).1.0 ∷ (same i).1.1)
       (joined (λ after fine. refl) (sign_written Comma tt) (spaced (joined (commas_touch printed xs) all.0 (later_commas xs all.1))))
 
   -- BAR item ..
-  pub further_bars : (xs : List A) → Each xs → Written IsParted (map f) (Further (IsSign Bar) p) xs (behind_bars printed xs)
+  pub further_bars : (xs : List A) → AreEachWritten xs → Written IsParted (map f) (Further (IsSign Bar) p) xs (behind_bars printed xs)
   further_bars [] all = nothing_written [] refl
   further_bars (x ∷ xs) all =
       as_written {p = IsSign Bar ⊗ (p ⊗ Further (IsSign Bar) p)} (λ v. v.1.0 ∷ v.1.1) (λ v ts s. s) (λ v same i. (same i).1.0 ∷ (same i).1.1)
       (spaced (joined (λ after fine. refl) (sign_written Bar tt) (spaced (joined (bars_touch printed xs) all.0 (further_bars xs all.1)))))
 
   -- items one behind the other
-  pub many_blanks : (xs : List A) → Each xs → Written IsParted (map f) (Many p) xs (behind_blanks printed xs)
+  pub many_blanks : (xs : List A) → AreEachWritten xs → Written IsParted (map f) (Many p) xs (behind_blanks printed xs)
   many_blanks [] all = nothing_written [] refl
   many_blanks (x ∷ xs) all =
       as_written {p = p ⊗ Many p} (λ v. v.0 ∷ v.1) (λ v ts s. s) (λ v same i. (same i).0 ∷ (same i).1)
       (spaced (joined (blanks_touch printed xs) all.0 (many_blanks xs all.1)))
 
-  pub items_commas : (x : A) (xs : List A) → Each (x ∷ xs) → Written IsParted (map f) (Items IsComma p) (x ∷ xs) (with_commas printed (x ∷ xs))
+  pub items_commas : (x : A) (xs : List A) → AreEachWritten (x ∷ xs) → Written IsParted (map f) (Items IsComma p) (x ∷ xs) (with_commas printed (x ∷ xs))
   items_commas x xs all =
       as_written {p = p ⊗ Further IsComma p} (λ v. v.0 ∷ v.1) (λ v ts s. s) (λ v same i. (same i).0 ∷ (same i).1)
       (joined (commas_touch printed xs) all.0 (further_commas xs all.1))
 
-  pub any_commas : (xs : List A) → Each xs → Written IsParted (map f) (Any IsComma p) xs (with_commas printed xs)
+  pub any_commas : (xs : List A) → AreEachWritten xs → Written IsParted (map f) (Any IsComma p) xs (with_commas printed xs)
   any_commas [] all = nothing_written [] refl
   any_commas (x ∷ xs) all =
       as_written {p = p ⊗ Further IsComma p} (λ v. v.0 ∷ v.1) (λ v ts s. s) (λ v same i. (same i).0 ∷ (same i).1)
       (joined (commas_touch printed xs) all.0 (further_commas xs all.1))
 
-  pub row_commas : (xs : List A) → Each xs → Written IsParted (map f) (Row p) xs (with_commas printed xs)
+  pub row_commas : (xs : List A) → AreEachWritten xs → Written IsParted (map f) (Row p) xs (with_commas printed xs)
   row_commas [] all = nothing_written [] refl
   row_commas (x ∷ xs) all =
       as_written {p = p ⊗ Many (IsLater p)} (λ v. v.0 ∷ v.1) (λ v ts s. s) (λ v same i. (same i).0 ∷ (same i).1)
       (joined (commas_touch printed xs) all.0 (later_commas xs all.1))
 
-  pub items_bars : (x : A) (xs : List A) → Each (x ∷ xs) → Written IsParted (map f) (Items (IsSign Bar) p) (x ∷ xs) (printed x ++ behind_bars printed xs)
+  pub items_bars : (x : A) (xs : List A) → AreEachWritten (x ∷ xs) → Written IsParted (map f) (Items (IsSign Bar) p) (x ∷ xs) (printed x ++ behind_bars printed xs)
   items_bars x xs all =
       as_written {p = p ⊗ Further (IsSign Bar) p} (λ v. v.0 ∷ v.1) (λ v ts s. s) (λ v same i. (same i).0 ∷ (same i).1)
       (joined (bars_touch printed xs) all.0 (further_bars xs all.1))

@@ -7,10 +7,9 @@ use Rattle.model_program.specs.Lexeme.{Lexeme}
 use Rattle.model_program.specs.Spellings.{spelling}
 use Rattle.model_program.specs.Syntax.{Name}
 use Rattle.model_program.specs.Cuts.{Piece, texts_of}
-use Rattle.model_program.specs.Reads.{◌⌢◌}
+use Rattle.model_program.specs.Joined.{◌⌢◌, ◌⊗◌}
 use Rattle.model_program.specs.Grammar.{IsSign, IsAt, IsName}
 use Rattle.model_program.specs.TokenTexts.{IsTextOf, HaveTexts}
-use Rattle.model_program.proofs.Forms.{◌⊗◌}
 use Rattle.model_grammar.specs.declared.Op1.{Op1}
 use Rattle.model_grammar.specs.declared.Op1.TheVariants as op1
 use Rattle.model_grammar.specs.declared.Op2.{Op2}

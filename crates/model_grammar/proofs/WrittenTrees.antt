@@ -18,9 +18,8 @@ use Rattle.model_program.specs.Spellings.{spelling}
 use Rattle.model_program.specs.Syntax as syntax
 use Rattle.model_program.specs.Pieces.{Name, Digits, Text, IsLongest}
 use Rattle.model_program.specs.Cuts.{Piece, IsCut, body_of, mark_of, texts_of, lexemes_after, place_after}
-use Rattle.model_program.specs.Reads.{◌⌢◌}
+use Rattle.model_program.specs.Joined.{◌⌢◌, ◌⊗◌}
 use Rattle.model_program.specs.Grammar.{IsSign, IsName}
-use Rattle.model_program.proofs.Forms.{◌⊗◌}
 use Rattle.model_grammar.specs.Syntax.{Expr, number, text, truth}
 use Rattle.model_grammar.specs.Places.{nowhere, bare}
 use Rattle.model_grammar.specs.Expressions.{negative}

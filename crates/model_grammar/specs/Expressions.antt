@@ -4,7 +4,7 @@ use Rattle.std.specs.Str.Parse.{digits_value}
 use Rattle.model_program.specs.declared.Word.TheVariants.{Not, True, False, Id, Number, Quoted, RoundOpen, RoundClose, Minus, Percent}
 use Rattle.model_program.specs.Lexeme.{Lexeme}
 use Rattle.model_program.specs.Quotes.{IsQuoted}
-use Rattle.model_program.specs.Reads.{IsOther}
+use Rattle.model_program.specs.Joined.{IsOther}
 use Rattle.model_program.specs.Grammar.{IsDigits}
 use Rattle.model_grammar.specs.declared.Rel.{Rel}
 use Rattle.model_grammar.specs.declared.Chain.{Chain}

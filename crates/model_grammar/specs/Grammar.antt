@@ -4,7 +4,7 @@ use Rattle.fast_fault.specs.declared.place.Pos.{Pos}
 use Rattle.model_program.specs.declared.Word.TheVariants.{TypeWord, Tree, Lang, Trans, Def, Where, To, In, IsEmpty, TypeCheck, RoundOpen, RoundClose, CurlyOpen, CurlyClose, Bar, Colon, Assign, Arrow, Same, Element}
 use Rattle.model_program.specs.Lexeme.{Lexeme}
 use Rattle.model_program.specs.Syntax.{Name}
-use Rattle.model_program.specs.Reads.{◌⌢◌, Nothing}
+use Rattle.model_program.specs.Joined.{◌⌢◌, Nothing}
 use Rattle.model_program.specs.Grammar.{sign, IsSign, IsAt, IsName, Items, Many, AreVars, IsGiven, IsTypeItem, assert_word}
 use Rattle.model_grammar.specs.Syntax.{Expr, Rule, OutRule, TreeItem, LangItem, TransItem, DefItem, Claim, equal, member, empty, type_check, Body, sorts, tree, lang, trans, def, assertion, Item}
 use Rattle.model_grammar.specs.Expressions.{IsE}

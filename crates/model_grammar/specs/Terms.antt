@@ -3,7 +3,7 @@ use Rattle.std.specs.Prelude.{◌≡◌, List, [], ◌∷◌, ◌++◌, ◌⊎�
 use Rattle.model_program.specs.declared.Word.TheVariants.{RoundOpen, RoundClose, SquareOpen, SquareClose, Comma, Minus}
 use Rattle.model_program.specs.Lexeme.{Lexeme}
 use Rattle.model_program.specs.Syntax.{Name}
-use Rattle.model_program.specs.Reads.{◌⌢◌, Nothing, IsOther}
+use Rattle.model_program.specs.Joined.{◌⌢◌, Nothing, IsOther}
 use Rattle.model_program.specs.Grammar.{sign, IsName, Many}
 use Rattle.model_grammar.specs.declared.Op1.{Op1}
 use Rattle.model_grammar.specs.declared.Op2.{Op2}

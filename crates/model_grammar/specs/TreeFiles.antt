@@ -6,7 +6,7 @@ use Rattle.model_program.specs.declared.Word.TheVariants.{True, False, Number, Q
 use Rattle.model_program.specs.Lexeme.{Lexeme}
 use Rattle.model_program.specs.Syntax.{Name}
 use Rattle.model_program.specs.Quotes.{IsQuoted}
-use Rattle.model_program.specs.Reads.{◌⌢◌}
+use Rattle.model_program.specs.Joined.{◌⌢◌}
 use Rattle.model_program.specs.Grammar.{sign, IsName, IsDigits}
 use Rattle.model_grammar.specs.Syntax.{Expr, number, text, truth}
 use Rattle.model_grammar.specs.Expressions.{negative}

@@ -54,7 +54,7 @@ add_constants : (ps : List Part) (s : sums.Sum) → AreConstant ps → IsBare s 
 add_constants [] s h bare = bare
 add_constants (p ∷ ps) s h bare = add_constants ps (add_form (sign p.minus) p.added s) h.1 (add_constant (sign p.minus) p.added s h.0 bare)
 
-bare_constant : (s : sums.Sum) → IsBare s → is_constant (sums.form_of s) ≡ true
+bare_constant : (s : sums.Sum) → IsBare s → is_constant (sums.form_of_sum s) ≡ true
 bare_constant s bare = λ i. is_constant (form s.constant (sums.fields_from 0 (bare.totals i)) (sums.without_zeros (bare.terms i)))
 
 module _ (fields : List PlainField) where

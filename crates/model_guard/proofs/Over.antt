@@ -95,7 +95,7 @@ module _ (n : ℕ) where
   form_more : (by : ℤ) (f : Form) (s : Sum) → IsOver n f → IsSumOver s → IsSumOver (add_form by f s)
   form_more by (form c ts rs) s o h = record { zero_from = add_fields_zero by ts s.totals o.0 h.zero_from; terms = remainders_over by rs s.terms o.1 h.terms }
 
-  form_over : (s : Sum) → IsSumOver s → IsOver n (sums.form_of s)
+  form_over : (s : Sum) → IsSumOver s → IsOver n (sums.form_of_sum s)
   form_over s h = (kept_below 0 s.totals (λ k l. h.zero_from k (omega (arith, l))), kept_over s.terms h.terms)
 
   parts_more : (ps : List Part) (s : Sum) → ArePartsOver n ps → IsSumOver s → IsSumOver (add_parts ps s)

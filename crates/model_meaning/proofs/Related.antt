@@ -17,7 +17,7 @@ use Rattle.model_meaning.specs.Names.{Definitions, IsIn, AreIn, AppliesBy, Gives
 use Rattle.model_meaning.specs.Meaning.{IsOf, Relates, followed, meaning, IsRelated, IsInLanguage, input_type}
 use Rattle.model_meaning.specs.Laws.{DemandNoDefinition}
 use Rattle.model_meaning.specs.Programs.{name, x, t, to, rule, make, apply, demand}
-use Rattle.model_meaning.specs.Related.{looking, deleting, demanding, calling, nested, defining, f_rule, g_rule, pair_rule, leaf_rule, first_rule, twice_rule, to_b, to_a, inside}
+use Rattle.model_meaning.specs.Related.{looking, deleting, demanding, calling, swapping_program, defining, f_rule, g_rule, pair_rule, leaf_rule, first_rule, twice_rule, to_b, to_a, inside}
 use Rattle.model_meaning.proofs.Members.{one_of, none_of}
 use Rattle.model_meaning.proofs.Rules.{tests_agree}
 
@@ -288,10 +288,10 @@ no_tree u typed inside = no_such_tree u typed (((tests_agree demanding demand_no
 -- ---- definitions inside each other
 
 abbrev five_deep : Definitions
-five_deep = followed nested 5
+five_deep = followed swapping_program 5
 
 abbrev four_deep : Definitions
-four_deep = followed nested 4
+four_deep = followed swapping_program 4
 
 abbrev of_pb : Demand
 of_pb = demand (codes "pb") (codes "x")
@@ -302,61 +302,61 @@ pb_rule = rule (codes "b") [] []
 abbrev w_rule : Rule
 w_rule = rule (codes "c") (codes "x" ∷ []) (of_pb ∷ [])
 
-a_not_in_pb : (D : Definitions) → ¬ (IsIn nested D (codes "pb") (t 0 []))
+a_not_in_pb : (D : Definitions) → ¬ (IsIn swapping_program D (codes "pb") (t 0 []))
 a_not_in_pb D (r, at, heads_so, are) =
     elim (one_of pb_rule r [] at) [
-      | inl e ↦ (let off : false ≡ true = subst (λ s. heads (input_of nested (codes "pb")) s 0 (row []) ≡ true) (sym e) heads_so in absurd (cc))
+      | inl e ↦ (let off : false ≡ true = subst (λ s. heads (input_of swapping_program (codes "pb")) s 0 (row []) ≡ true) (sym e) heads_so in absurd (cc))
       | inr other ↦ absurd (none_of r other)
     ]
 
-ca_not_in_w : (D : Definitions) → ¬ (IsIn nested D (codes "w") (t 2 (t 0 [] ∷ [])))
+ca_not_in_w : (D : Definitions) → ¬ (IsIn swapping_program D (codes "w") (t 2 (t 0 [] ∷ [])))
 ca_not_in_w D (r, at, heads_so, are) =
     elim (one_of w_rule r [] at) [
-      | inl e ↦ a_not_in_pb D ((subst (λ (s : Rule). AreIn nested D (tree (t 0 []) no_trees) s.vars s.given) (sym e) are).0 of_pb (first _ []) refl)
+      | inl e ↦ a_not_in_pb D ((subst (λ (s : Rule). AreIn swapping_program D (tree (t 0 []) no_trees) s.vars s.given) (sym e) are).0 of_pb (first _ []) refl)
       | inr other ↦ none_of r other
     ]
 
-cb_in_w : (D : Definitions) → IsIn nested D (codes "w") (t 2 (t 1 [] ∷ []))
-cb_in_w D = (w_rule, first _ [], refl, (λ d at same. elim (one_of of_pb d [] at) [ inl e ↦ subst (λ (k : Demand). IsIn nested D k.language.text (t 1 [])) e (pb_rule, first _ [], refl, tt) | inr other ↦ absurd (none_of d other) ], tt))
+cb_in_w : (D : Definitions) → IsIn swapping_program D (codes "w") (t 2 (t 1 [] ∷ []))
+cb_in_w D = (w_rule, first _ [], refl, (λ d at same. elim (one_of of_pb d [] at) [ inl e ↦ subst (λ (k : Demand). IsIn swapping_program D k.language.text (t 1 [])) e (pb_rule, first _ [], refl, tt) | inr other ↦ absurd (none_of d other) ], tt))
 
 third : {A : Type 0} (u v w : A) (ws : List A) → Contains (u ∷ v ∷ w ∷ ws) w
 third u v w ws = (2, omega arith, refl)
 
-swapped : (D : Definitions) → Gives nested D (output_by (codes "p")) (t 2 (t 1 [] ∷ [])) (t 2 (t 0 [] ∷ []))
-swapped D = (inside, third _ _ _ [], (refl, no_demand nested D (tree (t 1 []) no_trees) inside.rule.vars), (refl, refl, ((to_a, second _ _ (inside ∷ []), (refl, tt), (refl, refl, tt)), tt)))
+swapped : (D : Definitions) → Gives swapping_program D (output_by (codes "p")) (t 2 (t 1 [] ∷ [])) (t 2 (t 0 [] ∷ []))
+swapped D = (inside, third _ _ _ [], (refl, no_demand swapping_program D (tree (t 1 []) no_trees) inside.rule.vars), (refl, refl, ((to_a, second _ _ (inside ∷ []), (refl, tt), (refl, refl, tt)), tt)))
 
-pub in_nested : IsInLanguage nested (x (codes "q")) (t 2 (t 1 [] ∷ []))
-in_nested = (t 2 (t 0 [] ∷ []), swapped five_deep, ca_not_in_w four_deep)
+pub in_swapping : IsInLanguage swapping_program (x (codes "q")) (t 2 (t 1 [] ∷ []))
+in_swapping = (t 2 (t 0 [] ∷ []), swapped five_deep, ca_not_in_w four_deep)
 
 -- one of three rules
-of_three : (D : Definitions) (c : ℕ) (ts : Trees Label) (u : LabelTree) → Gives nested D (output_by (codes "p")) (node c (row []) ts) u
-    → Makes nested D (codes "p") c (row []) ts u to_b ⊎ Makes nested D (codes "p") c (row []) ts u to_a ⊎ Makes nested D (codes "p") c (row []) ts u inside
+of_three : (D : Definitions) (c : ℕ) (ts : Trees Label) (u : LabelTree) → Gives swapping_program D (output_by (codes "p")) (node c (row []) ts) u
+    → Makes swapping_program D (codes "p") c (row []) ts u to_b ⊎ Makes swapping_program D (codes "p") c (row []) ts u to_a ⊎ Makes swapping_program D (codes "p") c (row []) ts u inside
 of_three D c ts u (r, at, applies, made) =
     elim (one_of to_b r (to_a ∷ inside ∷ []) at) [
-      | inl e ↦ inl (subst (λ s. Makes nested D (codes "p") c (row []) ts u s) (sym e) (applies, made))
-      | inr later ↦ inr (two_rules nested D (codes "p") c (row []) ts u r to_a inside later (applies, made))
+      | inl e ↦ inl (subst (λ s. Makes swapping_program D (codes "p") c (row []) ts u s) (sym e) (applies, made))
+      | inr later ↦ inr (two_rules swapping_program D (codes "p") c (row []) ts u r to_a inside later (applies, made))
     ]
 
-swaps_a : (D : Definitions) (v : LabelTree) → Gives nested D (output_by (codes "p")) (t 0 []) v → v ≡ t 1 []
+swaps_a : (D : Definitions) (v : LabelTree) → Gives swapping_program D (output_by (codes "p")) (t 0 []) v → v ≡ t 1 []
 swaps_a D v gives = by (of_three D 0 no_trees v gives)
   where
-    by : Makes nested D (codes "p") 0 (row []) no_trees v to_b ⊎ Makes nested D (codes "p") 0 (row []) no_trees v to_a ⊎ Makes nested D (codes "p") 0 (row []) no_trees v inside → v ≡ t 1 []
-    by (inl makes) = leaf nested D (codes "p") 0 (row []) no_trees to_b.rule (codes "b") 1 refl v makes
+    by : Makes swapping_program D (codes "p") 0 (row []) no_trees v to_b ⊎ Makes swapping_program D (codes "p") 0 (row []) no_trees v to_a ⊎ Makes swapping_program D (codes "p") 0 (row []) no_trees v inside → v ≡ t 1 []
+    by (inl makes) = leaf swapping_program D (codes "p") 0 (row []) no_trees to_b.rule (codes "b") 1 refl v makes
     by (inr (inl makes)) = let off : false ≡ true = makes.0.0 in absurd (cc)
     by (inr (inr makes)) = let off : false ≡ true = makes.0.0 in absurd (cc)
 
-swaps_ca : (D : Definitions) (u : LabelTree) → Gives nested D (output_by (codes "p")) (t 2 (t 0 [] ∷ [])) u → u ≡ t 2 (t 1 [] ∷ [])
+swaps_ca : (D : Definitions) (u : LabelTree) → Gives swapping_program D (output_by (codes "p")) (t 2 (t 0 [] ∷ [])) u → u ≡ t 2 (t 1 [] ∷ [])
 swaps_ca D u gives = by (of_three D 2 (tree (t 0 []) no_trees) u gives)
   where
-    by : Makes nested D (codes "p") 2 (row []) (tree (t 0 []) no_trees) u to_b ⊎ Makes nested D (codes "p") 2 (row []) (tree (t 0 []) no_trees) u to_a ⊎ Makes nested D (codes "p") 2 (row []) (tree (t 0 []) no_trees) u inside → u ≡ t 2 (t 1 [] ∷ [])
+    by : Makes swapping_program D (codes "p") 2 (row []) (tree (t 0 []) no_trees) u to_b ⊎ Makes swapping_program D (codes "p") 2 (row []) (tree (t 0 []) no_trees) u to_a ⊎ Makes swapping_program D (codes "p") 2 (row []) (tree (t 0 []) no_trees) u inside → u ≡ t 2 (t 1 [] ∷ [])
     by (inl makes) = let off : false ≡ true = makes.0.0 in absurd (cc)
     by (inr (inl makes)) = let off : false ≡ true = makes.0.0 in absurd (cc)
     by (inr (inr makes)) =
-        let one = unary nested D (codes "p") 2 (row []) (tree (t 0 []) no_trees) inside.rule (codes "c") (apply (codes "p") (codes "x")) 2 refl u makes in
+        let one = unary swapping_program D (codes "p") 2 (row []) (tree (t 0 []) no_trees) inside.rule (codes "c") (apply (codes "p") (codes "x")) 2 refl u makes in
         one.1 ∙ ap (λ v. t 2 (v ∷ [])) (swaps_a D one.0 one.2)
 
-pub not_in_nested : ¬ (IsInLanguage nested (x (codes "q")) (t 2 (t 0 [] ∷ [])))
-not_in_nested (u, gives, outside) = subst (λ v. IsOf nested five_deep (x (codes "n")) v) (swaps_ca five_deep u gives) outside (cb_in_w four_deep)
+pub not_in_swapping : ¬ (IsInLanguage swapping_program (x (codes "q")) (t 2 (t 0 [] ∷ [])))
+not_in_swapping (u, gives, outside) = subst (λ v. IsOf swapping_program five_deep (x (codes "n")) v) (swaps_ca five_deep u gives) outside (cb_in_w four_deep)
 
 -- ---- a rule that demands a definition
 

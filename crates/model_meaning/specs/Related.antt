@@ -123,8 +123,8 @@ swapping = to_b ∷ to_a ∷ inside ∷ []
 -- `def n : B := (complement w)`
 -- `trans p : B -> B { a() to (b []) | b() to (a []) | c(x) to (c [] (p x)) }`
 -- `def q : B := (pre-image p n)`
-abbrev pub nested : List Item
-nested =
+abbrev pub swapping_program : List Item
+swapping_program =
     type_item (ctor (codes "a") 0 ∷ ctor (codes "b") 0 ∷ ctor (codes "c") 1 ∷ [])
     ∷ lang_item (codes "pb") (rule (codes "b") [] [] ∷ [])
     ∷ lang_item (codes "w") (rule (codes "c") (codes "x" ∷ []) (demand (codes "pb") (codes "x") ∷ []) ∷ [])
@@ -161,8 +161,8 @@ pub record HoldOfExamples : Type 0 where
   pub two_outputs : IsRelated calling (x (codes "k")) (t 2 (t 0 [] ∷ [])) (t 3 (t 0 [] ∷ t 1 [] ∷ []))
   pub in_pre_image : IsInLanguage calling (x (codes "p")) (t 2 (t 0 [] ∷ []))
   -- `(c [] (b []))` has the output `(c [] (a []))`, which is in the complement; that of `(c [] (a []))` is not
-  pub in_nested : IsInLanguage nested (x (codes "q")) (t 2 (t 1 [] ∷ []))
-  pub not_in_nested : ¬ (IsInLanguage nested (x (codes "q")) (t 2 (t 0 [] ∷ [])))
+  pub in_swapping : IsInLanguage swapping_program (x (codes "q")) (t 2 (t 1 [] ∷ []))
+  pub not_in_swapping : ¬ (IsInLanguage swapping_program (x (codes "q")) (t 2 (t 0 [] ∷ [])))
   -- the child `(a [])` is in the complement that the rule demands, and `(b [])` isn't
   pub in_demanded : IsInLanguage defining (x (codes "v")) (t 2 (t 0 [] ∷ []))
   pub not_in_demanded : ¬ (IsInLanguage defining (x (codes "v")) (t 2 (t 1 [] ∷ [])))

@@ -1,6 +1,3 @@
-pub mod Forms
-pub mod Lists
-pub mod Words
 pub mod Families
 pub mod QuoteLaws
 pub mod Runs

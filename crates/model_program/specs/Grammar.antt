@@ -7,7 +7,7 @@ use Rattle.model_program.specs.declared.Word.{Word}
 use Rattle.model_program.specs.declared.Word.TheVariants.{TypeWord, Lang, Where, Given, Not, True, False, AssertTrue, AssertFalse, IsEmpty, Id, Number, RoundOpen, RoundClose, SquareOpen, SquareClose, CurlyOpen, CurlyClose, Comma, Bar, Colon}
 use Rattle.model_program.specs.Lexeme.{Lexeme}
 use Rattle.model_program.specs.Syntax.{Name, FieldItem, CtorItem, TypeItem, Demand}
-use Rattle.model_program.specs.Reads.{◌⌢◌, Nothing}
+use Rattle.model_program.specs.Joined.{◌⌢◌, Nothing}
 
 -- one token
 abbrev pub IsWord : Word → Lexeme → List Lexeme → Type 0

@@ -5,7 +5,7 @@ pub mod Pieces
 pub mod Quotes
 pub mod Spellings
 pub mod Syntax
-pub mod Reads
+pub mod Joined
 pub mod Grammar
 pub mod Texts
 pub mod TokenTexts

@@ -7,21 +7,20 @@ use Rattle.model_tree.specs.Kept.{is_kept_label}
 use Rattle.fast_fault.specs.declared.place.Pos.{Pos}
 use Rattle.model_program.specs.Syntax.{Name}
 use Rattle.model_grammar.specs.declared.Op2.TheVariants.{Compose}
-use Rattle.model_grammar.specs.declared.Rel.{Rel}
-use Rattle.model_grammar.specs.declared.Rel.TheVariants.{Equal, NotEqual, Less, AtMost, Greater, AtLeast}
 use Rattle.model_grammar.specs.Syntax.{Expr, field, number, text, truth, negation, compare, minus, chain, Parts, no_parts, part, Out, child, call, node, Outs, no_out, and_out, X, named, two, Rule, OutRule, Item}
 use Rattle.model_names.specs.Declared.{rules_of, out_rules_of}
 use Rattle.model_names.specs.Kinds.{type_of, output_of}
 use Rattle.model_form.specs.Form.{Form, form, Remainders, no_remainders, remainder}
 use Rattle.model_form.specs.Sums.{subst_form}
 use Rattle.model_form.specs.Same.{same_form}
-use Rattle.model_chain.specs.Literals.{Compare, less, at_most, equal}
+use Rattle.model_chain.specs.Literals.{Compare}
 use Rattle.model_label.specs.Meaning.{is_true}
 use Rattle.model_meaning.specs.Types.{values_of}
 use Rattle.model_meaning.specs.Outputs.{made_label}
 use Rattle.model_meaning.specs.Meaning.{signature_named}
 use Rattle.model_meaning.specs.Reached.{Reaches, Opens}
 use Rattle.model_guard.specs.Forms.{is_whole, form_of}
+use Rattle.model_guard.specs.Compares.{comparison}
 use Rattle.model_run.specs.Parts.{operands, LooksBack, IsFrom}
 
 -- ---- label lists and guards, as they are written or with label lists put for the fields
@@ -56,15 +55,6 @@ list_forms (listed from into labels) = forms_of from labels
 list_forms (chained m n) = map (λ f. subst_form f (list_forms m)) (list_forms n)
 
 -- ---- comparisons of whole numbers
-
--- `a > b` is `b < a`, `a >= b` is `b <= a`, and `a != b` is `a = b` negated
-abbrev pub comparison : Rel → Form → Form → Compare
-comparison Equal a b = record { left = a; relation = equal; right = b }
-comparison NotEqual a b = record { left = a; relation = equal; right = b }
-comparison Less a b = record { left = a; relation = less; right = b }
-comparison AtMost a b = record { left = a; relation = at_most; right = b }
-comparison Greater a b = record { left = b; relation = less; right = a }
-comparison AtLeast a b = record { left = b; relation = at_most; right = a }
 
 -- the comparison with a label list put for the fields
 abbrev pub put_compare : LabelList → Compare → Compare

@@ -3,10 +3,11 @@ use Rattle.std.proofs.Common.{◌≡◌, Bool, true, false, List, ◌++◌, refl
 use Rattle.model_program.specs.declared.Word.TheVariants.{Id, In, Same, Element, IsEmpty, TypeCheck, RoundOpen, RoundClose, SquareOpen}
 use Rattle.model_program.specs.Lexeme.{Lexeme}
 use Rattle.model_program.specs.Syntax.{Name}
-use Rattle.model_program.specs.Reads.{◌⌢◌, IsNext, IsOther, StartsIn, closed}
+use Rattle.model_program.specs.Joined.{◌⌢◌, IsNext, IsOther, ◌⊗◌}
+use Rattle.read_forms.specs.Reads.{StartsIn, closed}
 use Rattle.model_program.specs.Grammar.{IsSign, sign, IsName}
-use Rattle.model_program.proofs.Forms.{◌⊗◌, Makes, HasSample, sample_as, sample_pair, remade, alternative, starts_joined, starts_append, starts_wider, stops_other, stops_other_than, stops_both, other_than}
-use Rattle.model_program.proofs.Words.{sign_starts, sample_sign, word_other}
+use Rattle.read_forms.proofs.Forms.{Makes, HasSample, sample_as, sample_pair, remade, alternative, starts_joined, starts_append, starts_wider, stops_other, stops_other_than, stops_both, other_than}
+use Rattle.read_forms.proofs.Words.{sign_starts, sample_sign, word_other}
 use Rattle.model_grammar.specs.Syntax.{Expr, X, named, literal, xs_of, Claim, equal, member, empty, type_check}
 use Rattle.model_grammar.specs.Terms.{IsX, name, AreLabels}
 use Rattle.model_grammar.specs.Grammar.{IsIn, IsA, IsB}

@@ -5,11 +5,12 @@ use Rattle.model_program.specs.declared.Word.{Word}
 use Rattle.model_program.specs.declared.Word.TheVariants.{TypeWord, Tree, Lang, Trans, Def, AssertTrue, AssertFalse, Arrow, Assign, Colon}
 use Rattle.model_program.specs.Lexeme.{Lexeme}
 use Rattle.model_program.specs.Syntax.{Name, TypeItem}
-use Rattle.model_program.specs.Reads.{◌⌢◌, Stops, IsRead, Fails, IsNext, IsOther, StartsIn, closed, anything}
+use Rattle.model_program.specs.Joined.{◌⌢◌, IsNext, IsOther, ◌⊗◌}
+use Rattle.read_forms.specs.Reads.{Stops, IsRead, Fails, StartsIn, closed, anything}
 use Rattle.model_program.specs.Grammar.{IsSign, IsAt, IsName, Many, IsTypeItem, assert_word}
-use Rattle.model_program.proofs.Forms.{◌⊗◌, Ends, Makes, HasSample, AllStartIn, as_read, as_fails, then_read, then_fails, first_fails, remade, alternative, stands, left_out, ends_closed, ends_starting, starts_joined, starts_append, starts_wider, starts_next, stops_other, stops_other_than, other_than}
-use Rattle.model_program.proofs.Words.{word_starts, sign_starts, word_other}
-use Rattle.model_program.proofs.Lists.{IsPartWay, sample_many, many_make, many_ends, many_end}
+use Rattle.read_forms.proofs.Forms.{Ends, Makes, HasSample, AllStartIn, as_read, as_fails, then_read, then_fails, first_fails, remade, alternative, stands, left_out, ends_closed, ends_starting, starts_joined, starts_append, starts_wider, starts_next, stops_other, stops_other_than, other_than}
+use Rattle.read_forms.proofs.Words.{word_starts, sign_starts, word_other}
+use Rattle.read_forms.proofs.Lists.{IsPartWay, sample_many, many_make, many_ends, many_end}
 use Rattle.model_grammar.specs.Syntax.{TreeItem, LangItem, TransItem, DefItem, Claim, Body, sorts, tree, lang, trans, def, assertion, Item}
 use Rattle.model_grammar.specs.Terms.{IsX}
 use Rattle.model_grammar.specs.Grammar.{IsRule, IsOutRule, InBraces, IsTreeItem, IsLangItem, IsTransItem, IsInto, IsDefItem, IsA, IsBody, IsItem, IsProgram}

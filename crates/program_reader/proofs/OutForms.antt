@@ -3,10 +3,11 @@ use Rattle.std.proofs.Common.{◌≡◌, List, [], ◌∷◌, ◌++◌, refl, sy
 use Rattle.model_program.specs.declared.Word.TheVariants.{Id, RoundOpen, RoundClose, SquareOpen}
 use Rattle.model_program.specs.Lexeme.{Lexeme}
 use Rattle.model_program.specs.Syntax.{Name}
-use Rattle.model_program.specs.Reads.{◌⌢◌, IsNext, IsOther, StartsIn, closed}
+use Rattle.model_program.specs.Joined.{◌⌢◌, IsNext, IsOther, ◌⊗◌}
+use Rattle.read_forms.specs.Reads.{StartsIn, closed}
 use Rattle.model_program.specs.Grammar.{IsSign, sign, IsName, Many}
-use Rattle.model_program.proofs.Forms.{◌⊗◌, Makes, HasSample, AllStartIn, sample_as, sample_pair, alternative, ends_closed, starts_joined, starts_wider, stops_other, stops_other_than, other_than}
-use Rattle.model_program.proofs.Words.{sign_starts, sample_sign}
+use Rattle.read_forms.proofs.Forms.{Makes, HasSample, AllStartIn, sample_as, sample_pair, alternative, ends_closed, starts_joined, starts_wider, stops_other, stops_other_than, other_than}
+use Rattle.read_forms.proofs.Words.{sign_starts, sample_sign}
 use Rattle.model_grammar.specs.Syntax.{Expr, Out, child, call, node, Outs, no_out, and_out, outs_of}
 use Rattle.model_grammar.specs.Terms.{AreLabels, IsOut, unchanged, called, made, AreOuts, no_outs, outs_on}
 use Rattle.label_reader.proofs.Names.{sample_name, name_starts}

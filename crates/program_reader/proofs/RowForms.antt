@@ -3,11 +3,12 @@ use Rattle.std.proofs.Common.{◌≡◌, List, [], ◌∷◌, ◌++◌, refl, sy
 use Rattle.model_program.specs.declared.Word.{Word}
 use Rattle.model_program.specs.declared.Word.TheVariants.{And, Or, Equal, NotEqual, AtMost, AtLeast, Less, Greater, Plus, Minus, Star, Percent, Id, Comma, SquareOpen, SquareClose}
 use Rattle.model_program.specs.Lexeme.{Lexeme}
-use Rattle.model_program.specs.Reads.{◌⌢◌, Stops, IsRead, IsRefused, Fails, IsNext, IsOther, StartsIn, closed}
+use Rattle.model_program.specs.Joined.{◌⌢◌, IsNext, IsOther, ◌⊗◌}
+use Rattle.read_forms.specs.Reads.{Stops, IsRead, IsRefused, Fails, StartsIn, closed}
 use Rattle.model_program.specs.Grammar.{IsSign, sign, Many}
-use Rattle.model_program.proofs.Forms.{◌⊗◌, Ends, Makes, HasSample, AllStartIn, as_read, as_fails, then_read, then_fails, first_fails, sample_as, sample_pair, alternative, elsewhere, starts_joined, starts_append, starts_wider, stops_of, stops_next, stops_other, stops_other_than, other_than}
-use Rattle.model_program.proofs.Words.{sign_starts, sample_sign, sample_token}
-use Rattle.model_program.proofs.Lists.{IsPartWay, opened, opened_read, opened_fails}
+use Rattle.read_forms.proofs.Forms.{Ends, Makes, HasSample, AllStartIn, as_read, as_fails, then_read, then_fails, first_fails, sample_as, sample_pair, alternative, elsewhere, starts_joined, starts_append, starts_wider, stops_of, stops_next, stops_other, stops_other_than, other_than}
+use Rattle.read_forms.proofs.Words.{sign_starts, sample_sign, sample_token}
+use Rattle.read_forms.proofs.Lists.{IsPartWay, opened, opened_read, opened_fails}
 use Rattle.model_grammar.specs.declared.Level.TheVariants.{E}
 use Rattle.model_grammar.specs.Syntax.{Expr, field}
 use Rattle.model_grammar.specs.Expressions.{IsE, field_name}

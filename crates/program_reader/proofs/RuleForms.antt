@@ -4,11 +4,12 @@ use Rattle.model_program.specs.declared.Word.{Word}
 use Rattle.model_program.specs.declared.Word.TheVariants.{Where, Given, To, Id, RoundOpen, RoundClose, CurlyOpen, CurlyClose, Bar}
 use Rattle.model_program.specs.Lexeme.{Lexeme}
 use Rattle.model_program.specs.Syntax.{Name, Demand}
-use Rattle.model_program.specs.Reads.{◌⌢◌, IsRead, IsNext, IsOther, StartsIn, closed}
+use Rattle.model_program.specs.Joined.{◌⌢◌, IsNext, IsOther, ◌⊗◌}
+use Rattle.read_forms.specs.Reads.{IsRead, StartsIn, closed}
 use Rattle.model_program.specs.Grammar.{IsSign, sign, IsName, IsComma, comma, Further, Many, IsDemand, AreVars, IsGiven}
-use Rattle.model_program.proofs.Forms.{◌⊗◌, Ends, Makes, HasSample, AllStartIn, as_read, as_fails, then_read, then_fails, sample_pair, sample_as, remade, stands, left_out, ends_left_out, ends_starting, ends_closed, starts_joined, starts_wider, starts_next, stops_other, other_than}
-use Rattle.model_program.proofs.Words.{sample_sign, sign_starts, word_other}
-use Rattle.model_program.proofs.Lists.{IsPartWay, IsListed, comma_listed, tail_of, sample_tail, sample_any, items_to, items_make}
+use Rattle.read_forms.proofs.Forms.{Ends, Makes, HasSample, AllStartIn, as_read, as_fails, then_read, then_fails, sample_pair, sample_as, remade, stands, left_out, ends_left_out, ends_starting, ends_closed, starts_joined, starts_wider, starts_next, stops_other, other_than}
+use Rattle.read_forms.proofs.Words.{sample_sign, sign_starts, word_other}
+use Rattle.read_forms.proofs.Lists.{IsPartWay, IsListed, comma_listed, tail_of, sample_tail, sample_any, items_to, items_make}
 use Rattle.model_grammar.specs.declared.Level.TheVariants.{E}
 use Rattle.model_grammar.specs.Syntax.{Expr, Rule, Out}
 use Rattle.model_grammar.specs.Expressions.{IsE}

@@ -3,7 +3,7 @@ use Rattle.std.proofs.Common.{◌≡◌, ℕ, ◌+◌, ◌-◌, ◌≤◌, ◌<�
 use Rattle.std.proofs.lemmas.List.{length-append, length-map, take-append-drop}
 use Rattle.std.proofs.Math.Seq.{take-append_seam, take-append-add}
 use Rattle.model_program.specs.Lexeme.{Lexeme}
-use Rattle.model_program.specs.Reads.{GoesOnAs, IsRead, IsRefused, anything}
+use Rattle.read_forms.specs.Reads.{GoesOnAs, IsRead, IsRefused, anything}
 use Rattle.model_grammar.specs.Wrong.{Begins, IsFirstWrong}
 use Rattle.fast_lex.specs.declared.Token.{Token}
 use Rattle.label_reader.specs.Results.{lexemes}

@@ -5,11 +5,12 @@ use Rattle.model_program.specs.declared.Word.{Word}
 use Rattle.model_program.specs.declared.Word.TheVariants.{Id, RoundOpen, RoundClose, SquareOpen, SquareClose, CurlyOpen, CurlyClose, Colon}
 use Rattle.model_program.specs.Lexeme.{Lexeme}
 use Rattle.model_program.specs.Syntax.{Name, FieldItem, CtorItem}
-use Rattle.model_program.specs.Reads.{IsRead, IsNext, IsOther, StartsIn, closed}
+use Rattle.model_program.specs.Joined.{IsNext, IsOther, ◌⊗◌}
+use Rattle.read_forms.specs.Reads.{IsRead, StartsIn, closed}
 use Rattle.model_program.specs.Grammar.{IsWord, IsSign, IsName, IsNumber, IsComma, comma, IsCtor, sort_text, IsSort, IsField, AreFields, AreFieldsOrNone, square_word, AreCtors, IsTypeItem}
-use Rattle.model_program.proofs.Forms.{◌⊗◌, Ends, Makes, HasSample, AllStartIn, sample_pair, sample_as, remade, stands, left_out, ends_starting, starts_joined, starts_next, stops_other}
-use Rattle.model_program.proofs.Words.{sample_word, sample_sign, sign_starts}
-use Rattle.model_program.proofs.Lists.{IsListed, comma_listed, items_to, items_make, sample_tail}
+use Rattle.read_forms.proofs.Forms.{Ends, Makes, HasSample, AllStartIn, sample_pair, sample_as, remade, stands, left_out, ends_starting, starts_joined, starts_next, stops_other}
+use Rattle.read_forms.proofs.Words.{sample_word, sample_sign, sign_starts}
+use Rattle.read_forms.proofs.Lists.{IsListed, comma_listed, items_to, items_make, sample_tail}
 use Rattle.label_reader.specs.Constants.{IsNumeral}
 use Rattle.label_reader.proofs.Names.{sample_name, name_starts}
 use Rattle.label_reader.proofs.Primaries.{sample_numeral}

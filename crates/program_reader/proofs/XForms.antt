@@ -5,9 +5,10 @@ use Rattle.model_program.specs.declared.Word.TheVariants.{Id, RoundOpen, RoundCl
 use Rattle.model_program.specs.declared.Word.TheVariants as word
 use Rattle.model_program.specs.Lexeme.{Lexeme}
 use Rattle.model_program.specs.Syntax.{Name}
-use Rattle.model_program.specs.Reads.{◌⌢◌, IsRead, IsNext, IsOther, StartsIn, Stops, closed}
+use Rattle.model_program.specs.Joined.{◌⌢◌, IsNext, IsOther, ◌⊗◌}
+use Rattle.read_forms.specs.Reads.{IsRead, StartsIn, Stops, closed}
 use Rattle.model_program.specs.Grammar.{IsSign, sign, IsName, Many}
-use Rattle.model_program.proofs.Forms.{◌⊗◌, Makes, HasSample, AllStartIn, sample_as, sample_pair, alternative, ends_closed, starts_joined, starts_wider, stops_other, stops_other_than, other_than}
+use Rattle.read_forms.proofs.Forms.{Makes, HasSample, AllStartIn, sample_as, sample_pair, alternative, ends_closed, starts_joined, starts_wider, stops_other, stops_other_than, other_than}
 use Rattle.model_grammar.specs.declared.Op1.{Op1}
 use Rattle.model_grammar.specs.declared.Op1.TheVariants as one_of
 use Rattle.model_grammar.specs.declared.Op2.{Op2}

@@ -3,7 +3,7 @@ use Rattle.std.specs.Prelude.{Bool, true, false, List, ◌⊎◌}
 use mathlib.Core.Logic.{inl, inr}
 use Rattle.model_program.specs.declared.Word.TheVariants.{Same, IsEmpty, TypeCheck, RoundClose}
 use Rattle.model_program.specs.Lexeme.{Lexeme}
-use Rattle.model_program.specs.Reads.{◌⌢◌}
+use Rattle.model_program.specs.Joined.{◌⌢◌}
 use Rattle.model_program.specs.Grammar.{sign}
 use Rattle.model_grammar.specs.Syntax.{Expr, X, Claim, equal, member, empty, type_check}
 use Rattle.model_grammar.specs.Terms.{IsX, AreLabels}

@@ -2,7 +2,8 @@
 
 ghost use Rattle.std.specs.Prelude.{◌≡◌};
 ghost use Rattle.model_program.specs.declared.Word.TheVariants.{Id};
-ghost use Rattle.model_program.specs.Reads.{closed, IsNext};
+ghost use Rattle.model_program.specs.Joined.{IsNext};
+ghost use Rattle.read_forms.specs.Reads.{closed};
 ghost use Rattle.model_grammar.specs.Grammar.{IsA, IsB};
 ghost use Rattle.model_grammar.specs.Syntax.{equal, member};
 ghost use Rattle.fast_syntax.specs.Plain.{plain_x, plain_claim};

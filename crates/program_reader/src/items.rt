@@ -1,7 +1,7 @@
 //! Items, and whole programs.
 
 ghost use Rattle.std.specs.Prelude.{◌≡◌, map, [], List, IfOk};
-ghost use Rattle.model_program.specs.Reads.{closed, anything};
+ghost use Rattle.read_forms.specs.Reads.{closed, anything};
 ghost use Rattle.model_grammar.specs.Grammar.{IsTreeItem, IsLangItem, IsTransItem, IsInto, IsDefItem, IsItem, IsProgram};
 ghost use Rattle.model_grammar.specs.Wrong.{IsFirstWrong};
 ghost use Rattle.model_grammar.specs.Syntax as plain;

@@ -1,7 +1,7 @@
 //! The labels of a node.
 
 ghost use Rattle.std.specs.Prelude.{map};
-ghost use Rattle.model_program.specs.Reads.{closed};
+ghost use Rattle.read_forms.specs.Reads.{closed};
 ghost use Rattle.model_grammar.specs.declared.Level.TheVariants.{E};
 ghost use Rattle.model_grammar.specs.Expressions.{IsE};
 ghost use Rattle.model_grammar.specs.Terms.{IsLater, AreLabels};

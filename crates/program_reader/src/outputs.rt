@@ -1,7 +1,7 @@
 //! Output terms.
 
 ghost use Rattle.std.specs.Prelude.{map, []};
-ghost use Rattle.model_program.specs.Reads.{closed};
+ghost use Rattle.read_forms.specs.Reads.{closed};
 ghost use Rattle.model_grammar.specs.Terms.{IsOut};
 ghost use Rattle.fast_syntax.specs.Plain.{plain_out};
 ghost use Rattle.label_reader.specs.Results.{lexemes, Reads};

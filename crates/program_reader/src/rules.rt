@@ -1,7 +1,7 @@
 //! The rules of languages and transformations.
 
 ghost use Rattle.std.specs.Prelude.{map};
-ghost use Rattle.model_program.specs.Reads.{closed};
+ghost use Rattle.read_forms.specs.Reads.{closed};
 ghost use Rattle.model_program.specs.Grammar.{IsDemand, AreVars, IsGiven};
 ghost use Rattle.model_grammar.specs.Grammar.{IsGuard, IsRule, IsOutRule, InBraces};
 ghost use Rattle.fast_syntax.specs.View.{plain_name, plain_demand};

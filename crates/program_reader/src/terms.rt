@@ -2,7 +2,7 @@
 
 ghost use Rattle.std.specs.Prelude.{map, []};
 ghost use Rattle.model_program.specs.declared.Word.TheVariants.{RoundOpen};
-ghost use Rattle.model_program.specs.Reads.{closed};
+ghost use Rattle.read_forms.specs.Reads.{closed};
 ghost use Rattle.model_grammar.specs.Terms.{IsX};
 ghost use Rattle.fast_syntax.specs.Plain.{plain_x};
 ghost use Rattle.label_reader.specs.Results.{lexemes, Reads};

@@ -2,7 +2,7 @@
 
 ghost use Rattle.std.specs.Prelude.{◌≡◌, map};
 ghost use Rattle.std.specs.Str.{chars};
-ghost use Rattle.model_program.specs.Reads.{closed};
+ghost use Rattle.read_forms.specs.Reads.{closed};
 ghost use Rattle.model_program.specs.Grammar.{IsSort, IsField, IsCtor, AreFields, AreFieldsOrNone, AreCtors, IsTypeItem, square_word, sort_text};
 ghost use Rattle.label_reader.specs.Results.{lexemes, Reads};
 ghost use Rattle.fast_syntax.specs.View.{plain_name, plain_field, plain_ctor, plain_type};

@@ -30,7 +30,8 @@ use Rattle.flat_label.specs.Texts.{side_text, texts_label, text_at_label, SideFi
 use Rattle.lin_solve.specs.Wholes.{wholes_label, wholes_of}
 use Rattle.lin_solve.specs.Equal.{wholes_back}
 use Rattle.record_label.specs.Rows.{truths_in, texts_in, RowAtom, RowFits, count_of}
-use Rattle.record_label.specs.Guards.{comparison_by, is_numeric, side_of, written_in, written_in_all, written_in_both, comparison_of, compared_by_forms, compared_by, pair_of, agreement_of, IsGuard, IsGuardOf, IsEqualityOf, IsFormulaOf, AreFormulasOf}
+use Rattle.model_guard.specs.Compares.{comparison}
+use Rattle.record_label.specs.Guards.{compare_of, is_numeric, side_of, written_in, written_in_all, written_in_both, comparison_of, compared_by_forms, compared_by, pair_of, agreement_of, IsGuard, IsGuardOf, IsEqualityOf, IsFormulaOf, AreFormulasOf}
 use Rattle.record_label.proofs.FieldFacts.{truth_field, text_field, number_low, truth_no_text, truth_no_whole, text_no_whole}
 use Rattle.fast_syntax.specs.Plain.{plain_expr, plain_node}
 use Rattle.fast_syntax.specs.declared.expressions.Expr.{Expr}
@@ -231,7 +232,7 @@ module _ (fields : List PlainField) where
 
     -- what a comparison of them asks for
     compared_guard : (p : Pos) (rel : Rel) (f : Formula RowAtom) → is_numeric fields a ≡ false → is_equality rel ≡ true → IsEqualityOf fields a b f → IsGuardOf fields (syntax.compare p rel a b) (compared_by rel f)
-    compared_guard p rel f other asks is = subst (λ w. IsGuard fields (λ values. is_true fields values (syntax.compare p rel a b)) (cond w (Left (comparison_by rel (form_of fields a) (form_of fields b)) ∷ []) (written_in_both fields a b)) (compared_by rel f)) (sym other) (by rel asks)
+    compared_guard p rel f other asks is = subst (λ w. IsGuard fields (λ values. is_true fields values (syntax.compare p rel a b)) (cond w (Left (compare_of (comparison rel (form_of fields a) (form_of fields b))) ∷ []) (written_in_both fields a b)) (compared_by rel f)) (sym other) (by rel asks)
       where
         by : (r : Rel) → is_equality r ≡ true → IsGuard fields (λ values. is_true fields values (syntax.compare p r a b)) (written_in_both fields a b) (compared_by r f)
         by Equal e = is
@@ -254,7 +255,7 @@ module _ (fields : List PlainField) where
 
     -- a comparison of two whole numbers
     number_guard : length fields ≤ 8 → (p : Pos) (rel : Rel) → is_numeric fields a ≡ true → is_whole fields a ≡ true → is_whole fields b ≡ true → IsGuardOf fields (syntax.compare p rel a b) (compared_by_forms rel (form_of fields a) (form_of fields b))
-    number_guard few p rel numeric left right = subst (λ w. IsGuard fields (λ values. is_true fields values (syntax.compare p rel a b)) (cond w (Left (comparison_by rel (form_of fields a) (form_of fields b)) ∷ []) (written_in_both fields a b)) (compared_by_forms rel (form_of fields a) (form_of fields b))) (sym numeric) (by rel)
+    number_guard few p rel numeric left right = subst (λ w. IsGuard fields (λ values. is_true fields values (syntax.compare p rel a b)) (cond w (Left (compare_of (comparison rel (form_of fields a) (form_of fields b))) ∷ []) (written_in_both fields a b)) (compared_by_forms rel (form_of fields a) (form_of fields b))) (sym numeric) (by rel)
       where
         over_a : IsOver (count_of wholes (map (λ f. f.sort) fields)) (form_of fields a)
         over_a = form_over fields (count_of wholes (map (λ f. f.sort) fields)) (λ name has. number_low fields wholes name has) a
@@ -271,7 +272,7 @@ module _ (fields : List PlainField) where
         same : (values : List Field) → map sort_of values ≡ map (λ f. f.sort) fields → int_eq (as_whole (value_of fields values a)) (as_whole (value_of fields values b)) ≡ same_value (value_of fields values a) (value_of fields values b)
         same values sorts = λ i. same_value (sym (whole_of_sort (value_of fields values a) (whole_sort fields values a sorts left)) i) (sym (whole_of_sort (value_of fields values b) (whole_sort fields values b sorts right)) i)
 
-        by : (r : Rel) → IsGuard fields (λ values. is_true fields values (syntax.compare p r a b)) (Left (comparison_by r (form_of fields a) (form_of fields b)) ∷ []) (compared_by_forms r (form_of fields a) (form_of fields b))
+        by : (r : Rel) → IsGuard fields (λ values. is_true fields values (syntax.compare p r a b)) (Left (compare_of (comparison r (form_of fields a) (form_of fields b))) ∷ []) (compared_by_forms r (form_of fields a) (form_of fields b))
         by Equal = record { holds = λ values sorts. (λ i. int_eq (value_a values sorts i) (value_b values sorts i)) ∙ same values sorts; atoms = only _; fit = (over_a, over_b) }
         by NotEqual = record { holds = λ values sorts. ap not ((λ i. int_eq (value_a values sorts i) (value_b values sorts i)) ∙ same values sorts); atoms = only _; fit = (over_a, over_b) }
         by Less = record { holds = λ values sorts. λ i. int_lt (value_a values sorts i) (value_b values sorts i); atoms = only _; fit = (over_a, over_b) }

@@ -19,17 +19,20 @@ use Rattle.flat_label.specs.declared.texts.TextAtom.{TextAtom}
 use Rattle.flat_label.specs.declared.texts.TextSide.{TextSide}
 use Rattle.flat_label.specs.declared.texts.TextSide.TheVariants as side
 use Rattle.lin_solve.specs.declared.compare.Compare.{Compare}
+use Rattle.lin_solve.specs.declared.compare.Relation.{Relation}
 use Rattle.lin_solve.specs.declared.compare.Relation.TheVariants as relation
+use Rattle.model_chain.specs.Literals as plain
+use Rattle.model_guard.specs.Compares.{comparison}
 use Rattle.record_label.specs.Rows.{RowAtom, row_holds, RowFits}
 
--- a comparison of two forms as it is written: of a > b that b is less, and of a >= b that b is at most a
-abbrev pub comparison_by : Rel → Form → Form → Compare
-comparison_by Equal f g = record { left = f; relation = relation.Equal; right = g }
-comparison_by NotEqual f g = record { left = f; relation = relation.Equal; right = g }
-comparison_by Less f g = record { left = f; relation = relation.Less; right = g }
-comparison_by AtMost f g = record { left = f; relation = relation.AtMost; right = g }
-comparison_by Greater f g = record { left = g; relation = relation.Less; right = f }
-comparison_by AtLeast f g = record { left = g; relation = relation.AtMost; right = f }
+-- the comparison as the theory of whole numbers has it
+abbrev pub relation_of : plain.Relation → Relation
+relation_of plain.less = relation.Less
+relation_of plain.at_most = relation.AtMost
+relation_of plain.equal = relation.Equal
+
+abbrev pub compare_of : plain.Compare → Compare
+compare_of c = record { left = c.left; relation = relation_of c.relation; right = c.right }
 
 module _ (fields : List PlainField) where
   -- whether an expression is written as a whole number
@@ -65,7 +68,7 @@ module _ (fields : List PlainField) where
     written_in (text place t) = []
     written_in (truth place b) = []
     written_in (syntax.negation place e) = written_in e
-    written_in (compare place rel a b) = cond (is_numeric a) (Left (comparison_by rel (form_of fields a) (form_of fields b)) ∷ []) (cond (is_text fields a) (Right (Right (record { left = side_of a; right = side_of b })) ∷ []) (written_in a ++ written_in b))
+    written_in (compare place rel a b) = cond (is_numeric a) (Left (compare_of (comparison rel (form_of fields a) (form_of fields b))) ∷ []) (cond (is_text fields a) (Right (Right (record { left = side_of a; right = side_of b })) ∷ []) (written_in a ++ written_in b))
     written_in (minus place e) = []
     written_in (chain kind place parts) = written_in_all parts
 
@@ -99,7 +102,7 @@ compared_by AtLeast f = f
 
 -- a comparison of two whole numbers
 abbrev pub compared_by_forms : Rel → Form → Form → Formula RowAtom
-compared_by_forms rel f g = compared_by rel (atom (Left (comparison_by rel f g)))
+compared_by_forms rel f g = compared_by rel (atom (Left (compare_of (comparison rel f g))))
 
 -- The formula holds of each label of the type exactly where the test does, whatever the theory; its atoms are written ones, and speak of fields that there are.
 pub record IsGuard (fields : List PlainField) (test : List Field → Bool) (written : List RowAtom) (f : Formula RowAtom) : Type 0 where

@@ -4,10 +4,11 @@ use Rattle.std.specs.Str.Parse.{digits_value}
 use Rattle.model_program.specs.declared.Word.{Word}
 use Rattle.model_program.specs.declared.Word.TheVariants.{True, False, Number, Quoted, Minus, Comma, SquareOpen, SquareClose}
 use Rattle.model_program.specs.Lexeme.{Lexeme}
-use Rattle.model_program.specs.Reads.{Stops, IsNext, IsOther, StartsIn, closed}
+use Rattle.model_program.specs.Joined.{IsNext, IsOther, ◌⊗◌}
+use Rattle.read_forms.specs.Reads.{Stops, StartsIn, closed}
 use Rattle.model_program.specs.Grammar.{IsWord}
-use Rattle.model_program.proofs.Forms.{◌⊗◌, Makes, HasSample, sample_as, sample_pair, alternative, other_than, stops_other_than, starts_wider, ends_closed}
-use Rattle.model_program.proofs.Words.{sample_word, sample_sign, sample_token}
+use Rattle.read_forms.proofs.Forms.{Makes, HasSample, sample_as, sample_pair, alternative, other_than, stops_other_than, starts_wider, ends_closed}
+use Rattle.read_forms.proofs.Words.{sample_word, sample_sign, sample_token}
 use Rattle.model_grammar.specs.Syntax.{Expr, number, text, truth}
 use Rattle.model_grammar.specs.Expressions.{negative}
 use Rattle.model_grammar.specs.Terms.{IsLater}

@@ -2,7 +2,7 @@
 use Rattle.std.specs.Prelude.{ℕ, List, Result, Err}
 use Rattle.model_program.specs.declared.Word.TheVariants.{RoundClose}
 use Rattle.model_program.specs.Lexeme.{Lexeme}
-use Rattle.model_program.specs.Reads.{◌⌢◌}
+use Rattle.model_program.specs.Joined.{◌⌢◌}
 use Rattle.model_program.specs.Grammar.{sign, Many}
 use Rattle.model_grammar.specs.TreeFiles.{FileTree, IsTree}
 use Rattle.tree_reader.specs.declared.trees.ReadTreesStop.{ReadTreesStop}

@@ -1,7 +1,7 @@
 //! Labels: numbers, texts and truth values.
 
 ghost use Rattle.std.specs.Prelude.{map};
-ghost use Rattle.model_program.specs.Reads.{closed};
+ghost use Rattle.read_forms.specs.Reads.{closed};
 ghost use Rattle.model_grammar.specs.Terms.{IsLater};
 ghost use Rattle.model_grammar.specs.TreeFiles.{IsConstant, AreConstants};
 ghost use Rattle.label_reader.specs.Results.{lexemes, Reads};

@@ -1,7 +1,7 @@
 //! Trees, and whole files of them.
 
 ghost use Rattle.std.specs.Prelude.{◌≡◌, map, [], List, IfOk};
-ghost use Rattle.model_program.specs.Reads.{closed, anything};
+ghost use Rattle.read_forms.specs.Reads.{closed, anything};
 ghost use Rattle.model_grammar.specs.TreeFiles.{IsTree, IsTreeFile};
 ghost use Rattle.model_grammar.specs.TreeFiles as plain;
 ghost use Rattle.model_grammar.specs.Wrong.{IsFirstWrong};

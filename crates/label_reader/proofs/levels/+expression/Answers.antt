@@ -1,7 +1,7 @@
 use Rattle.std.proofs.Common.{sym, ap, ◌∙◌, arith, refl, inr}
 use Rattle.model_program.specs.declared.Word.TheVariants.{Not, Minus, Percent, RoundOpen, RoundClose}
-use Rattle.model_program.proofs.Forms.{as_read, as_fails, then_read, then_fails, first_fails, ends_closed, closed_read, closed_fails, sample_pair, read_at}
-use Rattle.model_program.proofs.Words.{word_read, next_of, sample_sign}
+use Rattle.read_forms.proofs.Forms.{as_read, as_fails, then_read, then_fails, first_fails, ends_closed, closed_read, closed_fails, sample_pair, read_at}
+use Rattle.read_forms.proofs.Words.{word_read, next_of, sample_sign}
 use Rattle.model_grammar.specs.declared.Level.TheVariants.{Unary, Prim}
 use Rattle.model_grammar.specs.Syntax.{negation, compare, minus, number, chain}
 use Rattle.fast_lex.specs.Tokens.{lexeme}

@@ -3,8 +3,8 @@ use Rattle.std.proofs.lemmas.Int.{to_z-of_z}
 use mir.Syntax.{w128}
 use Rattle.label_reader.proofs.Digits.{fits_below}
 use Rattle.model_program.specs.declared.Word.TheVariants.{Id, True, False}
-use Rattle.model_program.proofs.Forms.{as_read, as_fails, read_at}
-use Rattle.model_program.proofs.Words.{word_read, next_of}
+use Rattle.read_forms.proofs.Forms.{as_read, as_fails, read_at}
+use Rattle.read_forms.proofs.Words.{word_read, next_of}
 use Rattle.model_grammar.specs.Syntax.{field, number}
 use Rattle.label_reader.proofs.Exits.{exit}
 use Rattle.label_reader.proofs.Primaries.{name_makes, true_makes, false_makes, string_makes, number_makes}

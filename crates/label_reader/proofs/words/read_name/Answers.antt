@@ -1,4 +1,4 @@
-use Rattle.model_program.proofs.Forms.{as_fails}
+use Rattle.read_forms.proofs.Forms.{as_fails}
 use Rattle.label_reader.proofs.Exits.{exit}
 use Rattle.label_reader.proofs.Names.{name_makes}
 use Rattle.label_reader.proofs.words.read_name.Goals as goal

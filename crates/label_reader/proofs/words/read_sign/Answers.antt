@@ -1,5 +1,5 @@
-use Rattle.model_program.proofs.Forms.{as_fails}
-use Rattle.model_program.proofs.Words.{sign_makes}
+use Rattle.read_forms.proofs.Forms.{as_fails}
+use Rattle.read_forms.proofs.Words.{sign_makes}
 use Rattle.label_reader.proofs.Exits.{exit}
 use Rattle.label_reader.proofs.words.read_sign.Goals as goal
 

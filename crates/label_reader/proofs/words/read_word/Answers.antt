@@ -1,4 +1,4 @@
-use Rattle.model_program.proofs.Words.{word_refused}
+use Rattle.read_forms.proofs.Words.{word_refused}
 use Rattle.label_reader.proofs.words.read_word.Goals as goal
 
 pub returns-in-None : goal.returns-in-None

@@ -1,4 +1,4 @@
-use Rattle.model_program.proofs.Words.{comma_stands}
+use Rattle.read_forms.proofs.Words.{comma_stands}
 use Rattle.label_reader.proofs.words.skip_comma.Goals as goal
 
 pub returns : goal.returns

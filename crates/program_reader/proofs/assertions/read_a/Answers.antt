@@ -1,4 +1,4 @@
-use Rattle.model_program.proofs.Forms.{as_read, as_fails, then_read, then_fails, first_fails, ends_closed}
+use Rattle.read_forms.proofs.Forms.{as_read, as_fails, then_read, then_fails, first_fails, ends_closed}
 use Rattle.label_reader.proofs.Exits.{exit, reads_as}
 use Rattle.program_reader.proofs.AssertForms.{a_open_makes, a_plain_makes, sample_a_inside}
 use Rattle.program_reader.proofs.assertions.read_a.Goals as goal

@@ -1,5 +1,5 @@
-use Rattle.model_program.proofs.Forms.{as_read, as_fails, then_read, then_fails, first_fails, ends_closed}
-use Rattle.model_program.proofs.Words.{sample_sign}
+use Rattle.read_forms.proofs.Forms.{as_read, as_fails, then_read, then_fails, first_fails, ends_closed}
+use Rattle.read_forms.proofs.Words.{sample_sign}
 use Rattle.label_reader.proofs.Exits.{exit, reads_as}
 use Rattle.program_reader.proofs.AssertForms.{bracketed_makes, unbracketed_makes}
 use Rattle.program_reader.proofs.assertions.read_a_inside.Goals as goal

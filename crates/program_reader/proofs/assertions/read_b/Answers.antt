@@ -1,5 +1,5 @@
 use Rattle.std.proofs.Common.{sym}
-use Rattle.model_program.proofs.Forms.{as_read, as_fails, then_read, then_fails, first_fails, ends_closed, read_at}
+use Rattle.read_forms.proofs.Forms.{as_read, as_fails, then_read, then_fails, first_fails, ends_closed, read_at}
 use Rattle.label_reader.proofs.Exits.{exit}
 use Rattle.program_reader.proofs.AssertForms.{b_open_makes, compared_makes, sample_b_inside, sample_right}
 use Rattle.program_reader.proofs.assertions.read_b.Goals as goal

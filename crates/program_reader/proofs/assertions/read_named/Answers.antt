@@ -1,6 +1,6 @@
 use Rattle.std.proofs.Common.{sym, ap, ◌∙◌}
-use Rattle.model_program.proofs.Forms.{as_read, as_fails, then_read, then_fails, first_fails, ends_closed, sample_pair, read_at}
-use Rattle.model_program.proofs.Words.{sample_sign}
+use Rattle.read_forms.proofs.Forms.{as_read, as_fails, then_read, then_fails, first_fails, ends_closed, sample_pair, read_at}
+use Rattle.read_forms.proofs.Words.{sample_sign}
 use Rattle.label_reader.proofs.Exits.{exit}
 use Rattle.fast_syntax.specs.Plain.{plain_x}
 use Rattle.program_reader.specs.Assertions.{related}

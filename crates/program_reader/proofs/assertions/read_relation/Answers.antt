@@ -1,5 +1,5 @@
-use Rattle.model_program.proofs.Forms.{as_read, as_fails}
-use Rattle.model_program.proofs.Words.{word_read, next_of, sign_makes}
+use Rattle.read_forms.proofs.Forms.{as_read, as_fails}
+use Rattle.read_forms.proofs.Words.{word_read, next_of, sign_makes}
 use Rattle.label_reader.proofs.Exits.{exit}
 use Rattle.model_program.specs.declared.Word.TheVariants.{Same, In}
 use Rattle.program_reader.proofs.AssertForms.{same_makes, in_makes, element_makes}

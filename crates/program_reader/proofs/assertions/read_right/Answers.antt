@@ -1,4 +1,4 @@
-use Rattle.model_program.proofs.Forms.{as_read, as_fails, then_read, then_fails, first_fails, ends_closed}
+use Rattle.read_forms.proofs.Forms.{as_read, as_fails, then_read, then_fails, first_fails, ends_closed}
 use Rattle.label_reader.proofs.Exits.{exit}
 use Rattle.program_reader.proofs.XForms.{sample_x}
 use Rattle.program_reader.proofs.AssertForms.{right_makes}

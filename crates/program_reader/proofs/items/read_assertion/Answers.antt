@@ -1,5 +1,5 @@
-use Rattle.model_program.proofs.Forms.{as_read, as_fails, then_read, then_fails, first_fails, ends_closed}
-use Rattle.model_program.proofs.Words.{next_of, at_read, at_makes}
+use Rattle.read_forms.proofs.Forms.{as_read, as_fails, then_read, then_fails, first_fails, ends_closed}
+use Rattle.read_forms.proofs.Words.{next_of, at_read, at_makes}
 use Rattle.label_reader.proofs.Exits.{exit}
 use Rattle.model_program.specs.declared.Word.TheVariants.{AssertTrue}
 use Rattle.program_reader.proofs.AssertForms.{sample_a}

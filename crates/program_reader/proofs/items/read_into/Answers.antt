@@ -1,4 +1,4 @@
-use Rattle.model_program.proofs.Forms.{as_read, as_fails, then_read, then_fails, first_fails, ends_closed, closed_read, closed_fails}
+use Rattle.read_forms.proofs.Forms.{as_read, as_fails, then_read, then_fails, first_fails, ends_closed, closed_read, closed_fails}
 use Rattle.label_reader.proofs.Exits.{exit}
 use Rattle.label_reader.proofs.Names.{sample_name}
 use Rattle.program_reader.proofs.ItemForms.{into_makes, into_none}

@@ -1,5 +1,5 @@
-use Rattle.model_program.proofs.Forms.{as_read, as_fails, then_read, then_fails, ends_closed}
-use Rattle.model_program.proofs.Words.{next_of, at_read}
+use Rattle.read_forms.proofs.Forms.{as_read, as_fails, then_read, then_fails, ends_closed}
+use Rattle.read_forms.proofs.Words.{next_of, at_read}
 use Rattle.label_reader.proofs.Exits.{exit}
 use Rattle.model_program.specs.declared.Word.TheVariants.{TypeWord, Tree, Lang, Trans, Def}
 use Rattle.program_reader.proofs.ItemForms.{type_item_makes, tree_item_makes, lang_item_makes, trans_item_makes, def_item_makes, assertion_makes}

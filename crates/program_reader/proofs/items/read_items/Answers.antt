@@ -1,5 +1,5 @@
 use Rattle.std.proofs.Common.{subst}
-use Rattle.model_program.specs.Reads.{anything, Fails}
+use Rattle.read_forms.specs.Reads.{anything, Fails}
 use Rattle.model_grammar.specs.Grammar.{IsProgram}
 use Rattle.label_reader.specs.declared.stop.Stop.{Stop}
 use Rattle.label_reader.specs.Results.{lexemes, bad_of}

@@ -1,5 +1,5 @@
-use Rattle.model_program.proofs.Forms.{as_read, as_fails, then_read, then_fails, first_fails, ends_closed, sample_pair}
-use Rattle.model_program.proofs.Words.{sample_sign}
+use Rattle.read_forms.proofs.Forms.{as_read, as_fails, then_read, then_fails, first_fails, ends_closed, sample_pair}
+use Rattle.read_forms.proofs.Words.{sample_sign}
 use Rattle.label_reader.proofs.Exits.{exit}
 use Rattle.label_reader.proofs.Names.{sample_name}
 use Rattle.program_reader.proofs.RuleForms.{sample_braces, sample_rule}

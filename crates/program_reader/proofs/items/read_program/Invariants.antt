@@ -1,8 +1,8 @@
 use Rattle.std.proofs.Common.{length, map, ◌++◌}
-use Rattle.model_program.specs.Reads.{anything}
+use Rattle.read_forms.specs.Reads.{anything}
 use Rattle.model_program.specs.Grammar.{Many}
 use Rattle.model_grammar.specs.Grammar.{IsItem, IsProgram}
-use Rattle.model_program.proofs.Lists.{IsPartWay}
+use Rattle.read_forms.proofs.Lists.{IsPartWay}
 use Rattle.fast_syntax.specs.Plain.{plain_item}
 use Rattle.label_reader.specs.Results.{lexemes}
 use Rattle.program_reader.proofs.items.read_program.Given as goal

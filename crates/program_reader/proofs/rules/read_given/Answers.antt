@@ -3,8 +3,8 @@ use Rattle.std.proofs.lemmas.List.{map-append}
 use Rattle.model_program.specs.declared.Word.TheVariants.{RoundOpen}
 use Rattle.model_program.specs.Grammar.{IsDemand}
 use Rattle.program_reader.specs.Goings.{given_words}
-use Rattle.model_program.proofs.Forms.{as_fails, then_fails, first_fails, ends_closed, sample_pair, read_at, starts_next, stops_other}
-use Rattle.model_program.proofs.Lists.{sample_many, many_more, many_more_fails, many_ends}
+use Rattle.read_forms.proofs.Forms.{as_fails, then_fails, first_fails, ends_closed, sample_pair, read_at, starts_next, stops_other}
+use Rattle.read_forms.proofs.Lists.{sample_many, many_more, many_more_fails, many_ends}
 use Rattle.fast_syntax.specs.View.{plain_demand}
 use Rattle.label_reader.proofs.Exits.{exit}
 use Rattle.program_reader.proofs.RuleForms.{demand_goes_on, given_none, given_makes, given_first, sample_demand, demand_starts}

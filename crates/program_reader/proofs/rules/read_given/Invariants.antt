@@ -1,7 +1,7 @@
 use Rattle.std.proofs.Common.{length, map, ◌++◌}
 use Rattle.model_program.specs.Grammar.{IsDemand, IsGiven, Many}
 use Rattle.program_reader.specs.Goings.{given_words}
-use Rattle.model_program.proofs.Lists.{IsPartWay}
+use Rattle.read_forms.proofs.Lists.{IsPartWay}
 use Rattle.fast_syntax.specs.View.{plain_demand}
 use Rattle.label_reader.specs.Results.{lexemes}
 use Rattle.program_reader.proofs.rules.read_given.Given as goal

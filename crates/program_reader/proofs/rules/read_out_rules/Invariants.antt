@@ -1,9 +1,9 @@
 use Rattle.std.proofs.Common.{length, map}
 use Rattle.model_program.specs.declared.Word.TheVariants.{Bar, CurlyClose}
-use Rattle.model_program.specs.Reads.{closed}
+use Rattle.read_forms.specs.Reads.{closed}
 use Rattle.model_program.specs.Grammar.{IsSign}
 use Rattle.model_grammar.specs.Grammar.{IsOutRule, InBraces}
-use Rattle.model_program.proofs.Lists.{IsPartWay, tail_of, behind}
+use Rattle.read_forms.proofs.Lists.{IsPartWay, tail_of, behind}
 use Rattle.fast_syntax.specs.Plain.{plain_out_rule}
 use Rattle.label_reader.specs.Results.{lexemes}
 use Rattle.program_reader.proofs.rules.read_out_rules.Given as goal

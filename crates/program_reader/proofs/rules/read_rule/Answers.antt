@@ -1,4 +1,4 @@
-use Rattle.model_program.proofs.Forms.{as_read, as_fails, then_read, then_fails, first_fails, ends_closed, sample_pair}
+use Rattle.read_forms.proofs.Forms.{as_read, as_fails, then_read, then_fails, first_fails, ends_closed, sample_pair}
 use Rattle.label_reader.proofs.Exits.{exit}
 use Rattle.program_reader.proofs.RuleForms.{rule_makes, sample_vars, sample_guard, sample_given, ends_guard}
 use Rattle.program_reader.proofs.rules.read_rule.Goals as goal

@@ -3,10 +3,10 @@ use Rattle.std.proofs.lemmas.List.{map-append}
 use Rattle.model_program.specs.declared.Word.TheVariants.{Bar, CurlyClose, CurlyOpen}
 use Rattle.model_program.specs.Grammar.{IsSign}
 use Rattle.model_grammar.specs.Grammar.{IsRule}
-use Rattle.model_program.proofs.Lists.{items_to, items_make, open_fails, opened_fails, list_first_fails, list_first, list_between_fails, list_more_fails, list_more, list_end_fails, list_ends}
+use Rattle.read_forms.proofs.Lists.{items_to, items_make, open_fails, opened_fails, list_first_fails, list_first, list_between_fails, list_more_fails, list_more, list_end_fails, list_ends}
 use Rattle.fast_syntax.specs.Plain.{plain_rule}
 use Rattle.label_reader.proofs.Exits.{exit, shorter, not_longer}
-use Rattle.model_program.proofs.Words.{sign_starts}
+use Rattle.read_forms.proofs.Words.{sign_starts}
 use Rattle.program_reader.proofs.RuleForms.{sample_items, rules_listed, sample_rule}
 use Rattle.program_reader.proofs.rules.read_rules.Goals as goal
 

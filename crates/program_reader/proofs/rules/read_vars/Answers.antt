@@ -2,8 +2,8 @@ use Rattle.std.proofs.Common.{map, sym, ap, ◌∙◌, ◌++◌, ◌∷◌, []}
 use Rattle.std.proofs.lemmas.List.{map-append}
 use Rattle.model_program.specs.declared.Word.TheVariants.{RoundClose, RoundOpen}
 use Rattle.model_program.specs.Grammar.{IsComma, IsName}
-use Rattle.model_program.proofs.Forms.{as_fails, as_read, read_at}
-use Rattle.model_program.proofs.Lists.{any_to, any_make, any_none, sample_any, open_fails, opened_fails, opened_read, list_first_fails, list_first, list_more_fails, list_more, list_end_fails, list_ends}
+use Rattle.read_forms.proofs.Forms.{as_fails, as_read, read_at}
+use Rattle.read_forms.proofs.Lists.{any_to, any_make, any_none, sample_any, open_fails, opened_fails, opened_read, list_first_fails, list_first, list_more_fails, list_more, list_end_fails, list_ends}
 use Rattle.fast_syntax.specs.View.{plain_name}
 use Rattle.label_reader.proofs.Exits.{exit}
 use Rattle.program_reader.proofs.RuleForms.{vars_listed}

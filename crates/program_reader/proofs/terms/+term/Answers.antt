@@ -1,10 +1,10 @@
 use Rattle.std.proofs.Common.{map, sym, ap, ◌∙◌, ◌∷◌, [], arith}
-use Rattle.model_program.proofs.Forms.{as_read, as_fails, then_read, then_fails, first_fails, ends_closed, sample_pair, read_at}
-use Rattle.model_program.proofs.Words.{sample_sign, sign_starts}
+use Rattle.read_forms.proofs.Forms.{as_read, as_fails, then_read, then_fails, first_fails, ends_closed, sample_pair, read_at}
+use Rattle.read_forms.proofs.Words.{sample_sign, sign_starts}
 use Rattle.label_reader.proofs.Exits.{exit, shorter, not_longer}
 use Rattle.std.proofs.lemmas.List.{map-append}
 use Rattle.model_program.specs.declared.Word.TheVariants.{RoundOpen, RoundClose}
-use Rattle.model_program.proofs.Forms.{other_than}
+use Rattle.read_forms.proofs.Forms.{other_than}
 use Rattle.label_reader.proofs.Closings.{closing_begins, closing_more, closing_more_fails, closing_read, closing_read_fails}
 use Rattle.model_grammar.specs.Syntax.{one, two}
 use Rattle.model_grammar.specs.Terms.{IsX}

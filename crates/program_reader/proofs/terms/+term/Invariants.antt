@@ -1,7 +1,7 @@
 use Rattle.std.proofs.Common.{length, map, ◌+◌, ◌*◌, ◌≤◌, ◌++◌}
 use Rattle.model_program.specs.declared.Word.TheVariants.{RoundClose}
-use Rattle.model_program.specs.Reads.{closed}
-use Rattle.model_program.proofs.Lists.{IsPartWay}
+use Rattle.read_forms.specs.Reads.{closed}
+use Rattle.read_forms.proofs.Lists.{IsPartWay}
 use Rattle.model_grammar.specs.Terms.{IsX}
 use Rattle.fast_syntax.specs.Plain.{plain_x}
 use Rattle.label_reader.specs.Results.{lexemes}

@@ -2,7 +2,7 @@ use Rattle.std.proofs.Common.{map, ap, ◌∙◌, ◌++◌, ◌∷◌, []}
 use Rattle.std.proofs.lemmas.List.{map-append}
 use Rattle.model_program.specs.declared.Word.TheVariants.{CurlyClose, CurlyOpen}
 use Rattle.model_program.specs.Grammar.{IsComma, IsCtor}
-use Rattle.model_program.proofs.Lists.{items_to, items_make, open_fails, opened_fails, list_first_fails, list_first, list_more_fails, list_more, list_end_fails, list_ends}
+use Rattle.read_forms.proofs.Lists.{items_to, items_make, open_fails, opened_fails, list_first_fails, list_first, list_more_fails, list_more, list_end_fails, list_ends}
 use Rattle.fast_syntax.specs.View.{plain_ctor}
 use Rattle.label_reader.proofs.Exits.{exit}
 use Rattle.program_reader.proofs.TypeForms.{ctors_listed, sample_items, sample_ctor}

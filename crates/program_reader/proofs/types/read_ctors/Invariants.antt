@@ -1,8 +1,8 @@
 use Rattle.std.proofs.Common.{length, map}
 use Rattle.model_program.specs.declared.Word.TheVariants.{CurlyClose}
-use Rattle.model_program.specs.Reads.{closed}
+use Rattle.read_forms.specs.Reads.{closed}
 use Rattle.model_program.specs.Grammar.{AreCtors, IsComma, IsCtor}
-use Rattle.model_program.proofs.Lists.{IsPartWay, tail_of, behind}
+use Rattle.read_forms.proofs.Lists.{IsPartWay, tail_of, behind}
 use Rattle.fast_syntax.specs.View.{plain_ctor}
 use Rattle.label_reader.specs.Results.{lexemes}
 use Rattle.program_reader.proofs.types.read_ctors.Given as goal

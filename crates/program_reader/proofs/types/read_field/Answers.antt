@@ -1,5 +1,5 @@
-use Rattle.model_program.proofs.Forms.{as_fails, as_read, then_fails, then_read, first_fails, ends_closed, sample_pair}
-use Rattle.model_program.proofs.Words.{sample_sign}
+use Rattle.read_forms.proofs.Forms.{as_fails, as_read, then_fails, then_read, first_fails, ends_closed, sample_pair}
+use Rattle.read_forms.proofs.Words.{sample_sign}
 use Rattle.label_reader.proofs.Exits.{exit}
 use Rattle.program_reader.proofs.TypeForms.{field_makes, sample_sort}
 use Rattle.program_reader.proofs.types.read_field.Goals as goal

@@ -1,8 +1,8 @@
 use Rattle.std.proofs.Common.{length, map}
 use Rattle.model_program.specs.declared.Word.TheVariants.{SquareClose}
-use Rattle.model_program.specs.Reads.{closed}
+use Rattle.read_forms.specs.Reads.{closed}
 use Rattle.model_program.specs.Grammar.{AreFields, IsComma, IsField}
-use Rattle.model_program.proofs.Lists.{IsPartWay, tail_of, behind}
+use Rattle.read_forms.proofs.Lists.{IsPartWay, tail_of, behind}
 use Rattle.fast_syntax.specs.View.{plain_field}
 use Rattle.label_reader.specs.Results.{lexemes}
 use Rattle.program_reader.proofs.types.read_fields.Given as goal

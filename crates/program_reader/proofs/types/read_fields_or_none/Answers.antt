@@ -1,5 +1,5 @@
 use Rattle.std.proofs.Common.{map, ap, sym}
-use Rattle.model_program.proofs.Forms.{as_read, as_fails, closed_read, closed_fails, read_at}
+use Rattle.read_forms.proofs.Forms.{as_read, as_fails, closed_read, closed_fails, read_at}
 use Rattle.fast_syntax.specs.View.{plain_field}
 use Rattle.label_reader.proofs.Exits.{exit}
 use Rattle.program_reader.proofs.TypeForms.{fields_make, fields_none}

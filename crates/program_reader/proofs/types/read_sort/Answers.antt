@@ -1,4 +1,4 @@
-use Rattle.model_program.proofs.Forms.{as_fails}
+use Rattle.read_forms.proofs.Forms.{as_fails}
 use Rattle.label_reader.proofs.Exits.{exit}
 use Rattle.program_reader.proofs.TypeForms.{sort_makes}
 use Rattle.program_reader.proofs.types.read_sort.Goals as goal

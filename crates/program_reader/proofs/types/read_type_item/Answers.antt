@@ -1,4 +1,4 @@
-use Rattle.model_program.proofs.Forms.{as_fails, as_read, then_fails, then_read, first_fails, ends_closed, sample_pair}
+use Rattle.read_forms.proofs.Forms.{as_fails, as_read, then_fails, then_read, first_fails, ends_closed, sample_pair}
 use Rattle.label_reader.proofs.Exits.{exit}
 use Rattle.program_reader.proofs.TypeForms.{type_makes, sample_fields, sample_ctors, ends_fields}
 use Rattle.program_reader.proofs.types.read_type_item.Goals as goal

@@ -3,8 +3,8 @@ use Rattle.std.proofs.lemmas.Int.{to_z-of_z}
 use mir.Syntax.{w128}
 use Rattle.label_reader.proofs.Digits.{fits_below, negated_number_is}
 use Rattle.model_program.specs.declared.Word.TheVariants.{True, False, Minus}
-use Rattle.model_program.proofs.Forms.{as_read, as_fails, then_read, then_fails, ends_closed, read_at}
-use Rattle.model_program.proofs.Words.{word_read, next_of}
+use Rattle.read_forms.proofs.Forms.{as_read, as_fails, then_read, then_fails, ends_closed, read_at}
+use Rattle.read_forms.proofs.Words.{word_read, next_of}
 use Rattle.model_grammar.specs.Syntax.{number}
 use Rattle.label_reader.proofs.Exits.{exit}
 use Rattle.tree_reader.proofs.ConstantForms.{true_makes, false_makes, text_makes, negative_makes, number_makes}

@@ -1,9 +1,9 @@
 use Rattle.std.proofs.Common.{map, sym, ap, ◌∙◌, ◌++◌, ◌∷◌, []}
-use Rattle.model_program.proofs.Forms.{other_than, as_read, as_fails, read_at}
+use Rattle.read_forms.proofs.Forms.{other_than, as_read, as_fails, read_at}
 use Rattle.label_reader.proofs.Exits.{exit, shorter}
 use Rattle.std.proofs.lemmas.List.{map-append}
 use Rattle.model_program.specs.declared.Word.TheVariants.{SquareOpen, SquareClose}
-use Rattle.model_program.proofs.Lists.{open_fails, opened_fails, opened_read}
+use Rattle.read_forms.proofs.Lists.{open_fails, opened_fails, opened_read}
 use Rattle.model_grammar.specs.TreeFiles.{IsConstant}
 use Rattle.model_grammar.specs.Terms.{IsLater}
 use Rattle.tree_reader.specs.Plain.{plain_constant}

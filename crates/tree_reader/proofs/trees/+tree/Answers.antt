@@ -1,8 +1,8 @@
 use Rattle.std.proofs.Common.{map, sym, ap, ◌∙◌, ◌∷◌, [], arith}
 use Rattle.std.proofs.lemmas.List.{map-append}
 use Rattle.model_program.specs.declared.Word.TheVariants.{RoundOpen, RoundClose}
-use Rattle.model_program.proofs.Forms.{as_read, as_fails, then_read, then_fails, first_fails, ends_closed, read_at, other_than}
-use Rattle.model_program.proofs.Words.{word_starts}
+use Rattle.read_forms.proofs.Forms.{as_read, as_fails, then_read, then_fails, first_fails, ends_closed, read_at, other_than}
+use Rattle.read_forms.proofs.Words.{word_starts}
 use Rattle.label_reader.proofs.Exits.{exit, not_longer, shorter}
 use Rattle.label_reader.proofs.Closings.{closing_begins, closing_more, closing_more_fails, closing_read, closing_read_fails}
 use Rattle.model_grammar.specs.TreeFiles.{IsTree}

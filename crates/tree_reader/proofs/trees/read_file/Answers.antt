@@ -1,10 +1,10 @@
 use Rattle.std.proofs.Common.{map, sym, ap, ◌∙◌, ◌++◌, ◌∷◌, [], false-eqb}
 use Rattle.std.proofs.lemmas.List.{map-append}
 use Rattle.std.proofs.lemmas.Bool.{eqb-true}
-use Rattle.model_program.specs.Reads.{anything}
+use Rattle.read_forms.specs.Reads.{anything}
 use Rattle.model_grammar.specs.TreeFiles.{IsTree}
-use Rattle.model_program.proofs.Forms.{read_at}
-use Rattle.model_program.proofs.Lists.{many_more, many_more_fails}
+use Rattle.read_forms.proofs.Forms.{read_at}
+use Rattle.read_forms.proofs.Lists.{many_more, many_more_fails}
 use Rattle.tree_reader.specs.Plain.{plain_tree}
 use Rattle.label_reader.proofs.Exits.{exit, shorter, none_left, some_left}
 use Rattle.tree_reader.proofs.TreeForms.{no_file, file_first, file_first_fails, file_ends, some_token, some_starts}

@@ -1,8 +1,8 @@
 use Rattle.std.proofs.Common.{length, map, ◌++◌}
-use Rattle.model_program.specs.Reads.{anything}
+use Rattle.read_forms.specs.Reads.{anything}
 use Rattle.model_program.specs.Grammar.{Many}
 use Rattle.model_grammar.specs.TreeFiles.{IsTree, IsTreeFile}
-use Rattle.model_program.proofs.Lists.{IsPartWay}
+use Rattle.read_forms.proofs.Lists.{IsPartWay}
 use Rattle.tree_reader.specs.Plain.{plain_tree}
 use Rattle.label_reader.specs.Results.{lexemes}
 use Rattle.tree_reader.proofs.trees.read_file.Given as goal

@@ -2,12 +2,8 @@
 use Rattle.std.proofs.Common.{◌≡◌, List, [], ◌∷◌, ◌++◌, refl, sym, ap, ◌∙◌, subst, append_assoc, Option, Some, None, ◌⊎◌, inl, inr}
 use Rattle.model_program.specs.declared.Word.{Word}
 use Rattle.model_program.specs.Lexeme.{Lexeme}
-use Rattle.model_program.specs.Reads.{◌⌢◌, GoesOnAs, Stops, IsRead, IsRefused, Fails, IsNext, IsOther, StartsIn, closed}
-
--- a pair of values, spelled one behind the other
-infixr 30 ◌⊗◌
-abbrev pub ◌⊗◌ : {A B : Type 0} → (A → List Lexeme → Type 0) → (B → List Lexeme → Type 0) → A × B → List Lexeme → Type 0
-(p ⊗ q) ab = p ab.0 ⌢ q ab.1
+use Rattle.model_program.specs.Joined.{◌⌢◌, ◌⊗◌, IsNext, IsOther}
+use Rattle.read_forms.specs.Reads.{GoesOnAs, Stops, IsRead, IsRefused, Fails, StartsIn, closed}
 
 -- what goes on as a list does still does behind the same tokens
 pub goes_on_behind : (part rest more : List Lexeme) → GoesOnAs rest more → GoesOnAs (part ++ rest) (part ++ more)

@@ -3,10 +3,11 @@ use Rattle.std.proofs.Common.{◌≡◌, List, [], ◌∷◌, ◌++◌, refl, sy
 use Rattle.model_program.specs.declared.Word.{Word}
 use Rattle.model_program.specs.declared.Word.TheVariants.{Id, Comma}
 use Rattle.model_program.specs.Lexeme.{Lexeme}
-use Rattle.model_program.specs.Reads.{◌⌢◌, Stops, IsRead, Fails, IsNext, IsOther, StartsIn, Nothing, closed}
+use Rattle.model_program.specs.Joined.{◌⌢◌, IsNext, IsOther, Nothing, ◌⊗◌}
+use Rattle.read_forms.specs.Reads.{Stops, IsRead, Fails, StartsIn, closed}
 use Rattle.model_program.specs.Grammar.{IsSign, sign, IsComma, comma, Further, Items, Any, Many}
-use Rattle.model_program.proofs.Forms.{◌⊗◌, Ends, Makes, HasSample, AllStartIn, as_read, as_fails, then_read, then_fails, first_fails, ends_closed, regroup, starts_joined, starts_append, starts_wider, starts_pair, stops_next, stops_other, sample_pair, other_than, left_out, stands, alternative, remade, ends_starting}
-use Rattle.model_program.proofs.Words.{sign_starts, sample_sign, word_other}
+use Rattle.read_forms.proofs.Forms.{Ends, Makes, HasSample, AllStartIn, as_read, as_fails, then_read, then_fails, first_fails, ends_closed, regroup, starts_joined, starts_append, starts_wider, starts_pair, stops_next, stops_other, sample_pair, other_than, left_out, stands, alternative, remade, ends_starting}
+use Rattle.read_forms.proofs.Words.{sign_starts, sample_sign, word_other}
 
 -- what is read of what is left is read of the whole
 pub record IsPartWay {A B : Type 0} (whole : A → List Lexeme → Type 0) (left : B → List Lexeme → Type 0) (goes_on : Word → Type 0) (to : B → A) (tokens rest : List Lexeme) : Type 0 where

@@ -1,23 +1,7 @@
--- Forms: which lists of tokens spell a value, and what it says to have read one.
+-- What it says to have read a value of a form from the front of some tokens, or to have refused them.
 use Rattle.std.specs.Prelude.{◌≡◌, List, [], ◌∷◌, ◌++◌, Option, Some, None}
 use Rattle.model_program.specs.declared.Word.{Word}
 use Rattle.model_program.specs.Lexeme.{Lexeme}
-
--- the tokens are those of one form and then those of another
-pub record Joined (first second : List Lexeme → Type 0) (tokens : List Lexeme) : Type 0 where
-  pub front : List Lexeme
-  pub back : List Lexeme
-  pub split : tokens ≡ front ++ back
-  pub at_front : first front
-  pub at_back : second back
-
-infixr 30 ◌⌢◌
-abbrev pub ◌⌢◌ : (List Lexeme → Type 0) → (List Lexeme → Type 0) → List Lexeme → Type 0
-first ⌢ second = Joined first second
-
--- no token
-abbrev pub Nothing : List Lexeme → Type 0
-Nothing tokens = tokens ≡ []
 
 -- the end of the tokens, or the same next token
 abbrev pub GoesOnAs : List Lexeme → List Lexeme → Type 0
@@ -61,16 +45,6 @@ closed w = ⊥
 -- a form that goes on by any token: only the end of the tokens ends it
 abbrev pub anything : Word → Type 0
 anything w = Unit {0}
-
--- the next token is this word
-abbrev pub IsNext : Word → List Lexeme → Type 0
-IsNext w [] = ⊥
-IsNext w (t ∷ ts) = t.word ≡ w
-
--- the tokens have ended, or the next one is another word
-abbrev pub IsOther : Word → List Lexeme → Type 0
-IsOther w [] = Unit {0}
-IsOther w (t ∷ ts) = t.word ≡ w → ⊥
 
 -- the next token is one of these
 abbrev pub StartsIn : (Word → Type 0) → List Lexeme → Type 0

@@ -1,2 +1,0 @@
--- What holds of each two elements of a list.
-pub use Rattle.model_sta.specs.EachTwo.{EachTwo}
