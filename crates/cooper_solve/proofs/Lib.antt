@@ -7,3 +7,4 @@ pub mod Skipped
 pub mod Stepping
 pub mod Telling
 pub mod Closed
+pub mod Summing

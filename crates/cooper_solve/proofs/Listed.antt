@@ -4,7 +4,7 @@ use Rattle.std.specs.List.{All, Contains}
 use Rattle.std.proofs.lemmas.Bool.{cases_eq}
 use Rattle.std.proofs.lemmas.List.{get_or_default}
 use Rattle.std.proofs.lemmas.List.Elements.{All-nil, All-cons, All-push, Contains-append_left, Contains-push}
-use Rattle.math_cooper.specs.System.{Condition, Form, low_form, high_form}
+use Rattle.math_cooper.specs.System.{Condition, Affine, low_form, high_form}
 use Rattle.math_cooper.specs.Puts.{Put, IsPut}
 use Rattle.cooper_solve.specs.declared.constraint.Direction.TheVariants.{Low, High, Free}
 use Rattle.cooper_solve.specs.Views.{IsBoundAt, AreBounds, AreBases, IsBase, base_form, no_condition}
@@ -69,7 +69,7 @@ low_bases i S L a n = record {
   covers = covers;
 }
   where
-    covers : (p : Put) (g : Form) → IsPut i S p g → (k : ℕ) × Contains L k × (g ≡ base_form Low i S k p.offset)
+    covers : (p : Put) (g : Affine) → IsPut i S p g → (k : ℕ) × Contains L k × (g ≡ base_form Low i S k p.offset)
     covers p g (inl (b, is, l, e)) = let r = covered true i S L p.bound b a is.0 is.1 l in (r.0, r.1, e ∙ ap (λ c. low_form i c p.offset) (sym r.2))
     covers p g (inr (inl (none, b, is, l, e))) = absurd (some_of true i S L a n none)
     covers p g (inr (inr (none, none2, f, e))) = absurd (some_of true i S L a n none)
@@ -80,7 +80,7 @@ high_bases i S K L low none a n = record {
   covers = covers;
 }
   where
-    covers : (p : Put) (g : Form) → IsPut i S p g → (k : ℕ) × Contains L k × (g ≡ base_form High i S k p.offset)
+    covers : (p : Put) (g : Affine) → IsPut i S p g → (k : ℕ) × Contains L k × (g ≡ base_form High i S k p.offset)
     covers p g (inl (b, is, l, e)) = let r = covered true i S K p.bound b low is.0 is.1 l in let c = r.1.1 in absurd (omega arith)
     covers p g (inr (inl (lows, b, is, l, e))) = let r = covered false i S L p.bound b a is.0 is.1 l in (r.0, r.1, e ∙ ap (λ c. high_form i c p.offset) (sym r.2))
     covers p g (inr (inr (lows, highs, f, e))) = absurd (some_of false i S L a n highs)
@@ -92,7 +92,7 @@ free_bases i S K L M low none high none2 e = subst (AreBases i S Free) (sym e) (
   covers = covers;
 })
   where
-    covers : (p : Put) (g : Form) → IsPut i S p g → (k : ℕ) × Contains (length S ∷ []) k × (g ≡ base_form Free i S k p.offset)
+    covers : (p : Put) (g : Affine) → IsPut i S p g → (k : ℕ) × Contains (length S ∷ []) k × (g ≡ base_form Free i S k p.offset)
     covers p g (inl (b, is, l, e)) = let r = covered true i S K p.bound b low is.0 is.1 l in let c = r.1.1 in absurd (omega arith)
     covers p g (inr (inl (lows, b, is, l, e))) = let r = covered false i S L p.bound b high is.0 is.1 l in let c = r.1.1 in absurd (omega arith)
     covers p g (inr (inr (lows, highs, f, e))) = (length S, (0, omega arith, refl), e)

@@ -6,7 +6,7 @@ use Rattle.std.specs.List.{Contains}
 use Rattle.std.proofs.lemmas.Int.{ints}
 use Rattle.std.proofs.lemmas.List.{map_more}
 use Rattle.std.proofs.lemmas.List.Elements.{Contains-get_or}
-use Rattle.math_cooper.specs.System.{Condition, Form, lead, sign, put, put_all, add_times, low_form, high_form, free_form}
+use Rattle.math_cooper.specs.System.{Condition, Affine, lead, sign, put, put_all, add_times, low_form, high_form, free_form}
 use Rattle.math_cooper.specs.Puts.{IsWide, cut_one}
 use Rattle.math_cooper.proofs.Systems.{length-add_times}
 use Rattle.cooper_solve.specs.Views.{WideIn, WideInSystem, WideInForm, WideSum, one}
@@ -18,7 +18,7 @@ natural_at : (j : ℤ) → pos 0 ≤ℤ j → pos (unsigned_abs j) ≡ j
 natural_at (pos n) h = refl
 natural_at (negsuc n) h = absurd (omega (arith, ints))
 
-pub low_is : (i : ℕ) (b : Condition) (j : ℤ) (r : Form) → pos 0 ≤ℤ j → r.constant ≡ j -ℤ b.constant → r.coefficients ≡ map neg_ℤ (take i b.coefficients) → r ≡ low_form i b (unsigned_abs j)
+pub low_is : (i : ℕ) (b : Condition) (j : ℤ) (r : Affine) → pos 0 ≤ℤ j → r.constant ≡ j -ℤ b.constant → r.coefficients ≡ map neg_ℤ (take i b.coefficients) → r ≡ low_form i b (unsigned_abs j)
 unfolding low_form
 low_is i b j r h e f = let n = natural_at j h in let same : r.constant ≡ neg_ℤ b.constant +ℤ pos (unsigned_abs j) = omega (arith, ints) in λ k. record { constant = same k; coefficients = f k }
 
@@ -30,7 +30,7 @@ pub low_wide_constant : (i : ℕ) (b : Condition) (j : ℤ) → pos 0 ≤ℤ j �
 unfolding low_form
 low_wide_constant i b j h w = let n = natural_at j h in let same : j -ℤ b.constant ≡ neg_ℤ b.constant +ℤ pos (unsigned_abs j) = omega (arith, ints) in (neg_ℤ b.constant +ℤ pos (unsigned_abs j), inr refl, subst IsWide same w)
 
-pub high_is : (i : ℕ) (b : Condition) (j : ℤ) (r : Form) → pos 0 ≤ℤ j → r.constant ≡ b.constant -ℤ j → r.coefficients ≡ take i b.coefficients → r ≡ high_form i b (unsigned_abs j)
+pub high_is : (i : ℕ) (b : Condition) (j : ℤ) (r : Affine) → pos 0 ≤ℤ j → r.constant ≡ b.constant -ℤ j → r.coefficients ≡ take i b.coefficients → r ≡ high_form i b (unsigned_abs j)
 unfolding high_form
 high_is i b j r h e f = let n = natural_at j h in λ k. record { constant = (e ∙ ap (λ z. b.constant -ℤ z) (sym n)) k; coefficients = f k }
 
@@ -38,7 +38,7 @@ pub high_wide : (i : ℕ) (b : Condition) (j : ℤ) → pos 0 ≤ℤ j → IsWid
 unfolding high_form
 high_wide i b j h w = (b.constant -ℤ pos (unsigned_abs j), inr refl, subst (λ z. IsWide (b.constant -ℤ z)) (sym (natural_at j h)) w)
 
-pub free_is : (i : ℕ) (j : ℤ) (r : Form) → pos 0 ≤ℤ j → r.constant ≡ j → r.coefficients ≡ replicate i (pos 0) → r ≡ free_form i (unsigned_abs j)
+pub free_is : (i : ℕ) (j : ℤ) (r : Affine) → pos 0 ≤ℤ j → r.constant ≡ j → r.coefficients ≡ replicate i (pos 0) → r ≡ free_form i (unsigned_abs j)
 unfolding free_form
 free_is i j r h e f = λ k. record { constant = (e ∙ sym (natural_at j h)) k; coefficients = f k }
 
@@ -76,22 +76,22 @@ zero_times (x ∷ f) (y ∷ g) = (λ k. same x y k ∷ zero_times f g k)
     same : (x y : ℤ) → x +ℤ (pos 0 *ℤ y) ≡ x
     same x y = omega (arith, ints)
 
-pub put_absent : (i : ℕ) (g : Form) (c : Condition) → lead i c ≡ pos 0 → cut_one i c ≡ put i g c
+pub put_absent : (i : ℕ) (g : Affine) (c : Condition) → lead i c ≡ pos 0 → cut_one i c ≡ put i g c
 unfolding put
 put_absent i g c e =
     let constant : c.constant ≡ c.constant +ℤ (lead i c *ℤ g.constant) = sym (ap (λ a. c.constant +ℤ (a *ℤ g.constant)) e ∙ omega (arith, ints)) in
     let row : take i c.coefficients ≡ add_times (lead i c) (take i c.coefficients) g.coefficients = sym (ap (λ a. add_times a (take i c.coefficients) g.coefficients) e ∙ zero_times (take i c.coefficients) g.coefficients) in
     λ k. record { kind = c.kind; constant = constant k; coefficients = row k }
 
-pub put_is : (i : ℕ) (g : Form) (c r : Condition) (a : ℤ) → lead i c ≡ a → r.kind ≡ c.kind → r.constant ≡ c.constant +ℤ (a *ℤ g.constant) → r.coefficients ≡ add_times a (take i c.coefficients) g.coefficients → r ≡ put i g c
+pub put_is : (i : ℕ) (g : Affine) (c r : Condition) (a : ℤ) → lead i c ≡ a → r.kind ≡ c.kind → r.constant ≡ c.constant +ℤ (a *ℤ g.constant) → r.coefficients ≡ add_times a (take i c.coefficients) g.coefficients → r ≡ put i g c
 unfolding put
 put_is i g c r a e k m l = λ j. record { kind = k j; constant = (m ∙ ap (λ b. c.constant +ℤ (b *ℤ g.constant)) (sym e)) j; coefficients = (l ∙ ap (λ b. add_times b (take i c.coefficients) g.coefficients) (sym e)) j }
 
-pub put_wide_constant : (i : ℕ) (g : Form) (c : Condition) (a : ℤ) → lead i c ≡ a → IsWide (c.constant +ℤ (a *ℤ g.constant)) → WideIn (put i g c)
+pub put_wide_constant : (i : ℕ) (g : Affine) (c : Condition) (a : ℤ) → lead i c ≡ a → IsWide (c.constant +ℤ (a *ℤ g.constant)) → WideIn (put i g c)
 unfolding put
 put_wide_constant i g c a e w = (c.constant +ℤ (lead i c *ℤ g.constant), inr (inl refl), subst (λ b. IsWide (c.constant +ℤ (b *ℤ g.constant))) (sym e) w)
 
-pub put_wide_row : (i : ℕ) (g : Form) (c : Condition) (minus : Bool) → lead i c ≡ one minus → length (take i c.coefficients) ≡ length g.coefficients → WideSum minus (take i c.coefficients) g.coefficients → WideIn (put i g c)
+pub put_wide_row : (i : ℕ) (g : Affine) (c : Condition) (minus : Bool) → lead i c ≡ one minus → length (take i c.coefficients) ≡ length g.coefficients → WideSum minus (take i c.coefficients) g.coefficients → WideIn (put i g c)
 unfolding put
 put_wide_row i g c minus e l (k, h, w) =
     let f = take i c.coefficients in
@@ -111,8 +111,8 @@ unit_sign (negsuc k) false e n f g = absurd (let h = g refl in omega (arith, int
 
 -- ---- a system
 
-pub put_more : (i : ℕ) (g : Form) (S O P : List Condition) (k : ℕ) (item next : Condition) → k < length S → item ≡ get_or S k item → O ≡ put_all i g (take k S) → next ≡ put i g item → P ≡ O ++ next ∷ [] → P ≡ put_all i g (take (k + 1) S)
+pub put_more : (i : ℕ) (g : Affine) (S O P : List Condition) (k : ℕ) (item next : Condition) → k < length S → item ≡ get_or S k item → O ≡ put_all i g (take k S) → next ≡ put i g item → P ≡ O ++ next ∷ [] → P ≡ put_all i g (take (k + 1) S)
 put_more i g S O P k item next h e are is push = push ∙ (λ q. are q ++ (is ∙ ap (put i g) e) q ∷ []) ∙ sym (map_more (put i g) S k item h)
 
-pub put_wide : (i : ℕ) (g : Form) (S : List Condition) (k : ℕ) (item : Condition) → k < length S → item ≡ get_or S k item → WideIn (put i g item) → WideInSystem (put_all i g S)
+pub put_wide : (i : ℕ) (g : Affine) (S : List Condition) (k : ℕ) (item : Condition) → k < length S → item ≡ get_or S k item → WideIn (put i g item) → WideInSystem (put_all i g S)
 put_wide i g S k item h e (z, n, w) = (z, (put i g item, contains_map (put i g) S item (k, h, sym e), n), w)

@@ -11,7 +11,7 @@ use Rattle.std.proofs.lemmas.List.Elements.{All-head, All-tail, All-more}
 use Rattle.std.proofs.lemmas.Nat.Gcd.{dvd_refl}
 use Rattle.math_int.proofs.Laws.{times-add, times-assoc, times-neg, neg-times, times-le}
 use Rattle.math_cooper.specs.Line.{Divides, AtLeastZero, DividedBy, Meets}
-use Rattle.math_cooper.specs.System.{Condition, Form, Holds, dot, value, lead, sign, put, add_times, low_form, high_form, free_form}
+use Rattle.math_cooper.specs.System.{Condition, Affine, Holds, dot, value, lead, sign, put, add_times, low_form, high_form, free_form}
 use Rattle.math_cooper.proofs.Elimination.{all_unmap}
 use Rattle.cooper_solve.specs.declared.constraint.Direction.{Direction}
 use Rattle.cooper_solve.specs.declared.constraint.Direction.TheVariants.{Low, High, Free}
@@ -131,11 +131,11 @@ later_value d i R k j s c ws =
     let constant = later_constant d i R k j s (lead i c) in
     omega (arith, ints, row, constant)
 
-kind_same : (i : ℕ) (g : Form) (c : Condition) (ws : List ℤ) → Holds ws (put i g c) → Meets c.kind (value (put i g c) ws)
+kind_same : (i : ℕ) (g : Affine) (c : Condition) (ws : List ℤ) → Holds ws (put i g c) → Meets c.kind (value (put i g c) ws)
 unfolding put
 kind_same i g c ws h = h
 
-same_kind : (i : ℕ) (g : Form) (c : Condition) (ws : List ℤ) (t : ℤ) → Meets c.kind (value (put i g c) ws +ℤ t) → Meets (put i g c).kind (value (put i g c) ws +ℤ t)
+same_kind : (i : ℕ) (g : Affine) (c : Condition) (ws : List ℤ) (t : ℤ) → Meets c.kind (value (put i g c) ws +ℤ t) → Meets (put i g c).kind (value (put i g c) ws +ℤ t)
 unfolding put
 same_kind i g c ws t h = h
 

@@ -8,7 +8,7 @@ use Rattle.std.proofs.lemmas.Int.{ints}
 use Rattle.std.proofs.Math.Nat.{mul-le-mul}
 use Rattle.std.proofs.lemmas.List.Elements.{All-map, All-append, All-cons, All-nil, All-contains, Contains-push}
 use Rattle.math_cooper.specs.Line.{Kind, AtLeastZero, DividedBy}
-use Rattle.math_cooper.specs.System.{Condition, Form, HasWidth, Holds, Solves, form_value, lead, sign, kind_times, times_condition, divides_condition, unit, unit_all, put, put_all, IsCommonAt}
+use Rattle.math_cooper.specs.System.{Condition, Affine, HasWidth, Holds, Solves, affine_value, lead, sign, kind_times, times_condition, divides_condition, unit, unit_all, put, put_all, IsCommonAt}
 use Rattle.math_cooper.specs.Puts.{IsScale, IsPeriod, IsPut, IsWide}
 use Rattle.math_cooper.proofs.Elimination.{put_sound}
 use Rattle.math_cooper.proofs.Scaling.{unit_cases, multiplier, not_zero, times_lead, last_is, unit_all_width, divides_out}
@@ -126,18 +126,18 @@ module _ (i : ℕ) (c D : ℤ) (R : List Condition) (d : Direction) (L : List �
   pub form_at : (j : ℕ) → length (base_form d i R k j).coefficients ≡ i
   form_at j = form_length i R (record { variable = i; bound = k; offset = j }) (base_form d i R k j) step.system.0 (put_at j)
 
-put_positive : (i : ℕ) (g : Form) (c : Condition) → IsPositive c → IsPositive (put i g c)
+put_positive : (i : ℕ) (g : Affine) (c : Condition) → IsPositive c → IsPositive (put i g c)
 unfolding put
 put_positive i g c h = h
 
-pub put_system : (i : ℕ) (g : Form) (R : List Condition) → IsSystem (i + 1) R → IsSystem i (put_all i g R)
+pub put_system : (i : ℕ) (g : Affine) (R : List Condition) → IsSystem (i + 1) R → IsSystem i (put_all i g R)
 put_system i g R s = (
   All-map (HasWidth i) (put i g) R (λ k d l. put_width i g (get_or R k d) (s.0 k d l)),
   All-map IsPositive (put i g) R (λ k d l. put_positive i g (get_or R k d) (s.1 k d l)),
 )
 
 -- the value of the form is a multiple of c
-pub back_from : (i : ℕ) (c : ℕ) (R : List Condition) (g : Form) → IsSystem (i + 1) R → Contains R (divides_condition i c) → length g.coefficients ≡ i → (ws : List ℤ) → length ws ≡ i → Solves ws (put_all i g R) → (x : ℤ) × (form_value g ws ≡ pos c *ℤ x)
+pub back_from : (i : ℕ) (c : ℕ) (R : List Condition) (g : Affine) → IsSystem (i + 1) R → Contains R (divides_condition i c) → length g.coefficients ≡ i → (ws : List ℤ) → length ws ≡ i → Solves ws (put_all i g R) → (x : ℤ) × (affine_value g ws ≡ pos c *ℤ x)
 back_from i c R g s divides len ws h solves =
     let all = put_sound i g ws R h len s.0 solves in
-    divides_out i c ws (form_value g ws) h (All-contains (Holds (ws ++ form_value g ws ∷ [])) R (divides_condition i c) all divides)
+    divides_out i c ws (affine_value g ws) h (All-contains (Holds (ws ++ affine_value g ws ∷ [])) R (divides_condition i c) all divides)

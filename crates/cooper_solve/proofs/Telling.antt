@@ -10,9 +10,9 @@ use Rattle.std.proofs.lemmas.Bool.{cases_lt}
 use Rattle.std.proofs.lemmas.List.{map-append, reverse-append, take-append-le, get_or_append_left, get_or_at, get_or_past}
 use Rattle.std.proofs.lemmas.List.Elements.{All-contains, All-map}
 use Rattle.std.proofs.Math.Nat.{div-le_self}
-use Rattle.math_cooper.specs.System.{Condition, Form, HasWidth, Solves, form_value, lead, put_all, unit_all, IsSolvable}
+use Rattle.math_cooper.specs.System.{Condition, Affine, HasWidth, Solves, affine_value, lead, put_all, unit_all, IsSolvable}
 use Rattle.math_cooper.specs.Puts as plain
-use Rattle.math_cooper.specs.Puts.{Step, IsScale, IsPeriod, IsPut, Absent, Occurs, cut, after, InSystem, OfScale, OfForm, IsNumber, IsWide, AllFit, Passes128, IsSolution}
+use Rattle.math_cooper.specs.Puts.{Step, IsScale, IsPeriod, IsPut, Absent, Occurs, cut, after, InSystem, OfScale, OfAffine, IsNumber, IsWide, AllFit, Passes128, IsSolution}
 use Rattle.math_cooper.proofs.Composition.{passes-put, passes-form, passes-before, passes-system, passes-over, solution-put, fits-before, fits-put, fits-over}
 use Rattle.math_cooper.proofs.Steps.{solution_solves, step_complete, over_solvable, cut_width}
 use Rattle.cooper_solve.specs.declared.constraint.Direction.{Direction}
@@ -21,7 +21,8 @@ use Rattle.cooper_solve.specs.declared.found.Solution.{Solution}
 use Rattle.cooper_solve.specs.declared.found.Found.{Found}
 use Rattle.cooper_solve.specs.declared.found.Found.TheVariants.{Solved, Far, Wide, Unsat}
 use Rattle.cooper_solve.specs.Views.{IsPositive, IsSystem, base_form, WideInForm, WideInSystem}
-use Rattle.cooper_solve.specs.Told.{put_of, puts_of, IsOutside, IsSolved, IsFarOff, Tells, FarAfter, TellsAfter, AtOffset, NoneBelow, TellsFrom, TellsOver, IsFound, WideBefore, IsStepOf}
+use Rattle.model_chain.specs.Chains.{HasFarValue}
+use Rattle.cooper_solve.specs.Told.{put_of, puts_of, IsSolved, IsFarOff, Tells, FarAfter, TellsAfter, AtOffset, NoneBelow, TellsFrom, TellsOver, IsFound, WideBefore, IsStepOf}
 use Rattle.cooper_solve.specs.Back.{IsBack}
 use Rattle.cooper_solve.specs.Turns.{PassesOver}
 use Rattle.cooper_solve.proofs.Stepping.{put_at}
@@ -33,11 +34,11 @@ pushed ps qs p e = ap puts_of e ∙ ap reverse (map-append put_of ps (p ∷ []))
 
 -- ---- after a put
 
-module _ (i : ℕ) (c : ℤ) (g : Form) (T : List Condition) (p : Put) (system : IsSystem i T) (back : (ws : List ℤ) → length ws ≡ i → Solves ws T → (x : ℤ) × (form_value g ws ≡ pos (unsigned_abs c) *ℤ x)) (form : AllFit (OfForm g)) where
+module _ (i : ℕ) (c : ℤ) (g : Affine) (T : List Condition) (p : Put) (system : IsSystem i T) (back : (ws : List ℤ) → length ws ≡ i → Solves ws T → (x : ℤ) × (affine_value g ws ≡ pos (unsigned_abs c) *ℤ x)) (form : AllFit (OfAffine g)) where
   pub after_wide : (ps qs : List Put) → qs ≡ ps ++ p ∷ [] → Passes128 i T (puts_of ps) → (rs : List plain.Put) × (puts_of qs ≡ put_of p ∷ rs) × (((WideInForm g) × (rs ≡ [])) ⊎ Passes128 i T rs)
   after_wide ps qs e h = (puts_of ps, pushed ps qs p e, inr h)
 
-  still_outside : (vs : List ℤ) (x : ℤ) → IsOutside vs → IsOutside (vs ++ x ∷ [])
+  still_outside : (vs : List ℤ) (x : ℤ) → HasFarValue vs → HasFarValue (vs ++ x ∷ [])
   still_outside vs x (k, l, n) = ⊎_elim
       (λ within. (k, l, λ f. n (subst (FitsSigned w64) (get_or_append_left vs (x ∷ []) (pos 0) k within) f)))
       (λ past. absurd (n (subst (FitsSigned w64) (sym (get_or_past vs k (pos 0) past)) (omega (arith, ints)))))
@@ -65,13 +66,13 @@ module _ (i : ℕ) (c : ℤ) (g : Form) (T : List Condition) (p : Put) (system :
   after_back some s (Solved t) h (e, inr (near, (x, fit, is, more))) =
       let r = solution_solves i T (puts_of s.puts.items) h.values system.0 h.is in
       let same : s.values.items ≡ h.values = h.shown ∙ take_all 8 h.values (let q = r.0 in omega arith) in
-      let value : form_value g h.values ≡ pos (unsigned_abs c) *ℤ x = ap (form_value g) (sym same) ∙ sym is ∙ ap (λ z. z *ℤ x) (sym (signed some)) in
+      let value : affine_value g h.values ≡ pos (unsigned_abs c) *ℤ x = ap (affine_value g) (sym same) ∙ sym is ∙ ap (λ z. z *ℤ x) (sym (signed some)) in
       (puts_of s.puts.items, pushed s.puts.items t.puts.items p e, record { values = h.values; own = x; is = h.is; back = value; shown = more ∙ ap (λ l. l ++ x ∷ []) same ∙ sym (take_all 8 (h.values ++ x ∷ []) (let q = r.0 in omega (arith, length-append h.values (x ∷ [])))); form_fits = form; fits = h.fits })
   after_back some s (Far ps) h (e, near, none) =
       let r = solution_solves i T (puts_of s.puts.items) h.values system.0 h.is in
       let x = back h.values r.0 r.1 in
       let same : s.values.items ≡ h.values = h.shown ∙ take_all 8 h.values (let q = r.0 in omega arith) in
-      let outside : IsOutside (h.values ++ x.0 ∷ []) = (i, near, λ f. none x.0 (subst (FitsSigned w64) (get_or_at h.values x.0 [] (pos 0) i r.0) f) (ap (λ z. z *ℤ x.0) (sym (signed some)) ∙ sym x.1 ∙ ap (form_value g) (sym same))) in
+      let outside : HasFarValue (h.values ++ x.0 ∷ []) = (i, near, λ f. none x.0 (subst (FitsSigned w64) (get_or_at h.values x.0 [] (pos 0) i r.0) f) (ap (λ z. z *ℤ x.0) (sym (signed some)) ∙ sym x.1 ∙ ap (affine_value g) (sym same))) in
       (puts_of s.puts.items, pushed s.puts.items ps.items p e, record { values = h.values; own = x.0; is = h.is; back = x.1; outside = outside; form_fits = form; fits = h.fits })
   after_back some s (Wide ps) h b = absurd b
   after_back some s Unsat h b = absurd b
@@ -102,15 +103,15 @@ module _ (i : ℕ) (S R : List Condition) (c D : ℤ) (d : Direction) (L : List 
     is_put = subst (λ T. IsPut i T (record { variable = i; bound = k; offset = j }) (base_form d i R k j)) of.scaled (put_at i c D R d L of.step k h j);
   }
 
-  after_is : (g : Form) → put_all i g R ≡ after i (unsigned_abs c) g S
+  after_is : (g : Affine) → put_all i g R ≡ after i (unsigned_abs c) g S
   after_is g = ap (put_all i g) of.scaled
 
-  fits_all : (k j : ℕ) (qs : List plain.Put) → Contains L k → j < unsigned_abs D → AllFit (OfForm (base_form d i R k j)) → AllFit (IsNumber i (put_all i (base_form d i R k j) R) qs) → AllFit (IsNumber (suc i) S (record { variable = i; bound = k; offset = j } ∷ qs))
+  fits_all : (k j : ℕ) (qs : List plain.Put) → Contains L k → j < unsigned_abs D → AllFit (OfAffine (base_form d i R k j)) → AllFit (IsNumber i (put_all i (base_form d i R k j) R) qs) → AllFit (IsNumber (suc i) S (record { variable = i; bound = k; offset = j } ∷ qs))
   fits_all k j qs h l form deep =
       let g = base_form d i R k j in
       fits-put i S (record { variable = i; bound = k; offset = j }) qs (unsigned_abs c) (unsigned_abs D) g occurs (step_at k j h l) here fits_before form (subst (λ T. AllFit (IsNumber i T qs)) (after_is g) deep)
 
-  solution_of : (k j : ℕ) (qs : List plain.Put) (vs : List ℤ) (x : ℤ) → Contains L k → j < unsigned_abs D → form_value (base_form d i R k j) vs ≡ pos (unsigned_abs c) *ℤ x → IsSolution i (put_all i (base_form d i R k j) R) qs vs → IsSolution (suc i) S (record { variable = i; bound = k; offset = j } ∷ qs) (vs ++ x ∷ [])
+  solution_of : (k j : ℕ) (qs : List plain.Put) (vs : List ℤ) (x : ℤ) → Contains L k → j < unsigned_abs D → affine_value (base_form d i R k j) vs ≡ pos (unsigned_abs c) *ℤ x → IsSolution i (put_all i (base_form d i R k j) R) qs vs → IsSolution (suc i) S (record { variable = i; bound = k; offset = j } ∷ qs) (vs ++ x ∷ [])
   solution_of k j qs vs x h l e is =
       let g = base_form d i R k j in
       solution-put i S (record { variable = i; bound = k; offset = j }) qs (unsigned_abs c) (unsigned_abs D) g vs x occurs (step_at k j h l) e (subst (λ T. IsSolution i T qs vs) (after_is g) is)
@@ -155,7 +156,7 @@ solution_over : (i : ℕ) (S : List Condition) (ps : List plain.Put) (ws : List 
 solution_over i S [] ws a h = (a, ws, refl, h)
 solution_over i S (p ∷ ps) ws a h = inl (a, ws, refl, h)
 
-outside_over : (vs : List ℤ) → IsOutside vs → IsOutside (vs ++ pos 0 ∷ [])
+outside_over : (vs : List ℤ) → HasFarValue vs → HasFarValue (vs ++ pos 0 ∷ [])
 outside_over vs (k, l, n) = ⊎_elim
     (λ within. (k, l, λ f. n (subst (FitsSigned w64) (get_or_append_left vs (pos 0 ∷ []) (pos 0) k within) f)))
     (λ past. absurd (n (subst (FitsSigned w64) (sym (get_or_past vs k (pos 0) past)) (omega (arith, ints)))))
@@ -218,13 +219,13 @@ pub offset_below : (o D : ℤ) → pos 0 ≤ℤ o → o <ℤ D → unsigned_abs 
 offset_below o D lo hi = omega (arith, ints)
 
 -- a number of the put is too wide
-pub turn_form : (i k : ℕ) (g : Form) (T : List Condition) (o : ℤ) (p : Put) (ps : List Put) → p.variable ≡ i → p.bound ≡ k → p.offset ≡ o → ps ≡ p ∷ [] → WideInForm g → (qs : List plain.Put) × (puts_of ps ≡ record { variable = i; bound = k; offset = unsigned_abs o } ∷ qs) × (((WideInForm g) × (qs ≡ [])) ⊎ Passes128 i T qs)
+pub turn_form : (i k : ℕ) (g : Affine) (T : List Condition) (o : ℤ) (p : Put) (ps : List Put) → p.variable ≡ i → p.bound ≡ k → p.offset ≡ o → ps ≡ p ∷ [] → WideInForm g → (qs : List plain.Put) × (puts_of ps ≡ record { variable = i; bound = k; offset = unsigned_abs o } ∷ qs) × (((WideInForm g) × (qs ≡ [])) ⊎ Passes128 i T qs)
 turn_form i k g T o p ps ev eb eo e w = ([], ap puts_of e ∙ ap (λ q. q ∷ []) (plain_put i k o p ev eb eo), inl (w, refl))
 
-pub turn_system : (i k : ℕ) (g : Form) (T : List Condition) (o : ℤ) (p : Put) (ps : List Put) → p.variable ≡ i → p.bound ≡ k → p.offset ≡ o → ps ≡ p ∷ [] → WideInSystem T → (qs : List plain.Put) × (puts_of ps ≡ record { variable = i; bound = k; offset = unsigned_abs o } ∷ qs) × (((WideInForm g) × (qs ≡ [])) ⊎ Passes128 i T qs)
+pub turn_system : (i k : ℕ) (g : Affine) (T : List Condition) (o : ℤ) (p : Put) (ps : List Put) → p.variable ≡ i → p.bound ≡ k → p.offset ≡ o → ps ≡ p ∷ [] → WideInSystem T → (qs : List plain.Put) × (puts_of ps ≡ record { variable = i; bound = k; offset = unsigned_abs o } ∷ qs) × (((WideInForm g) × (qs ≡ [])) ⊎ Passes128 i T qs)
 turn_system i k g T o p ps ev eb eo e (z, n, w) = ([], ap puts_of e ∙ ap (λ q. q ∷ []) (plain_put i k o p ev eb eo), inr (passes-system i T [] z n w))
 
-pub turn_found : (i k : ℕ) (c D : ℤ) (d : Direction) (R T : List Condition) (g : Form) (o : ℤ) (p : Put) (f : Found) → pos 0 ≤ℤ o → o <ℤ D → p.variable ≡ i → p.bound ≡ k → p.offset ≡ o → g ≡ base_form d i R k (unsigned_abs o) → T ≡ put_all i g R → TellsAfter i (unsigned_abs c) g T (put_of p) f → AtOffset i (unsigned_abs c) (unsigned_abs D) d R k f
+pub turn_found : (i k : ℕ) (c D : ℤ) (d : Direction) (R T : List Condition) (g : Affine) (o : ℤ) (p : Put) (f : Found) → pos 0 ≤ℤ o → o <ℤ D → p.variable ≡ i → p.bound ≡ k → p.offset ≡ o → g ≡ base_form d i R k (unsigned_abs o) → T ≡ put_all i g R → TellsAfter i (unsigned_abs c) g T (put_of p) f → AtOffset i (unsigned_abs c) (unsigned_abs D) d R k f
 turn_found i k c D d R T g o p f lo hi ev eb eo eg et h =
     let form = base_form d i R k (unsigned_abs o) in (
       unsigned_abs o,
@@ -233,7 +234,7 @@ turn_found i k c D d R T g o p f lo hi ev eb eo eg et h =
           (subst (λ x. TellsAfter i (unsigned_abs c) x (put_all i x R) (put_of p) f) eg (subst (λ U. TellsAfter i (unsigned_abs c) g U (put_of p) f) et h)),
     )
 
-pub one_skipped : (i k : ℕ) (d : Direction) (R T : List Condition) (g : Form) (o : ℤ) → g ≡ base_form d i R k (unsigned_abs o) → T ≡ put_all i g R → (IsSolvable i T → ⊥) → (s : ℕ) → pos s <ℤ pos 1 → IsSolvable i (put_all i (base_form d i R k (unsigned_abs o + s)) R) → ⊥
+pub one_skipped : (i k : ℕ) (d : Direction) (R T : List Condition) (g : Affine) (o : ℤ) → g ≡ base_form d i R k (unsigned_abs o) → T ≡ put_all i g R → (IsSolvable i T → ⊥) → (s : ℕ) → pos s <ℤ pos 1 → IsSolvable i (put_all i (base_form d i R k (unsigned_abs o + s)) R) → ⊥
 one_skipped i k d R T g o eg et none s l h =
     let z : unsigned_abs o + s ≡ unsigned_abs o = omega (arith, ints) in
     none (subst (IsSolvable i) (sym et) (subst (λ x. IsSolvable i (put_all i x R)) (ap (base_form d i R k) z ∙ sym eg) h))

@@ -4,3 +4,4 @@ pub mod Multiples
 pub mod Told
 pub mod Back
 pub mod Turns
+pub mod Sums

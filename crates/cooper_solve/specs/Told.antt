@@ -2,9 +2,10 @@
 use Rattle.std.specs.Prelude.{ℕ, ℤ, pos, ◌*ℤ◌, ◌<ℤ◌, ◌≡◌, ◌<◌, ◌+◌, ◌⊎◌, List, [], ◌∷◌, ◌++◌, map, reverse, take, slice_index_or, unsigned_abs}
 use Rattle.model_tree.specs.Range.{IsLabelNumber}
 use Rattle.std.specs.List.{All, Contains}
-use Rattle.math_cooper.specs.System.{Condition, Form, form_value, put_all, unit_all, divides_condition, IsSolvable}
+use Rattle.model_chain.specs.Chains.{HasFarValue}
+use Rattle.math_cooper.specs.System.{Condition, Affine, affine_value, put_all, unit_all, divides_condition, IsSolvable}
 use Rattle.math_cooper.specs.Puts as plain
-use Rattle.math_cooper.specs.Puts.{IsScale, IsPeriod, OfScale, IsPeriodOf, OfForm, IsNumber, IsWide, AllFit, Passes128, IsSolution}
+use Rattle.math_cooper.specs.Puts.{IsScale, IsPeriod, OfScale, IsPeriodOf, OfAffine, IsNumber, IsWide, AllFit, Passes128, IsSolution}
 use Rattle.cooper_solve.specs.declared.constraint.Direction.{Direction}
 use Rattle.cooper_solve.specs.declared.found.Put.{Put}
 use Rattle.cooper_solve.specs.declared.found.Found.{Found}
@@ -18,10 +19,6 @@ put_of p = record { variable = p.variable; bound = p.bound; offset = unsigned_ab
 abbrev pub puts_of : List Put → List plain.Put
 puts_of ps = reverse (map put_of ps)
 
--- the value of one of the eight fields is outside 64 bits
-abbrev pub IsOutside : List ℤ → Type 0
-IsOutside values = (k : ℕ) × (k < 8) × (IsLabelNumber (slice_index_or values k (pos 0)) → ⊥)
-
 -- the puts lead to a solution, whose first eight values are these, and no number of theirs is too wide
 pub record IsSolved (n : ℕ) (S : List Condition) (ps : List plain.Put) (us : List ℤ) : Type 0 where
   pub values : List ℤ
@@ -33,7 +30,7 @@ pub record IsSolved (n : ℕ) (S : List Condition) (ps : List plain.Put) (us : L
 pub record IsFarOff (n : ℕ) (S : List Condition) (ps : List plain.Put) : Type 0 where
   pub values : List ℤ
   pub is : IsSolution n S ps values
-  pub outside : IsOutside values
+  pub outside : HasFarValue values
   pub fits : AllFit (IsNumber n S ps)
 
 abbrev pub Tells : ℕ → List Condition → Found → Type 0
@@ -44,25 +41,25 @@ Tells n S Unsat = IsSolvable n S → ⊥
 
 -- ---- after a put of g for c times variable i, which leaves T
 
-pub record SolvedAfter (i c : ℕ) (g : Form) (T : List Condition) (qs : List plain.Put) (us : List ℤ) : Type 0 where
+pub record SolvedAfter (i c : ℕ) (g : Affine) (T : List Condition) (qs : List plain.Put) (us : List ℤ) : Type 0 where
   pub values : List ℤ
   pub own : ℤ
   pub is : IsSolution i T qs values
-  pub back : form_value g values ≡ pos c *ℤ own
+  pub back : affine_value g values ≡ pos c *ℤ own
   pub shown : us ≡ take 8 (values ++ own ∷ [])
-  pub form_fits : AllFit (OfForm g)
+  pub form_fits : AllFit (OfAffine g)
   pub fits : AllFit (IsNumber i T qs)
 
-pub record FarAfter (i c : ℕ) (g : Form) (T : List Condition) (qs : List plain.Put) : Type 0 where
+pub record FarAfter (i c : ℕ) (g : Affine) (T : List Condition) (qs : List plain.Put) : Type 0 where
   pub values : List ℤ
   pub own : ℤ
   pub is : IsSolution i T qs values
-  pub back : form_value g values ≡ pos c *ℤ own
-  pub outside : IsOutside (values ++ own ∷ [])
-  pub form_fits : AllFit (OfForm g)
+  pub back : affine_value g values ≡ pos c *ℤ own
+  pub outside : HasFarValue (values ++ own ∷ [])
+  pub form_fits : AllFit (OfAffine g)
   pub fits : AllFit (IsNumber i T qs)
 
-abbrev pub TellsAfter : ℕ → ℕ → Form → List Condition → plain.Put → Found → Type 0
+abbrev pub TellsAfter : ℕ → ℕ → Affine → List Condition → plain.Put → Found → Type 0
 TellsAfter i c g T p (Solved s) = (qs : List plain.Put) × (puts_of s.puts.items ≡ p ∷ qs) × SolvedAfter i c g T qs s.values.items
 TellsAfter i c g T p (Far ps) = (qs : List plain.Put) × (puts_of ps.items ≡ p ∷ qs) × FarAfter i c g T qs
 TellsAfter i c g T p (Wide ps) = (qs : List plain.Put) × (puts_of ps.items ≡ p ∷ qs) × (((WideInForm g) × (qs ≡ [])) ⊎ Passes128 i T qs)

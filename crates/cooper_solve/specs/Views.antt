@@ -2,8 +2,8 @@
 use Rattle.std.specs.Prelude.{ℕ, zero, suc, ℤ, pos, negsuc, ◌+ℤ◌, ◌*ℤ◌, neg_ℤ, ◌<ℤ◌, ◌+◌, ◌≡◌, ◌<◌, Bool, true, false, List, [], length, slice_index_or}
 use Rattle.std.specs.List.{All, Contains}
 use Rattle.math_cooper.specs.Line.{Kind, AtLeastZero, DividedBy}
-use Rattle.math_cooper.specs.System.{Condition, Form, HasWidth, lead, sign, low_form, high_form, free_form, put_all, IsLowAt, IsHighAt, IsSolvable}
-use Rattle.math_cooper.specs.Puts.{Put, IsPut, Absent, Occurs, InCondition, InSystem, IsWide, OfForm}
+use Rattle.math_cooper.specs.System.{Condition, Affine, HasWidth, lead, sign, low_form, high_form, free_form, put_all, IsLowAt, IsHighAt, IsSolvable}
+use Rattle.math_cooper.specs.Puts.{Put, IsPut, Absent, Occurs, InCondition, InSystem, IsWide, OfAffine}
 use Rattle.cooper_solve.specs.declared.constraint.Stop.{Stop}
 use Rattle.cooper_solve.specs.declared.constraint.Stop.TheVariants.{TooWide, Memory}
 use Rattle.cooper_solve.specs.declared.constraint.Direction.{Direction}
@@ -66,7 +66,7 @@ IsUnitLead i c = lead i c ≡ sign (lead i c)
 abbrev pub no_condition : Condition
 no_condition = record { kind = AtLeastZero; constant = pos 0; coefficients = [] }
 
-abbrev pub base_form : Direction → ℕ → List Condition → ℕ → ℕ → Form
+abbrev pub base_form : Direction → ℕ → List Condition → ℕ → ℕ → Affine
 base_form Low i R k j = low_form i (slice_index_or R k no_condition) j
 base_form High i R k j = high_form i (slice_index_or R k no_condition) j
 base_form Free i R k j = free_form i j
@@ -77,8 +77,8 @@ IsBase Low R k = k < length R
 IsBase High R k = k < length R
 IsBase Free R k = Unit {0}
 
-abbrev pub WideInForm : Form → Type 0
-WideInForm g = (z : ℤ) × OfForm g z × IsWide z
+abbrev pub WideInForm : Affine → Type 0
+WideInForm g = (z : ℤ) × OfAffine g z × IsWide z
 
 abbrev pub one : Bool → ℤ
 one true = negsuc 0
@@ -103,7 +103,7 @@ pub record AreBounds (low : Bool) (i : ℕ) (S : List Condition) (n : ℕ) (L : 
 -- each of these is the bound of puts, and what a put gives is given by one of these
 pub record AreBases (i : ℕ) (S : List Condition) (d : Direction) (L : List ℕ) : Type 0 where
   pub each : All (λ k. IsBase d S k × ((j : ℕ) → IsPut i S (record { variable = i; bound = k; offset = j }) (base_form d i S k j))) L
-  pub covers : (p : Put) (g : Form) → IsPut i S p g → (k : ℕ) × Contains L k × (g ≡ base_form d i S k p.offset)
+  pub covers : (p : Put) (g : Affine) → IsPut i S p g → (k : ℕ) × Contains L k × (g ≡ base_form d i S k p.offset)
 
 -- ---- skipped offsets
 

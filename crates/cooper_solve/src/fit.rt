@@ -4,7 +4,7 @@
 ghost use Rattle.std.specs.Prelude.{ℤ, FitsSigned};
 ghost use Rattle.std.specs.Int.{w128};
 ghost use Rattle.std.specs.List.{All};
-ghost use Rattle.math_cooper.specs.Puts.{InCondition, InSystem, OfForm, AllFit};
+ghost use Rattle.math_cooper.specs.Puts.{InCondition, InSystem, OfAffine, AllFit};
 
 use crate::constraint::{Constraint, Relation};
 use crate::put::Linear;
@@ -41,7 +41,7 @@ pub(crate) fn system_fits(system: &[Constraint])
 
 /// Each number of the form fits.
 pub(crate) fn form_fits(form: &Linear)
-    ensures { AllFit (OfForm form.now) }
+    ensures { AllFit (OfAffine form.now) }
 {
     row_fits(&form.coefficients);
     let _constant = form.constant;

@@ -1,7 +1,7 @@
 //! What the search finds.
 
 ghost use Rattle.std.specs.Prelude.{◌≡◌, ◌++◌, ◌∷◌, [], ◌*ℤ◌, ◌<ℤ◌, ◌<◌, pos, IfOk, length};
-ghost use Rattle.math_cooper.specs.System.{form_value};
+ghost use Rattle.math_cooper.specs.System.{affine_value};
 ghost use Rattle.cooper_solve.specs.Back.{IsBack};
 
 use crate::put::Linear;

@@ -9,6 +9,7 @@ mod bounds;
 mod constraint;
 mod fit;
 mod found;
+mod hopeless;
 mod lcm;
 mod put;
 mod scale;
@@ -17,5 +18,6 @@ mod skip;
 
 pub use constraint::{Constraint, Relation};
 pub use found::{Found, Put, Solution};
+pub use hopeless::is_hopeless;
 pub use scale::zeros;
 pub use search::solve;

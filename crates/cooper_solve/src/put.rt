@@ -22,9 +22,9 @@ pub(crate) struct Linear {
 }
 
 impl Model for Linear {
-    ghost use Rattle.math_cooper.specs.System.{Form};
+    ghost use Rattle.math_cooper.specs.System.{Affine};
 
-    ghost Value = { Form };
+    ghost Value = { Affine };
 
     ghost view = { λ f. record { constant = f.constant; coefficients = f.coefficients.items } };
 }
@@ -112,7 +112,7 @@ fn signed_sum(minus: bool, a: i128, b: i128) -> Option<i128>
     if minus { sub(a, b) } else { add(a, b) }
 }
 
-fn plus(alloc: Global, minus: bool, f: &[i128], g: &[i128]) -> Result<Vec<i128>, Stop>
+pub(crate) fn plus(alloc: Global, minus: bool, f: &[i128], g: &[i128]) -> Result<Vec<i128>, Stop>
     requires { length f.now ≡ length g.now }
     ensures { MatchResult result (λ v. v.items ≡ add_times (one minus) f.now g.now) (OnWide (WideSum minus f.now g.now)) }
 {

@@ -83,7 +83,7 @@ pub(crate) fn period(alloc: Global, system: &[Constraint], last: usize) -> Resul
 }
 
 // k times each number.
-fn times(alloc: Global, k: i128, row: &[i128]) -> Result<Vec<i128>, Stop>
+pub(crate) fn times(alloc: Global, k: i128, row: &[i128]) -> Result<Vec<i128>, Stop>
     ensures { MatchResult result (λ v. v.items ≡ map (λ a. k *ℤ a) row.now) (OnWide ((a : ℤ) × Contains row.now a × IsWide (k *ℤ a))) }
 {
     let mut out = Vec::new(alloc);

@@ -2,7 +2,7 @@
 
 ghost use Rattle.std.specs.Prelude.{◌≡◌, ◌+◌, ◌*ℤ◌, ◌+ℤ◌, ◌<ℤ◌, ◌≤ℤ◌, ◌<◌, pos, ℕ, ℤ, List, IfOk, MatchResult, IsTrue, ◌↔◌, length, unsigned_abs, []};
 ghost use Rattle.std.specs.List.{All, Contains};
-ghost use Rattle.math_cooper.specs.System.{Solves, Holds, HasWidth, form_value};
+ghost use Rattle.math_cooper.specs.System.{Solves, Holds, HasWidth, affine_value};
 ghost use Rattle.math_cooper.specs.Puts.{Absent};
 ghost use Rattle.cooper_solve.specs.Views.{IsSystem, IsPositive, OnWide};
 ghost use Rattle.cooper_solve.specs.Told.{put_of, Tells, TellsAfter, TellsFrom, TellsOver, WideBefore, IsStep, IsStepOf};
@@ -209,7 +209,7 @@ fn go_on(
     requires next { IsSystem last next.now }
     requires fits { length form.now.coefficients ≡ last }
     requires scale { pos 0 <ℤ scale }
-    requires back { (ws : List ℤ) → length ws ≡ last → Solves ws next.now → (x : ℤ) × (form_value form.now ws ≡ pos (unsigned_abs scale) *ℤ x) }
+    requires back { (ws : List ℤ) → length ws ≡ last → Solves ws next.now → (x : ℤ) × (affine_value form.now ws ≡ pos (unsigned_abs scale) *ℤ x) }
     ensures { IfOk result (TellsAfter last (unsigned_abs scale) form.now next.now (put_of put)) }
 {
     form_fits(form);

@@ -8,7 +8,7 @@ use Rattle.std.specs.Ordering.{is_gt}
 use Rattle.math_int.proofs.Laws.{times-add}
 use Rattle.model_form.specs.Form.{Form, form, Remainders, no_remainders, remainder, Term, count, modulo}
 use Rattle.model_form.specs.Same.{Item, members, remainders, ordered, ordered_all, item_cmp, put, same_form}
-use Rattle.model_form.specs.Sums.{Sum, started, number_form, add_fields, add_remainders, add_form, form_of, without_zeros, fields_from, remainder_form, subst_form, put_fields, put_remainders}
+use Rattle.model_form.specs.Sums.{Sum, started, number_form, add_fields, add_remainders, add_form, form_of_sum, without_zeros, fields_from, remainder_form, subst_form, put_fields, put_remainders}
 use Rattle.model_form.specs.Ranges.{AreApart}
 use Rattle.model_form.proofs.Equals.{same_laws, same_out, same_in, same_parts, same_by_parts, same_remainders_out, length-members}
 use Rattle.model_form.proofs.Values.{length-add_fields}
@@ -41,7 +41,7 @@ sum_itself s apart = record { constant = refl; totals = refl; terms = λ h m. re
 sum_further : (s t u : Sum) → IsSameSum s t → IsSameSum t u → IsSameSum s u
 sum_further s t u e d = record { constant = e.constant ∙ d.constant; totals = e.totals ∙ d.totals; terms = λ h m. e.terms h m ∙ d.terms h m; first = e.first; second = d.second }
 
-form_same : (s t : Sum) → IsSameSum s t → same_form (form_of s) (form_of t) ≡ true
+form_same : (s t : Sum) → IsSameSum s t → same_form (form_of_sum s) (form_of_sum t) ≡ true
 form_same s t e =
     let p = without_zeros s.terms in
     let q = without_zeros t.terms in

@@ -1,5 +1,5 @@
 -- The numbers of terms.
-use Rattle.std.proofs.Common.{◌≡◌, ℕ, suc, List, [], ◌∷◌, ◌++◌, length, true, refl, ap, sym, ◌∙◌}
+use Rattle.std.proofs.Common.{◌≡◌, suc, List, [], ◌∷◌, length, refl, ap}
 use Rattle.model_form.specs.Form.{count}
 use Rattle.lin_form.specs.declared.form.FieldTerm.{FieldTerm}
 use Rattle.lin_form.specs.declared.form.RemTerm.{RemTerm}

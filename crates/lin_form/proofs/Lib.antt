@@ -7,3 +7,4 @@ pub mod Likes
 pub mod Outside
 pub mod Putting
 pub mod Hashing
+pub mod Reducing

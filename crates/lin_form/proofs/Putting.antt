@@ -47,6 +47,10 @@ pub stops_weaker : (P Q : ℤ → Type 0) (e : FormStop) → ((n : ℤ) → P n 
 stops_weaker P Q (Range n) f h = f n h
 stops_weaker P Q Memory f h = tt
 
+pub stops_memory : (P : ℤ → Type 0) (e : FormStop) → ((n : ℤ) → P n → ⊥) → StopsAt P e → e ≡ Memory
+stops_memory P (Range n) f h = absurd (f n h)
+stops_memory P Memory f h = refl
+
 pub within_at : (ts : List RemTerm) (k : ℕ) (d : RemTerm) (gs : List Form) (n : ℤ) → k < length ts → IsOutsideAfter (get_or ts k d).inner gs n → IsOutsideWithin (plain_remainders ts) gs n
 within_at [] k d gs n h o = absurd (omega arith)
 within_at (t ∷ ts) zero d gs n h o = inl o

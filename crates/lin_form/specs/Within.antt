@@ -2,6 +2,7 @@
 use Rattle.std.specs.Prelude.{◌≡◌, ℕ, suc, ℤ, ◌*◌, ◌<◌, ◌≤◌, ◌^◌, ◌⊎◌, unsigned_abs, List, [], ◌∷◌, length}
 use Rattle.model_form.specs.Form.{Remainders, no_remainders, remainder}
 use Rattle.model_form.specs.Sums.{Sum}
+use Rattle.model_form.specs.Simpler.{reduced}
 use Rattle.model_form.specs.Ranges.{IsApart, AreApart}
 
 -- m products of two coefficients are no greater
@@ -32,3 +33,9 @@ TotalsBefore m next i (c ∷ cs) = (IsWithin m c ⊎ (IsWithin (suc m) c × (i <
 abbrev pub LikesBefore : ℕ → Remainders → Remainders → Type 0
 LikesBefore m further no_remainders = Unit {0}
 LikesBefore m further (remainder a f k rs) = (IsWithin m a ⊎ (IsWithin (suc m) a × IsApart f k further)) × (0 < k) × (k ≤ 4096) × LikesBefore m further rs
+
+-- a sum whose constant and coefficients are remainders by m
+pub record IsReduced (m : ℕ) (s : Sum) : Type 0 where
+  pub gathered : IsGathered 1 s
+  pub constant : unsigned_abs s.constant ≤ 4096
+  pub same : reduced m s ≡ s

@@ -7,6 +7,7 @@
 mod form;
 mod product;
 mod same;
+mod simpler;
 mod stop;
 mod subst;
 mod sum;

@@ -3,7 +3,7 @@
 ghost use Rattle.std.specs.Prelude.{◌≡◌, ℕ, ℤ, pos, ◌+◌, ◌<◌, ◌≤◌, ◌^◌, ◌*◌, ◌+ℤ◌, ◌*ℤ◌, MatchResult, MatchOption, OnOk, unsigned_abs, FitsSigned, length, false, true, slice_index_or};
 ghost use Rattle.std.specs.Int.{w128};
 ghost use Rattle.model_form.specs.Form.{constant_of};
-ghost use Rattle.model_form.specs.Sums.{add_fields, add_like, add_remainders, add_form, is_like, fields_from, without_zeros, form_of, sum_form, started, sign};
+ghost use Rattle.model_form.specs.Sums.{add_fields, add_like, add_remainders, add_form, is_like, fields_from, without_zeros, form_of_sum, sum_form, started, sign};
 ghost use Rattle.model_tree.specs.Range.{IsLabelNumber};
 ghost use Rattle.model_form.specs.Ranges.{IsCoefficient, IsForm, IsOutside, IsOfFields, IsOfRemainders, AreFields, AreRemainders, AreApart};
 ghost use Rattle.lin_form.specs.Within.{AreTotals, AreLikes, IsGathered, LikesBefore, IsWithin};
@@ -79,7 +79,7 @@ impl Sum {
 
     pub(crate) fn finish(self, alloc: Global) -> Result<Form, FormStop>
         requires { (m : ℕ) × IsGathered m (plain_sum self) }
-        ensures form { MatchResult result (λ form. form ≡ form_of (plain_sum self)) (λ stop. StopsAt (IsOutside (form_of (plain_sum self))) stop) }
+        ensures form { MatchResult result (λ form. form ≡ form_of_sum (plain_sum self)) (λ stop. StopsAt (IsOutside (form_of_sum (plain_sum self))) stop) }
         ensures in_range { MatchResult result IsForm (λ _. Unit {0}) }
     {
         let constant = constant(self.constant)?;
@@ -108,7 +108,7 @@ fn product(by: i128, coefficient: i64) -> i128
     by * coefficient as i128
 }
 
-fn add_fields(totals: &mut [i128], by: i128, terms: &[FieldTerm])
+pub(crate) fn add_fields(totals: &mut [i128], by: i128, terms: &[FieldTerm])
     requires by { unsigned_abs by ≤ 2 ^ 31 }
     requires terms { AreFields 0 (plain_fields terms.now) }
     requires eight { length totals.old ≡ 8 }
@@ -152,7 +152,7 @@ fn place_of_like(likes: &[Like], inner: &Form, divisor: u32) -> Option<usize>
     None
 }
 
-fn add_like(
+pub(crate) fn add_like(
     alloc: Global,
     likes: &mut Vec<Like>,
     coefficient: i128,

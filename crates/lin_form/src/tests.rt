@@ -14,6 +14,14 @@ fn nested(alloc: Global) -> Result<Form, FormStop> {
     first.remainder(alloc, 2)
 }
 
+/// `2147483647 * ((x % 4) % 2) + x % 2`.
+fn wide_once_simpler(alloc: Global) -> Result<Form, FormStop> {
+    let x = Form::field(alloc, 0)?;
+    let twice = x.remainder(alloc, 4)?.remainder(alloc, 2)?;
+    let first = twice.scaled(alloc, 2147483647)?;
+    both(alloc, &first, &x.remainder(alloc, 2)?, false)
+}
+
 /// The first form and the second, or the second and the first.
 fn both(alloc: Global, first: &Form, second: &Form, minus: bool) -> Result<Form, FormStop> {
     let mut parts = Vec::new(alloc);
@@ -135,5 +143,33 @@ fn puts_forms_for_fields(rt: HostRuntime) -> Result<(), Fail> {
     };
     assert!(rt; first_divisor(&put) == 2 && put.fields().is_empty());
     assert!(rt; put.eval(&[-52]) == 0 && put.eval(&[1]) == 1);
+    Ok(())
+}
+
+#[test]
+fn opens_remainders_by_multiples(rt: HostRuntime) -> Result<(), Fail> {
+    let alloc = rt.alloc();
+    let (Ok(form), x, one) = (
+        nested(alloc),
+        Form::field(alloc, 0)?,
+        Form::number(alloc, 1)?,
+    ) else {
+        panic!(rt; "no form");
+    };
+    let Ok(simpler) = form.simpler(alloc) else {
+        panic!(rt; "no simpler form");
+    };
+    let Ok(next) = both(alloc, &x, &one, false) else {
+        panic!(rt; "no form");
+    };
+    let Ok(want) = next.remainder(alloc, 2) else {
+        panic!(rt; "no form");
+    };
+    assert!(rt; simpler == want);
+
+    let Ok(wide) = wide_once_simpler(alloc) else {
+        panic!(rt; "no form");
+    };
+    assert!(rt; matches!(wide.simpler(alloc), Err(FormStop::Range(2147483648))));
     Ok(())
 }

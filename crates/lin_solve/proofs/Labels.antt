@@ -1,7 +1,7 @@
 -- What a decision says of labels of whole numbers.
-use Rattle.std.proofs.Common.{◌≡◌, ◌↔◌, ℕ, ◌≤◌, ◌-◌, ◌==◌, inl, inr, List, ◌++◌, length, take, replicate, get_or, Bool, true, refl, ap, sym, ◌∙◌, subst, arith}
+use Rattle.std.proofs.Common.{◌≡◌, ℕ, ◌≤◌, ◌-◌, List, ◌++◌, length, take, replicate, get_or, refl, ap, sym, ◌∙◌, subst, arith}
 use Rattle.std.proofs.Math.IntN.{ℤ, pos}
-use Rattle.std.specs.Prelude.{FitsSigned, IsTrue}
+use Rattle.std.specs.Prelude.{FitsSigned}
 use Rattle.std.specs.Int.{w64}
 use Rattle.std.proofs.lemmas.Int.{fits_signed_from_abs}
 use Rattle.std.proofs.lemmas.List.{get_or_append_left, get_or-take, get_or-map, length-take-le, length-map, length-append, length-replicate}
@@ -9,11 +9,9 @@ use Rattle.std.proofs.lemmas.List.Elements.{All-append, All-replicate, All-map}
 use Rattle.model_tree.specs.Label.{Label}
 use Rattle.model_form.proofs.Over.{AgreeBelow, value_agree}
 use Rattle.model_chain.specs.Literals.{Literal, HoldsAll, AreLiteralsOver, compare_holds, related}
-use Rattle.model_chain.specs.Each.{EachTwo}
-use Rattle.model_chain.specs.Chains.{Passes, IsFar, IsOutside}
+use Rattle.model_chain.specs.Chains.{IsFar, HasFarValue}
 use Rattle.model_chain.proofs.Meaning.{far_has_values}
-use Rattle.label_core.specs.Atoms.{EachHasEqual}
-use Rattle.label_core.specs.Lit.{SatisfiesAll, LitsFit, atoms_of}
+use Rattle.label_core.specs.Lit.{SatisfiesAll, LitsFit}
 use Rattle.label_core.specs.declared.theory.Lit.{Lit}
 use Rattle.lin_solve.specs.declared.compare.Compare.{Compare}
 use Rattle.lin_solve.specs.declared.chain.Chain.{Chain}
@@ -64,7 +62,7 @@ module _ (n : ℕ) (few : n ≤ 8) (ls : List (Lit Compare)) (fit : LitsFit (Com
   kept_none none l (ns, many, kept, is) s =
       none (padded ns) (eight ns many) (All-append (FitsSigned w64) ns (replicate (8 - n) (pos 0)) kept (All-replicate (FitsSigned w64) (8 - n) (pos 0) (fits_signed_from_abs w64 (pos 0) (omega arith)))) (hold (padded ns) ns (agree_padded ns many) (subst (SatisfiesAll compare_at ls) is s))
 
-  some_satisfies : (us : List ℤ) × (length us ≡ 8) × HoldsAll (plain_literals ls) us × IsOutside us → (l : Label) × IsWholes n l × SatisfiesAll compare_at ls l
+  some_satisfies : (us : List ℤ) × (length us ≡ 8) × HoldsAll (plain_literals ls) us × HasFarValue us → (l : Label) × IsWholes n l × SatisfiesAll compare_at ls l
   some_satisfies (us, many, h, out) =
       (wholes_label (take n us), (take n us, length-take-le n us (omega (arith, many, few)), refl), satisfies us (take n us) (λ k l. sym (get_or-take n us k (pos 0) l)) h)
 
@@ -75,5 +73,5 @@ module _ (n : ℕ) (few : n ≤ 8) (ls : List (Lit Compare)) (fit : LitsFit (Com
     λ far. (some_satisfies (for_all (far_has_values (plain_chain c) over far)), kept_none (none far)),
   )
     where
-      for_all : (us : List ℤ) × (length us ≡ 8) × HoldsAll (plain_literals c.literals.items) us × IsOutside us → (us : List ℤ) × (length us ≡ 8) × HoldsAll (plain_literals ls) us × IsOutside us
+      for_all : (us : List ℤ) × (length us ≡ 8) × HoldsAll (plain_literals c.literals.items) us × HasFarValue us → (us : List ℤ) × (length us ≡ 8) × HoldsAll (plain_literals ls) us × HasFarValue us
       for_all (us, many, h, out) = (us, many, (kept_hold compares.eq laws_of_equality alike ls c.literals.items kept us).0 h, out)

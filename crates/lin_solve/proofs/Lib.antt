@@ -12,3 +12,5 @@ pub mod Below
 pub mod Alike
 pub mod Once
 pub mod Labels
+pub mod Saying
+pub mod Gapped

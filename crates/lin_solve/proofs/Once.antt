@@ -12,7 +12,7 @@ use Rattle.std.proofs.lemmas.List.Elements.{All-nil, All-cons, All-head, All-tai
 use Rattle.std.proofs.lemmas.List.Folds.{list_any-append, list_any_none}
 use Rattle.model_chain.specs.Literals as chain
 use Rattle.model_chain.specs.Literals.{HoldsAll, compare_holds, needs_side}
-use Rattle.model_chain.specs.Each.{EachTwo}
+use Rattle.model_sta.specs.EachTwo.{EachTwo}
 use Rattle.label_core.specs.Atoms.{has_equal, EachHasEqual}
 use Rattle.label_core.specs.Lit.{atoms_of}
 use Rattle.label_core.specs.declared.theory.Lit.{Lit}

@@ -2,7 +2,7 @@
 use Rattle.std.specs.Prelude.{◌≡◌, Bool, true, false, cond, ◌&&◌, List, [], ◌∷◌, All, IsTrue}
 use Rattle.std.specs.Bool.{beq}
 use Rattle.std.specs.List.{list_all}
-use Rattle.model_chain.specs.Each.{EachTwo}
+use Rattle.model_sta.specs.EachTwo.{EachTwo}
 use Rattle.model_chain.specs.Literals.{needs_side}
 use Rattle.label_core.specs.Atoms.{has_equal, EachHasEqual}
 use Rattle.label_core.specs.declared.theory.Lit.{Lit}

@@ -1,4 +1,5 @@
 pub mod Plain
+pub mod Said
 pub mod Tried
 pub mod Shown
 pub mod Wholes

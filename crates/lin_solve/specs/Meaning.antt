@@ -1,5 +1,5 @@
 -- What labels of whole numbers, comparisons and chains mean.
-use Rattle.std.specs.Prelude.{ℕ, Bool, List, Vec}
+use Rattle.std.specs.Prelude.{ℕ, Bool, Vec}
 use Rattle.std.specs.Prelude.{ℤ}
 use Rattle.model_chain.specs.Chains.{IsFar}
 use Rattle.label_core.specs.Meaning.{Meaning}

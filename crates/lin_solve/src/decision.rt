@@ -10,7 +10,9 @@ ghost use Rattle.lin_solve.specs.Kept.{AreKept};
 
 use crate::chain::{Chain, Width, chain_of};
 use crate::compare::Compare;
+use crate::gaps::is_clear_clash;
 use crate::guess::guess;
+use crate::mend::mend;
 use crate::numbering::{Remainder, remainders_of};
 use crate::over::are_over;
 use crate::repeats::{are_different, once, sided_stand_last};
@@ -80,8 +82,8 @@ fn decide_all(
     }
 }
 
-/// Decides whether the literals hold at some values of the eight fields. Values that are found by trying are an answer;
-/// else Cooper's method tells. Its chain has each of them once, negated
+/// Decides whether the literals hold at some values of the eight fields. Values that are found by trying are an answer, and so is
+/// that what they say of one form can't be; else Cooper's method tells. Its chain has each of them once, negated
 /// equalities last: so sides are tried where all else is known.
 pub fn decide(
     alloc: Global,
@@ -89,7 +91,16 @@ pub fn decide(
 ) -> Result<Verdict<Vec<LabelInt>, Chain>, Memory>
     ensures { IfOk result (Answers (AreKept ⟦<Compare as PartialEq>⟧.eq literals.now) vec_items literals.now) }
 {
-    if let Some(values) = guess(alloc, literals)? {
+    if let Some(values) = guess(alloc, literals, 3)? {
+        return Ok(Verdict::Sat(values));
+    }
+    if is_clear_clash(alloc, literals)? {
+        return Ok(Verdict::Unsat);
+    }
+    if let Some(values) = guess(alloc, literals, literals.len().saturating_add(8))? {
+        return Ok(Verdict::Sat(values));
+    }
+    if let Some(values) = mend(alloc, literals)? {
         return Ok(Verdict::Sat(values));
     }
     if are_different(literals) && sided_stand_last(literals) {

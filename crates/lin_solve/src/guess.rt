@@ -12,7 +12,7 @@ use lin_form::{FieldTerm, Form};
 use std::alloc::Global;
 
 /// Whether each literal holds at these values.
-fn all_hold(literals: &[Lit<Compare>], values: &[LabelInt]) -> bool
+pub(crate) fn all_hold(literals: &[Lit<Compare>], values: &[LabelInt]) -> bool
     ensures { IsTrue result → HoldsAll (plain_literals literals.now) values.now }
 {
     for literal in literals {
@@ -52,7 +52,7 @@ fn moved(atom: &Compare) -> Option<(u32, i128)> {
 }
 
 // How much the left side less the right one is to change at least, where it is this much.
-fn missing(literal: &Lit<Compare>, gap: i128) -> Option<i128> {
+pub(crate) fn missing(literal: &Lit<Compare>, gap: i128) -> Option<i128> {
     let wanted = match (literal.atom.relation, literal.sign) {
         (Relation::Less, true) => -1,
         (Relation::AtMost, false) => 1,
@@ -63,7 +63,7 @@ fn missing(literal: &Lit<Compare>, gap: i128) -> Option<i128> {
 }
 
 // The step of a field that changes a sum by so much, rounded away from nought.
-fn step_for(missing: Option<i128>, coefficient: i128) -> i128 {
+pub(crate) fn step_for(missing: Option<i128>, coefficient: i128) -> i128 {
     let Some(change) = missing else {
         return 1;
     };
@@ -116,15 +116,16 @@ fn repair_each(literals: &[Lit<Compare>], values: &mut Vec<LabelInt>)
     }
 }
 
-/// Values of the eight fields at which the literals hold, if some are found.
+/// Values of the eight fields at which the literals hold, if some are found when they are gone through so often.
 pub(crate) fn guess(
     alloc: Global,
     literals: &[Lit<Compare>],
+    times: usize,
 ) -> Result<Option<Vec<LabelInt>>, Memory>
     ensures { IfOk result (λ found. IfSome found (λ values. (length values.items ≡ 8) × HoldsAll (plain_literals literals.now) values.items)) }
 {
     let mut values = vec![in alloc; 0; 8]?;
-    for _ in 0..literals.len().saturating_add(8) {
+    for _ in 0..times {
         if all_hold(literals, &values) {
             return Ok(Some(values));
         }

@@ -7,12 +7,15 @@
 mod chain;
 mod compare;
 mod decision;
+mod gaps;
 mod guess;
 mod ints;
+mod mend;
 mod numbering;
 mod over;
 mod repeats;
 mod rows;
+mod said;
 mod system;
 mod tried;
 

@@ -186,7 +186,7 @@ fn push_remainders(
 }
 
 // Whether the field is in the form, or in an inner one.
-fn has_field(form: &Form, field: u32) -> bool
+pub(crate) fn has_field(form: &Form, field: u32) -> bool
     ensures { result ≡ field_in_form field form.now }
 {
     'fields: for term in form.fields() {

@@ -243,6 +243,22 @@ fn decides_linear_literals(rt: HostRuntime) -> Result<(), Fail> {
             "none",
         ),
         (
+            "x - y = 3, y - x = -4",
+            &[
+                pair(0, &[(1, 0), (-1, 1)], Equal, 3, &[]),
+                pair(0, &[(1, 1), (-1, 0)], Equal, -4, &[]),
+            ],
+            "none",
+        ),
+        (
+            "x + y <= 3, 4 - x <= y",
+            &[
+                pair(0, &[(1, 0), (1, 1)], AtMost, 3, &[]),
+                pair(4, &[(-1, 0)], AtMost, 0, y),
+            ],
+            "none",
+        ),
+        (
             "2147483647 x = 5",
             &[pair(0, &[(2147483647, 0)], Equal, 5, &[])],
             "none",
@@ -271,6 +287,50 @@ fn decides_linear_literals(rt: HostRuntime) -> Result<(), Fail> {
             panic!(rt; "case {place}: no form");
         };
         assert!(rt; found == *want, "case {place}");
+    }
+    Ok(())
+}
+
+/// How many of these literals there are, and what is decided: x isn't 0, 1 and so on, in this order or from the last one on,
+/// x is at least 0, and less than a number.
+fn told_of_left_out(
+    alloc: Global,
+    count: u32,
+    below: i64,
+    turned: bool,
+) -> Result<&'static str, FormStop> {
+    let mut literals = Vec::new(alloc);
+    let x = field(alloc, 0)?;
+    push(&mut literals, number(alloc, 0)?, Relation::AtMost, x, true)?;
+    let x = field(alloc, 0)?;
+    push(
+        &mut literals,
+        x,
+        Relation::Less,
+        number(alloc, below)?,
+        true,
+    )?;
+    for i in 0..count {
+        let out = if turned { count - 1 - i } else { i };
+        let x = field(alloc, 0)?;
+        let form = number(alloc, out as i64)?;
+        push(&mut literals, x, Relation::Equal, form, false)?;
+    }
+    Ok(told(alloc, &literals)?)
+}
+
+#[test]
+fn leaves_values_out(rt: HostRuntime) -> Result<(), Fail> {
+    for (count, below, turned, want) in [
+        (40, 40, false, "none"),
+        (40, 40, true, "none"),
+        (40, 41, false, "values"),
+        (40, 41, true, "values"),
+    ] {
+        let Ok(found) = told_of_left_out(rt.alloc(), count, below, turned) else {
+            panic!(rt; "no form");
+        };
+        assert!(rt; found == want, "{count} below {below}: {found}");
     }
     Ok(())
 }

@@ -10,7 +10,7 @@ ghost use Rattle.lin_solve.specs.Tried.{TellsSides, IsFront, NeverHold};
 use crate::compare::Compare;
 use crate::numbering::{Remainder, remainders_of};
 use crate::system::{first_system, needs_side, step_on};
-use cooper_solve::{Found, Put, solve};
+use cooper_solve::{Found, Put, is_hopeless, solve};
 use fast_fault::{LabelInt, Memory};
 use label_core::Lit;
 use std::alloc::Global;
@@ -42,6 +42,9 @@ fn run(
     ensures { IfOk result (Tells (count_variables (plain_literals literals.now)) (first (plain_literals literals.now) bounded sides.now)) }
 {
     let system = first_system(alloc, literals, known, bounded, sides)?;
+    if is_hopeless(alloc, &system.conditions, system.count)? {
+        return Ok(Found::Unsat);
+    }
     Ok(solve(alloc, &system.conditions, system.count)?)
 }
 

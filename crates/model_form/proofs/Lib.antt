@@ -4,3 +4,5 @@ pub mod Sorted
 pub mod Equals
 pub mod Values
 pub mod Over
+pub mod Modulo
+pub mod Simplified

@@ -8,7 +8,7 @@ use Rattle.std.proofs.lemmas.Int.{ints}
 use Rattle.math_int.proofs.Laws.{times-add, add-times, times-assoc}
 use Rattle.model_form.specs.Form.{Form, form, Remainders, no_remainders, remainder, Term, fields_of, value, remainders_value, terms_value, modulo}
 use Rattle.model_form.specs.Same.{same_form}
-use Rattle.model_form.specs.Sums.{Sum, Part, started, number_form, add_fields, add_like, add_remainders, add_form, add_parts, fields_from, without_zeros, form_of, sign, sum_form, product_form, scaled_fields, scaled_remainders, remainder_form, subst_form, put_fields, put_remainders, is_like}
+use Rattle.model_form.specs.Sums.{Sum, Part, started, number_form, add_fields, add_like, add_remainders, add_form, add_parts, fields_from, without_zeros, form_of_sum, sign, sum_form, product_form, scaled_fields, scaled_remainders, remainder_form, subst_form, put_fields, put_remainders, is_like}
 use Rattle.model_form.specs.Meaning.{AreLow, parts_value, ArePartsLow, AreFormsLow, values_of}
 use Rattle.model_form.proofs.Equals.{same_value}
 
@@ -53,8 +53,8 @@ without_zeros-value (remainder a f k rs) values = by (int_eq a (pos 0)) refl (wi
     by false e rest = ap (λ z. (a *ℤ modulo (value f values) k) +ℤ z) rest
     by true e rest = rest ∙ zero_more (modulo (value f values) k) (remainders_value rs values) ∙ ap (λ d. (d *ℤ modulo (value f values) k) +ℤ remainders_value rs values) (sym (int_eq-out a (pos 0) e))
 
-pub form_of-value : (s : Sum) (values : List ℤ) → value (form_of s) values ≡ sum_value s values
-form_of-value s values = λ i. s.constant +ℤ (fields_from-value 0 s.totals values i +ℤ without_zeros-value s.terms values i)
+pub form_of_sum-value : (s : Sum) (values : List ℤ) → value (form_of_sum s) values ≡ sum_value s values
+form_of_sum-value s values = λ i. s.constant +ℤ (fields_from-value 0 s.totals values i +ℤ without_zeros-value s.terms values i)
 
 -- ---- a form more
 
@@ -156,7 +156,7 @@ add_parts-value (p ∷ ps) s values h l =
 
 pub sum_form-value : (ps : List Part) (values : List ℤ) → ArePartsLow ps → value (sum_form ps) values ≡ parts_value ps values
 sum_form-value ps values h =
-    form_of-value (add_parts ps (started (pos 0))) values ∙ add_parts-value ps (started (pos 0)) values h refl ∙ ap (λ z. z +ℤ parts_value ps values) (started-value (pos 0) values) ∙ alone (parts_value ps values)
+    form_of_sum-value (add_parts ps (started (pos 0))) values ∙ add_parts-value ps (started (pos 0)) values h refl ∙ ap (λ z. z +ℤ parts_value ps values) (started-value (pos 0) values) ∙ alone (parts_value ps values)
   where
     alone : (x : ℤ) → pos 0 +ℤ x ≡ x
     alone x = omega (arith, ints)
@@ -233,7 +233,7 @@ together x y z = omega (arith, ints)
 mutual
   pub subst_form-value : (f : Form) (gs : List Form) (values : List ℤ) → AreFormsLow gs → value (subst_form f gs) values ≡ value f (values_of gs values)
   subst_form-value (form c ts rs) gs values h =
-      form_of-value (put_remainders rs gs (put_fields ts gs (started c))) values
+      form_of_sum-value (put_remainders rs gs (put_fields ts gs (started c))) values
       ∙ put_remainders-value rs gs (put_fields ts gs (started c)) values h (length-put_fields ts gs (started c))
       ∙ ap (λ z. z +ℤ remainders_value rs (values_of gs values)) (put_fields-value ts gs (started c) values h refl ∙ ap (λ z. z +ℤ terms_value ts (values_of gs values)) (started-value c values))
       ∙ together c (terms_value ts (values_of gs values)) (remainders_value rs (values_of gs values))

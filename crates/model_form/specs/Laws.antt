@@ -4,6 +4,8 @@ use Rattle.std.specs.Cmp.{IsEquivalence}
 use Rattle.model_form.specs.Form.{Form, form, Term, Remainders, remainder, value, modulo}
 use Rattle.model_form.specs.Same.{same_form}
 use Rattle.model_form.specs.Sums.{Part, sum_form, product_form, remainder_form, subst_form}
+use Rattle.model_form.specs.Simpler.{simpler_form}
+use Rattle.model_form.specs.Over.{IsOver, IsDivided}
 use Rattle.model_form.specs.Meaning.{parts_value, ArePartsLow, AreFormsLow, values_of}
 
 -- equality of forms is an equivalence
@@ -34,3 +36,7 @@ ValueOfRemainder = (f : Form) (k : ℕ) (values : List ℤ) → value (remainder
 -- putting forms for fields gives the form's value at the values of those forms
 abbrev pub ValueAfterPutting : Type 0
 ValueAfterPutting = (f : Form) (gs : List Form) (values : List ℤ) → AreFormsLow gs → value (subst_form f gs) values ≡ value f (values_of gs values)
+
+-- a form made simpler has the form's value
+abbrev pub ValueOfSimpler : Type 0
+ValueOfSimpler = (f : Form) (values : List ℤ) → IsOver 8 f → IsDivided f → value (simpler_form f) values ≡ value f values

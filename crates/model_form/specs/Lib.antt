@@ -4,5 +4,6 @@ pub mod Same
 pub mod Sums
 pub mod Ranges
 pub mod Meaning
-pub mod Laws
 pub mod Over
+pub mod Simpler
+pub mod Laws

@@ -14,3 +14,12 @@ abbrev mutual
   pub AreOver : ℕ → Remainders → Type 0
   AreOver n no_remainders = Unit {0}
   AreOver n (remainder a f k rs) = IsOver n f × AreOver n rs
+
+-- each divisor is at least 1, in inner forms too
+abbrev mutual
+  pub IsDivided : Form → Type 0
+  IsDivided (form c ts rs) = AreDivided rs
+
+  pub AreDivided : Remainders → Type 0
+  AreDivided no_remainders = Unit {0}
+  AreDivided (remainder a f k rs) = (0 < k) × IsDivided f × AreDivided rs

@@ -57,8 +57,8 @@ abbrev pub without_zeros : Remainders → Remainders
 without_zeros no_remainders = no_remainders
 without_zeros (remainder a f k rs) = cond (int_eq a (pos 0)) (without_zeros rs) (remainder a f k (without_zeros rs))
 
-abbrev pub form_of : Sum → Form
-form_of s = form s.constant (fields_from 0 s.totals) (without_zeros s.terms)
+abbrev pub form_of_sum : Sum → Form
+form_of_sum s = form s.constant (fields_from 0 s.totals) (without_zeros s.terms)
 
 -- a part of a sum
 pub record Part : Type 0 where
@@ -75,7 +75,7 @@ add_parts (p ∷ ps) s = add_parts ps (add_form (sign p.minus) p.added s)
 
 -- the form of a sum
 abbrev pub sum_form : List Part → Form
-sum_form parts = form_of (add_parts parts (started (pos 0)))
+sum_form parts = form_of_sum (add_parts parts (started (pos 0)))
 
 -- the form of a product by a number: it acts on all coefficients and the constant
 abbrev pub scaled_fields : ℤ → List Term → List Term
@@ -102,7 +102,7 @@ put_fields (t ∷ ts) gs s = put_fields ts gs (add_form t.coefficient (slice_ind
 
 abbrev mutual
   pub subst_form : Form → List Form → Form
-  subst_form (form c ts rs) gs = form_of (put_remainders rs gs (put_fields ts gs (started c)))
+  subst_form (form c ts rs) gs = form_of_sum (put_remainders rs gs (put_fields ts gs (started c)))
 
   pub put_remainders : Remainders → List Form → Sum → Sum
   put_remainders no_remainders gs s = s

@@ -4,7 +4,7 @@
 //! nothing that runs: what it proves is that the definitions agree with each other.
 #![tactic(auto)]
 
-ghost use Rattle.model_form.specs.Laws.{SameIsEquivalence, SameInAnyOrder, SameHaveOneValue, ValueOfSum, ValueOfProduct, ValueOfRemainder, ValueAfterPutting};
+ghost use Rattle.model_form.specs.Laws.{SameIsEquivalence, SameInAnyOrder, SameHaveOneValue, ValueOfSum, ValueOfProduct, ValueOfRemainder, ValueAfterPutting, ValueOfSimpler};
 
 /// Equality of forms is an equivalence that sees no order of remainders and keeps the value.
 pub fn laws_of_equality()
@@ -19,4 +19,5 @@ pub fn laws_of_values()
     ensures product { ValueOfProduct }
     ensures remainder { ValueOfRemainder }
     ensures putting { ValueAfterPutting }
+    ensures simpler { ValueOfSimpler }
 {}

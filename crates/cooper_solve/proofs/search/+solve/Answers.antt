@@ -5,7 +5,7 @@ use Rattle.std.specs.Int.{w128}
 use Rattle.std.specs.List.{All}
 use Rattle.std.proofs.lemmas.Int.{to_z-of_z, ints}
 use Rattle.std.proofs.lemmas.List.Elements.{All-more}
-use Rattle.math_cooper.specs.System.{Form, put_all, Solves, form_value}
+use Rattle.math_cooper.specs.System.{Affine, put_all, Solves, affine_value}
 use Rattle.math_cooper.specs.Puts.{Absent, Occurs, InSystem, AllFit, Passes128}
 use Rattle.cooper_solve.specs.declared.found.Put.{Put}
 use Rattle.cooper_solve.specs.Views.{base_form, OnWide, WideInForm, WideInSystem, NoneFrom, IsSystem}
@@ -77,7 +77,7 @@ at_offset-put_each-requires-clause-fits t c =
     let o = c.args.offset in
     let d = s.direction in
     let same : base_form d i c.deref.result.now k (unsigned_abs (to_z w128 (of_z w128 o))) ≡ base_form d i s.scaled.items k (unsigned_abs o) = λ j. base_form d i (c.deref.ensures.value j) k (unsigned_abs (to_z-of_z w128 o c.ranges.offset j)) in
-    ap (λ (f : Form). length f.coefficients) (c.in-Ok.ensures {u = tt} ∙ same) ∙ form_at i s.scale s.period s.scaled.items d s.bounds.items c.requires.step k c.requires.bound (unsigned_abs o)
+    ap (λ (f : Affine). length f.coefficients) (c.in-Ok.ensures {u = tt} ∙ same) ∙ form_at i s.scale s.period s.scaled.items d s.bounds.items c.requires.step k c.requires.bound (unsigned_abs o)
 
 pub at_offset-returns-in-Err-TooWide-put_each : goal.at_offset-returns-in-Err-TooWide-put_each
 at_offset-returns-in-Err-TooWide-put_each t c =
@@ -143,7 +143,7 @@ at_offset-go_on-requires t c =
     let g = base_form d i R k (unsigned_abs o) in
     let same : base_form d i c.deref.result.now k (unsigned_abs (to_z w128 (of_z w128 o))) ≡ g = λ j. base_form d i (c.deref.ensures.value j) k (unsigned_abs (back j)) in
     let form = c.in-Ok.ensures {u = tt} ∙ same in
-    let len : length c.in-Ok.form.coefficients ≡ i = ap (λ (f : Form). length f.coefficients) form ∙ form_at i s.scale s.period R d s.bounds.items c.requires.step k c.requires.bound (unsigned_abs o) in
+    let len : length c.in-Ok.form.coefficients ≡ i = ap (λ (f : Affine). length f.coefficients) form ∙ form_at i s.scale s.period R d s.bounds.items c.requires.step k c.requires.bound (unsigned_abs o) in
     let next : c.deref-5.result.now ≡ put_all i c.in-Ok.form R = c.deref-5.ensures.value ∙ c.in-Ok-put_each.ensures {u = tt} ∙ ap (put_all i c.in-Ok.form) c.deref-2.ensures.value in (
       omega arith,
       (
@@ -152,7 +152,7 @@ at_offset-go_on-requires t c =
           len,
           (
             subst (λ z. pos 0 <ℤ z) (sym scale) c.requires.step.scale,
-            (λ ws l h. subst (λ z. (x : ℤ) × (form_value c.in-Ok.form ws ≡ pos (unsigned_abs z) *ℤ x)) (sym scale)
+            (λ ws l h. subst (λ z. (x : ℤ) × (affine_value c.in-Ok.form ws ≡ pos (unsigned_abs z) *ℤ x)) (sym scale)
                 (back_from i (unsigned_abs s.scale) R c.in-Ok.form c.requires.step.system c.requires.step.divides len ws l (subst (Solves ws) next h))),
           ),
         ),

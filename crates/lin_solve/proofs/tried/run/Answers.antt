@@ -9,4 +9,4 @@ pub solve-requires : goal.solve-requires
 solve-requires c =
     let h = c.in_ok-system.ensures {u = tt} in
     let ls = plain_literals c.args.literals.now in
-    ready_for ls c.args.bounded c.args.sides.now _ _ (c.deref.ensures.value ∙ h.0) h.1 (positives c.args.known.now (remainders_in ls) c.requires.0 c.requires.1)
+    ready_for ls c.args.bounded c.args.sides.now _ _ (c.deref-2.ensures.value ∙ h.0) h.1 (positives c.args.known.now (remainders_in ls) c.requires.0 c.requires.1)

@@ -5,7 +5,7 @@ use Rattle.std.proofs.lemmas.Int.{ints}
 use Rattle.std.proofs.lemmas.List.{drop_all}
 use Rattle.std.proofs.lemmas.Result.{err_from_is_err_and}
 use Rattle.model_form.specs.Form.{Form, form, constant_of, remainder}
-use Rattle.model_form.specs.Sums.{form_of, started, put_fields, put_remainders, add_form, remainder_form, subst_form}
+use Rattle.model_form.specs.Sums.{form_of_sum, started, put_fields, put_remainders, add_form, remainder_form, subst_form}
 use Rattle.model_form.specs.Sums as model
 use Rattle.model_tree.specs.Range.{IsLabelNumber}
 use Rattle.model_form.specs.Ranges.{IsForm, IsOutside, IsOutsideAfter, IsOutsideWithin}
@@ -78,10 +78,10 @@ returns-clause-in_range t c =
     let begun = (c.in_ok-put_fields.ensures {u = tt}).sum in
     let constant : to_z w128 (of_z w128 c.self.inside.constant) ≡ c.self.inside.constant = let f : IsLabelNumber c.self.inside.constant = c.self.invariant.0 in omega (arith, ints) in
     let view = form c.self.inside.constant (plain_fields c.self.inside.fields.items) (plain_remainders c.self.inside.remainders.items) in
-    let e : form_of (plain_sum c.loop-term.sum) ≡ subst_form view gs =
-    ap form_of (ap (λ ts. put_remainders (plain_remainders ts) gs (plain_sum c.loop-term.sum)) (sym past) ∙ c.loop-term.invariant.value)
-    ∙ (λ j. form_of (put_remainders (plain_remainders (c.deref-term-items.ensures.value j)) gs ((begun ∙ (λ k. put_fields (plain_fields (c.deref.ensures.value k)) gs ((c.of-sum.ensures ∙ ap started constant) k))) j))) in
-    both_of c.finish.result (λ (f : Form). f ≡ form_of (plain_sum c.loop-term.sum)) IsForm (λ _. (n : ℤ) → IsOutsideAfter c.args.self.now gs n → ⊥) _ _ c.finish.ensures.form c.finish.ensures.in_range
+    let e : form_of_sum (plain_sum c.loop-term.sum) ≡ subst_form view gs =
+    ap form_of_sum (ap (λ ts. put_remainders (plain_remainders ts) gs (plain_sum c.loop-term.sum)) (sym past) ∙ c.loop-term.invariant.value)
+    ∙ (λ j. form_of_sum (put_remainders (plain_remainders (c.deref-term-items.ensures.value j)) gs ((begun ∙ (λ k. put_fields (plain_fields (c.deref.ensures.value k)) gs ((c.of-sum.ensures ∙ ap started constant) k))) j))) in
+    both_of c.finish.result (λ (f : Form). f ≡ form_of_sum (plain_sum c.loop-term.sum)) IsForm (λ _. (n : ℤ) → IsOutsideAfter c.args.self.now gs n → ⊥) _ _ c.finish.ensures.form c.finish.ensures.in_range
     (λ f is h n o. elim (subst (λ g. IsOutsideAfter g gs n) (sym c.self.view_is) o) as (λ _. ⊥) [
       | inl x ↦ none_outside f h n (subst (λ g. IsOutside g n) (sym (is ∙ e)) x)
       | inr x ↦ subst (λ ts. IsOutsideWithin (plain_remainders ts) gs n → ⊥) (sym past) (λ y. y) (c.loop-term.invariant.within n (subst (λ ts. IsOutsideWithin (plain_remainders ts) gs n) (sym c.deref-term-items.ensures.value) x))

@@ -5,7 +5,7 @@ use Rattle.std.proofs.lemmas.Int.{to_z-of_z}
 use Rattle.std.proofs.lemmas.List.{drop_all}
 use Rattle.std.proofs.lemmas.Result.{MatchResult-weaker}
 use Rattle.model_form.specs.Form.{Form}
-use Rattle.model_form.specs.Sums.{add_parts, add_form, form_of, started, sign}
+use Rattle.model_form.specs.Sums.{add_parts, add_form, form_of_sum, started, sign}
 use Rattle.model_form.specs.Sums as model
 use Rattle.model_form.specs.Ranges.{IsOutside}
 use Rattle.lin_form.specs.Within.{IsGathered}
@@ -45,7 +45,7 @@ returns-clause-form c =
     let past = drop_all c.loop-part.part-index c.args.parts.now c.loop-part-test.false in
     let e : plain_sum c.loop-part.sum ≡ add_parts (plain_parts c.args.parts.now) (started (pos 0)) =
     ap (λ ps. add_parts (plain_parts ps) (plain_sum c.loop-part.sum)) (sym past) ∙ c.loop-part.invariant.value in
-    subst (λ s. MatchResult c.finish.result (λ (f : Form). f ≡ form_of s) (λ stop. StopsAt (IsOutside (form_of s)) stop)) e c.finish.ensures.form
+    subst (λ s. MatchResult c.finish.result (λ (f : Form). f ≡ form_of_sum s) (λ stop. StopsAt (IsOutside (form_of_sum s)) stop)) e c.finish.ensures.form
 
 pub returns-clause-in_range : goal.returns-clause-in_range
 returns-clause-in_range c = MatchResult-weaker c.finish.result c.finish.ensures.in_range (λ f h. none_outside f h) (λ e u. u)

@@ -1,0 +1,159 @@
+//! Forms made simpler.
+
+ghost use Rattle.std.specs.Prelude.{◌≡◌, ℕ, ℤ, ◌<◌, ◌≤◌, MatchResult, OnOk, unsigned_abs};
+ghost use Rattle.model_form.specs.Sums.{form_of_sum, remainder_form};
+ghost use Rattle.model_form.specs.Ranges.{IsOutside};
+ghost use Rattle.model_form.specs.Simpler.{add_open, add_term_open, inside, reduced, reduced_terms, reduced_totals, simpler_form, simpler_sum};
+ghost use Rattle.lin_form.specs.Gathered.{plain_likes, plain_sum};
+ghost use Rattle.lin_form.specs.Stops.{StopsAt};
+ghost use Rattle.lin_form.specs.Within.{IsGathered, IsReduced};
+
+use crate::sum::{Like, Sum, add_fields, add_like};
+use crate::{Form, FormStop};
+use fast_fault::Memory;
+use std::alloc::Global;
+use wide_num::rem;
+
+impl Form {
+    /// The form made simpler, from the inside out: within a remainder by a number, each remainder by one of its multiples
+    /// gives way to the form that it is taken of, and coefficients to their remainders.
+    pub fn simpler(&self, alloc: Global) -> Result<Form, FormStop>
+        ensures form { MatchResult result (λ form. form ≡ simpler_form self.now) (λ stop. StopsAt (IsOutside (simpler_form self.now)) stop) }
+        ensures in_range { MatchResult result (λ form. (n : ℤ) → IsOutside form n → ⊥) (λ _. Unit {0}) }
+    {
+        let sum = simpler_sum(alloc, self)?;
+        sum.finish(alloc)
+    }
+}
+
+// The terms outside all remainders, whose inner forms are simpler.
+fn simpler_sum(alloc: Global, form: &Form) -> Result<Sum, FormStop>
+    ensures { MatchResult result (λ sum. (plain_sum sum ≡ simpler_sum form.now) × ((m : ℕ) × IsGathered m (plain_sum sum))) (λ stop. stop ≡ FormStop.Memory) }
+{
+    let mut sum = Sum::of(alloc, form.constant);
+    add_fields(&mut sum.totals, 1, &form.fields);
+    for term in &form.remainders {
+        let inner = simpler_sum(alloc, &term.inner)?;
+        let part = inner.remainder(alloc, term.divisor)?;
+        sum.add(alloc, term.coefficient as i128, &part)?;
+    }
+    Ok(sum)
+}
+
+impl Sum {
+    // The remainder of the sum's form.
+    fn remainder(&self, alloc: Global, by: u32) -> Result<Form, FormStop>
+        requires some { 0 < by }
+        requires few { by ≤ 4096 }
+        requires gathered { (m : ℕ) × IsGathered m (plain_sum self.now) }
+        ensures { MatchResult result (λ form. form ≡ remainder_form (form_of_sum (inside by (plain_sum self.now))) by) (λ stop. stop ≡ FormStop.Memory) }
+    {
+        let sum = self.opened(alloc, by)?;
+        let inner = sum.finish(alloc)?;
+        inner.remainder(alloc, by)
+    }
+
+    // The sum as it stands in a remainder.
+    fn opened(&self, alloc: Global, by: u32) -> Result<Sum, FormStop>
+        requires some { 0 < by }
+        requires few { by ≤ 4096 }
+        requires gathered { (m : ℕ) × IsGathered m (plain_sum self.now) }
+        ensures { MatchResult result (λ sum. (plain_sum sum ≡ inside by (plain_sum self.now)) × IsReduced by (plain_sum sum)) (λ stop. stop ≡ FormStop.Memory) }
+    {
+        let mut sum = Sum::of(alloc, self.constant);
+        sum.totals = self.totals;
+        sum.reduce(by);
+        for like in &self.likes {
+            add_term_open(
+                alloc,
+                &mut sum,
+                like.coefficient,
+                &like.inner,
+                like.divisor,
+                by,
+            )?;
+        }
+        Ok(sum)
+    }
+
+    // The remainders of the constant and the coefficients.
+    fn reduce(&mut self, by: u32)
+        requires { 0 < by }
+        ensures { plain_sum self.new ≡ reduced by (plain_sum self.old) }
+    {
+        self.constant = rem(self.constant, by as i128);
+        reduce_totals(&mut self.totals, by);
+        reduce_likes(&mut self.likes, by);
+    }
+}
+
+fn reduce_totals(totals: &mut [i128], by: u32)
+    requires { 0 < by }
+    ensures { totals.new ≡ reduced_totals by totals.old }
+{
+    for i in 0..totals.len() {
+        totals[i] = rem(totals[i], by as i128);
+    }
+}
+
+fn reduce_likes(likes: &mut Vec<Like>, by: u32)
+    requires { 0 < by }
+    ensures { plain_likes likes.new.items ≡ reduced_terms by (plain_likes likes.old.items) }
+{
+    for i in 0..likes.len() {
+        likes[i].coefficient = rem(likes[i].coefficient, by as i128);
+    }
+}
+
+// A term more, in a remainder by a number.
+#[cycle(open)]
+fn add_term_open(
+    alloc: Global,
+    sum: &mut Sum,
+    coefficient: i128,
+    inner: &Form,
+    divisor: u32,
+    by: u32,
+) -> Result<(), Memory>
+    requires some { 0 < by }
+    requires few { by ≤ 4096 }
+    requires divisor_some { 0 < divisor }
+    requires divisor_few { divisor ≤ 4096 }
+    requires sum { IsReduced by (plain_sum sum.old) }
+    ensures sum { OnOk result (plain_sum sum.new ≡ reduced by (add_term_open by coefficient inner.now divisor (plain_sum sum.old))) }
+    ensures reduced { OnOk result (IsReduced by (plain_sum sum.new)) }
+{
+    let coefficient = rem(coefficient, by as i128);
+    if divisor % by == 0 {
+        return add_open(alloc, sum, coefficient, inner, by);
+    }
+    add_like(alloc, &mut sum.likes, coefficient, inner, divisor)?;
+    sum.reduce(by);
+    Ok(())
+}
+
+// A coefficient times a form more, in a remainder by a number.
+#[cycle(open)]
+fn add_open(
+    alloc: Global,
+    sum: &mut Sum,
+    coefficient: i128,
+    form: &Form,
+    by: u32,
+) -> Result<(), Memory>
+    requires some { 0 < by }
+    requires few { by ≤ 4096 }
+    requires coefficient { unsigned_abs coefficient ≤ 4096 }
+    requires sum { IsReduced by (plain_sum sum.old) }
+    ensures sum { OnOk result (plain_sum sum.new ≡ reduced by (add_open by coefficient form.now (plain_sum sum.old))) }
+    ensures reduced { OnOk result (IsReduced by (plain_sum sum.new)) }
+{
+    sum.constant += coefficient * form.constant;
+    add_fields(&mut sum.totals, coefficient, &form.fields);
+    sum.reduce(by);
+    for term in &form.remainders {
+        let product = coefficient * term.coefficient as i128;
+        add_term_open(alloc, sum, product, &term.inner, term.divisor, by)?;
+    }
+    Ok(())
+}
