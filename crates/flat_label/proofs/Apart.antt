@@ -1,12 +1,9 @@
 -- Texts that are among others, and texts that aren't.
-use Rattle.std.proofs.Common.{◌≡◌, ◌+◌, ◌≤◌, ◌<◌, ℕ, zero, suc, max, List, [], ◌∷◌, ◌++◌, length, get_or, true, false, refl, ap, sym, ◌∙◌, subst, arith, Contains, inl, inr, ⊎_elim, ◌⊎◌}
-use Rattle.std.specs.List.{list_any}
-use Rattle.std.specs.Str.{chars, bytes_eq, IsUtf8, encode_utf8_all}
-use Rattle.std.proofs.lemmas.List.Folds.{Any-from_list_any, list_any_at}
+use Rattle.std.proofs.Common.{◌≡◌, ◌+◌, ◌≤◌, ◌<◌, ℕ, zero, suc, max, List, [], ◌∷◌, ◌++◌, length, get_or, refl, ap, sym, ◌∙◌, subst, arith, All, Contains, inl, inr, ⊎_elim, ◌⊎◌}
+use Rattle.std.specs.Str.{chars, IsUtf8, encode_utf8_all}
 use Rattle.std.proofs.lemmas.List.Elements.{Contains-append_left, Contains-append_right, Contains-get_or}
 use Rattle.std.proofs.lemmas.List.Recursion.{max_bounds}
 use Rattle.std.proofs.lemmas.List.{length-append, get_or_append_left}
-use Rattle.std.proofs.lemmas.Slice.Eq.{bytes_eq-Decides}
 use Rattle.std.proofs.lemmas.Str.{encodes-chars}
 use Rattle.flat_label.specs.Fresh.{AreFresh}
 
@@ -15,19 +12,19 @@ abbrev pub longest : List (List ℕ) → ℕ
 longest [] = 0
 longest (t ∷ ts) = max (length (encode_utf8_all t)) (longest ts)
 
-pub not_among : (ts : List (List ℕ)) (c : List ℕ) → list_any (λ other. bytes_eq other c) ts ≡ false → ¬ (Contains ts c)
-not_among ts c none found =
-    let (k, low, is) = found in
-    let some = list_any_at (λ other. bytes_eq other c) ts k c low ((bytes_eq-Decides (get_or ts k c) c).1 is) in
-    let no : true ≡ false = sym some ∙ none in cc
-
 -- a text that is among others has no more bytes than the longest of them
-pub among_short : (ts : List (List ℕ)) (bytes : List ℕ) → IsUtf8 bytes → list_any (λ other. bytes_eq other (chars bytes)) ts ≡ true → length bytes ≤ longest ts
-among_short ts bytes utf8 some =
-    let (k, x, low, at, same) = Any-from_list_any (λ other. bytes_eq other (chars bytes)) ts some in
-    let is : x ≡ chars bytes = (bytes_eq-Decides x (chars bytes)).0 same in
-    let own : length (encode_utf8_all (get_or ts k x)) ≡ length bytes = ap (λ t. length (encode_utf8_all t)) (at ∙ is) ∙ ap length (encodes-chars bytes utf8) in
-    let bound = max_bounds longest (λ t. length (encode_utf8_all t)) refl (λ _ _. refl) ts k x low in subst (λ n. n ≤ longest ts) own bound
+pub among_short : (ts : List (List ℕ)) (bytes : List ℕ) → IsUtf8 bytes → Contains ts (chars bytes) → length bytes ≤ longest ts
+among_short ts bytes utf8 (k, low, is) =
+    let own : length (encode_utf8_all (get_or ts k (chars bytes))) ≡ length bytes = ap (λ t. length (encode_utf8_all t)) is ∙ ap length (encodes-chars bytes utf8) in
+    let bound = max_bounds longest (λ t. length (encode_utf8_all t)) refl (λ _ _. refl) ts k (chars bytes) low in subst (λ n. n ≤ longest ts) own bound
+
+-- texts that have at most so many bytes
+abbrev pub AreShort : ℕ → List (List ℕ) → Type 0
+AreShort n ts = All (λ t. length (encode_utf8_all t) ≤ n) ts
+
+-- a text with more bytes is none of them
+pub longer_new : (ts : List (List ℕ)) (t : List ℕ) (n : ℕ) → AreShort n ts → n < length (encode_utf8_all t) → ¬ (Contains ts t)
+longer_new ts t n short long (k, low, is) = absurd (omega (arith, long, subst (λ s. length (encode_utf8_all s) ≤ n) is (short k t low)))
 
 push_at : (ts : List (List ℕ)) (t d : List ℕ) (k : ℕ) → k < length (ts ++ t ∷ []) → ((k < length ts) × (get_or (ts ++ t ∷ []) k d ≡ get_or ts k d)) ⊎ ((k ≡ length ts) × (get_or (ts ++ t ∷ []) k d ≡ t))
 push_at [] t d zero low = inr (refl, refl)

@@ -9,6 +9,7 @@ ghost use Rattle.flat_label.specs.Sides.{SidesOf, JoinOf, StandsForItself, AreVa
 use crate::fresh::fresh_texts;
 use crate::texts::{TextAtom, TextSide};
 use fast_fault::{Memory, Text};
+use indexmap::IndexSet;
 use label_core::Lit;
 use std::alloc::Global;
 
@@ -119,9 +120,13 @@ pub fn some_refuses(sides: &[TextSide], literals: &[Lit<TextAtom>]) -> bool
 }
 
 /// Texts that follow the sides, and differ wherever the sides leave it open.
-pub fn values_of(alloc: Global, sides: &[TextSide], constants: &[Text]) -> Result<Vec<Text>, Memory>
+pub fn values_of(
+    alloc: Global,
+    sides: &[TextSide],
+    constants: &IndexSet<Text>,
+) -> Result<Vec<Text>, Memory>
     requires { All (StandsForItself sides.now) sides.now }
-    ensures { IfOk result (λ values. AreValues sides.now constants.now values.items) }
+    ensures { IfOk result (λ values. AreValues sides.now constants.now.keys values.items) }
 {
     let fresh = fresh_texts(alloc, sides.len(), constants)?;
     let mut values = Vec::new(alloc);

@@ -7,6 +7,7 @@ ghost use Rattle.flat_label.specs.Sides.{IsAmong, AreAmong};
 use crate::classes::{sides_of, some_refuses, values_of};
 use crate::never::Never;
 use fast_fault::{Memory, Text};
+use indexmap::IndexSet;
 use label_core::{Duplicate, Lit, Theory, Verdict};
 use std::alloc::Global;
 
@@ -78,21 +79,25 @@ impl Duplicate for TextAtom {
 }
 
 /// Adds the side, if it is a constant.
-fn add_constant(alloc: Global, constants: &mut Vec<Text>, side: &TextSide) -> Result<(), Memory>
-    ensures added { IfOk result (λ _. IsAmong constants.new.items side.now) }
-    ensures kept { IfOk result (λ _. (other : TextSide) → IsAmong constants.old.items other → IsAmong constants.new.items other) }
+fn add_constant(
+    alloc: Global,
+    constants: &mut IndexSet<Text>,
+    side: &TextSide,
+) -> Result<(), Memory>
+    ensures added { IfOk result (λ _. IsAmong constants.new.keys side.now) }
+    ensures kept { IfOk result (λ _. (other : TextSide) → IsAmong constants.old.keys other → IsAmong constants.new.keys other) }
 {
     if let TextSide::Constant(text) = side {
-        constants.push(text.copy(alloc)?)?;
+        constants.insert_full(text.copy(alloc)?)?;
     }
     Ok(())
 }
 
-/// The constants of the literals.
-fn constants_of(alloc: Global, literals: &[Lit<TextAtom>]) -> Result<Vec<Text>, Memory>
-    ensures { IfOk result (λ constants. All (λ x. AreAmong constants.items x.atom) literals.now) }
+/// The constants of the literals, each once.
+fn constants_of(alloc: Global, literals: &[Lit<TextAtom>]) -> Result<IndexSet<Text>, Memory>
+    ensures { IfOk result (λ constants. All (λ x. AreAmong constants.keys x.atom) literals.now) }
 {
-    let mut constants = Vec::new(alloc);
+    let mut constants = IndexSet::new(alloc);
     for literal in literals {
         add_constant(alloc, &mut constants, &literal.atom.left)?;
         add_constant(alloc, &mut constants, &literal.atom.right)?;

@@ -1,14 +1,12 @@
 -- The atoms of guards.
-use Rattle.std.proofs.Common.{ℕ, ◌≡◌, ◌||◌, Bool, true, false, IsTrue, List, [], ◌∷◌, get_or, refl}
+use Rattle.std.proofs.Common.{◌≡◌, ◌||◌, Bool, true, false, IsTrue, List, [], ◌∷◌, get_or, refl}
 use Rattle.std.specs.Cmp.{IsEquivalence}
 use Rattle.std.proofs.lemmas.List.Elements.{All-nil, All-cons}
 use Rattle.model_tree.specs.Formula.{Formula, all_of, formulas_of, EveryAtom, EveryAtomOfAll}
 use Rattle.model_sta.specs.Sets.{Each}
 use Rattle.label_core.specs.Atoms.{has_equal, EachHasEqual}
-use Rattle.label_split.proofs.SameAtoms.{every_atom, all_atoms}
-use Rattle.sta_core.specs.Machine.{PlainRule}
-use Rattle.sta_classes.specs.Guards.{guards_of, all_guards, atoms_of_all}
-use Rattle.sta_classes.proofs.Kept.{each_of}
+use Rattle.label_split.proofs.SameAtoms.{every_atom}
+use Rattle.sta_classes.specs.Guards.{atoms_of_all}
 
 first_true : (a b : Bool) → a ≡ true → IsTrue (a || b)
 first_true true b h = refl
@@ -35,8 +33,3 @@ module _ {A : Type 0} (eq : A → A → Bool) (laws : IsEquivalence eq) where
   -- the atoms of each guard have equal ones among those of all
   pub guards_among : (gs : List (Formula A)) → Each (EveryAtom (λ a. IsTrue (has_equal eq (atoms_of_all gs) a))) gs
   guards_among gs = each_formula (λ a. IsTrue (has_equal eq (atoms_of_all gs) a)) gs (every_atom (λ a. IsTrue (has_equal eq (atoms_of_all gs) a)) (all_of (formulas_of gs)) (own (atoms_of_all gs)))
-
-  pub constructor_among : (c : ℕ) (rules : List (List (PlainRule A))) → EachHasEqual eq (atoms_of_all (guards_of c rules)) (atoms_of_all (all_guards rules))
-  constructor_among c rules =
-      all_atoms (λ a. IsTrue (has_equal eq (atoms_of_all (all_guards rules)) a)) (all_of (formulas_of (guards_of c rules)))
-      (of_each_formula (λ a. IsTrue (has_equal eq (atoms_of_all (all_guards rules)) a)) (guards_of c rules) (each_of (EveryAtom (λ a. IsTrue (has_equal eq (atoms_of_all (all_guards rules)) a))) c rules (guards_among (all_guards rules))))

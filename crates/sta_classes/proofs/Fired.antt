@@ -51,7 +51,7 @@ module _ {A : Type 0} (c : ℕ) (qs : List Row) where
     one_fires false m r rs rest e = e
 
     -- a rule fires exactly where one of these guards holds
-    fires_where : (rs : List (PlainRule A)) → list_any (fires c l qs) (map (rule_meaning holds) rs) ≡ at (some_fires c qs rs)
+    pub fires_where : (rs : List (PlainRule A)) → list_any (fires c l qs) (map (rule_meaning holds) rs) ≡ at (some_fires c qs rs)
     fires_where [] = refl
     fires_where (r ∷ rs) = one_fires (r.constructor == c) (rows_meet qs r.demands) r (filter (λ s. (s.constructor == c) && rows_meet qs s.demands) rs) (list_any (fires c l qs) (map (rule_meaning holds) rs)) (fires_where rs)
 

@@ -1,8 +1,9 @@
 -- Facts on what lists have that grow.
 use Rattle.std.proofs.Common.{ℕ, zero, suc, ◌≡◌, ◌<◌, ◌≤◌, ◌+◌, ◌⊎◌, inl, inr, List, [], ◌∷◌, ◌++◌, length, get_or, Contains, refl, sym, ap, subst, ◌∙◌, arith}
+use Rattle.std.proofs.lemmas.Bool.{cases_lt}
 use Rattle.std.proofs.lemmas.List.Elements.{Contains-append_left, Contains-push, Contains-push_cases}
 use Rattle.model_sta.proofs.Reached.{same_default}
-use Rattle.sta_classes.specs.Grow.{Grown}
+use Rattle.sta_classes.specs.Grow.{Grown, Some}
 
 pub nowhere : {X : Type 0} (x : X) → ¬ Contains [] x
 nowhere x h = let low : h.0 < 0 = h.1 in omega arith
@@ -34,9 +35,6 @@ grown_same a b V U f v u p =
 abbrev pub Before : {X Y : Type 0} → (X → Y → Type 0) → List X → ℕ → Y → Type 0
 Before {X} R xs i p = (k : ℕ) × (k < i) × (k < length xs) × (r : X) × (get_or xs k r ≡ r) × R r p
 
-abbrev pub Some : {X Y : Type 0} → (X → Y → Type 0) → List X → Y → Type 0
-Some {X} R xs p = (r : X) × Contains xs r × R r p
-
 module _ {X Y : Type 0} (R : X → Y → Type 0) (xs : List X) where
   pub grown_first : (a b : List Y) → b ≡ a → Grown a b (Before R xs 0)
   grown_first a b e = subst (λ l. Grown a l (Before R xs 0)) (sym e) (grown_none a (Before R xs 0) (λ p w. (let low : w.0 < 0 = w.1 in omega arith)))
@@ -65,3 +63,32 @@ module _ {X Y : Type 0} (R : X → Y → Type 0) (xs : List X) where
       grown_same a b (Before R xs i) (Some R xs) f
       (λ p w. (let (k, below, inside, r, is, want) = w in (r, (k, inside, is), want)))
       (λ p w. (let (r, (k, inside, is), want) = w in (k, omega arith, inside, r, is, want)))
+
+-- the same where what an element wants depends on its number
+abbrev pub Numbered : {X Y : Type 0} → (ℕ → X → Y → Type 0) → List X → ℕ → Y → Type 0
+Numbered {X} R xs i p = (k : ℕ) × (k < i) × (k < length xs) × (r : X) × (get_or xs k r ≡ r) × R k r p
+
+module _ {X Y : Type 0} (R : ℕ → X → Y → Type 0) (xs : List X) where
+  pub numbered_first : (a b : List Y) → b ≡ a → Grown a b (Numbered R xs 0)
+  numbered_first a b e = subst (λ l. Grown a l (Numbered R xs 0)) (sym e) (grown_none a (Numbered R xs 0) (λ p w. (let low : w.0 < 0 = w.1 in omega arith)))
+
+  pub numbered_more : (a b c : List Y) (i : ℕ) (x : X) → i < length xs → x ≡ get_or xs i x → Grown a b (Numbered R xs i) → Grown b c (R i x) → Grown a c (Numbered R xs (i + 1))
+  numbered_more a b c i x low at f g =
+      grown_then a b c (Numbered R xs i) (R i x) (Numbered R xs (i + 1)) f g
+      (λ p w. (let (k, below, inside, r, is, want) = w in split p k below inside r is want))
+      (λ p w. (let (k, below, inside, r, is, want) = w in (k, omega arith, inside, r, is, want)))
+      (λ p w. (i, omega arith, low, x, sym at, w))
+    where
+      split : (p : Y) (k : ℕ) → k < i + 1 → k < length xs → (r : X) → get_or xs k r ≡ r → R k r p → Numbered R xs i p ⊎ R i x p
+      split p k below inside r is want = elim (cases_lt k i) [
+        | inl less ↦ inl (k, less, inside, r, is, want)
+        | inr past ↦
+            let same : k ≡ i = omega (arith, past, below) in
+            inr (subst (λ n. R n x p) same (subst (λ z. R k z p) (sym is ∙ ap (λ n. get_or xs n r) same ∙ same_default xs i r x low ∙ sym at) want))
+      ]
+
+  pub numbered_all : (a b : List Y) (i : ℕ) → length xs ≤ i → Grown a b (Numbered R xs i) → Grown a b (Numbered R xs (length xs))
+  numbered_all a b i end f =
+      grown_same a b (Numbered R xs i) (Numbered R xs (length xs)) f
+      (λ p w. (let (k, below, inside, r, is, want) = w in (k, inside, inside, r, is, want)))
+      (λ p w. (let (k, below, inside, r, is, want) = w in (k, omega (arith, below, end), inside, r, is, want)))

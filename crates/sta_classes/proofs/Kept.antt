@@ -1,16 +1,13 @@
 -- The guards of those rules that a test keeps.
-use Rattle.std.proofs.Common.{ℕ, suc, Vec, ◌≡◌, ◌<◌, ◌+◌, ◌==◌, Bool, true, false, cond, All, get_or, ◌++◌, arith, List, [], ◌∷◌, map, filter, length, take, refl, sym, ap, ap₂, subst, ◌∙◌, eqb-true, append-nil, append_assoc}
-use Rattle.std.proofs.lemmas.List.{take_more, map-append, get_or-map, length-map}
+use Rattle.std.proofs.Common.{ℕ, suc, ◌≡◌, ◌<◌, ◌+◌, ◌==◌, Bool, true, false, cond, All, get_or, ◌++◌, arith, List, [], ◌∷◌, map, filter, length, take, refl, sym, ap, ap₂, ◌∙◌, eqb-true, append-nil, append_assoc}
+use Rattle.std.proofs.lemmas.List.{take_more, map-append}
 use Rattle.std.proofs.lemmas.List.Elements.{filter-append}
 use Rattle.model_tree.specs.Formula.{Formula, EveryAtom}
 use Rattle.model_sta.specs.Sets.{Each}
 use Rattle.label_core.specs.Formula.{plain_formula}
 use Rattle.label_core.specs.declared.formula.Formula as code
-use Rattle.sta_core.specs.Machine.{PlainRule, plain_rule}
-use Rattle.sta_core.specs.declared.StaRule.{StaRule}
-use Rattle.sta_core.proofs.Meaning.{All_from_map}
-use Rattle.sta_classes.specs.Rules.{plain_rules}
-use Rattle.sta_classes.specs.Guards.{state_guards, guards_of, all_guards, GuardsFit}
+use Rattle.sta_core.specs.Machine.{PlainRule}
+use Rattle.sta_classes.specs.Guards.{all_guards, GuardsFit}
 
 pub not_equal : (m n : ℕ) → ¬ (m ≡ n) → false ≡ (m == n)
 not_equal m n other = by (m == n) refl
@@ -48,16 +45,6 @@ module _ {A : Type 0} (test : PlainRule A → Bool) where
       pub guard_passed : false ≡ test (f x) → after ≡ before → map plain_formula after ≡ all ++ kept (map f (take (i + 1) xs))
       guard_passed e is = ap (map plain_formula) is ∙ begun ∙ ap (λ z. all ++ z) (sym (taken false e ∙ append-nil (kept (map f (take i xs)))))
 
-module _ {A : Type 0} (c : ℕ) where
-  guards_append : (xs ys : List (List (PlainRule A))) → guards_of c (xs ++ ys) ≡ guards_of c xs ++ guards_of c ys
-  guards_append [] ys = refl
-  guards_append (x ∷ xs) ys = ap (λ l. state_guards c x ++ l) (guards_append xs ys) ∙ sym (append_assoc (state_guards c x) (guards_of c xs) (guards_of c ys))
-
-  pub guards_taken : {X : Type 0} (f : X → List (PlainRule A)) (xs : List X) (i : ℕ) (x : X) → i < length xs → x ≡ get_or xs i x → guards_of c (map f (take (i + 1) xs)) ≡ guards_of c (map f (take i xs)) ++ state_guards c (f x)
-  guards_taken f xs i x low at =
-      ap (λ z. guards_of c (map f z)) (take_more xs i x low ∙ ap (λ z. take i xs ++ z ∷ []) (sym at)) ∙ ap (guards_of c) (map-append f (take i xs) (x ∷ []))
-      ∙ guards_append (map f (take i xs)) (f x ∷ []) ∙ ap (λ z. guards_of c (map f (take i xs)) ++ z) (append-nil (state_guards c (f x)))
-
 pub each_split : {X : Type 0} (P : X → Type 0) (xs ys : List X) → Each P (xs ++ ys) → Each P xs × Each P ys
 each_split P [] ys a = (tt, a)
 each_split P (x ∷ xs) ys a = let (b, c) = each_split P xs ys a.1 in ((a.0, b), c)
@@ -76,12 +63,6 @@ module _ {A : Type 0} (P : Formula A → Type 0) where
   each_kept test [] h = tt
   each_kept test (r ∷ rs) h = one_kept (test r) r (filter test rs) h.0 (each_kept test rs h.1)
 
-  pub each_of : (c : ℕ) (rules : List (List (PlainRule A))) → Each P (all_guards rules) → Each P (guards_of c rules)
-  each_of c [] h = tt
-  each_of c (rs ∷ rules) h =
-      let (a, b) = each_split P (map (λ r. r.guard) rs) (all_guards rules) h in
-      each_join P (state_guards c rs) (guards_of c rules) (each_kept (λ r. r.constructor == c) rs a) (each_of c rules b)
-
 module _ {A : Type 0} (F : A → Type 0) where
   state_fit : (rs : List (PlainRule A)) → All (λ r. EveryAtom F r.guard) rs → Each (EveryAtom F) (map (λ r. r.guard) rs)
   state_fit [] h = tt
@@ -90,12 +71,3 @@ module _ {A : Type 0} (F : A → Type 0) where
   pub each_fits : (rules : List (List (PlainRule A))) → GuardsFit F rules → Each (EveryAtom F) (all_guards rules)
   each_fits [] h = tt
   each_fits (rs ∷ rules) h = each_join (EveryAtom F) (map (λ r. r.guard) rs) (all_guards rules) (state_fit rs (h 0 rs (omega arith))) (each_fits rules (λ k d l. h (suc k) d (omega (arith, l))))
-
-  -- what fits of the guards of a state's rules
-  pub fit_at : {G : Type 0} (rules : List (Vec (StaRule A) G)) (i : ℕ) (v : Vec (StaRule A) G) (w : List (StaRule A)) → i < length rules → v ≡ get_or rules i v → w ≡ v.items
-      → GuardsFit F (plain_rules rules) → All (λ r. EveryAtom F (plain_rule r).guard) w
-  fit_at rules i v w low at is h =
-      let n : length (plain_rules rules) ≡ length rules = length-map rules (λ those. map plain_rule those.items) in
-      let here = h i [] (omega (arith, n, low)) in
-      All_from_map (λ r. EveryAtom F r.guard) plain_rule w
-      (subst (All (λ r. EveryAtom F r.guard)) (get_or-map (λ those. map plain_rule those.items) rules i v [] low ∙ ap (λ z. map plain_rule z.items) (sym at) ∙ ap (map plain_rule) (sym is)) here)

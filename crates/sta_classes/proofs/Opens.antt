@@ -1,59 +1,86 @@
 -- Trees over children that are opened.
-use Rattle.std.proofs.Common.{ℕ, Vec, ◌≡◌, ◌<◌, ◌≤◌, ◌-◌, ◌↔◌, Bool, List, [], length, map, get_or, All, Contains, refl, sym, ap, subst, ◌∙◌, arith}
+use Rattle.std.proofs.Common.{ℕ, Vec, ◌≡◌, ◌<◌, ◌≤◌, ◌-◌, ◌↔◌, ◌&&◌, not, Bool, true, List, [], length, map, get_or, All, Contains, refl, sym, ap, ap₂, subst, ◌∙◌, arith}
 use Rattle.std.proofs.lemmas.List.{length-map}
 use Rattle.std.proofs.lemmas.List.Elements.{All-contains}
 use Rattle.model_tree.specs.Label.{Label}
 use Rattle.model_sta.specs.Automaton.{Rule}
-use Rattle.model_sta.specs.Sets.{Row, step}
+use Rattle.model_sta.specs.Sets.{Row, has, rows_meet, step}
 use Rattle.model_sta.specs.Least.{counts_of, rows_at, nodes_at, cost, IsMade}
-use Rattle.model_sta.proofs.Sets.{step_agree}
 use Rattle.model_sta.proofs.Reached.{same_default}
 use Rattle.model_sta.proofs.Least.{numbered_at}
 use Rattle.label_core.specs.Meaning.{Meaning}
-use Rattle.label_split.specs.declared.rows.SignRow.{SignRow}
-use Rattle.sta_core.specs.Machine.{PlainRule}
+use Rattle.sta_core.specs.Machine.{plain_rule}
 use Rattle.sta_core.specs.declared.StaRule.{StaRule}
-use Rattle.sta_classes.specs.Rules.{meaning_of}
-use Rattle.sta_classes.specs.Guards.{AreSplit}
+use Rattle.sta_classes.specs.Applying.{is_yes, truth_at, IsRules, IsFired}
+use Rattle.sta_classes.specs.Bits.{both}
+use Rattle.sta_classes.specs.Rules.{plain_rules, meaning_of}
 use Rattle.sta_classes.specs.Rows.{found_of, founds, class_rows_at, class_counts_at, lists_of}
 use Rattle.sta_classes.specs.Lists.{IsListWith}
 use Rattle.sta_classes.specs.Pending.{IsMet}
-use Rattle.sta_classes.specs.Searched.{firsts_of, AreKinds, IsSound, IsOpened}
+use Rattle.sta_classes.specs.Searched.{firsts_of, AreKinds, IsSound, IsOpened, IsTold}
 use Rattle.sta_classes.specs.declared.class.Class.{Class}
 use Rattle.sta_classes.specs.declared.class.TheConstants.{CAP}
 use Rattle.sta_classes.specs.declared.place.Place.{Place}
 use Rattle.sta_classes.specs.declared.pending.Pending.{Pending}
-use Rattle.sta_classes.proofs.Rows.{contains_unmap, rows_are, counts_are, all_each}
-use Rattle.sta_classes.proofs.Covered.{covers, kept_value}
+use Rattle.sta_classes.specs.declared.rules.Owned.{Owned}
+use Rattle.sta_classes.specs.declared.rules.Rules.{Rules}
+use Rattle.sta_classes.specs.declared.splits.Told.{Told}
+use Rattle.sta_classes.proofs.Rows.{rows_are, counts_are, all_each}
+use Rattle.sta_classes.proofs.Applying.{row_is_step, same_step, told_apart, yes_everywhere}
+use Rattle.sta_classes.proofs.Meet.{both_maps}
 use Rattle.sta_classes.proofs.Listed.{cost_above}
 use Rattle.sta_classes.proofs.Firsts.{listed_low}
 
 pub all_by_place : (P : ℕ → Type 0) (ks : List ℕ) → ((j : ℕ) → j < length ks → P (get_or ks j 0)) → All P ks
 all_by_place P ks h i d low = subst P (same_default ks i 0 d low) (h i low)
 
-module _ {A V W : Type 0} {label_of : V → Label} {holds : A → Label → Bool} (M : Meaning label_of holds W) (ranks : List ℕ) (plain : List (List (PlainRule A))) (lists : List (List (SignRow V))) (split : AreSplit M (length ranks) plain lists) (found : List (Class V)) where
+module _ {A V W G : Type 0} {label_of : V → Label} {holds : A → Label → Bool} (M : Meaning label_of holds W) (ranks : List ℕ) (rules : List (Vec (StaRule A) G)) (found : List (Class V)) (c : ℕ) (R : Rules A) (is : IsRules rules c R) (ks : List ℕ) (key : Row) (told : List (Told V)) (are : IsTold M R (class_rows_at found ks) key told) where
+  abbrev meets : Owned A → Bool
+  meets x = rows_meet (class_rows_at found ks) (plain_rule x.rule.now).demands
+
+  abbrev own_set : Label → Row
+  own_set l = step (meaning_of holds (plain_rules rules)) c l (class_rows_at found ks)
+
+  same_set : (l : Label) → own_set l ≡ step (meaning_of holds (plain_rules rules)) c l (rows_at (founds label_of found) ks)
+  same_set l = ap (λ rs. step (meaning_of holds (plain_rules rules)) c l (map (λ k. get_or rs k []) ks)) (sym (rows_are label_of found))
+
+  fired_key : (t : Told V) → t.holds ≡ map (truth_at holds (label_of t.value)) R.list.items → both key t.holds ≡ map (λ x. meets x && truth_at holds (label_of t.value) x) R.list.items
+  fired_key t held = ap₂ both are.0 held ∙ both_maps meets (truth_at holds (label_of t.value)) R.list.items
+
+  -- the states of the rules that fire are the set
+  pub row_made : (t : Told V) → Contains told t → (row : Row) → length row ≡ length rules → ((s : ℕ) → has row s ≡ true ↔ IsFired R.list.items (both key t.holds) s) → row ≡ own_set (label_of t.value)
+  row_made t there row wide fired =
+      let held = All-contains (λ z. z.holds ≡ map (truth_at holds (label_of z.value)) R.list.items) told t are.1.held there in
+      row_is_step holds rules c R.list.items is.owned (class_rows_at found ks) (label_of t.value) row wide (subst (λ z. (s : ℕ) → has row s ≡ true ↔ IsFired R.list.items z s) (fired_key t held) fired)
+
   -- the tree over these children with this label
-  pub made_over : (c : ℕ) (ks : List ℕ) (nodes : ℕ) (r : SignRow V) (row : Row) → c < length ranks → length ks ≡ get_or ranks c 0 → All (λ k. k < length found) ks → Contains (get_or lists c []) r
-      → row ≡ step (meaning_of holds plain) c (label_of r.value) (class_rows_at found ks) → nodes ≡ cost CAP (nodes_at (founds label_of found) ks)
-      → IsMade CAP ranks M.keeps (meaning_of holds plain) (founds label_of found) (length found) (record { row = row; nodes = nodes; constructor = c; label = label_of r.value; children = ks })
-  made_over c ks nodes r row low wide lows there is count = record {
+  pub made_over : (nodes : ℕ) (t : Told V) (row : Row) → c < length ranks → length ks ≡ get_or ranks c 0 → All (λ k. k < length found) ks → Contains told t → row ≡ own_set (label_of t.value) → nodes ≡ cost CAP (nodes_at (founds label_of found) ks)
+      → IsMade CAP ranks M.keeps (meaning_of holds (plain_rules rules)) (founds label_of found) (length found) (record { row = row; nodes = nodes; constructor = c; label = label_of t.value; children = ks })
+  made_over nodes t row low wide lows there row_is count = record {
     low = low;
-    is_label = All-contains (λ z. M.keeps (label_of z.value)) (get_or lists c []) r (kept_value M plain ranks lists split c low) there;
+    is_label = All-contains (λ z. M.keeps (label_of z.value)) told t are.1.kept there;
     wide = wide;
     earlier = all_each (λ k. k < length found) ks lows;
-    row_is = is ∙ ap (λ rs. step (meaning_of holds plain) c (label_of r.value) (map (λ k. get_or rs k []) ks)) (sym (rows_are label_of found));
+    row_is = row_is ∙ same_set (label_of t.value);
     nodes_are = count;
   }
 
+  one_set : (l m : Label) → both (both R.guarded key) (map (truth_at holds l) R.list.items) ≡ both (both R.guarded key) (map (truth_at holds m) R.list.items) → own_set l ≡ own_set m
+  one_set l m e =
+      same_step holds rules c R.list.items is.owned (class_rows_at found ks) l m
+      (sym (both_maps meets (truth_at holds l) R.list.items)
+      ∙ told_apart (λ x. not (is_yes (plain_rule x.rule.now).guard)) meets (truth_at holds l) (truth_at holds m) R.list.items (yes_everywhere holds l m)
+      (ap₂ (λ g k. both (both g k) (map (truth_at holds l) R.list.items)) (sym is.guarded_are) (sym are.0) ∙ e ∙ ap₂ (λ g k. both (both g k) (map (truth_at holds m) R.list.items)) is.guarded_are are.0)
+      ∙ both_maps meets (truth_at holds m) R.list.items)
+
   -- where the trees with each of the labels are met, those with all labels are
-  pub opened_by : (s : Pending V) (c : ℕ) (ks : List ℕ) (nodes : ℕ) → c < length ranks → nodes ≡ cost CAP (nodes_at (founds label_of found) ks)
-      → ((i : ℕ) (r : SignRow V) → i < length (get_or lists c []) → get_or (get_or lists c []) i r ≡ r → IsMet s (step (meaning_of holds plain) c (label_of r.value) (rows_at (founds label_of found) ks)) nodes)
-      → IsOpened ranks M.has M.keeps (meaning_of holds plain) label_of found s c ks
-  opened_by s c ks nodes low count met l d =
-      let (v, given, agree) = covers M plain ranks lists split c low l d in
-      let (r, (i, i_low, at), is) = contains_unmap (λ z. label_of z.value) (get_or lists c []) v given in
-      subst (IsMet s (step (meaning_of holds plain) c l (rows_at (founds label_of found) ks))) count
-      (subst (λ q. IsMet s q nodes) (ap (λ m. step (meaning_of holds plain) c m (rows_at (founds label_of found) ks)) is ∙ step_agree c l v (rows_at (founds label_of found) ks) (meaning_of holds plain) agree) (met i r i_low at))
+  pub opened_by : (s : Pending V) (nodes : ℕ) → nodes ≡ cost CAP (nodes_at (founds label_of found) ks)
+      → ((i : ℕ) (t : Told V) → i < length told → get_or told i t ≡ t → IsMet s (step (meaning_of holds (plain_rules rules)) c (label_of t.value) (rows_at (founds label_of found) ks)) nodes)
+      → IsOpened ranks M.has M.keeps (meaning_of holds (plain_rules rules)) label_of found s c ks
+  opened_by s nodes count met l d =
+      let (t, (i, i_low, at), same) = are.1.complete l d in
+      subst (IsMet s (step (meaning_of holds (plain_rules rules)) c l (rows_at (founds label_of found) ks))) count
+      (subst (λ q. IsMet s q nodes) (sym (same_set (label_of t.value)) ∙ sym (one_set l (label_of t.value) same) ∙ same_set l) (met i t i_low at))
 
 module _ {V : Type 0} (ranks : List ℕ) (has keeps : Label → Type 0) (meaning : List (List (Rule Label))) (label : V → Label) (found : List (Class V)) (s : Pending V) (h : IsSound ranks has keeps meaning label found s) where
   capped : (k : ℕ) → k < length found → get_or (counts_of (founds label found)) k 0 ≤ CAP

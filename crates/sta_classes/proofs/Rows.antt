@@ -19,15 +19,6 @@ rows_meet_none (q ∷ qs) = refl
 pub rows_meet_done : {X : Type 0} (f : X → List ℕ) (qs : List Row) (ds : List X) (i : ℕ) → length ds ≤ i → rows_meet qs (map f (drop i ds)) ≡ true
 rows_meet_done f qs ds i h = ap (λ es. rows_meet qs (map f es)) (drop_of_length-le ds h) ∙ rows_meet_none qs
 
--- a list of tests of each state's rules, at the end
-pub stepped : {U X Y Z : Type 0} (p : List Z → Bool) (g : Y → Z) (f : X → Y) (items : U → List X) (row : List Bool) (xs : List U) (i : ℕ) → row ≡ map (λ u. p (map (λ x. g (f x)) (items u))) (take i xs) → length xs ≤ i
-    → row ≡ map p (map (map g) (map (λ u. map f (items u)) xs))
-stepped p g f items row xs i e h =
-    e ∙ ap (map (λ u. p (map (λ x. g (f x)) (items u)))) (take_all i xs h)
-    ∙ (λ j. map (λ u. p (sym (map-map g f (items u)) j)) xs)
-    ∙ sym (map-map p (λ u. map g (map f (items u))) xs)
-    ∙ ap (map p) (sym (map-map (map g) (λ u. map f (items u)) xs))
-
 pub not_known : (r : Bool) (known : List Row) (q q' : Row) → Decides r (Contains known q') → q' ≡ q → r ≡ false → ¬ Contains known q
 not_known r known q q' d e f h = true≢false (sym (d.1 (subst (Contains known) (sym e) h)) ∙ f)
 

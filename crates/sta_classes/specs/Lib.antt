@@ -1,3 +1,4 @@
+pub mod Applying
 pub mod Bits
 pub mod Grow
 pub mod Rules
@@ -11,5 +12,6 @@ pub mod Lists
 pub mod Pending
 pub mod Places
 pub mod Plain
+pub mod Splits
 pub mod Stop
 pub mod Meant

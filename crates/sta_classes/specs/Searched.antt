@@ -2,13 +2,16 @@
 use Rattle.std.specs.Prelude.{ℕ, ◌^◌, ◌≡◌, ◌<◌, ◌≤◌, ◌↔◌, Bool, List, [], map, get_or, length, Contains, Vec}
 use Rattle.model_tree.specs.Label.{Label}
 use Rattle.model_sta.specs.Automaton.{Rule}
-use Rattle.model_sta.specs.Sets.{Row, step}
+use Rattle.model_sta.specs.Sets.{Row, rows_meet, step}
 use Rattle.model_sta.specs.Least.{rows_of, counts_of, rows_at, nodes_at, cost, IsMade, AreClasses}
 use Rattle.label_core.specs.Meaning.{Meaning}
-use Rattle.label_split.specs.declared.rows.SignRow.{SignRow}
-use Rattle.sta_core.specs.Machine.{PlainRule}
+use Rattle.sta_core.specs.Machine.{plain_rule}
 use Rattle.sta_core.specs.declared.StaRule.{StaRule}
-use Rattle.sta_classes.specs.Guards.{GuardsFit, AreSplit}
+use Rattle.sta_classes.specs.Applying.{IsRules}
+use Rattle.sta_classes.specs.Bits.{both}
+use Rattle.sta_classes.specs.Guards.{GuardsFit}
+use Rattle.sta_classes.specs.Rules.{plain_rules}
+use Rattle.sta_classes.specs.Splits.{AreMet, AreTold, AreAllTold}
 use Rattle.sta_classes.specs.Rows.{found_of, founds, class_rows, lists_of}
 use Rattle.sta_classes.specs.Places.{AreAsked, IsNumbered, IsNext}
 use Rattle.sta_classes.specs.Pending.{IsPending, IsSettled, IsMet, AreKept, count_none}
@@ -16,13 +19,27 @@ use Rattle.sta_classes.specs.declared.class.Class.{Class}
 use Rattle.sta_classes.specs.declared.class.TheConstants.{CAP}
 use Rattle.sta_classes.specs.declared.place.Place.{Place}
 use Rattle.sta_classes.specs.declared.pending.Pending.{Pending}
+use Rattle.sta_classes.specs.declared.rules.Rules.{Rules}
+use Rattle.sta_classes.specs.declared.splits.Splits.{Splits}
+use Rattle.sta_classes.specs.declared.splits.Told.{Told}
 
--- the guards fit, and the rows of signs of those of each constructor are there
+-- the guards fit, and the rules of each constructor are there
+pub record IsReady {A G : Type 0} (fits : A → Type 0) (ranks : List ℕ) (rules : List (Vec (StaRule A) G)) (own : List (Rules A)) : Type 0 where
+  pub fit : GuardsFit fits (plain_rules rules)
+  pub few : length ranks < 2 ^ 32
+  pub many : length own ≡ length ranks
+  pub own_are : (c : ℕ) (R : Rules A) → c < length own → get_or own c R ≡ R → IsRules rules c R
+
 module _ {A V W : Type 0} {label_of : V → Label} {holds : A → Label → Bool} (M : Meaning label_of holds W) where
-  pub record IsReady (fits : A → Type 0) (ranks : List ℕ) (rules : List (List (PlainRule A))) (lists : List (List (SignRow V))) : Type 0 where
-    pub fit : GuardsFit fits rules
-    pub few : length ranks < 2 ^ 32
-    pub lists_are : AreSplit M (length ranks) rules lists
+  -- these are the rules whose demands children with these sets meet, and labels that tell the guards of these rules apart
+  abbrev pub IsTold : Rules A → List Row → Row → List (Told V) → Type 0
+  IsTold R qs key told = (key ≡ map (λ x. rows_meet qs (plain_rule x.rule.now).demands) R.list.items) × AreTold M R.list.items (both R.guarded key) told
+
+  -- what is known of the rules of each constructor, by the sets of the classes
+  pub record AreSplit (ranks : List ℕ) (own : List (Rules A)) (rows : List Row) (splits : List (Splits V)) : Type 0 where
+    pub many : length splits ≡ length ranks
+    pub met : (c : ℕ) (R : Rules A) (s : Splits V) → c < length splits → get_or own c R ≡ R → get_or splits c s ≡ s → AreMet R.list.items (get_or ranks c 0) rows s.met.items
+    pub told : (c : ℕ) (R : Rules A) (s : Splits V) → c < length splits → get_or own c R ≡ R → get_or splits c s ≡ s → AreAllTold M R.list.items s
 
 -- the first classes of the kinds at each place of a constructor
 abbrev pub firsts_of : List Place → List (List ℕ)

@@ -15,9 +15,3 @@ module _ {A V W : Type 0} {label_of : V → Label} {holds : A → Label → Bool
   ClassStopsFor many guards Classes = many
   ClassStopsFor many guards (Wide w) = (IsChainOver M (atoms_of_all guards) w × M.passes w) × (M.is_far w → HasUnkeptRow M (truths holds guards))
   ClassStopsFor many guards Memory = ⊤
-
--- there are too many classes, or memory was short
-abbrev pub StopsAtMore : {W : Type 0} → Type 0 → ClassStop W → Type 0
-StopsAtMore many Classes = many
-StopsAtMore many (Wide w) = ⊥
-StopsAtMore many Memory = ⊤

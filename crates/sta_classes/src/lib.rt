@@ -6,13 +6,14 @@
 
 mod class;
 mod formula;
-mod guards;
 mod known;
 mod lists;
 mod pending;
 mod place;
 mod row;
+mod rules;
 mod search;
+mod splits;
 mod stop;
 mod table;
 

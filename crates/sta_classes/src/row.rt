@@ -1,12 +1,24 @@
 //! Sets of numbers, as bits in words.
 
-ghost use Rattle.std.specs.Prelude.{◌≡◌, ◌<◌, true, false, length, replicate, set, cond, IfOk};
+ghost use Rattle.std.specs.Prelude.{ℕ, ◌≡◌, ◌<◌, ◌≤◌, true, false, length, replicate, set, cond, get_or, bit_and, IfOk};
 ghost use Rattle.model_sta.specs.Sets.{has};
+ghost use Rattle.sta_classes.specs.Bits.{both};
 
 use fast_fault::Memory;
 use std::alloc::Global;
 use std::hash::{Hash, Hasher};
 use std::marker::Model;
+
+/// Keeps the bits of each word that the other word has too.
+fn meet_words(words: &mut Vec<u64>, others: &[u64])
+    requires { length words.old.items ≤ length others.now }
+    ensures many { length words.new.items ≡ length words.old.items }
+    ensures each { (i : ℕ) → i < length words.old.items → get_or words.new.items i 0 ≡ bit_and (get_or words.old.items i 0) (get_or others.now i 0) }
+{
+    'words: for i in 0..words.len() {
+        words[i] &= others[i];
+    }
+}
 
 /// A set of some of the first so many numbers, one bit for each.
 #[derive(Drop)]
@@ -62,6 +74,39 @@ impl Row {
         if inside {
             self.insert(place);
         }
+    }
+
+    /// Keeps the numbers that the other set has too.
+    pub fn meet(&mut self, other: &Row)
+        requires { length other.now ≡ length self.old }
+        ensures { self.new ≡ both self.old other.now }
+    {
+        meet_words(&mut self.words, &other.words);
+    }
+
+    /// The first number of the set from this one on, or one past all numbers.
+    pub fn next(&self, from: usize) -> usize
+        ensures from { from ≤ result }
+        ensures none { (i : ℕ) → from ≤ i → i < result → has self.now i ≡ false }
+        ensures some { result < length self.now → has self.now result ≡ true }
+    {
+        let places = self.places;
+        let mut place = from;
+        'places: while place < places {
+            let word = self.words[place / 64];
+            if word == 0 {
+                let skipped = 64 - place % 64;
+                if skipped >= places - place {
+                    return places;
+                }
+                place += skipped;
+            } else if (word >> (place % 64)) & 1 == 1 {
+                return place;
+            } else {
+                place += 1;
+            }
+        }
+        place
     }
 
     /// The same set again.

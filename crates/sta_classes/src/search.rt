@@ -3,24 +3,29 @@
 //! Each turn takes a candidate with the fewest nodes. It is a least tree of its class, since each other tree with a new
 //! set is over trees of classes that come later. Then come the candidates over lists of kinds of which one is new.
 
-ghost use Rattle.std.specs.Prelude.{ℕ, ◌≡◌, ◌≤◌, ◌<◌, ◌-◌, [], List, length, get_or, map, Contains, All, IfOk, IfErr, OnOk};
+ghost use Rattle.std.specs.Prelude.{ℕ, ◌≡◌, ◌≤◌, ◌<◌, ◌-◌, ◌++◌, ◌∷◌, [], Bool, List, length, get_or, map, Contains, All, IfOk, IfErr, OnOk};
 ghost use Rattle.model_sta.specs.Least.{counts_of, nodes_at, cost};
 ghost use Rattle.sta_classes.specs.Rules.{plain_rules, meaning_of};
-ghost use Rattle.sta_classes.specs.Rows.{founds, lists_of};
+ghost use Rattle.sta_classes.specs.Guards.{all_guards};
+ghost use Rattle.sta_classes.specs.Rows.{founds, lists_of, class_rows, class_rows_at};
 ghost use Rattle.sta_classes.specs.Lists.{IsListWith};
 ghost use Rattle.sta_classes.specs.Meant.{AreFound, AreAllFound, HasMoreClasses};
 ghost use Rattle.sta_classes.specs.Pending.{IsBetter};
-ghost use Rattle.sta_classes.specs.Searched.{IsReady, AreKinds, IsSound, IsOpened, AreOpened, firsts_of};
-ghost use Rattle.sta_classes.specs.Stop.{StopsAtMore};
+ghost use Rattle.sta_classes.specs.Searched.{IsReady, IsTold, AreSplit, AreKinds, IsSound, IsOpened, AreOpened, firsts_of};
+ghost use Rattle.sta_classes.specs.Stop.{ClassStopsFor};
+ghost use Rattle.sta_classes.specs.declared.rules.Rules.{Rules};
+ghost use Rattle.sta_classes.specs.declared.splits.Splits.{Splits};
 
-use crate::class::{CAP, cost_over, step};
+use crate::class::{CAP, cost_over};
 use crate::known::Known;
 use crate::lists::lists_with;
 use crate::pending::{Over, Pending};
+use crate::row::Row;
+use crate::rules::Rules;
+use crate::splits::{Splits, Told};
 use crate::stop::ClassStop;
 use fast_fault::Memory;
 use label_core::Theory;
-use label_split::SignRow;
 use sta_core::StaRule;
 use std::alloc::Global;
 
@@ -31,42 +36,89 @@ pub struct Search<'a, T: Theory> {
     pub alloc: Global,
     pub ranks: &'a [u32],
     pub rules: &'a [Vec<StaRule<T::Atom>>],
-    /// The rows of signs of the guards of each constructor's rules.
-    pub lists: &'a [Vec<SignRow<T::Value>>],
+    /// The rules of each constructor.
+    pub own: &'a [Rules<'a, T::Atom>],
     pub most: u32,
 }
 
 impl<T: Theory> Search<'_, T> {
+    /// The rules whose demands the children meet, and the number of the labels that tell the guards of these apart.
+    fn told(
+        &self,
+        known: &Known<T::Value>,
+        splits: &mut Vec<Splits<T::Value>>,
+        over: &Over<'_>,
+    ) -> Result<(Row, usize), ClassStop<T::Chain>>
+        requires ready { IsReady (T.atom_fits self.now.theory.now) self.now.ranks.now self.now.rules.now self.now.own.now }
+        requires low { over.now.constructor < length self.now.ranks.now }
+        requires wide { length over.now.children.now ≡ get_or self.now.ranks.now over.now.constructor 0 }
+        requires children { All (λ k. k < length known.now.classes.items) over.now.children.now }
+        requires splits { AreSplit (T.meaning self.now.theory.now) self.now.ranks.now self.now.own.now (class_rows known.now.classes.items) splits.old.items }
+        ensures splits { OnOk result (AreSplit (T.meaning self.now.theory.now) self.now.ranks.now self.now.own.now (class_rows known.now.classes.items) splits.new.items) }
+        ensures found { IfOk result (λ r. (R : Rules T.Atom) (s : Splits T.Value) → get_or self.now.own.now over.now.constructor R ≡ R → get_or splits.new.items over.now.constructor s ≡ s → (r.1 < length s.told.items) × IsTold (T.meaning self.now.theory.now) R (class_rows_at known.now.classes.items over.now.children.now) r.0 (get_or (lists_of s.told.items) r.1 [])) }
+        ensures stop { IfErr result (ClassStopsFor (T.meaning self.now.theory.now) (HasMoreClasses (T.meaning self.now.theory.now) (record { ranks = self.now.ranks.now; rules = plain_rules self.now.rules.now }) self.now.most) (all_guards (plain_rules self.now.rules.now))) }
+    {
+        let own = &self.own[over.constructor as usize];
+        let split = &mut splits[over.constructor as usize];
+        let key = split.key(self.alloc, own, over.children)?;
+        let number = split.number(self.theory, self.alloc, own, &key)?;
+        Ok((key, number))
+    }
+
     /// Offers the trees over these children with each of the labels.
-    fn offer_each(
+    fn offer_told(
         &self,
         known: &Known<T::Value>,
         pending: &mut Pending<T::Value>,
         over: &Over<'_>,
+        key: &Row,
+        told: &[Told<T::Value>],
     ) -> Result<(), Memory>
-        requires ready { IsReady (T.meaning self.now.theory.now) (T.atom_fits self.now.theory.now) self.now.ranks.now (plain_rules self.now.rules.now) (lists_of self.now.lists.now) }
+        requires ready { IsReady (T.atom_fits self.now.theory.now) self.now.ranks.now self.now.rules.now self.now.own.now }
         requires low { over.now.constructor < length self.now.ranks.now }
         requires wide { length over.now.children.now ≡ get_or self.now.ranks.now over.now.constructor 0 }
         requires children { All (λ k. k < length known.now.classes.items) over.now.children.now }
         requires nodes { over.now.nodes ≡ cost CAP (nodes_at (founds T.label_of known.now.classes.items) over.now.children.now) }
         requires above { (k : ℕ) → k < length known.now.classes.items → get_or (counts_of (founds T.label_of known.now.classes.items)) k 0 ≤ over.now.nodes }
         requires sound { IsSound self.now.ranks.now (T.meaning self.now.theory.now).has (T.meaning self.now.theory.now).keeps (meaning_of T.atom_holds (plain_rules self.now.rules.now)) T.label_of known.now.classes.items pending.old }
+        requires told { (R : Rules T.Atom) → get_or self.now.own.now over.now.constructor R ≡ R → IsTold (T.meaning self.now.theory.now) R (class_rows_at known.now.classes.items over.now.children.now) key.now told.now }
         ensures sound { OnOk result (IsSound self.now.ranks.now (T.meaning self.now.theory.now).has (T.meaning self.now.theory.now).keeps (meaning_of T.atom_holds (plain_rules self.now.rules.now)) T.label_of known.now.classes.items pending.new) }
         ensures better { OnOk result (IsBetter pending.old pending.new) }
         ensures opened { OnOk result (IsOpened self.now.ranks.now (T.meaning self.now.theory.now).has (T.meaning self.now.theory.now).keeps (meaning_of T.atom_holds (plain_rules self.now.rules.now)) T.label_of known.now.classes.items pending.new over.now.constructor over.now.children.now) }
     {
-        'labels: for sign_row in &self.lists[over.constructor as usize] {
-            let row = step(
-                self.theory,
-                self.alloc,
-                self.rules,
-                over.constructor,
-                &sign_row.value,
-                &known.classes,
-                over.children,
-            )?;
-            pending.offer(self.theory, self.alloc, row, over, &sign_row.value)?;
+        let own = &self.own[over.constructor as usize];
+        'labels: for label in told {
+            let row = own.set(self.alloc, self.rules.len(), key, &label.holds)?;
+            pending.offer(self.theory, self.alloc, row, over, &label.value)?;
         }
+        Ok(())
+    }
+
+    /// Offers the trees over these children with labels that tell the guards apart which the children leave open.
+    fn offer_each(
+        &self,
+        known: &Known<T::Value>,
+        pending: &mut Pending<T::Value>,
+        splits: &mut Vec<Splits<T::Value>>,
+        over: &Over<'_>,
+    ) -> Result<(), ClassStop<T::Chain>>
+        requires ready { IsReady (T.atom_fits self.now.theory.now) self.now.ranks.now self.now.rules.now self.now.own.now }
+        requires low { over.now.constructor < length self.now.ranks.now }
+        requires wide { length over.now.children.now ≡ get_or self.now.ranks.now over.now.constructor 0 }
+        requires children { All (λ k. k < length known.now.classes.items) over.now.children.now }
+        requires nodes { over.now.nodes ≡ cost CAP (nodes_at (founds T.label_of known.now.classes.items) over.now.children.now) }
+        requires above { (k : ℕ) → k < length known.now.classes.items → get_or (counts_of (founds T.label_of known.now.classes.items)) k 0 ≤ over.now.nodes }
+        requires sound { IsSound self.now.ranks.now (T.meaning self.now.theory.now).has (T.meaning self.now.theory.now).keeps (meaning_of T.atom_holds (plain_rules self.now.rules.now)) T.label_of known.now.classes.items pending.old }
+        requires splits { AreSplit (T.meaning self.now.theory.now) self.now.ranks.now self.now.own.now (class_rows known.now.classes.items) splits.old.items }
+        ensures sound { OnOk result (IsSound self.now.ranks.now (T.meaning self.now.theory.now).has (T.meaning self.now.theory.now).keeps (meaning_of T.atom_holds (plain_rules self.now.rules.now)) T.label_of known.now.classes.items pending.new) }
+        ensures better { OnOk result (IsBetter pending.old pending.new) }
+        ensures opened { OnOk result (IsOpened self.now.ranks.now (T.meaning self.now.theory.now).has (T.meaning self.now.theory.now).keeps (meaning_of T.atom_holds (plain_rules self.now.rules.now)) T.label_of known.now.classes.items pending.new over.now.constructor over.now.children.now) }
+        ensures splits { OnOk result (AreSplit (T.meaning self.now.theory.now) self.now.ranks.now self.now.own.now (class_rows known.now.classes.items) splits.new.items) }
+        ensures stop { IfErr result (ClassStopsFor (T.meaning self.now.theory.now) (HasMoreClasses (T.meaning self.now.theory.now) (record { ranks = self.now.ranks.now; rules = plain_rules self.now.rules.now }) self.now.most) (all_guards (plain_rules self.now.rules.now))) }
+    {
+        let (key, number) = self.told(known, splits, over)?;
+        let told = &splits[over.constructor as usize].told[number];
+        self.offer_told(known, pending, over, &key, told)?;
         Ok(())
     }
 
@@ -75,20 +127,23 @@ impl<T: Theory> Search<'_, T> {
         &self,
         known: &Known<T::Value>,
         pending: &mut Pending<T::Value>,
+        splits: &mut Vec<Splits<T::Value>>,
         constructor: usize,
         children: &[usize],
     ) -> Result<(), ClassStop<T::Chain>>
-        requires ready { IsReady (T.meaning self.now.theory.now) (T.atom_fits self.now.theory.now) self.now.ranks.now (plain_rules self.now.rules.now) (lists_of self.now.lists.now) }
+        requires ready { IsReady (T.atom_fits self.now.theory.now) self.now.ranks.now self.now.rules.now self.now.own.now }
         requires low { constructor < length self.now.ranks.now }
         requires wide { length children.now ≡ get_or self.now.ranks.now constructor 0 }
         requires children { All (λ k. k < length known.now.classes.items) children.now }
         requires above { (k : ℕ) → k < length known.now.classes.items → get_or (counts_of (founds T.label_of known.now.classes.items)) k 0 ≤ cost CAP (nodes_at (founds T.label_of known.now.classes.items) children.now) }
         requires sound { IsSound self.now.ranks.now (T.meaning self.now.theory.now).has (T.meaning self.now.theory.now).keeps (meaning_of T.atom_holds (plain_rules self.now.rules.now)) T.label_of known.now.classes.items pending.old }
+        requires splits { AreSplit (T.meaning self.now.theory.now) self.now.ranks.now self.now.own.now (class_rows known.now.classes.items) splits.old.items }
         ensures sound { OnOk result (IsSound self.now.ranks.now (T.meaning self.now.theory.now).has (T.meaning self.now.theory.now).keeps (meaning_of T.atom_holds (plain_rules self.now.rules.now)) T.label_of known.now.classes.items pending.new) }
         ensures better { OnOk result (IsBetter pending.old pending.new) }
         ensures opened { OnOk result (IsOpened self.now.ranks.now (T.meaning self.now.theory.now).has (T.meaning self.now.theory.now).keeps (meaning_of T.atom_holds (plain_rules self.now.rules.now)) T.label_of known.now.classes.items pending.new constructor children.now) }
         ensures few { OnOk result (length pending.new.sets.keys ≤ self.now.most) }
-        ensures stop { IfErr result (StopsAtMore (HasMoreClasses (T.meaning self.now.theory.now) (record { ranks = self.now.ranks.now; rules = plain_rules self.now.rules.now }) self.now.most)) }
+        ensures splits { OnOk result (AreSplit (T.meaning self.now.theory.now) self.now.ranks.now self.now.own.now (class_rows known.now.classes.items) splits.new.items) }
+        ensures stop { IfErr result (ClassStopsFor (T.meaning self.now.theory.now) (HasMoreClasses (T.meaning self.now.theory.now) (record { ranks = self.now.ranks.now; rules = plain_rules self.now.rules.now }) self.now.most) (all_guards (plain_rules self.now.rules.now))) }
     {
         let nodes = cost_over(&known.classes, children);
         let constructor = constructor as u32;
@@ -97,7 +152,7 @@ impl<T: Theory> Search<'_, T> {
             nodes,
             children,
         };
-        self.offer_each(known, pending, &over)?;
+        self.offer_each(known, pending, splits, &over)?;
         if pending.sets.len() > self.most as usize {
             return Err(ClassStop::Classes);
         }
@@ -109,19 +164,22 @@ impl<T: Theory> Search<'_, T> {
         &self,
         known: &Known<T::Value>,
         pending: &mut Pending<T::Value>,
+        splits: &mut Vec<Splits<T::Value>>,
     ) -> Result<(), ClassStop<T::Chain>>
-        requires ready { IsReady (T.meaning self.now.theory.now) (T.atom_fits self.now.theory.now) self.now.ranks.now (plain_rules self.now.rules.now) (lists_of self.now.lists.now) }
+        requires ready { IsReady (T.atom_fits self.now.theory.now) self.now.ranks.now self.now.rules.now self.now.own.now }
         requires none { known.now.classes.items ≡ [] }
         requires sound { IsSound self.now.ranks.now (T.meaning self.now.theory.now).has (T.meaning self.now.theory.now).keeps (meaning_of T.atom_holds (plain_rules self.now.rules.now)) T.label_of known.now.classes.items pending.old }
         requires few { length pending.old.sets.keys ≤ self.now.most }
+        requires splits { AreSplit (T.meaning self.now.theory.now) self.now.ranks.now self.now.own.now (class_rows known.now.classes.items) splits.old.items }
         ensures sound { OnOk result (IsSound self.now.ranks.now (T.meaning self.now.theory.now).has (T.meaning self.now.theory.now).keeps (meaning_of T.atom_holds (plain_rules self.now.rules.now)) T.label_of known.now.classes.items pending.new) }
         ensures opened { OnOk result ((c : ℕ) → c < length self.now.ranks.now → get_or self.now.ranks.now c 0 ≡ 0 → IsOpened self.now.ranks.now (T.meaning self.now.theory.now).has (T.meaning self.now.theory.now).keeps (meaning_of T.atom_holds (plain_rules self.now.rules.now)) T.label_of known.now.classes.items pending.new c []) }
         ensures few { OnOk result (length pending.new.sets.keys ≤ self.now.most) }
-        ensures stop { IfErr result (StopsAtMore (HasMoreClasses (T.meaning self.now.theory.now) (record { ranks = self.now.ranks.now; rules = plain_rules self.now.rules.now }) self.now.most)) }
+        ensures splits { OnOk result (AreSplit (T.meaning self.now.theory.now) self.now.ranks.now self.now.own.now (class_rows known.now.classes.items) splits.new.items) }
+        ensures stop { IfErr result (ClassStopsFor (T.meaning self.now.theory.now) (HasMoreClasses (T.meaning self.now.theory.now) (record { ranks = self.now.ranks.now; rules = plain_rules self.now.rules.now }) self.now.most) (all_guards (plain_rules self.now.rules.now))) }
     {
         'constructors: for constructor in 0..self.ranks.len() {
             if self.ranks[constructor] == 0 {
-                self.open(known, pending, constructor, &[])?;
+                self.open(known, pending, splits, constructor, &[])?;
             }
         }
         Ok(())
@@ -132,26 +190,29 @@ impl<T: Theory> Search<'_, T> {
         &self,
         known: &Known<T::Value>,
         pending: &mut Pending<T::Value>,
+        splits: &mut Vec<Splits<T::Value>>,
         constructor: usize,
         place: usize,
     ) -> Result<(), ClassStop<T::Chain>>
-        requires ready { IsReady (T.meaning self.now.theory.now) (T.atom_fits self.now.theory.now) self.now.ranks.now (plain_rules self.now.rules.now) (lists_of self.now.lists.now) }
+        requires ready { IsReady (T.atom_fits self.now.theory.now) self.now.ranks.now self.now.rules.now self.now.own.now }
         requires kinds { AreKinds self.now.ranks.now self.now.rules.now known.now.classes.items known.now.places.items }
         requires some { 0 < length known.now.classes.items }
         requires low { constructor < length self.now.ranks.now }
         requires place { place < get_or self.now.ranks.now constructor 0 }
         requires sound { IsSound self.now.ranks.now (T.meaning self.now.theory.now).has (T.meaning self.now.theory.now).keeps (meaning_of T.atom_holds (plain_rules self.now.rules.now)) T.label_of known.now.classes.items pending.old }
         requires few { length pending.old.sets.keys ≤ self.now.most }
+        requires splits { AreSplit (T.meaning self.now.theory.now) self.now.ranks.now self.now.own.now (class_rows known.now.classes.items) splits.old.items }
         ensures sound { OnOk result (IsSound self.now.ranks.now (T.meaning self.now.theory.now).has (T.meaning self.now.theory.now).keeps (meaning_of T.atom_holds (plain_rules self.now.rules.now)) T.label_of known.now.classes.items pending.new) }
         ensures better { OnOk result (IsBetter pending.old pending.new) }
         ensures opened { OnOk result ((ks : List ℕ) → IsListWith (firsts_of (get_or (lists_of known.now.places.items) constructor [])) place (length known.now.classes.items - 1) (get_or self.now.ranks.now constructor 0) ks → IsOpened self.now.ranks.now (T.meaning self.now.theory.now).has (T.meaning self.now.theory.now).keeps (meaning_of T.atom_holds (plain_rules self.now.rules.now)) T.label_of known.now.classes.items pending.new constructor ks) }
         ensures few { OnOk result (length pending.new.sets.keys ≤ self.now.most) }
-        ensures stop { IfErr result (StopsAtMore (HasMoreClasses (T.meaning self.now.theory.now) (record { ranks = self.now.ranks.now; rules = plain_rules self.now.rules.now }) self.now.most)) }
+        ensures splits { OnOk result (AreSplit (T.meaning self.now.theory.now) self.now.ranks.now self.now.own.now (class_rows known.now.classes.items) splits.new.items) }
+        ensures stop { IfErr result (ClassStopsFor (T.meaning self.now.theory.now) (HasMoreClasses (T.meaning self.now.theory.now) (record { ranks = self.now.ranks.now; rules = plain_rules self.now.rules.now }) self.now.most) (all_guards (plain_rules self.now.rules.now))) }
     {
         let last = known.classes.len() - 1;
         let lists = lists_with(self.alloc, &known.places[constructor], place, last)?;
         'lists: for children in &lists {
-            self.open(known, pending, constructor, children)?;
+            self.open(known, pending, splits, constructor, children)?;
         }
         Ok(())
     }
@@ -161,24 +222,27 @@ impl<T: Theory> Search<'_, T> {
         &self,
         known: &Known<T::Value>,
         pending: &mut Pending<T::Value>,
+        splits: &mut Vec<Splits<T::Value>>,
         constructor: usize,
     ) -> Result<(), ClassStop<T::Chain>>
-        requires ready { IsReady (T.meaning self.now.theory.now) (T.atom_fits self.now.theory.now) self.now.ranks.now (plain_rules self.now.rules.now) (lists_of self.now.lists.now) }
+        requires ready { IsReady (T.atom_fits self.now.theory.now) self.now.ranks.now self.now.rules.now self.now.own.now }
         requires kinds { AreKinds self.now.ranks.now self.now.rules.now known.now.classes.items known.now.places.items }
         requires some { 0 < length known.now.classes.items }
         requires low { constructor < length self.now.ranks.now }
         requires sound { IsSound self.now.ranks.now (T.meaning self.now.theory.now).has (T.meaning self.now.theory.now).keeps (meaning_of T.atom_holds (plain_rules self.now.rules.now)) T.label_of known.now.classes.items pending.old }
         requires few { length pending.old.sets.keys ≤ self.now.most }
+        requires splits { AreSplit (T.meaning self.now.theory.now) self.now.ranks.now self.now.own.now (class_rows known.now.classes.items) splits.old.items }
         ensures sound { OnOk result (IsSound self.now.ranks.now (T.meaning self.now.theory.now).has (T.meaning self.now.theory.now).keeps (meaning_of T.atom_holds (plain_rules self.now.rules.now)) T.label_of known.now.classes.items pending.new) }
         ensures better { OnOk result (IsBetter pending.old pending.new) }
         ensures opened { OnOk result ((j : ℕ) (ks : List ℕ) → j < get_or self.now.ranks.now constructor 0 → IsListWith (firsts_of (get_or (lists_of known.now.places.items) constructor [])) j (length known.now.classes.items - 1) (get_or self.now.ranks.now constructor 0) ks → IsOpened self.now.ranks.now (T.meaning self.now.theory.now).has (T.meaning self.now.theory.now).keeps (meaning_of T.atom_holds (plain_rules self.now.rules.now)) T.label_of known.now.classes.items pending.new constructor ks) }
         ensures few { OnOk result (length pending.new.sets.keys ≤ self.now.most) }
-        ensures stop { IfErr result (StopsAtMore (HasMoreClasses (T.meaning self.now.theory.now) (record { ranks = self.now.ranks.now; rules = plain_rules self.now.rules.now }) self.now.most)) }
+        ensures splits { OnOk result (AreSplit (T.meaning self.now.theory.now) self.now.ranks.now self.now.own.now (class_rows known.now.classes.items) splits.new.items) }
+        ensures stop { IfErr result (ClassStopsFor (T.meaning self.now.theory.now) (HasMoreClasses (T.meaning self.now.theory.now) (record { ranks = self.now.ranks.now; rules = plain_rules self.now.rules.now }) self.now.most) (all_guards (plain_rules self.now.rules.now))) }
     {
         let last = known.classes.len() - 1;
         'places: for place in 0..known.places[constructor].len() {
             if known.places[constructor][place].begins(last) {
-                self.open_place(known, pending, constructor, place)?;
+                self.open_place(known, pending, splits, constructor, place)?;
             }
         }
         Ok(())
@@ -189,39 +253,69 @@ impl<T: Theory> Search<'_, T> {
         &self,
         known: &Known<T::Value>,
         pending: &mut Pending<T::Value>,
+        splits: &mut Vec<Splits<T::Value>>,
     ) -> Result<(), ClassStop<T::Chain>>
-        requires ready { IsReady (T.meaning self.now.theory.now) (T.atom_fits self.now.theory.now) self.now.ranks.now (plain_rules self.now.rules.now) (lists_of self.now.lists.now) }
+        requires ready { IsReady (T.atom_fits self.now.theory.now) self.now.ranks.now self.now.rules.now self.now.own.now }
         requires kinds { AreKinds self.now.ranks.now self.now.rules.now known.now.classes.items known.now.places.items }
         requires some { 0 < length known.now.classes.items }
         requires sound { IsSound self.now.ranks.now (T.meaning self.now.theory.now).has (T.meaning self.now.theory.now).keeps (meaning_of T.atom_holds (plain_rules self.now.rules.now)) T.label_of known.now.classes.items pending.old }
         requires few { length pending.old.sets.keys ≤ self.now.most }
+        requires splits { AreSplit (T.meaning self.now.theory.now) self.now.ranks.now self.now.own.now (class_rows known.now.classes.items) splits.old.items }
         ensures sound { OnOk result (IsSound self.now.ranks.now (T.meaning self.now.theory.now).has (T.meaning self.now.theory.now).keeps (meaning_of T.atom_holds (plain_rules self.now.rules.now)) T.label_of known.now.classes.items pending.new) }
         ensures better { OnOk result (IsBetter pending.old pending.new) }
         ensures opened { OnOk result (AreOpened self.now.ranks.now (T.meaning self.now.theory.now).has (T.meaning self.now.theory.now).keeps (meaning_of T.atom_holds (plain_rules self.now.rules.now)) T.label_of known.now.classes.items known.now.places.items pending.new (λ c ks. Contains ks (length known.now.classes.items - 1))) }
         ensures few { OnOk result (length pending.new.sets.keys ≤ self.now.most) }
-        ensures stop { IfErr result (StopsAtMore (HasMoreClasses (T.meaning self.now.theory.now) (record { ranks = self.now.ranks.now; rules = plain_rules self.now.rules.now }) self.now.most)) }
+        ensures splits { OnOk result (AreSplit (T.meaning self.now.theory.now) self.now.ranks.now self.now.own.now (class_rows known.now.classes.items) splits.new.items) }
+        ensures stop { IfErr result (ClassStopsFor (T.meaning self.now.theory.now) (HasMoreClasses (T.meaning self.now.theory.now) (record { ranks = self.now.ranks.now; rules = plain_rules self.now.rules.now }) self.now.most) (all_guards (plain_rules self.now.rules.now))) }
     {
         'constructors: for constructor in 0..self.ranks.len() {
-            self.open_last(known, pending, constructor)?;
+            self.open_last(known, pending, splits, constructor)?;
+        }
+        Ok(())
+    }
+
+    /// Nothing is known of the rules of each constructor.
+    fn no_splits(&self) -> Result<Vec<Splits<T::Value>>, Memory>
+        ensures { IfOk result (λ splits. AreSplit (T.meaning self.now.theory.now) self.now.ranks.now self.now.own.now [] splits.items) }
+    {
+        let mut splits = Vec::new(self.alloc);
+        'constructors: for _ in 0..self.ranks.len() {
+            splits.push(Splits::new(self.alloc))?;
+        }
+        Ok(splits)
+    }
+
+    /// Tells which rules of each constructor a child of one more class meets.
+    fn add_to_splits(&self, splits: &mut Vec<Splits<T::Value>>, row: &Row) -> Result<(), Memory>
+        requires ready { IsReady (T.atom_fits self.now.theory.now) self.now.ranks.now self.now.rules.now self.now.own.now }
+        requires many { length splits.old.items ≡ length self.now.ranks.now }
+        ensures { OnOk result ((rows : List (List Bool)) → AreSplit (T.meaning self.now.theory.now) self.now.ranks.now self.now.own.now rows splits.old.items → AreSplit (T.meaning self.now.theory.now) self.now.ranks.now self.now.own.now (rows ++ row.now ∷ []) splits.new.items) }
+    {
+        'constructors: for constructor in 0..splits.len() {
+            let list = &self.own[constructor].list;
+            let places = self.ranks[constructor];
+            splits[constructor].add(self.alloc, list, places, row)?;
         }
         Ok(())
     }
 
     /// All classes, where there are not more than `most`.
     pub fn run(&self) -> Result<Known<T::Value>, ClassStop<T::Chain>>
-        requires ready { IsReady (T.meaning self.now.theory.now) (T.atom_fits self.now.theory.now) self.now.ranks.now (plain_rules self.now.rules.now) (lists_of self.now.lists.now) }
+        requires ready { IsReady (T.atom_fits self.now.theory.now) self.now.ranks.now self.now.rules.now self.now.own.now }
         ensures classes { IfOk result (λ known. AreFound (T.meaning self.now.theory.now) CAP self.now.ranks.now (plain_rules self.now.rules.now) known.classes.items) }
         ensures complete { IfOk result (λ known. AreAllFound (T.meaning self.now.theory.now) CAP self.now.ranks.now (plain_rules self.now.rules.now) known.classes.items) }
         ensures kinds { IfOk result (λ known. AreKinds self.now.ranks.now self.now.rules.now known.classes.items known.places.items) }
         ensures few { IfOk result (λ known. length known.classes.items ≤ self.now.most) }
-        ensures stop { IfErr result (StopsAtMore (HasMoreClasses (T.meaning self.now.theory.now) (record { ranks = self.now.ranks.now; rules = plain_rules self.now.rules.now }) self.now.most)) }
+        ensures stop { IfErr result (ClassStopsFor (T.meaning self.now.theory.now) (HasMoreClasses (T.meaning self.now.theory.now) (record { ranks = self.now.ranks.now; rules = plain_rules self.now.rules.now }) self.now.most) (all_guards (plain_rules self.now.rules.now))) }
     {
         let mut known = Known::new(self.alloc, self.ranks, self.rules)?;
         let mut pending = Pending::new(self.alloc);
-        self.open_leaves(&known, &mut pending)?;
+        let mut splits = self.no_splits()?;
+        self.open_leaves(&known, &mut pending, &mut splits)?;
         'turns: while let Some(class) = pending.take() {
+            self.add_to_splits(&mut splits, &class.row)?;
             known.add(self.alloc, class)?;
-            self.open_new(&known, &mut pending)?;
+            self.open_new(&known, &mut pending, &mut splits)?;
         }
         Ok(known)
     }

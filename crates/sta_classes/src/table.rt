@@ -14,8 +14,8 @@ ghost use Rattle.sta_classes.specs.Plain.{class_row, kind_count, kind_at, HasKin
 
 use crate::class::CAP;
 use crate::formula::{places, row_formula};
-use crate::guards::splits;
 use crate::known::Known;
+use crate::rules::each_rules;
 use crate::search::Search;
 use crate::stop::ClassStop;
 use fast_fault::Memory;
@@ -191,13 +191,13 @@ pub fn classes<'a, T: Theory>(
     }
     let ranks = sta.ranks();
     let rules = sta.rules();
-    let lists = splits(theory, alloc, rules, ranks.len() as u32)?;
+    let own = each_rules(alloc, rules, ranks.len() as u32)?;
     let search = Search {
         theory,
         alloc,
         ranks,
         rules,
-        lists: &lists,
+        own: &own,
         most,
     };
     let known = search.run()?;

@@ -1,6 +1,7 @@
 use Rattle.std.proofs.Common.{◌≡◌, get_or, Contains, refl, subst, arith}
 use Rattle.model_sta.proofs.Reached.{same_default}
-use Rattle.sta_classes.proofs.Grown.{Some, grown_same, grown_more, grown_all}
+use Rattle.sta_classes.specs.Grow.{Some}
+use Rattle.sta_classes.proofs.Grown.{grown_same, grown_more, grown_all}
 use Rattle.sta_classes.proofs.place.add_states.Goals as goal
 
 pub states-preserved : goal.states-preserved

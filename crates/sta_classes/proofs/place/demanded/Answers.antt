@@ -1,7 +1,7 @@
 use Rattle.std.proofs.Common.{arith, subst, inl, inr, Contains}
-use Rattle.sta_classes.specs.Grow.{Grown}
+use Rattle.sta_classes.specs.Grow.{Grown, Some}
 use Rattle.sta_classes.specs.Places.{AsksFor}
-use Rattle.sta_classes.proofs.Grown.{Some, nowhere, grown_more, grown_all}
+use Rattle.sta_classes.proofs.Grown.{nowhere, grown_more, grown_all}
 use Rattle.sta_classes.proofs.place.demanded.Goals as goal
 
 pub states-preserved : goal.states-preserved

@@ -1,6 +1,6 @@
-use Rattle.sta_classes.specs.Grow.{Grown}
+use Rattle.sta_classes.specs.Grow.{Grown, Some}
 use Rattle.sta_classes.specs.Places.{AsksFor}
-use Rattle.sta_classes.proofs.Grown.{Before, Some}
+use Rattle.sta_classes.proofs.Grown.{Before}
 use Rattle.sta_classes.proofs.place.demanded.Given as goal
 
 abbrev pub invariant-states : goal.invariant-states

@@ -1,9 +1,10 @@
-use Rattle.std.proofs.Common.{ap, sym, subst, arith, length}
+use Rattle.std.proofs.Common.{ℕ, ◌≡◌, ◌<◌, ◌∙◌, get_or, ap, sym, subst, arith, length}
 use Rattle.sta_core.specs.Sta.{automaton_of}
-use Rattle.sta_classes.specs.Guards.{GuardsFit, AreSplit}
+use Rattle.sta_classes.specs.Applying.{IsRules}
+use Rattle.sta_classes.specs.Guards.{GuardsFit}
 use Rattle.sta_classes.specs.Plain.{AreShaped}
 use Rattle.sta_classes.specs.Rules.{plain_rules, meaning_of}
-use Rattle.sta_classes.specs.Rows.{lists_of}
+use Rattle.sta_classes.specs.declared.rules.Rules.{Rules}
 use Rattle.sta_classes.specs.declared.class.TheConstants.{CAP}
 use Rattle.sta_classes.proofs.Built.{table_is, built_is}
 use Rattle.sta_classes.proofs.Shapes.{shaped, has_kinds}
@@ -14,7 +15,8 @@ run-requires g c = record {
   ready = record {
     fit = subst (GuardsFit (g.T.Theory.atom_fits c.args.theory.now)) (sym c.rules-rules.ensures.rules) c.requires.fit;
     few = omega (arith, c.if-ranks.false, ap length c.ranks.ensures, ap length c.ranks-ranks.ensures);
-    lists_are = subst (AreSplit (g.T.Theory.meaning c.args.theory.now) (length c.ranks-ranks.result.now) (plain_rules c.rules-rules.result.now)) (ap lists_of (sym c.deref.ensures.value)) c.in_ok-lists.ensures.lists;
+    many = ap length c.deref.ensures.value ∙ c.in_ok-own.ensures.many;
+    own_are = subst (λ l. (n : ℕ) (own : Rules g.row.T-Atom.Denot) → n < length l → get_or l n own ≡ own → IsRules c.rules-rules.result.now n own) (sym c.deref.ensures.value) c.in_ok-own.ensures.are;
   };
 }
 

@@ -16,7 +16,7 @@ pub returns-in_ok-values_of-in-Some : goal.returns-in_ok-values_of-in-Some
 returns-in_ok-values_of-in-Some c =
     let are : AreSides c.args.self.now.fields c.args.literals.now c.in-Some.sides.items = rw c.in-Some.is at c.in_ok-sides_of.ensures in
     let none : list_any (is_refused c.in-Some.sides.items) c.args.literals.now ≡ false = ap (λ sides. list_any (is_refused sides) c.args.literals.now) (sym c.deref.ensures.value) ∙ sym c.some_refuses.ensures ∙ c.if-some_refuses.false in
-    let values : AreValues c.in-Some.sides.items c.in_ok-constants-in-Some.constants.items c.in_ok-values_of-in-Some.field-0.items = rw (c.deref-in-Some.ensures.value, c.deref-in-Some-2.ensures.value) at c.in_ok-values_of-in-Some.ensures in (
+    let values : AreValues c.in-Some.sides.items c.in_ok-constants-in-Some.constants.keys c.in_ok-values_of-in-Some.field-0.items = rw c.deref-in-Some.ensures.value at c.in_ok-values_of-in-Some.ensures in (
       (c.in_ok-values_of-in-Some.field-0.items, values.many ∙ are.many, refl),
-      values_satisfy c.args.self.now.fields c.args.literals.now c.requires c.in-Some.sides.items are c.in_ok-constants-in-Some.constants.items c.in_ok-values_of-in-Some.field-0.items none c.in_ok-constants-in-Some.ensures values,
+      values_satisfy c.args.self.now.fields c.args.literals.now c.requires c.in-Some.sides.items are c.in_ok-constants-in-Some.constants.keys c.in_ok-values_of-in-Some.field-0.items none c.in_ok-constants-in-Some.ensures values,
     )

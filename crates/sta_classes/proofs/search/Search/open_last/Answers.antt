@@ -2,7 +2,8 @@ use Rattle.std.proofs.Common.{◌≡◌, ◌<◌, ◌≤◌, ◌-◌, ◌∙◌,
 use Rattle.std.proofs.lemmas.List.{length-map}
 use Rattle.sta_classes.specs.Rules.{plain_rules, meaning_of}
 use Rattle.sta_classes.specs.Pending.{IsBetter}
-use Rattle.sta_classes.specs.Searched.{IsSound, IsOpened}
+use Rattle.sta_classes.specs.Rows.{class_rows}
+use Rattle.sta_classes.specs.Searched.{AreSplit, IsSound, IsOpened}
 use Rattle.sta_classes.proofs.Rows.{list_at}
 use Rattle.sta_classes.proofs.Runs.{last_more, last_absent}
 use Rattle.sta_classes.proofs.search.Search.open_last.Goals as goal
@@ -28,6 +29,7 @@ places-preserved g c =
       | then-begins+in_ok-open_place w ↦ record {
         sound = subst (IsSound c.args.self.now.ranks.now (g.T.Theory.meaning c.args.self.now.theory.now).has (g.T.Theory.meaning c.args.self.now.theory.now).keeps (meaning_of g.T.Theory.atom_holds (plain_rules c.args.self.now.rules.now)) g.T.Theory.label_of c.args.known.now.classes.items) (sym w.pending-is) w.in_ok-open_place.ensures.sound;
         better = λ q n m. subst (IsBetter c.places.pending) (sym w.pending-is) w.in_ok-open_place.ensures.better q n (c.places.invariant.better q n m);
+        splits = subst (λ p. AreSplit (g.T.Theory.meaning c.args.self.now.theory.now) c.args.self.now.ranks.now c.args.self.now.own.now (class_rows c.args.known.now.classes.items) p.items) (sym w.splits-is) w.in_ok-open_place.ensures.splits;
         few = subst (λ p. length p.sets.keys ≤ c.args.self.now.most) (sym w.pending-is) w.in_ok-open_place.ensures.few;
         opened = last_more (g.T.Theory.meaning c.args.self.now.theory.now) c.args.self.now.ranks.now c.args.self.now.rules.now c.args.known.now.classes.items c.args.known.now.places.items c.places.pending c.if-begins.pending c.places.invariant.sound (subst (IsBetter c.places.pending) (sym w.pending-is) w.in_ok-open_place.ensures.better) c.args.constructor c.places.place c.places.invariant.opened
             (λ ks inside listed. subst (λ p. IsOpened c.args.self.now.ranks.now (g.T.Theory.meaning c.args.self.now.theory.now).has (g.T.Theory.meaning c.args.self.now.theory.now).keeps (meaning_of g.T.Theory.atom_holds (plain_rules c.args.self.now.rules.now)) g.T.Theory.label_of c.args.known.now.classes.items p c.args.constructor ks) (sym w.pending-is) (w.in_ok-open_place.ensures.opened ks listed));
@@ -35,6 +37,7 @@ places-preserved g c =
       | else-begins w ↦ record {
         sound = subst (IsSound c.args.self.now.ranks.now (g.T.Theory.meaning c.args.self.now.theory.now).has (g.T.Theory.meaning c.args.self.now.theory.now).keeps (meaning_of g.T.Theory.atom_holds (plain_rules c.args.self.now.rules.now)) g.T.Theory.label_of c.args.known.now.classes.items) (sym w.pending-is) c.places.invariant.sound;
         better = λ q n m. subst (IsBetter c.places.pending) (sym w.pending-is) (λ a b h. h) q n (c.places.invariant.better q n m);
+        splits = subst (λ p. AreSplit (g.T.Theory.meaning c.args.self.now.theory.now) c.args.self.now.ranks.now c.args.self.now.own.now (class_rows c.args.known.now.classes.items) p.items) (sym w.splits-is) c.places.invariant.splits;
         few = subst (λ p. length p.sets.keys ≤ c.args.self.now.most) (sym w.pending-is) c.places.invariant.few;
         opened = last_more (g.T.Theory.meaning c.args.self.now.theory.now) c.args.self.now.ranks.now c.args.self.now.rules.now c.args.known.now.classes.items c.args.known.now.places.items c.places.pending c.if-begins.pending c.places.invariant.sound (subst (IsBetter c.places.pending) (sym w.pending-is) (λ a b h. h)) c.args.constructor c.places.place c.places.invariant.opened
             (λ ks inside listed. absurd (last_absent (g.T.Theory.meaning c.args.self.now.theory.now) c.args.self.now.ranks.now c.args.self.now.rules.now c.args.known.now.classes.items c.args.known.now.places.items c.requires.kinds c.args.constructor c.places.place c.requires.low in_rank c.index-in-places-2.result.now (ap (λ l. get_or l c.places.place c.index-in-places-2.result.now) (sym (list_at c.args.known.now.places.items c.args.constructor c.index-in-places.result.now c.index-in-places.result.now.items (omega (arith, c.requires.low, c.requires.kinds.many)) c.index-in-places.ensures refl)) ∙ sym c.index-in-places-2.ensures)

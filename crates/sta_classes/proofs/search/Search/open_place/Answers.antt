@@ -31,6 +31,7 @@ pub lists-preserved : goal.lists-preserved
 lists-preserved g c = record {
   sound = c.in_ok-open.ensures.sound;
   better = λ q n m. c.in_ok-open.ensures.better q n (c.lists.invariant.better q n m);
+  splits = c.in_ok-open.ensures.splits;
   few = c.in_ok-open.ensures.few;
   opened = λ i low inside. elim (cases_lt i c.lists.children-index) [
     | inl below ↦ opened_later c.args.self.now.ranks.now (g.T.Theory.meaning c.args.self.now.theory.now).has (g.T.Theory.meaning c.args.self.now.theory.now).keeps (meaning_of g.T.Theory.atom_holds (plain_rules c.args.self.now.rules.now)) g.T.Theory.label_of c.args.known.now.classes.items c.lists.pending c.open.new.pending c.lists.invariant.sound c.args.constructor (get_or (lists_of c.deref-children-items.result.now) i []) c.in_ok-open.ensures.better (c.lists.invariant.opened i below inside)

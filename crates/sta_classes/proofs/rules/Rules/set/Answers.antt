@@ -1,0 +1,15 @@
+use Rattle.std.proofs.Common.{ℕ, ◌≡◌, ◌∙◌, ◌↔◌, true, length, sym, ap, subst, IfOk}
+use Rattle.model_sta.specs.Sets.{has}
+use Rattle.sta_classes.specs.Applying.{IsFired}
+use Rattle.sta_classes.specs.Bits.{both}
+use Rattle.sta_classes.proofs.Meet.{both_length}
+use Rattle.sta_classes.proofs.rules.Rules.set.Goals as goal
+
+pub states_of-requires-clause-many : goal.states_of-requires-clause-many
+states_of-requires-clause-many g c =
+    ap length c.meet.ensures ∙ both_length c.in_ok-firing.firing c.args.held.now (c.requires.held ∙ ap length (sym c.in_ok-firing.ensures)) ∙ ap length c.in_ok-firing.ensures ∙ c.requires.met ∙ ap length (sym c.deref.ensures.value)
+
+pub returns-clause-fired : goal.returns-clause-fired
+returns-clause-fired g c =
+    subst (λ l. IfOk c.states_of.result (λ row. (s : ℕ) → has row s ≡ true ↔ IsFired l (both c.args.met.now c.args.held.now) s)) c.deref.ensures.value
+    (subst (λ n. IfOk c.states_of.result (λ row. (s : ℕ) → has row s ≡ true ↔ IsFired c.deref.result.now n s)) (c.meet.ensures ∙ ap (λ f. both f c.args.held.now) c.in_ok-firing.ensures) c.states_of.ensures.fired)

@@ -1,0 +1,11 @@
+use Rattle.std.proofs.Common.{◌∙◌, ◌+◌, length, sym, ap, subst}
+use Rattle.std.proofs.lemmas.List.{length_push}
+use Rattle.sta_classes.specs.Applying.{IsRules}
+use Rattle.sta_classes.proofs.Keys.{element_pushed}
+use Rattle.sta_classes.proofs.rules.each_rules.Goals as goal
+
+pub constructors-preserved : goal.constructors-preserved
+constructors-preserved g c = record {
+  many = ap length c.in_ok-push.ensures.items ∙ length_push c.constructors.each.items c.in_ok-new.field-0 ∙ ap (λ n. n + 1) c.constructors.invariant.many;
+  are = element_pushed (λ n own. IsRules c.args.rules.now n own) c.constructors.each.items c.push.new.self.items c.in_ok-new.field-0 c.in_ok-push.ensures.items (subst (λ n. IsRules c.args.rules.now n c.in_ok-new.field-0) (sym c.constructors.invariant.many) c.in_ok-new.ensures) c.constructors.invariant.are;
+}

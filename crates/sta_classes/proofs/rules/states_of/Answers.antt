@@ -1,0 +1,17 @@
+use Rattle.std.proofs.Common.{◌<◌, length, set, true, sym, ap, ◌∙◌, subst, arith}
+use Rattle.std.proofs.lemmas.List.{length-set}
+use Rattle.sta_classes.proofs.Numbers.{fired_more, fired_last}
+use Rattle.sta_classes.proofs.rules.states_of.Goals as goal
+
+pub numbers-preserved : goal.numbers-preserved
+numbers-preserved g c =
+    let state_low : c.index-list-i.result.state < c.args.states = subst (λ x. x.state < c.args.states) (sym c.index-list-i.is) (c.requires.low c.numbers.i c.index-list-i.result c.numbers-test.true) in
+    let put = c.insert.ensures ∙ ap (λ x. set c.numbers.row x.state true) (sym c.index-list-i.is) in
+    record {
+      many = ap length put ∙ length-set c.numbers.row c.index-list-i.result.state true ∙ c.numbers.invariant.many;
+      fired = fired_more c.args.list.now c.args.numbers.now c.numbers.row c.insert.new.self c.numbers.i c.next-i-in-numbers.result c.index-list-i.result (omega (arith, state_low, c.numbers.invariant.many)) c.numbers-test.true c.index-list-i.is (c.numbers.invariant.here (omega (arith, c.numbers-test.true, c.requires.many))) put c.next-i-in-numbers.ensures.from c.next-i-in-numbers.ensures.none c.numbers.invariant.fired;
+      here = c.next-i-in-numbers.ensures.some;
+    }
+
+pub returns-clause-fired : goal.returns-clause-fired
+returns-clause-fired g c = fired_last c.args.list.now c.args.numbers.now c.numbers.row c.numbers.i (omega (arith, c.numbers-test.false)) c.numbers.invariant.fired

@@ -1,0 +1,41 @@
+use Rattle.std.proofs.Common.{◌≡◌, ◌<◌, ◌∙◌, All, length, get_or, sym, subst, arith}
+use Rattle.std.proofs.lemmas.Result.{err_from_is_err_and}
+use Rattle.model_tree.specs.Formula.{EveryAtom}
+use Rattle.model_sta.proofs.Reached.{same_default}
+use Rattle.sta_core.specs.Machine.{plain_rule}
+use Rattle.sta_classes.specs.Applying.{guards_in, IsRules}
+use Rattle.sta_classes.specs.Guards.{all_guards}
+use Rattle.sta_classes.specs.Meant.{HasMoreClasses}
+use Rattle.sta_classes.specs.Rows.{class_rows}
+use Rattle.sta_classes.specs.Rules.{plain_rules}
+use Rattle.sta_classes.specs.Splits.{AreMet, AreAllTold}
+use Rattle.sta_classes.specs.Stop.{ClassStopsFor}
+use Rattle.sta_classes.proofs.Keys.{split_set}
+use Rattle.sta_classes.proofs.Told.{guards_fit, guards_of_all, stop_within}
+use Rattle.sta_classes.proofs.search.Search.told.Goals as goal
+
+pub number-requires-clause-fit : goal.number-requires-clause-fit
+number-requires-clause-fit g c =
+    let is : IsRules c.args.self.now.rules.now c.args.over.now.constructor c.index-self-over.result = c.requires.ready.own_are c.args.over.now.constructor c.index-self-over.result (omega (arith, c.requires.low, c.requires.ready.many)) (sym c.index-self-over.is) in
+    subst (λ R. All (λ x. EveryAtom (g.T.Theory.atom_fits c.args.self.now.theory.now) (plain_rule x.rule.now).guard) R.list.items) c.index-self-over.is
+    (guards_fit c.args.self.now.rules.now c.args.over.now.constructor c.index-self-over.result.list.items is.owned (g.T.Theory.atom_fits c.args.self.now.theory.now) c.requires.ready.fit)
+
+pub returns-in_err-number-clause-stop : goal.returns-in_err-number-clause-stop
+returns-in_err-number-clause-stop g c =
+    let is : IsRules c.args.self.now.rules.now c.args.over.now.constructor c.index-self-over.result = c.requires.ready.own_are c.args.over.now.constructor c.index-self-over.result (omega (arith, c.requires.low, c.requires.ready.many)) (sym c.index-self-over.is) in
+    let got = err_from_is_err_and c.from_residual-in_err-number.result c.from_residual-in_err-number.ensures.1 in
+    rw (got.1, got.2) (stop_within (guards_in c.index-self-over.result.list.items) (all_guards (plain_rules c.args.self.now.rules.now)) (λ P h. guards_of_all c.args.self.now.rules.now c.args.over.now.constructor c.index-self-over.result.list.items is.owned P h) (g.T.Theory.meaning c.args.self.now.theory.now) g.T.Atom.PartialEq.eq (g.met.T.Theory.equal_is_own c.args.self.now.theory.now) g.met.T.Atom.Eq.laws (HasMoreClasses (g.T.Theory.meaning c.args.self.now.theory.now) (record { ranks = c.args.self.now.ranks.now; rules = plain_rules c.args.self.now.rules.now }) c.args.self.now.most) c.in_err-number.field-0.0
+    (subst (λ R. ClassStopsFor (g.T.Theory.meaning c.args.self.now.theory.now) ⊥ (guards_in R.list.items) c.in_err-number.field-0.0) (sym c.index-self-over.is) c.in_err-number.ensures.stop))
+
+pub returns-clause-splits : goal.returns-clause-splits
+returns-clause-splits g c =
+    split_set (g.T.Theory.meaning c.args.self.now.theory.now) c.args.self.now.ranks.now c.args.self.now.own.now (class_rows c.args.known.now.classes.items) (class_rows c.args.known.now.classes.items) c.args.splits.now.items c.args.over.now.constructor c.number.new.self (omega (arith, c.requires.low, c.requires.splits.many))
+    (λ n R s n_low other of at. c.requires.splits.met n R s n_low of at)
+    (λ R of.
+    let low : c.args.over.now.constructor < length c.args.self.now.own.now = omega (arith, c.requires.low, c.requires.ready.many) in
+    let s_low : c.args.over.now.constructor < length c.args.splits.now.items = omega (arith, c.requires.low, c.requires.splits.many) in
+    let same : c.index-self-over.result ≡ R = c.index-self-over.is ∙ same_default c.args.self.now.own.now c.args.over.now.constructor c.index-self-over.result R low ∙ of in (
+      subst (λ z. AreMet R.list.items (get_or c.args.self.now.ranks.now c.args.over.now.constructor 0) (class_rows c.args.known.now.classes.items) z.items) (sym c.in_ok-number.ensures.met) (c.requires.splits.met c.args.over.now.constructor R c.index_mut-split.result.now s_low of (sym c.index_mut-split.ensures.value)),
+      subst (λ z. AreAllTold (g.T.Theory.meaning c.args.self.now.theory.now) z.list.items c.number.new.self) (sym c.index-self-over.is ∙ same) c.in_ok-number.ensures.told,
+    ))
+    c.requires.splits

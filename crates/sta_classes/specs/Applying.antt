@@ -1,0 +1,60 @@
+-- The rules of one constructor, numbered, and sets of their numbers.
+use Rattle.std.specs.Prelude.{ℕ, ◌≡◌, ◌<◌, ◌↔◌, Bool, true, false, not, List, [], ◌∷◌, map, get_or, length, Contains, Vec}
+use Rattle.std.specs.List.{list_all}
+use Rattle.model_tree.specs.Label.{Label}
+use Rattle.model_tree.specs.Formula.{Formula, yes, no, atom, negation, all_of, some_of, formula_holds}
+use Rattle.model_sta.specs.Sets.{Row, has}
+use Rattle.sta_core.specs.Machine.{PlainRule, plain_rule}
+use Rattle.sta_core.specs.declared.StaRule.{StaRule}
+use Rattle.sta_classes.specs.declared.rules.Owned.{Owned}
+use Rattle.sta_classes.specs.declared.rules.Rules.{Rules}
+
+-- the elements with these numbers
+abbrev pub chosen : {X : Type 0} → List Bool → List X → List X
+chosen [] xs = []
+chosen (b ∷ bs) [] = []
+chosen (true ∷ bs) (x ∷ xs) = x ∷ chosen bs xs
+chosen (false ∷ bs) (x ∷ xs) = chosen bs xs
+
+module _ {A : Type 0} where
+  -- a guard that is left out
+  abbrev pub is_yes : Formula A → Bool
+  is_yes yes = true
+  is_yes no = false
+  is_yes (atom a) = false
+  is_yes (negation f) = false
+  is_yes (all_of fs) = false
+  is_yes (some_of fs) = false
+
+  -- a rule and its state
+  abbrev pub plain_owned : Owned A → ℕ × PlainRule A
+  plain_owned x = (x.state, plain_rule x.rule.now)
+
+  abbrev pub guards_in : List (Owned A) → List (Formula A)
+  guards_in list = map (λ x. (plain_rule x.rule.now).guard) list
+
+  -- the row has what the rule demands at the place
+  abbrev pub meets_at : ℕ → Row → PlainRule A → Bool
+  meets_at j q r = list_all (has q) (get_or r.demands j [])
+
+  -- the guard holds of the label
+  abbrev pub truth_at : (A → Label → Bool) → Label → Owned A → Bool
+  truth_at holds l x = formula_holds (λ a. holds a l) (plain_rule x.rule.now).guard
+
+  -- the rule has the constructor, and is this one of the state
+  abbrev pub IsOwned : ℕ → ℕ → StaRule A → ℕ × PlainRule A → Type 0
+  IsOwned c s r p = (r.constructor ≡ c) × ((s, plain_rule r) ≡ p)
+
+  -- exactly the rules of all states that have the constructor, each with its state
+  abbrev pub AreOwned : {G : Type 0} → List (Vec (StaRule A) G) → ℕ → List (Owned A) → Type 0
+  AreOwned {G} rules c list = (p : ℕ × PlainRule A) → Contains (map plain_owned list) p ↔ ((s : ℕ) × (s < length rules) × (those : Vec (StaRule A) G) × (get_or rules s those ≡ those) × (r : StaRule A) × Contains those.items r × IsOwned c s r p)
+
+  -- the numbers of all of them, and of those with a guard
+  pub record IsRules {G : Type 0} (rules : List (Vec (StaRule A) G)) (c : ℕ) (own : Rules A) : Type 0 where
+    pub owned : AreOwned rules c own.list.items
+    pub all_are : own.all ≡ map (λ x. true) own.list.items
+    pub guarded_are : own.guarded ≡ map (λ x. not (is_yes (plain_rule x.rule.now).guard)) own.list.items
+
+  -- a rule with one of the numbers is of the state
+  abbrev pub IsFired : List (Owned A) → Row → ℕ → Type 0
+  IsFired list numbers s = (i : ℕ) × (i < length list) × (has numbers i ≡ true) × (x : Owned A) × (get_or list i x ≡ x) × (x.state ≡ s)

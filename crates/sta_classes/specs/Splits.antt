@@ -1,0 +1,36 @@
+-- What is known of a constructor's rules: which of them classes meet, and labels that tell guards apart.
+use Rattle.std.specs.Prelude.{ℕ, ◌≡◌, ◌<◌, Bool, List, [], map, get_or, length, All, Contains, Vec}
+use Rattle.model_tree.specs.Label.{Label}
+use Rattle.model_sta.specs.Sets.{Row}
+use Rattle.label_core.specs.Meaning.{Meaning}
+use Rattle.sta_core.specs.Machine.{plain_rule}
+use Rattle.sta_classes.specs.Applying.{meets_at, truth_at}
+use Rattle.sta_classes.specs.Bits.{both}
+use Rattle.sta_classes.specs.Rows.{lists_of}
+use Rattle.sta_classes.specs.declared.rules.Owned.{Owned}
+use Rattle.sta_classes.specs.declared.splits.Splits.{Splits}
+use Rattle.sta_classes.specs.declared.splits.Told.{Told}
+
+module _ {A : Type 0} (list : List (Owned A)) (places : ℕ) where
+  -- for each place, the rules whose demands the row meets there
+  pub record IsMetBy (q : Row) (rows : List Row) : Type 0 where
+    pub many : length rows ≡ places
+    pub each : (j : ℕ) → j < places → get_or rows j [] ≡ map (λ x. meets_at j q (plain_rule x.rule.now)) list
+
+  -- the same for each class
+  pub record AreMet {G : Type 0} (classes : List Row) (met : List (Vec Row G)) : Type 0 where
+    pub many : length met ≡ length classes
+    pub each : (k : ℕ) → k < length classes → IsMetBy (get_or classes k []) (get_or (lists_of met) k [])
+
+module _ {A V W : Type 0} {label_of : V → Label} {holds : A → Label → Bool} (M : Meaning label_of holds W) (list : List (Owned A)) where
+  -- kept labels with the rules whose guards hold there; at each label the rules with these numbers have the truth values
+  -- that they have at one of them
+  pub record AreTold (numbers : Row) (told : List (Told V)) : Type 0 where
+    pub kept : All (λ t. M.keeps (label_of t.value)) told
+    pub held : All (λ t. t.holds ≡ map (truth_at holds (label_of t.value)) list) told
+    pub complete : (l : Label) → M.has l → (t : Told V) × Contains told t × (both numbers (map (truth_at holds l) list) ≡ both numbers (map (truth_at holds (label_of t.value)) list))
+
+  -- the same for each set of rules
+  pub record AreAllTold (s : Splits V) : Type 0 where
+    pub many : length s.told.items ≡ length s.sets.keys
+    pub each : (i : ℕ) → i < length s.sets.keys → AreTold (get_or s.sets.keys i []) (get_or (lists_of s.told.items) i [])

@@ -1,0 +1,236 @@
+//! The rules of one constructor, of all states.
+
+ghost use Rattle.std.specs.Prelude.{ℕ, ◌≡◌, ◌<◌, ◌↔◌, true, not, All, [], length, map, get_or, IfOk, OnOk};
+ghost use Rattle.std.specs.List.{list_all};
+ghost use Rattle.model_sta.specs.Sets.{has};
+ghost use Rattle.model_tree.specs.Formula.{EveryAtom};
+ghost use Rattle.label_core.specs.Formula.{plain_formula};
+ghost use Rattle.label_core.specs.Meaning.{KeepsValue};
+ghost use Rattle.sta_core.specs.Machine.{plain_rule};
+ghost use Rattle.sta_classes.specs.Applying.{plain_owned, is_yes, meets_at, truth_at, chosen, guards_in, IsOwned, AreOwned, IsRules, IsFired};
+ghost use Rattle.sta_classes.specs.Bits.{both};
+ghost use Rattle.sta_classes.specs.declared.rules.Rules.{Rules};
+ghost use Rattle.sta_classes.specs.Grow.{Grown, Some};
+
+use crate::class::row_has_each;
+use crate::row::Row;
+use fast_fault::Memory;
+use label_core::{Duplicate, Formula, Theory};
+use sta_core::StaRule;
+use std::alloc::Global;
+
+/// A rule, and the state that it is of.
+#[derive(Drop)]
+pub struct Owned<'a, A> {
+    pub state: usize,
+    pub rule: &'a StaRule<A>,
+}
+
+/// The rules of one constructor.
+#[derive(Drop)]
+pub struct Rules<'a, A> {
+    pub list: Vec<Owned<'a, A>>,
+    /// The numbers of all of them.
+    pub all: Row,
+    /// The numbers of those with a guard that isn't left out.
+    pub guarded: Row,
+}
+
+/// Adds the rule, if it has the constructor.
+fn add_rule<'a, A>(
+    rule: &'a StaRule<A>,
+    state: usize,
+    constructor: u32,
+    list: &mut Vec<Owned<'a, A>>,
+) -> Result<(), Memory>
+    ensures { OnOk result (Grown (map plain_owned list.old.items) (map plain_owned list.new.items) (IsOwned constructor state rule.now)) }
+{
+    if rule.constructor == constructor {
+        list.push(Owned { state, rule })?;
+    }
+    Ok(())
+}
+
+/// Adds those of the rules that have the constructor.
+fn add_rules<'a, A>(
+    rules: &'a [StaRule<A>],
+    state: usize,
+    constructor: u32,
+    list: &mut Vec<Owned<'a, A>>,
+) -> Result<(), Memory>
+    ensures { OnOk result (Grown (map plain_owned list.old.items) (map plain_owned list.new.items) (Some (IsOwned constructor state) rules.now)) }
+{
+    'rules: for rule in rules {
+        add_rule(rule, state, constructor, list)?;
+    }
+    Ok(())
+}
+
+/// The rules of all states that have the constructor.
+fn rules_at<'a, A>(
+    alloc: Global,
+    rules: &'a [Vec<StaRule<A>>],
+    constructor: u32,
+) -> Result<Vec<Owned<'a, A>>, Memory>
+    ensures { IfOk result (λ list. AreOwned rules.now constructor list.items) }
+{
+    let mut list = Vec::new(alloc);
+    'states: for state in 0..rules.len() {
+        add_rules(&rules[state], state, constructor, &mut list)?;
+    }
+    Ok(list)
+}
+
+/// The numbers of all rules.
+fn all_of<A>(alloc: Global, list: &[Owned<A>]) -> Result<Row, Memory>
+    ensures { IfOk result (λ made. made ≡ map (λ x. true) list.now) }
+{
+    let mut made = Row::new(alloc, list.len())?;
+    for i in 0..list.len() {
+        made.put(i, true);
+    }
+    Ok(made)
+}
+
+/// Whether the guard is left out.
+fn is_left_out<A>(guard: &Formula<A>) -> bool
+    ensures { result ≡ is_yes (plain_formula guard.now) }
+{
+    matches!(guard, Formula::Yes)
+}
+
+/// The numbers of the rules with a guard that isn't left out.
+fn guarded_of<A>(alloc: Global, list: &[Owned<A>]) -> Result<Row, Memory>
+    ensures { IfOk result (λ made. made ≡ map (λ x. not (is_yes (plain_rule x.rule.now).guard)) list.now) }
+{
+    let mut made = Row::new(alloc, list.len())?;
+    for i in 0..list.len() {
+        let rule = list[i].rule;
+        made.put(i, !is_left_out(&rule.guard));
+    }
+    Ok(made)
+}
+
+/// Whether the row has what the rule demands at the place.
+fn meets_at<A>(rule: &StaRule<A>, place: usize, row: &Row) -> bool
+    ensures { result ≡ meets_at place row.now (plain_rule rule.now) }
+{
+    if place >= rule.demands.len() {
+        return true;
+    }
+    row_has_each(row, &rule.demands[place])
+}
+
+/// The numbers of the rules whose demands at the place the row meets.
+pub fn met_at<A>(alloc: Global, list: &[Owned<A>], place: usize, row: &Row) -> Result<Row, Memory>
+    ensures { IfOk result (λ made. made ≡ map (λ x. meets_at place row.now (plain_rule x.rule.now)) list.now) }
+{
+    let mut made = Row::new(alloc, list.len())?;
+    for i in 0..list.len() {
+        made.put(i, meets_at(list[i].rule, place, row));
+    }
+    Ok(made)
+}
+
+/// The numbers of the rules whose guards hold of the value's label.
+pub fn held_at<T: Theory>(
+    theory: &T,
+    alloc: Global,
+    list: &[Owned<T::Atom>],
+    value: &T::Value,
+) -> Result<Row, Memory>
+    requires fit { All (λ x. EveryAtom (T.atom_fits theory.now) (plain_rule x.rule.now).guard) list.now }
+    requires value { KeepsValue (T.meaning theory.now) value.now }
+    ensures { IfOk result (λ made. made ≡ map (truth_at T.atom_holds (T.label_of value.now)) list.now) }
+{
+    let mut made = Row::new(alloc, list.len())?;
+    for i in 0..list.len() {
+        let rule = list[i].rule;
+        made.put(i, rule.guard.holds(theory, value));
+    }
+    Ok(made)
+}
+
+/// The guards of the rules with these numbers.
+pub fn guards_of<A: Duplicate + Drop>(
+    alloc: Global,
+    list: &[Owned<A>],
+    numbers: &Row,
+) -> Result<Vec<Formula<A>>, Memory>
+    ensures { IfOk result (λ guards. map plain_formula guards.items ≡ chosen numbers.now (guards_in list.now)) }
+{
+    let mut guards = Vec::new(alloc);
+    for i in 0..list.len() {
+        if numbers.has(i as u64) {
+            let rule = list[i].rule;
+            guards.push(rule.guard.copy(alloc)?)?;
+        }
+    }
+    Ok(guards)
+}
+
+/// The states of the rules with these numbers.
+fn states_of<A>(
+    alloc: Global,
+    list: &[Owned<A>],
+    states: usize,
+    numbers: &Row,
+) -> Result<Row, Memory>
+    requires low { All (λ x. x.state < states) list.now }
+    requires many { length numbers.now ≡ length list.now }
+    ensures many { IfOk result (λ row. length row ≡ states) }
+    ensures fired { IfOk result (λ row. (s : ℕ) → has row s ≡ true ↔ IsFired list.now numbers.now s) }
+{
+    let mut row = Row::new(alloc, states)?;
+    let mut i = numbers.next(0);
+    'numbers: while i < list.len() {
+        row.insert(list[i].state);
+        i = numbers.next(i + 1);
+    }
+    Ok(row)
+}
+
+impl<'a, A> Rules<'a, A> {
+    /// The rules of all states that have the constructor.
+    pub fn new(
+        alloc: Global,
+        rules: &'a [Vec<StaRule<A>>],
+        constructor: u32,
+    ) -> Result<Rules<'a, A>, Memory>
+        ensures { IfOk result (IsRules rules.now constructor) }
+    {
+        let list = rules_at(alloc, rules, constructor)?;
+        let all = all_of(alloc, &list)?;
+        let guarded = guarded_of(alloc, &list)?;
+        Ok(Rules { list, all, guarded })
+    }
+
+    /// The states of the rules whose demands are met and whose guards hold.
+    pub fn set(&self, alloc: Global, states: usize, met: &Row, held: &Row) -> Result<Row, Memory>
+        requires low { All (λ x. x.state < states) self.now.list.items }
+        requires met { length met.now ≡ length self.now.list.items }
+        requires held { length held.now ≡ length met.now }
+        ensures many { IfOk result (λ row. length row ≡ states) }
+        ensures fired { IfOk result (λ row. (s : ℕ) → has row s ≡ true ↔ IsFired self.now.list.items (both met.now held.now) s) }
+    {
+        let mut firing = met.copy(alloc)?;
+        firing.meet(held);
+        states_of(alloc, &self.list, states, &firing)
+    }
+}
+
+/// The rules of each constructor.
+pub fn each_rules<'a, A>(
+    alloc: Global,
+    rules: &'a [Vec<StaRule<A>>],
+    constructors: u32,
+) -> Result<Vec<Rules<'a, A>>, Memory>
+    ensures many { IfOk result (λ each. length each.items ≡ constructors) }
+    ensures are { IfOk result (λ each. (c : ℕ) (own : Rules A) → c < length each.items → get_or each.items c own ≡ own → IsRules rules.now c own) }
+{
+    let mut each = Vec::new(alloc);
+    'constructors: for constructor in 0..constructors {
+        each.push(Rules::new(alloc, rules, constructor)?)?;
+    }
+    Ok(each)
+}

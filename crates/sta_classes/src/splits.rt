@@ -1,0 +1,178 @@
+//! The rules of a constructor that children let fire, and labels that tell the guards of such rules apart.
+
+ghost use Rattle.std.specs.Prelude.{◌≡◌, ◌<◌, ◌++◌, ◌∷◌, [], Bool, List, true, All, length, map, get_or, IfOk, IfErr, OnOk};
+ghost use Rattle.model_sta.specs.Sets.{rows_meet};
+ghost use Rattle.model_tree.specs.Formula.{EveryAtom};
+ghost use Rattle.label_split.specs.Split.{SplitsInto};
+ghost use Rattle.sta_core.specs.Machine.{plain_rule};
+ghost use Rattle.sta_classes.specs.Applying.{chosen, guards_in, truth_at};
+ghost use Rattle.sta_classes.specs.Bits.{both};
+ghost use Rattle.sta_classes.specs.Guards.{truths};
+ghost use Rattle.sta_classes.specs.Rows.{lists_of};
+ghost use Rattle.sta_classes.specs.Splits.{IsMetBy, AreMet, AreTold, AreAllTold};
+ghost use Rattle.sta_classes.specs.Stop.{ClassStopsFor};
+
+use crate::row::Row;
+use crate::rules::{Owned, Rules, guards_of, held_at, met_at};
+use crate::stop::ClassStop;
+use fast_fault::Memory;
+use indexmap::IndexSet;
+use label_core::Theory;
+use label_split::{SignRow, SplitStop, split};
+use std::alloc::Global;
+
+/// A label, and the rules whose guards hold of it.
+#[derive(Drop)]
+pub struct Told<V> {
+    pub holds: Row,
+    pub value: V,
+}
+
+/// What is known of the rules of a constructor.
+#[derive(Drop)]
+pub struct Splits<V> {
+    /// For each class, at each place, the numbers of the rules whose demands it meets there.
+    pub met: Vec<Vec<Row>>,
+    /// The sets of rules with guards that children have let fire so far.
+    pub sets: IndexSet<Row>,
+    /// For each such set, labels that tell the guards apart.
+    pub told: Vec<Vec<Told<V>>>,
+}
+
+/// For each place, the numbers of the rules whose demands the row meets there.
+fn met_by<A>(alloc: Global, list: &[Owned<A>], places: u32, row: &Row) -> Result<Vec<Row>, Memory>
+    ensures { IfOk result (λ made. IsMetBy list.now places row.now made.items) }
+{
+    let mut made = Vec::new(alloc);
+    'places: for place in 0..places {
+        made.push(met_at(alloc, list, place as usize, row)?)?;
+    }
+    Ok(made)
+}
+
+/// The rows, each with the rules whose guards hold of its label in place of the signs.
+fn tell<T: Theory>(
+    theory: &T,
+    alloc: Global,
+    list: &[Owned<T::Atom>],
+    rows: Vec<SignRow<T::Value>>,
+) -> Result<Vec<Told<T::Value>>, Memory>
+    requires fit { All (λ x. EveryAtom (T.atom_fits theory.now) (plain_rule x.rule.now).guard) list.now }
+    requires kept { All (λ r. (T.meaning theory.now).keeps (T.label_of r.value)) rows.items }
+    ensures { IfOk result (λ told. map (λ t. t.value) told.items ≡ map (λ r. r.value) rows.items × All (λ t. t.holds ≡ map (truth_at T.atom_holds (T.label_of t.value)) list.now) told.items) }
+{
+    let mut told = Vec::new(alloc);
+    'rows: for row in rows {
+        let holds = held_at(theory, alloc, list, &row.value)?;
+        told.push(Told {
+            holds,
+            value: row.value,
+        })?;
+    }
+    Ok(told)
+}
+
+/// The rows of signs of the guards of the rules with these numbers.
+fn rows_of<T: Theory>(
+    theory: &T,
+    alloc: Global,
+    list: &[Owned<T::Atom>],
+    numbers: &Row,
+) -> Result<Vec<SignRow<T::Value>>, ClassStop<T::Chain>>
+    requires fit { All (λ x. EveryAtom (T.atom_fits theory.now) (plain_rule x.rule.now).guard) list.now }
+    ensures rows { IfOk result (λ rows. SplitsInto (T.meaning theory.now) (truths T.atom_holds (chosen numbers.now (guards_in list.now))) rows.items) }
+    ensures stop { IfErr result (ClassStopsFor (T.meaning theory.now) ⊥ (guards_in list.now)) }
+{
+    let guards = guards_of(alloc, list, numbers)?;
+    match split(theory, alloc, &guards, u32::MAX) {
+        Ok(rows) => Ok(rows),
+        Err(SplitStop::Wide(chain)) => Err(ClassStop::Wide(chain)),
+        Err(SplitStop::TooMany) => Err(ClassStop::Memory),
+        Err(SplitStop::Memory) => Err(ClassStop::Memory),
+    }
+}
+
+/// Labels that tell the guards of the rules with these numbers apart.
+fn told_of<T: Theory>(
+    theory: &T,
+    alloc: Global,
+    list: &[Owned<T::Atom>],
+    numbers: &Row,
+) -> Result<Vec<Told<T::Value>>, ClassStop<T::Chain>>
+    requires fit { All (λ x. EveryAtom (T.atom_fits theory.now) (plain_rule x.rule.now).guard) list.now }
+    ensures told { IfOk result (λ told. AreTold (T.meaning theory.now) list.now numbers.now told.items) }
+    ensures stop { IfErr result (ClassStopsFor (T.meaning theory.now) ⊥ (guards_in list.now)) }
+{
+    let rows = rows_of(theory, alloc, list, numbers)?;
+    Ok(tell(theory, alloc, list, rows)?)
+}
+
+impl<V: Drop> Splits<V> {
+    /// Nothing is known.
+    pub fn new(alloc: Global) -> Splits<V>
+        ensures met { result.met.items ≡ [] }
+        ensures sets { result.sets.keys ≡ [] }
+        ensures told { result.told.items ≡ [] }
+    {
+        Splits {
+            met: Vec::new(alloc),
+            sets: IndexSet::new(alloc),
+            told: Vec::new(alloc),
+        }
+    }
+
+    /// Tells which rules the children of one more class meet at each place.
+    pub fn add<A>(
+        &mut self,
+        alloc: Global,
+        list: &[Owned<A>],
+        places: u32,
+        row: &Row,
+    ) -> Result<(), Memory>
+        ensures met { OnOk result ((rows : List (List Bool)) → AreMet list.now places rows self.old.met.items → AreMet list.now places (rows ++ row.now ∷ []) self.new.met.items) }
+        ensures kept { OnOk result ((self.new.sets ≡ self.old.sets) × (self.new.told ≡ self.old.told)) }
+    {
+        self.met.push(met_by(alloc, list, places, row)?)?;
+        Ok(())
+    }
+
+    /// The numbers of the rules whose demands are met by children of these classes.
+    pub fn key<A>(&self, alloc: Global, own: &Rules<A>, children: &[usize]) -> Result<Row, Memory>
+        requires all { own.now.all ≡ map (λ x. true) own.now.list.items }
+        requires known { All (λ k. k < length self.now.met.items) children.now }
+        requires met { (rows : List (List Bool)) × AreMet own.now.list.items (length children.now) rows self.now.met.items }
+        ensures { IfOk result (λ key. (rows : List (List Bool)) → AreMet own.now.list.items (length children.now) rows self.now.met.items → key ≡ map (λ x. rows_meet (map (λ k. get_or rows k []) children.now) (plain_rule x.rule.now).demands) own.now.list.items) }
+    {
+        let mut key = own.all.copy(alloc)?;
+        for place in 0..children.len() {
+            key.meet(&self.met[children[place]][place]);
+        }
+        Ok(key)
+    }
+
+    /// The number of the labels that tell the guards of these rules apart.
+    pub fn number<T: Theory<Value = V>>(
+        &mut self,
+        theory: &T,
+        alloc: Global,
+        own: &Rules<T::Atom>,
+        key: &Row,
+    ) -> Result<usize, ClassStop<T::Chain>>
+        requires fit { All (λ x. EveryAtom (T.atom_fits theory.now) (plain_rule x.rule.now).guard) own.now.list.items }
+        requires many { length key.now ≡ length own.now.guarded }
+        requires told { AreAllTold (T.meaning theory.now) own.now.list.items self.old }
+        ensures told { OnOk result (AreAllTold (T.meaning theory.now) own.now.list.items self.new) }
+        ensures met { OnOk result (self.new.met ≡ self.old.met) }
+        ensures number { IfOk result (λ n. (n < length self.new.told.items) × AreTold (T.meaning theory.now) own.now.list.items (both own.now.guarded key.now) (get_or (lists_of self.new.told.items) n [])) }
+        ensures stop { IfErr result (ClassStopsFor (T.meaning theory.now) ⊥ (guards_in own.now.list.items)) }
+    {
+        let mut wanted = own.guarded.copy(alloc)?;
+        wanted.meet(key);
+        let (number, new) = self.sets.insert_full(wanted)?;
+        if new {
+            let told = told_of(theory, alloc, &own.list, &self.sets.as_slice()[number])?;
+            self.told.push(told)?;
+        }
+        Ok(number)
+    }
+}
