@@ -38,7 +38,7 @@ module _ {A V W : Type 0} {label_of : V → Label} {holds : A → Label → Bool
       (subst (λ k. IsAnswer M k.ranks (λ t. has (set_of (automaton_of holds k) t) state) most found) same answer)
 
   module _ (a b : Lang A) (fit_a : EachRule (PlainFits a.sta.ranks (length a.sta.rules)) a.sta.rules) (fit_b : EachRule (PlainFits b.sta.ranks (length b.sta.rules)) b.sta.rules) (low_a : a.state < length a.sta.rules) (low_b : b.state < length b.sta.rules) where
-    is_beside : IsBeside (automaton_of holds a.sta) (automaton_of holds b.sta) (automaton_of holds (side_by_side a b))
+    pub is_beside : IsBeside (automaton_of holds a.sta) (automaton_of holds b.sta) (automaton_of holds (side_by_side a b))
     is_beside = subst (IsBeside (automaton_of holds a.sta) (automaton_of holds b.sta)) (sym (beside_meant holds a.sta.rules b.sta.rules)) (placed_beside (automaton_of holds a.sta) (automaton_of holds b.sta))
 
     first_has : (t : LabelTree) → has (set_of (automaton_of holds (side_by_side a b)) t) a.state ≡ is_accepted (automaton_of holds a.sta) t a.state

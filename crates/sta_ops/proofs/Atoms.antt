@@ -4,20 +4,20 @@ use Rattle.std.specs.Cmp.{IsEquivalence}
 use Rattle.model_tree.specs.Formula.{Formula, all_of, formulas_of, EveryAtom}
 use Rattle.model_sta.specs.Sets.{Each}
 use Rattle.label_core.specs.Atoms.{has_equal, EachHasEqual}
-use Rattle.label_split.proofs.SameAtoms.{all_atoms}
+use Rattle.label_split.proofs.SameAtoms.{all_atoms, every_atom}
 use Rattle.sta_core.specs.Machine.{Machine, PlainRule}
 use Rattle.sta_core.specs.Sta.{AtomsFit}
 use Rattle.sta_classes.specs.Guards.{all_guards, atoms_of_all}
-use Rattle.sta_classes.proofs.Atoms.{of_each_formula, guards_among}
+use Rattle.sta_classes.proofs.Atoms.{each_formula, of_each_formula, guards_among}
 use Rattle.sta_ops.proofs.EachRule.{all_in, in_all, EachRule}
 use Rattle.sta_theory.proofs.Lists.{none_in, first_in, later_in, append_member, in_left, in_right, map_member, in_map}
 
-each_in : {X : Type 0} (P : X → Type 0) (xs : List X) → Each P xs → (x : X) → Contains xs x → P x
+pub each_in : {X : Type 0} (P : X → Type 0) (xs : List X) → Each P xs → (x : X) → Contains xs x → P x
 each_in P [] h x at = absurd (none_in x at)
 each_in P (y ∷ xs) h x (zero, low, is) = subst P is h.0
 each_in P (y ∷ xs) h x (suc k, low, is) = each_in P xs h.1 x (k, omega arith, is)
 
-in_each : {X : Type 0} (P : X → Type 0) (xs : List X) → ((x : X) → Contains xs x → P x) → Each P xs
+pub in_each : {X : Type 0} (P : X → Type 0) (xs : List X) → ((x : X) → Contains xs x → P x) → Each P xs
 in_each P [] h = tt
 in_each P (x ∷ xs) h = (h x (first_in x xs), in_each P xs (λ y at. h y (later_in x y xs at)))
 
@@ -27,7 +27,7 @@ module _ {A : Type 0} where
   guard_in (qs ∷ rules) rs r (zero, low, is) here = in_left (map (λ r. r.guard) qs) (all_guards rules) r.guard (in_map (λ r. r.guard) qs r (subst (λ z. Contains z r) (sym is) here))
   guard_in (qs ∷ rules) rs r (suc k, low, is) here = in_right (map (λ r. r.guard) qs) (all_guards rules) r.guard (guard_in rules rs r (k, omega arith, is) here)
 
-  guard_of : (P : Formula A → Type 0) (rules : List (List (PlainRule A))) → EachRule (λ r. P r.guard) rules → (f : Formula A) → Contains (all_guards rules) f → P f
+  pub guard_of : (P : Formula A → Type 0) (rules : List (List (PlainRule A))) → EachRule (λ r. P r.guard) rules → (f : Formula A) → Contains (all_guards rules) f → P f
   guard_of P [] h f at = absurd (none_in f at)
   guard_of P (qs ∷ rules) h f at = elim (append_member (map (λ r. r.guard) qs) (all_guards rules) f at) [
     | inl here ↦ (let (r, at_r, is) = map_member (λ r. r.guard) qs f here in subst P is (h qs (first_in qs rules) r at_r))
@@ -55,3 +55,7 @@ module _ {A : Type 0} where
     each_equal guards rules h =
         all_atoms (IsAmong guards) (all_of (formulas_of (all_guards rules)))
         (of_each_formula (IsAmong guards) (all_guards rules) (in_each (EveryAtom (IsAmong guards)) (all_guards rules) (guard_of (EveryAtom (IsAmong guards)) rules h)))
+
+    pub each_among : (guards : List (Formula A)) (rules : List (List (PlainRule A))) → EachHasEqual eq (atoms_of_all (all_guards rules)) (atoms_of_all guards) → EachRule (Guarded (IsAmong guards)) rules
+    each_among guards rules h rs at r here =
+        each_in (EveryAtom (IsAmong guards)) (all_guards rules) (each_formula (IsAmong guards) (all_guards rules) (every_atom (IsAmong guards) (all_of (formulas_of (all_guards rules))) h)) r.guard (guard_in rules rs r at here)

@@ -35,6 +35,10 @@ module _ {A : Type 0} where
   all_moved n [] = refl
   all_moved n (x ∷ xs) = ap₂ (λ y ys. y ∷ ys) (sym (map-map (moved n) plain_rule x.items)) (all_moved n xs)
 
+  -- all states by nothing
+  pub copied_states : {G : Type 0} (xs : List (Vec (StaRule A) G)) (none one : List (List (PlainRule A))) → none ≡ [] → one ≡ none ++ map (λ those. map (λ r. moved 0 (plain_rule r)) those.items) xs → one ≡ plain_rules xs
+  copied_states xs none one empty is = is ∙ ap₂ (λ a b. a ++ b) empty (all_moved 0 xs ∙ map_none (map (moved 0)) (map_none (moved 0) moved_none) (plain_rules xs))
+
   -- both automata, the first one by nothing
   pub placed : {G : Type 0} (first second : List (List (PlainRule A))) (xs ys : List (Vec (StaRule A) G)) (none one two : List (List (PlainRule A))) (n : ℕ) → plain_rules xs ≡ first → plain_rules ys ≡ second → none ≡ [] → n ≡ length first
       → one ≡ none ++ map (λ those. map (λ r. moved 0 (plain_rule r)) those.items) xs → two ≡ one ++ map (λ those. map (λ r. moved n (plain_rule r)) those.items) ys → two ≡ beside first second

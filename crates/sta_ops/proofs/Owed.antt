@@ -53,7 +53,7 @@ module _ {A V W : Type 0} {label_of : V → Label} {holds : A → Label → Bool
   laws' = subst IsEquivalence (sym own_equal) laws
 
   -- what is owed besides the language
-  owed : c.state < length c.sta.rules → KeepsGuards (auto_of holds a) (auto_of holds b) (auto_of holds c) → ((P : A → Type 0) → EachRule (Guarded P) a.sta.rules → EachRule (Guarded P) b.sta.rules → EachRule (Guarded P) c.sta.rules) → IsMadeOfBoth M fits a b c
+  pub owed : c.state < length c.sta.rules → KeepsGuards (auto_of holds a) (auto_of holds b) (auto_of holds c) → ((P : A → Type 0) → EachRule (Guarded P) a.sta.rules → EachRule (Guarded P) b.sta.rules → EachRule (Guarded P) c.sta.rules) → IsMadeOfBoth M fits a b c
   owed low keeps each =
       let guards = all_guards a.sta.rules ++ all_guards b.sta.rules in
       record {

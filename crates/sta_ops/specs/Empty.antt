@@ -1,12 +1,17 @@
 -- What is said of a language that is asked for a tree, and of two that are asked for a tree in exactly one of them.
-use Rattle.std.specs.Prelude.{ℕ, Bool, List}
+use Rattle.std.specs.Prelude.{ℕ, ◌++◌, Bool, List}
 use Rattle.model_tree.specs.Label.{Label}
 use Rattle.model_tree.specs.Tree.{LabelTree}
 use Rattle.model_sta.specs.Automaton.{Rule, is_accepted}
+use Rattle.model_sta.specs.Sets.{Fits}
+use Rattle.model_sta.specs.Told.{HasMoreApart, AreToldByEither}
 use Rattle.label_core.specs.Meaning.{Meaning}
 use Rattle.sta_core.specs.Machine.{Machine}
 use Rattle.sta_core.specs.Sta.{automaton_of}
 use Rattle.sta_core.specs.declared.Lang.{Lang}
+use Rattle.sta_classes.specs.declared.stop.ClassStop.{ClassStop}
+use Rattle.sta_classes.specs.Guards.{all_guards}
+use Rattle.sta_classes.specs.Stop.{ClassStopsFor}
 use Rattle.sta_ops.specs.declared.emptiness.Found.{Found}
 use Rattle.sta_ops.specs.Asked.{differ, IsAskedTree, IsLeastAsked, HasBigAsked, IsAnswer}
 use Rattle.sta_ops.specs.Rules.{beside}
@@ -36,6 +41,11 @@ module _ {A V W : Type 0} {label_of : V → Label} {holds : A → Label → Bool
   -- what is answered of two
   abbrev pub IsEqualAnswer : Lang A → Lang A → ℕ → Found V → Type 0
   IsEqualAnswer a b most = IsAnswer M a.sta.ranks (in_one a b) most
+
+  -- states of the two tell more than so many trees over kept labels apart, or a chain over the guards of both is too wide
+  abbrev pub StopsEither : Lang A → Lang A → ℕ → ClassStop W → Type 0
+  StopsEither a b most =
+      ClassStopsFor M (HasMoreApart (Fits a.sta.ranks M.keeps) (AreToldByEither (automaton_of holds a.sta) (automaton_of holds b.sta)) most) (all_guards a.sta.rules ++ all_guards b.sta.rules)
 
 -- both automata as one
 abbrev pub side_by_side : {A : Type 0} → Lang A → Lang A → Machine A

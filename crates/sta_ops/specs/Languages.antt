@@ -3,7 +3,7 @@ use Rattle.std.specs.Prelude.{◌≡◌, ◌<◌, ◌++◌, Bool, length}
 use Rattle.model_tree.specs.Label.{Label}
 use Rattle.model_tree.specs.Tree.{LabelTree}
 use Rattle.model_sta.specs.Sets.{Fits}
-use Rattle.model_sta.specs.Operations.{Auto, KeepsGuards, IsUnion, IsIntersection}
+use Rattle.model_sta.specs.Operations.{Auto, KeepsGuards, IsUnion, IsIntersection, IsDifference, IsComplement}
 use Rattle.label_core.specs.Atoms.{EachHasEqual}
 use Rattle.label_core.specs.Meaning.{Meaning}
 use Rattle.sta_core.specs.Sta.{automaton_of, AtomsFit}
@@ -24,6 +24,12 @@ module _ {A V W : Type 0} {label_of : V → Label} {holds : A → Label → Bool
 
   abbrev pub HasIntersection : Lang A → Lang A → Lang A → Type 0
   HasIntersection a b c = IsIntersection (TypedFor a) (auto_of holds a) (auto_of holds b) (auto_of holds c)
+
+  abbrev pub HasComplement : Lang A → Lang A → Type 0
+  HasComplement a c = IsComplement (TypedFor a) (auto_of holds a) (auto_of holds c)
+
+  abbrev pub HasDifference : Lang A → Lang A → Lang A → Type 0
+  HasDifference a b c = IsDifference (TypedFor a) (auto_of holds a) (auto_of holds b) (auto_of holds c)
 
   -- What each operation owes besides: the same ranks, and guards over atoms of the arguments' guards, which tell no more labels apart.
   pub record IsMadeOfBoth (fits : A → Type 0) (a b c : Lang A) : Type 0 where

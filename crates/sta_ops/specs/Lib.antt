@@ -3,3 +3,7 @@ pub mod LeastClass
 pub mod Rules
 pub mod Languages
 pub mod Asked
+pub mod Opposites
+pub mod Numbers
+pub mod Doubled
+pub mod Trimmed

@@ -70,7 +70,7 @@ pub fn move_rules<A: Duplicate + Drop>(
 }
 
 /// Adds the rules of all states, where states have such numbers.
-fn add_states<A: Duplicate + Drop>(
+pub fn add_states<A: Duplicate + Drop>(
     alloc: Global,
     from: &[Vec<StaRule<A>>],
     by: u64,

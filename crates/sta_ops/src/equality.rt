@@ -4,8 +4,7 @@ ghost use Rattle.std.specs.Prelude.{◌≡◌, ◌<◌, length, IfOk, IfErr};
 ghost use Rattle.sta_core.specs.Fits.{RulesFit};
 ghost use Rattle.sta_core.specs.Sta.{AtomsFit};
 ghost use Rattle.sta_classes.specs.Rules.{plain_rules};
-ghost use Rattle.sta_classes.specs.Meant.{StopsClasses};
-ghost use Rattle.sta_ops.specs.Empty.{IsEqualAnswer, side_by_side};
+ghost use Rattle.sta_ops.specs.Empty.{IsEqualAnswer, StopsEither};
 ghost use Rattle.sta_ops.specs.Rules.{beside};
 
 use crate::copies::beside;
@@ -47,7 +46,7 @@ pub fn equal<T: Theory>(
     requires first_fit { AtomsFit (T.atom_fits theory.now) a.now.sta }
     requires second_fit { AtomsFit (T.atom_fits theory.now) b.now.sta }
     ensures found { IfOk result (IsEqualAnswer (T.meaning theory.now) a.now b.now most) }
-    ensures stop { IfErr result (StopsClasses (T.meaning theory.now) (side_by_side a.now b.now) most) }
+    ensures stop { IfErr result (StopsEither (T.meaning theory.now) a.now b.now most) }
 {
     let first = a.sta.rules();
     let second = b.sta.rules();

@@ -8,6 +8,7 @@ ghost use Rattle.sta_ops.specs.Languages.{HasUnion, HasIntersection, IsMadeOfBot
 
 use crate::copies::{beside, either};
 use crate::pairs::both;
+use crate::trim::trimmed;
 use fast_fault::Memory;
 use label_core::Theory;
 use sta_core::{Lang, Sta, StaRule};
@@ -31,8 +32,8 @@ fn last_state<A: Drop>(
     Ok(Lang { sta, state })
 }
 
-/// The trees that are in either language.
-pub fn union<T: Theory>(
+/// The trees that are in either language, by the states of both automata and one more.
+fn united<T: Theory>(
     theory: &T,
     alloc: Global,
     a: &Lang<T::Atom>,
@@ -59,8 +60,28 @@ pub fn union<T: Theory>(
     last_state(alloc, a.sta.ranks(), rules)
 }
 
-/// The trees that are in both languages.
-pub fn intersect<T: Theory>(
+/// The trees that are in either language.
+pub fn union<T: Theory>(
+    theory: &T,
+    alloc: Global,
+    a: &Lang<T::Atom>,
+    b: &Lang<T::Atom>,
+) -> Result<Lang<T::Atom>, Memory>
+    requires ranks { b.now.sta.ranks ≡ a.now.sta.ranks }
+    requires first { a.now.state < length a.now.sta.rules }
+    requires second { b.now.state < length b.now.sta.rules }
+    requires first_fit { AtomsFit (T.atom_fits theory.now) a.now.sta }
+    requires second_fit { AtomsFit (T.atom_fits theory.now) b.now.sta }
+    ensures language { IfOk result (HasUnion (T.meaning theory.now) a.now b.now) }
+    ensures made { IfOk result (IsMadeOfBoth (T.meaning theory.now) (T.atom_fits theory.now) a.now b.now) }
+{
+    let made = united(theory, alloc, a, b)?;
+    let part = trimmed(alloc, &made)?;
+    Ok(part)
+}
+
+/// The trees that are in both languages, by the states of both automata and one more.
+fn intersected<T: Theory>(
     theory: &T,
     alloc: Global,
     a: &Lang<T::Atom>,
@@ -85,4 +106,24 @@ pub fn intersect<T: Theory>(
         by,
     )?)?;
     last_state(alloc, a.sta.ranks(), rules)
+}
+
+/// The trees that are in both languages.
+pub fn intersect<T: Theory>(
+    theory: &T,
+    alloc: Global,
+    a: &Lang<T::Atom>,
+    b: &Lang<T::Atom>,
+) -> Result<Lang<T::Atom>, Memory>
+    requires ranks { b.now.sta.ranks ≡ a.now.sta.ranks }
+    requires first { a.now.state < length a.now.sta.rules }
+    requires second { b.now.state < length b.now.sta.rules }
+    requires first_fit { AtomsFit (T.atom_fits theory.now) a.now.sta }
+    requires second_fit { AtomsFit (T.atom_fits theory.now) b.now.sta }
+    ensures language { IfOk result (HasIntersection (T.meaning theory.now) a.now b.now) }
+    ensures made { IfOk result (IsMadeOfBoth (T.meaning theory.now) (T.atom_fits theory.now) a.now b.now) }
+{
+    let made = intersected(theory, alloc, a, b)?;
+    let part = trimmed(alloc, &made)?;
+    Ok(part)
 }

@@ -105,8 +105,9 @@ module _ {L : Type 0} (opp : ℕ → ℕ) (n : ℕ) (rs : List (Rule L)) (own : 
 
     none_one : c < length ranks → Each (Contains known) us → length us ≡ get_or ranks c 0 → not (list_any (fires c l us) rs) ≡ true → list_any (fires c l ps) those ≡ true
     none_one low each wide h =
-        let (r, at, qs, is, alike) = are.complete c low us each wide in
-        any_true (fires c l ps) those r at (test_from_fires c l ps r (one_fires qs r is alike (not_true (list_any (fires c l us) rs) h)))
+        let none = not_true (list_any (fires c l us) rs) h in
+        let (r, at, qs, is, alike) = are.complete c low us each wide l none in
+        any_true (fires c l ps) those r at (test_from_fires c l ps r (one_fires qs r is alike none))
 
     pub opposite_fires : c < length ranks → Each (Contains known) us → length us ≡ get_or ranks c 0 → list_any (fires c l ps) those ≡ not (list_any (fires c l us) rs)
     opposite_fires low each wide = bool_same _ _ (all_none wide) (none_one low each wide)

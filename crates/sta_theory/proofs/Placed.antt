@@ -1,5 +1,5 @@
 -- The states of two automata in one list, and one more state behind them.
-use Rattle.std.proofs.Common.{ℕ, suc, ◌+◌, ◌≡◌, ◌<◌, List, [], ◌∷◌, ◌++◌, map, get_or, length, refl, sym, ap, ◌∙◌, arith}
+use Rattle.std.proofs.Common.{suc, ◌+◌, ◌≡◌, List, [], ◌∷◌, ◌++◌, map, length, ap, ◌∙◌, arith}
 use Rattle.std.proofs.lemmas.List.{get_or_append_left, get_or_at, get_or-append-add, length-append, length_push, length-map}
 use Rattle.std.proofs.Math.ListN.{get_or-map}
 use Rattle.model_sta.specs.Automaton.{Rule, rules_of}

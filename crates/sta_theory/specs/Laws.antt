@@ -1,5 +1,5 @@
 -- The laws of this crate, over labels of the meaning that a test tells.
-use Rattle.std.specs.Prelude.{ℕ, ◌+◌, ◌≡◌, ◌<◌, ◌↔◌, Bool, IsTrue, List, get_or, length, Contains}
+use Rattle.std.specs.Prelude.{ℕ, suc, ◌+◌, ◌≡◌, ◌<◌, ◌↔◌, Bool, IsTrue, List, [], ◌∷◌, get_or, length, Contains}
 use Rattle.model_tree.specs.Tree.{Tree}
 use Rattle.model_sta.specs.Automaton.{Rule, rules_of, is_accepted}
 use Rattle.model_sta.specs.Sets.{Row, has, set_of, Fits}
@@ -9,7 +9,7 @@ use Rattle.model_sta.specs.Told.{AreOwn, IsBeside}
 use Rattle.sta_theory.specs.Parts.{IsPart}
 use Rattle.sta_theory.specs.Opposite.{AreOpposites, IsDoubled}
 use Rattle.sta_theory.specs.Built.{AreRulesOf}
-use Rattle.sta_theory.specs.Made.{PicksAll, opposites, rules_for}
+use Rattle.sta_theory.specs.Made.{AsksNext, AreNext, AreBegun, AreMade, rules_for}
 use Rattle.sta_theory.specs.Beside.{IsEither, IsPaired}
 use Rattle.sta_theory.specs.Contexts.{AreToldApart}
 use Rattle.sta_theory.specs.Blocks.{KindTable, IsKindTable, IsStable, AreBlocks, AreNumbered, member_of}
@@ -76,9 +76,18 @@ BlocksByContexts L = (d : L → Bool) (table : KindTable L) → IsKindTable (Tol
 
 -- ---- how rules are made
 
--- rules that are made place by place are those of "not s"
-abbrev pub OppositesAreMade : Type 0 → Type 0
-OppositesAreMade L = (opp : ℕ → ℕ) (ranks : List ℕ) (known : List Row) (pick : List ℕ → List Row) → PicksAll known pick → (rs : List (Rule L)) → AreOpposites opp rs ranks known (opposites opp rs pick 0 ranks)
+-- nodes are begun with no children, and go on place by place
+abbrev pub NodesBegin : Type 0 → Type 0 → Type 0
+NodesBegin L X = (opp : ℕ → ℕ) (rs : List (Rule L)) (rows : X → List Row) (demands : X → List (List ℕ)) (c : ℕ) (known : List Row) (x : X) → rows x ≡ [] → demands x ≡ [] → AreBegun opp rs rows demands c known 0 (x ∷ [])
+
+abbrev pub NodesGoOn : Type 0 → Type 0 → Type 0
+NodesGoOn L X = (opp : ℕ → ℕ) (rs : List (Rule L)) (rows : X → List Row) (demands : X → List (List ℕ)) (c : ℕ) (known : List Row) (n : ℕ) (xs ys : List X)
+    → AreBegun opp rs rows demands c known n xs → AreNext opp rows demands (AsksNext rs c) known xs ys → AreBegun opp rs rows demands c known (suc n) ys
+
+-- the rules for all nodes are those of "not s"
+abbrev pub OppositesAreMade : Type 0 → Type 0 → Type 0
+OppositesAreMade L X = (opp : ℕ → ℕ) (rs : List (Rule L)) (rows : X → List Row) (demands : X → List (List ℕ)) (ranks : List ℕ) (known : List Row) (those : List (Rule L))
+    → AreMade opp rs rows demands ranks known (length ranks) those → AreOpposites opp rs ranks known those
 
 -- and rules for all combinations of states, or of one state at a free place, are those of a machine
 abbrev pub RulesAreMade : Type 0 → Type 0

@@ -1,5 +1,5 @@
 -- An automaton with a state for the trees that a state doesn't accept.
-use Rattle.std.specs.Prelude.{ℕ, ◌≡◌, ◌<◌, ◌≤◌, ◌⊎◌, ◌↔◌, Bool, true, cond, not, List, [], get_or, length, Contains}
+use Rattle.std.specs.Prelude.{ℕ, ◌≡◌, ◌<◌, ◌≤◌, ◌⊎◌, ◌↔◌, Bool, true, false, cond, not, List, [], get_or, length, Contains}
 use Rattle.std.specs.List.{list_any}
 use Rattle.model_sta.specs.Automaton.{Rule, rules_of}
 use Rattle.model_sta.specs.Sets.{Row, has, fires, Each}
@@ -30,10 +30,11 @@ module _ {L : Type 0} (opp : ℕ → ℕ) where
       pub demands_are : (j : ℕ) → j < length qs → (x : ℕ) → Contains (get_or r.demands j []) x ↔ ((s : ℕ) × IsAsked rs c qs j s × (x ≡ signed opp (has (get_or qs j []) s) s))
       pub guard_is : (l : L) → r.guard l ≡ not (list_any (fires c l qs) rs)
 
-    -- each rule is for some sets, and each list of known sets has a rule for sets that answer alike
+    -- Each rule is for some sets, and each list of known sets has a rule for sets that answer alike, unless over each label
+    -- one of rs applies.
     pub record AreOpposites (ranks : List ℕ) (known : List Row) (those : List (Rule L)) : Type 0 where
       pub sound : (r : Rule L) → Contains those r → (c : ℕ) × (qs : List Row) × (length qs ≡ get_or ranks c 0) × IsOpposite c qs r
-      pub complete : (c : ℕ) → c < length ranks → (us : List Row) → Each (Contains known) us → length us ≡ get_or ranks c 0
+      pub complete : (c : ℕ) → c < length ranks → (us : List Row) → Each (Contains known) us → length us ≡ get_or ranks c 0 → (l : L) → list_any (fires c l us) rs ≡ false
           → (r : Rule L) × Contains those r × (qs : List Row) × IsOpposite c qs r × AnswerAlike rs c qs us
 
   -- the states as they are, and for each state s another one for "not s" where none of them is the opposite of s

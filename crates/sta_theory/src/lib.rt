@@ -4,7 +4,7 @@
 //! It promises nothing that runs: its laws say what programs may rest on.
 #![tactic(auto)]
 
-ghost use Rattle.sta_theory.specs.Laws.{NotIsComplement, EitherIsUnion, PairedIsIntersection, DifferenceByBoth, EqualByBoth, PartIsSame, RoundsStart, RoundsGoOn, RoundsEnd, BlocksByContexts, OppositesAreMade, RulesAreMade};
+ghost use Rattle.sta_theory.specs.Laws.{NotIsComplement, EitherIsUnion, PairedIsIntersection, DifferenceByBoth, EqualByBoth, PartIsSame, RoundsStart, RoundsGoOn, RoundsEnd, BlocksByContexts, NodesBegin, NodesGoOn, OppositesAreMade, RulesAreMade};
 
 /// What automata accept that are made of the states of others.
 pub fn operations_are_right<L>()
@@ -25,7 +25,9 @@ pub fn rounds_give_the_least<L>()
 {}
 
 /// The rules that these laws ask for can be made.
-pub fn rules_are_made<L>()
-    ensures opposites { OppositesAreMade L }
+pub fn rules_are_made<L, X>()
+    ensures begin { NodesBegin L X }
+    ensures go_on { NodesGoOn L X }
+    ensures opposites { OppositesAreMade L X }
     ensures least { RulesAreMade L }
 {}

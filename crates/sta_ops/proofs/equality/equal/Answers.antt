@@ -4,9 +4,10 @@ use Rattle.std.proofs.lemmas.Result.{err_from_is_err_and}
 use Rattle.sta_core.specs.Machine.{plain_rule}
 use Rattle.sta_core.specs.Sta.{AtomsFit}
 use Rattle.sta_classes.specs.Meant.{IsTableOf, StopsClasses}
-use Rattle.sta_ops.specs.Empty.{side_by_side}
+use Rattle.sta_ops.specs.Empty.{side_by_side, StopsEither}
 use Rattle.sta_ops.specs.Rules.{beside}
 use Rattle.sta_ops.proofs.Answered.{both_are, both_fit, equal_from}
+use Rattle.sta_ops.proofs.Owing.{stops_either}
 use Rattle.sta_ops.proofs.Fitting.{known_fit, machine_fits}
 use Rattle.sta_ops.proofs.equality.equal.Goals as goal
 
@@ -43,5 +44,7 @@ returns-in_err-table-clause-stop g c =
     let are : c.in_ok-both.both ≡ side_by_side a b = both_are c.in_ok-both.both a b c.ranks.result.now c.in_ok-both.ensures.ranks c.ranks.ensures (c.in_ok-both.ensures.rules ∙ ap₂ beside c.rules-first.ensures.rules c.rules-second.ensures.rules) in
     let p = err_from_is_err_and c.from_residual-in_err-table.result c.from_residual-in_err-table.ensures.1 in
     let stop = (c.in_err-table.ensures {u = tt}).stop in
-    subst (λ r. IfErr r (StopsClasses M (side_by_side a b) c.args.most)) (sym p.1)
-    (subst (StopsClasses M (side_by_side a b) c.args.most) (sym p.2) (subst (λ m. StopsClasses M m c.args.most c.in_err-table.field-0.0) are stop))
+    subst (λ r. IfErr r (StopsEither M a b c.args.most)) (sym p.1)
+    (subst (StopsEither M a b c.args.most) (sym p.2)
+    (stops_either M a b (machine_fits a.sta c.rules-first.result.now c.rules-first.ensures.rules c.rules-first.ensures.fit) (machine_fits b.sta c.rules-second.result.now c.rules-second.ensures.rules c.rules-second.ensures.fit) c.requires.first c.requires.second c.args.most c.in_err-table.field-0.0
+    (subst (λ m. StopsClasses M m c.args.most c.in_err-table.field-0.0) are stop)))

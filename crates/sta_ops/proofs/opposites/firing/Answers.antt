@@ -1,0 +1,21 @@
+use Rattle.std.proofs.Common.{sym, ap, ◌==◌, ◌&&◌, ◌∙◌, map, take_all, []}
+use Rattle.model_sta.specs.Sets.{rows_meet}
+use Rattle.sta_core.specs.Machine.{plain_rule}
+use Rattle.sta_classes.specs.Guards.{firing_guards}
+use Rattle.model_sta.specs.Least.{rows_at}
+use Rattle.sta_classes.proofs.Kept.{guard_added, guard_passed}
+use Rattle.sta_ops.proofs.opposites.firing.Goals as goal
+use Rattle.sta_ops.proofs.opposites.firing.Goals.{then-lets_fire+in_ok-copy+in_ok-push, else-lets_fire}
+
+pub loop-rule-preserved : goal.loop-rule-preserved
+loop-rule-preserved g c = elim c.if-lets_fire.branch [
+  | then-lets_fire+in_ok-copy+in_ok-push w ↦
+      guard_added (λ r. (r.constructor == c.args.constructor) && rows_meet (rows_at c.args.table.now.found c.args.children.now) r.demands) plain_rule c.args.rules.now c.loop-rule.rule-index c.rule-item.result c.loop-rule-test.true c.rule-item.is [] c.loop-rule.guards.items c.if-lets_fire.guards.items c.loop-rule.invariant
+      w.in_ok-copy.field-0 (sym w.if-lets_fire.true ∙ c.lets_fire.ensures) (ap (λ v. v.items) w.guards-is ∙ w.in_ok-push.ensures.items) w.in_ok-copy.ensures
+  | else-lets_fire w ↦
+      guard_passed (λ r. (r.constructor == c.args.constructor) && rows_meet (rows_at c.args.table.now.found c.args.children.now) r.demands) plain_rule c.args.rules.now c.loop-rule.rule-index c.rule-item.result c.loop-rule-test.true c.rule-item.is [] c.loop-rule.guards.items c.if-lets_fire.guards.items c.loop-rule.invariant
+      (sym w.if-lets_fire.false ∙ c.lets_fire.ensures) (ap (λ v. v.items) w.guards-is)
+]
+
+pub returns : goal.returns
+returns g c = c.loop-rule.invariant ∙ ap (λ z. firing_guards c.args.constructor (rows_at c.args.table.now.found c.args.children.now) (map plain_rule z)) (take_all c.loop-rule.rule-index c.args.rules.now c.loop-rule-test.false)
