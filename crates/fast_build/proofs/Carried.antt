@@ -63,34 +63,34 @@ module _ (P : Rule Label → Type 0) (rules : List (List (PlainRule RowAtom))) (
       by (inl low) = below q r low (i, within, at)
       by (inr past) = none past
 
-module _ (items : List Item) (name type : List ℕ) (m : Machine RowAtom) (on : type_of items (named (name_of name)) ≡ Some type) (is : IsAutomatonOf items name m) where
+module _ (items : List Item) (n : Name) (type : List ℕ) (m : Machine RowAtom) (on : type_of items (named n) ≡ Some type) (is : IsAutomatonOf items n.text m) where
   abbrev pub rules : List (List (Rule Label))
   rules = automaton_of row_holds m
 
-  type_is : signature_named items (Some type) ≡ input_of items name
-  type_is = ap (signature_named items) (sym on) ∙ input_type_of_name items (name_of name)
+  type_is : signature_named items (Some type) ≡ input_of items n.text
+  type_is = ap (signature_named items) (sym on) ∙ input_type_of_name items n
 
-  typed : (t : LabelTree) → IsTyped items type t → HasType (input_of items name) t
+  typed : (t : LabelTree) → IsTyped items type t → HasType (input_of items n.text) t
   typed t h = subst (λ s. HasType s t) type_is h
 
-  many : length rules ≡ length (name ∷ is.others)
+  many : length rules ≡ length (n.text ∷ is.others)
   many = length-map m.rules (map (rule_meaning row_holds)) ∙ is.states
 
-  low : (q : ℕ) → q < length rules → q < length (name ∷ is.others)
+  low : (q : ℕ) → q < length rules → q < length (n.text ∷ is.others)
   low q h = subst (λ n. q < n) many h
 
-  first : 0 < length (name ∷ is.others)
+  first : 0 < length (n.text ∷ is.others)
   first = omega arith
 
-  languages : AreLanguagesReached items (name_of name) type rules
+  languages : AreLanguagesReached items n type rules
   languages q h = (
-    name_of (get_or (name ∷ is.others) q []),
+    name_of (get_or (n.text ∷ is.others) q []),
     is.reached q [] (low q h),
     ((is.languages q [] (low q h)).kind, (is.languages q [] (low q h)).type ∙ on),
     λ t has. (let both = is.means q (low q h) t (typed t has) in (both.1, both.0)),
   )
 
-  language_for : IsLanguageFor items (name_of name) type (record { rules = rules; start = 0 })
+  language_for : IsLanguageFor items n type (record { rules = rules; start = 0 })
   language_for = record {
     is_on = ((is.languages 0 [] first).kind, on);
     in_range = subst (λ n. 0 < n) (sym many) first;
@@ -98,31 +98,31 @@ module _ (items : List Item) (name type : List ℕ) (m : Machine RowAtom) (on : 
     states = languages;
   }
 
-  reached_type : (other : List ℕ) → Reaches items name other → type_of items (named (name_of other)) ≡ Some type
+  reached_type : (other : List ℕ) → Reaches items n.text other → type_of items (named (name_of other)) ≡ Some type
   reached_type other reached =
       let (k, within, at) = is.all other reached in
-      let there : type_of items (named (name_of (get_or (name ∷ is.others) k other))) ≡ type_of items (named (name_of name)) = (is.languages k other within).type in
+      let there : type_of items (named (name_of (get_or (n.text ∷ is.others) k other))) ≡ type_of items (named n) = (is.languages k other within).type in
       ap (λ o. type_of items (named (name_of o))) (sym at) ∙ there ∙ on
 
-  written : (f : Formula RowAtom) → IsGuardReached items name f → IsWrittenGuard items (name_of name) type (λ l. formula_holds (λ a. row_holds a l) f)
+  written : (f : Formula RowAtom) → IsGuardReached items n.text f → IsWrittenGuard items n type (λ l. formula_holds (λ a. row_holds a l) f)
   written f (other, reached, r, at, guard) = by r.guard refl guard
     where
-      sorted : (l : Label) → IsLabelOf items type l → HasSorts (sorts_of (input_of items name)) l
+      sorted : (l : Label) → IsLabelOf items type l → HasSorts (sorts_of (input_of items n.text)) l
       sorted l has = subst (λ s. HasSorts (sorts_of s) l) type_is has
 
-      by : (g : Option Expr) → r.guard ≡ g → IsGuardFor (input_of items name).fields g f → IsWrittenGuard items (name_of name) type (λ l. formula_holds (λ a. row_holds a l) f)
-      by None e own = inl (λ l has. guard_means (input_of items name).fields None f l own (sorted l has))
+      by : (g : Option Expr) → r.guard ≡ g → IsGuardFor (input_of items n.text).fields g f → IsWrittenGuard items n type (λ l. formula_holds (λ a. row_holds a l) f)
+      by None e own = inl (λ l has. guard_means (input_of items n.text).fields None f l own (sorted l has))
       by (Some x) e own = inr (
         x,
-        of_language (name_of name) (name_of other) type r x reached (reached_type other reached) at e,
-        λ l has. guard_means (input_of items name).fields (Some x) f l own (sorted l has) ∙ ap (λ s. is_true s.fields (values_of l) x) (sym type_is),
+        of_language n (name_of other) type r x reached (reached_type other reached) at e,
+        λ l has. guard_means (input_of items n.text).fields (Some x) f l own (sorted l has) ∙ ap (λ s. is_true s.fields (values_of l) x) (sym type_is),
       )
 
-  guards : AreWrittenGuards items (name_of name) type rules
-  guards q r at = of_each (λ r. IsWrittenGuard items (name_of name) type r.guard) m.rules (λ k d within i e inside. written _ (is.guards k d within i e inside)) q r at
+  guards : AreWrittenGuards items n type rules
+  guards q r at = of_each (λ r. IsWrittenGuard items n type r.guard) m.rules (λ k d within i e inside. written _ (is.guards k d within i e inside)) q r at
 
-  pub is_built_for : IsBuiltFor items name type m 0
+  pub is_built_for : IsBuiltFor items n type m 0
   is_built_for = record {
-    carries = (names_are_carried items (name_of name)).language type (record { rules = rules; start = 0 }) language_for;
-    seen = (names_are_seen items (name_of name)).language type rules guards;
+    carries = (names_are_carried items n).language type (record { rules = rules; start = 0 }) language_for;
+    seen = (names_are_seen items n).language type rules guards;
   }

@@ -3,7 +3,7 @@ use Rattle.std.specs.Prelude.{ℕ, List}
 use Rattle.model_tree.specs.Label.{Label}
 use Rattle.model_sta.specs.Operations.{Auto}
 use Rattle.model_grammar.specs.Syntax.{named, Item}
-use Rattle.model_names.specs.Declared.{name_of}
+use Rattle.model_program.specs.Syntax.{Name}
 use Rattle.sta_core.specs.Machine.{Machine}
 use Rattle.sta_core.specs.Sta.{automaton_of}
 use Rattle.record_label.specs.Rows.{RowAtom, row_holds}
@@ -12,6 +12,6 @@ use Rattle.model_layers.specs.Seen.{IsSeen}
 
 -- Its language is that of the name, each of its states has a language of which the name is made, and labels that agree on
 -- the guards of the name agree on its guards.
-pub record IsBuiltFor (items : List Item) (name type : List ℕ) (m : Machine RowAtom) (start : ℕ) : Type 0 where
-  pub carries : Carries items (named (name_of name)) type (record { rules = automaton_of row_holds m; start = start })
-  pub seen : IsSeen items (named (name_of name)) type (automaton_of row_holds m)
+pub record IsBuiltFor (items : List Item) (n : Name) (type : List ℕ) (m : Machine RowAtom) (start : ℕ) : Type 0 where
+  pub carries : Carries items (named n) type (record { rules = automaton_of row_holds m; start = start })
+  pub seen : IsSeen items (named n) type (automaton_of row_holds m)

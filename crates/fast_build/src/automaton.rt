@@ -4,8 +4,8 @@ ghost use Rattle.std.specs.Prelude.{◌≡◌, ◌≤◌, ℕ, IfOk, List, Some,
 ghost use Rattle.std.specs.List.{list_all};
 ghost use Rattle.fast_tree.specs.Signatures.{plain_signature};
 ghost use Rattle.fast_syntax.specs.Plain.{plain_lang};
+ghost use Rattle.model_program.specs.Syntax.{Name};
 ghost use Rattle.model_grammar.specs.Syntax.{named};
-ghost use Rattle.model_names.specs.Declared.{name_of};
 ghost use Rattle.model_names.specs.Kinds.{type_of};
 ghost use Rattle.model_meaning.specs.Types.{input_of};
 ghost use Rattle.program_check.specs.Tells.{IsChecked};
@@ -81,7 +81,7 @@ pub fn languages(alloc: Global, checked: &Checked, name: &Text) -> Result<Lang<R
     requires there { is_some (find_lang (items_of checked.now) name.now) ≡ true }
     ensures start { IfOk result (λ l. l.state ≡ 0) }
     ensures automaton { IfOk result (λ l. IsAutomatonOf (items_of checked.now) name.now l.sta) }
-    ensures carried { IfOk result (λ l. (type : List ℕ) → type_of (items_of checked.now) (named (name_of name.now)) ≡ Some type → IsBuiltFor (items_of checked.now) name.now type l.sta l.state) }
+    ensures carried { IfOk result (λ l. (n : Name) (type : List ℕ) → n.text ≡ name.now → type_of (items_of checked.now) (named n) ≡ Some type → IsBuiltFor (items_of checked.now) n type l.sta l.state) }
 {
     let Some(own) = lang(checked, name) else {
         unreachable!()

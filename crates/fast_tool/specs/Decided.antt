@@ -1,7 +1,6 @@
 -- What is found of a language, and what an item gives.
-use Rattle.std.specs.Prelude.{◌≡◌, ◌≤◌, ℕ, Bool, true, List}
-use Rattle.model_tree.specs.Tree.{LabelTree, relabel, node_count, depth}
-use Rattle.model_tree.specs.Kept.{is_kept}
+use Rattle.std.specs.Prelude.{◌≡◌, ℕ, Bool, List}
+use Rattle.model_tree.specs.Tree.{relabel}
 use Rattle.fast_tree.specs.Entries.{label_meaning}
 use Rattle.model_program.specs.Syntax.{Name}
 use Rattle.model_grammar.specs.Syntax.{AssertItem, Body, assertion, Item, empty, named}
@@ -10,6 +9,7 @@ use Rattle.model_meaning.specs.Truth.{IsTrue, Shows}
 use Rattle.model_run.specs.Outcomes.{Outcome, IsVerdict, IsOutcome, silent, line_of, says_fail}
 use Rattle.model_run.specs.Causes.{HasCause, more_classes, too_wide, too_large}
 use Rattle.model_run.specs.Causes as model
+use Rattle.fast_eval.specs.Found.{IsInLimits}
 use Rattle.fast_tool.specs.declared.verdicts.Verdict.{Verdict}
 use Rattle.fast_tool.specs.declared.verdicts.Stop.{Stop}
 use Rattle.fast_tool.specs.declared.verdicts.Stop.TheVariants as stop
@@ -26,12 +26,6 @@ plain_stop stop.TreeSize = too_large
 -- a cause whatever trees were printed before
 abbrev pub IsCauseOf : List Item → ℕ → Body → Stop → Type 0
 IsCauseOf items limit body s = (trees : List Printed) → HasCause items limit trees body (plain_stop s)
-
--- what a line may show, if its texts can be shown
-pub record IsInLimits (t : LabelTree) : Type 0 where
-  pub kept : is_kept t ≡ true
-  pub small : node_count t ≤ 1048576
-  pub shallow : depth t ≤ 2000
 
 -- that the language is empty, a tree that shows that it isn't, or a cause to stop at an assertion of it
 abbrev pub IsDecided : List Item → ℕ → Name → Decided → Type 0

@@ -1,7 +1,8 @@
-use Rattle.std.proofs.Common.{◌≡◌, Some, None, ap, ◌∙◌}
+use Rattle.std.proofs.Common.{◌≡◌, Some, None, sym, ap, subst, ◌∙◌}
 use Rattle.std.specs.Option.{option_map}
 use Rattle.fast_syntax.specs.Plain.{plain_lang}
 use Rattle.model_meaning.specs.Types.{signature_of}
+use Rattle.fast_build.specs.Automaton.{IsAutomatonOf}
 use Rattle.fast_build.specs.Items.{items_of}
 use Rattle.fast_build.proofs.WellFormed.{all_stand}
 use Rattle.fast_build.proofs.Carried.{is_built_for}
@@ -14,4 +15,4 @@ unreachable-requires-in_default-signature c =
     absurd (cc)
 
 pub returns-clause-carried : goal.returns-clause-carried
-returns-clause-carried c = λ type on. is_built_for (items_of c.args.checked.now) c.args.name.now type c.in_ok-sta.sta on c.in_ok-sta.ensures
+returns-clause-carried c = λ n type same on. is_built_for (items_of c.args.checked.now) n type c.in_ok-sta.sta on (subst (λ text. IsAutomatonOf (items_of c.args.checked.now) text c.in_ok-sta.sta) (sym same) c.in_ok-sta.ensures)

@@ -4,28 +4,30 @@ use Rattle.std.proofs.lemmas.List.Elements.{Contains-append_cases}
 use Rattle.fast_fault.specs.declared.place.Pos.{Pos}
 use Rattle.model_tree.specs.Signature.{PlainField}
 use Rattle.model_grammar.specs.declared.Rel.{Rel}
-use Rattle.model_grammar.specs.declared.Rel.TheVariants.{Equal, NotEqual, Less, AtMost, Greater, AtLeast}
 use Rattle.model_grammar.specs.declared.Chain.TheVariants.{Disjunction, Conjunction, Sum, Product}
 use Rattle.model_grammar.specs.Syntax.{Expr, field, number, text, truth, negation, compare, minus, chain, Parts, no_parts, part}
 use Rattle.model_label.specs.Tests.{is_text}
 use Rattle.model_form.specs.Form.{Form}
 use Rattle.model_guard.specs.Forms.{form_of}
 use Rattle.model_guard.specs.Guards.{is_guard, are_guards}
-use Rattle.model_run.specs.Seen.{comparison, IsCompareIn, IsCompareInOne}
+use Rattle.model_guard.specs.Compares.{comparison}
+use Rattle.model_chain.specs.Literals.{Relation, less, at_most, equal}
+use Rattle.model_chain.specs.Literals as plain
+use Rattle.model_run.specs.Seen.{IsCompareIn, IsCompareInOne}
 use Rattle.label_core.specs.declared.pair.PairAtom.TheVariants.{Left, Right}
 use Rattle.lin_solve.specs.declared.compare.Compare.{Compare}
-use Rattle.lin_solve.specs.Plain.{plain_compare}
+use Rattle.lin_solve.specs.Plain.{plain_compare, plain_relation}
 use Rattle.record_label.specs.Rows.{RowAtom}
-use Rattle.record_label.specs.Guards.{comparison_by, is_numeric, side_of, written_in, written_in_all}
+use Rattle.record_label.specs.Guards.{relation_of, compare_of, is_numeric, side_of, written_in, written_in_all}
 use Rattle.record_label.proofs.GuardFacts.{numbers_compared, others_compared}
 
-comparison_is : (rel : Rel) (f g : Form) → plain_compare (comparison_by rel f g) ≡ comparison rel f g
-comparison_is Equal f g = refl
-comparison_is NotEqual f g = refl
-comparison_is Less f g = refl
-comparison_is AtMost f g = refl
-comparison_is Greater f g = refl
-comparison_is AtLeast f g = refl
+relation_is : (r : Relation) → plain_relation (relation_of r) ≡ r
+relation_is less = refl
+relation_is at_most = refl
+relation_is equal = refl
+
+comparison_is : (c : plain.Compare) → plain_compare (compare_of c) ≡ c
+comparison_is c = λ i. record { left = c.left; relation = relation_is c.relation i; right = c.right }
 
 none : (a : RowAtom) → Contains [] a → ⊥
 none a (k, low, is) = omega (arith, low)
@@ -69,11 +71,11 @@ module _ (fields : List PlainField) where
           split (inl at) = inr (inl (in_a guards.0 c at))
           split (inr at) = inr (inr (in_b guards.1 c at))
 
-      by : (n : Bool) → is_numeric fields a ≡ n → Contains (cond n (Left (comparison_by rel (form_of fields a) (form_of fields b)) ∷ []) (cond (is_text fields a) (text_atom a b ∷ []) (written_in fields a ++ written_in fields b))) (Left c) → IsCompareIn fields (compare p rel a b) (plain_compare c)
+      by : (n : Bool) → is_numeric fields a ≡ n → Contains (cond n (Left (compare_of (comparison rel (form_of fields a) (form_of fields b))) ∷ []) (cond (is_text fields a) (text_atom a b ∷ []) (written_in fields a ++ written_in fields b))) (Left c) → IsCompareIn fields (compare p rel a b) (plain_compare c)
       by true is at =
           let both = numbers_compared fields a b p rel is guard in
-          let own : comparison_by rel (form_of fields a) (form_of fields b) ≡ c = same_numbers (comparison_by rel (form_of fields a) (form_of fields b)) c (one_alone (Left (comparison_by rel (form_of fields a) (form_of fields b))) (Left c) at) in
-          inl (both.0, both.1, ap plain_compare (sym own) ∙ comparison_is rel (form_of fields a) (form_of fields b))
+          let own : compare_of (comparison rel (form_of fields a) (form_of fields b)) ≡ c = same_numbers (compare_of (comparison rel (form_of fields a) (form_of fields b))) c (one_alone (Left (compare_of (comparison rel (form_of fields a) (form_of fields b)))) (Left c) at) in
+          inl (both.0, both.1, ap plain_compare (sym own) ∙ comparison_is (comparison rel (form_of fields a) (form_of fields b)))
       by false is at = by_text is (is_text fields a) refl at
 
   mutual

@@ -1,0 +1,35 @@
+-- What was built for expressions on one type is what operations take.
+use Rattle.std.proofs.Common.{◌≡◌, ◌<◌, ℕ, List, Some, map, length, sym, subst, ◌∙◌}
+use Rattle.std.proofs.lemmas.List.{length-map}
+use Rattle.model_tree.specs.Signature.{Sort, sorts_of}
+use Rattle.model_grammar.specs.Syntax.{X, Item}
+use Rattle.model_meaning.specs.Meaning.{signature_named}
+use Rattle.sta_core.specs.Sta.{AtomsFit, rule_meaning}
+use Rattle.sta_core.specs.declared.Lang.{Lang}
+use Rattle.record_label.specs.Rows.{RowAtom, row_holds, RowFits}
+use Rattle.fast_eval.specs.Built.{IsBuiltOf}
+use Rattle.fast_eval.specs.Scopes.{lang_of, IsOperandOf}
+use Rattle.fast_eval.specs.declared.built.Built.{Built}
+use Rattle.fast_eval.specs.declared.evaluation.Operand.{Operand}
+use Rattle.fast_eval.specs.declared.evaluation.Operand.TheVariants.{Made}
+
+module _ (items : List Item) (type : List ℕ) (x : X) (a : Lang RowAtom) (built : IsBuiltOf items x type a) where
+  -- its start is a state
+  pub start_low : a.state < length a.sta.rules
+  start_low = subst (λ n. a.state < n) (length-map a.sta.rules (map (rule_meaning row_holds))) built.carries.in_range
+
+  -- its atoms are of the labels of the type
+  pub atoms_fit : (sorts : List Sort) → sorts ≡ sorts_of (signature_named items (Some type)) → AtomsFit (RowFits sorts) a.sta
+  atoms_fit sorts is = subst (λ s. AtomsFit (RowFits s) a.sta) (sym is) built.fit
+
+  -- two have the same constructors
+  pub same_ranks : (y : X) (b : Lang RowAtom) → IsBuiltOf items y type b → b.sta.ranks ≡ a.sta.ranks
+  same_ranks y b other = other.ranks ∙ sym built.ranks
+
+-- the automaton of an operand was built for the expression
+pub operand_built : (items : List Item) (e : X) (type : List ℕ) (b : Built) (o : Operand) (l : Lang RowAtom) → IsOperandOf items e type b o → l ≡ lang_of b o l → IsBuiltOf items e type l
+operand_built items e type b o l is same = subst (IsBuiltOf items e type) (sym same) (is.built l)
+
+-- and one that was made is an operand
+pub made_operand : (items : List Item) (e : X) (type : List ℕ) (b : Built) (l : Lang RowAtom) → IsBuiltOf items e type l → IsOperandOf items e type b (Made l)
+made_operand items e type b l built = record { low = tt; built = λ d. built }

@@ -1,0 +1,23 @@
+-- What is found of a statement.
+use Rattle.std.specs.Prelude.{◌≡◌, ◌≤◌, true, List}
+use Rattle.model_tree.specs.Tree.{LabelTree, relabel, node_count, depth}
+use Rattle.model_tree.specs.Kept.{is_kept}
+use Rattle.fast_tree.specs.Entries.{label_meaning}
+use Rattle.fast_tree.specs.declared.label.Label.{Label}
+use Rattle.model_grammar.specs.Syntax.{Claim, Item}
+use Rattle.model_meaning.specs.Truth.{IsTrue, Shows}
+use Rattle.model_run.specs.Causes.{AreAllLarge}
+use Rattle.sta_ops.specs.declared.emptiness.Found.{Found}
+use Rattle.sta_ops.specs.declared.emptiness.Found.TheVariants.{Absent, Shown, TooBig}
+
+-- what a line may show, if its texts can be shown
+pub record IsInLimits (t : LabelTree) : Type 0 where
+  pub kept : is_kept t ≡ true
+  pub small : node_count t ≤ 1048576
+  pub shallow : depth t ≤ 2000
+
+-- that the statement is true, a tree that shows that it is false, or that all such trees are too large
+abbrev pub IsFoundOf : List Item → Claim → Found Label → Type 0
+IsFoundOf items claim Absent = IsTrue items claim
+IsFoundOf items claim (Shown t) = Shows items claim (relabel label_meaning t) × IsInLimits (relabel label_meaning t)
+IsFoundOf items claim TooBig = AreAllLarge (Shows items claim)
