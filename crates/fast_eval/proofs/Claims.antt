@@ -7,6 +7,7 @@ use Rattle.model_grammar.specs.declared.Op2.{Op2}
 use Rattle.model_grammar.specs.declared.Op2.TheVariants.{Intersect, Union, Difference, PreImage, Compose, Restrict, RestrictOut, Apply}
 use Rattle.model_grammar.specs.Syntax.{X, named, one, two, literal, empty, Item}
 use Rattle.model_names.specs.Kinds.{language, kind_of}
+use Rattle.model_run.specs.Built.{is_built_one, is_built_two}
 use Rattle.model_run.specs.Parts.{operands, IsOn, HasMoreTrees}
 use Rattle.model_run.specs.Items.{has_classes, judged_empty, judged_claim}
 use Rattle.model_run.specs.Causes.{IsTooWide}
@@ -19,7 +20,7 @@ use Rattle.lin_solve.specs.declared.chain.Chain.{Chain}
 use Rattle.lin_solve.specs.Shown.{bits_of}
 use Rattle.sta_classes.specs.declared.stop.ClassStop.{ClassStop}
 use Rattle.sta_classes.specs.declared.stop.ClassStop.TheVariants.{Classes, Wide, Memory}
-use Rattle.fast_eval.specs.Forms.{negates, joins, IsMadeOn}
+use Rattle.fast_eval.specs.Forms.{IsMadeOn}
 use Rattle.fast_eval.specs.Stops.{IsStopOf, StopsExpression}
 
 -- an expression that is made of languages on a type is one
@@ -50,7 +51,7 @@ right_true true b e = refl
 right_true false b e = e
 
 module _ (place : Pos) (x y : X) where
-  first_has : (op : Op2) → joins op ≡ true → has_classes x ≡ true → has_classes (two op place x y) ≡ true
+  first_has : (op : Op2) → is_built_two op ≡ true → has_classes x ≡ true → has_classes (two op place x y) ≡ true
   first_has Intersect is e = left_true (has_classes x) (has_classes y) e
   first_has Union is e = left_true (has_classes x) (has_classes y) e
   first_has Difference is e = refl
@@ -60,7 +61,7 @@ module _ (place : Pos) (x y : X) where
   first_has RestrictOut is e = absurd (cc)
   first_has Apply is e = absurd (cc)
 
-  second_has : (op : Op2) → joins op ≡ true → has_classes y ≡ true → has_classes (two op place x y) ≡ true
+  second_has : (op : Op2) → is_built_two op ≡ true → has_classes y ≡ true → has_classes (two op place x y) ≡ true
   second_has Intersect is e = right_true (has_classes x) (has_classes y) e
   second_has Union is e = right_true (has_classes x) (has_classes y) e
   second_has Difference is e = refl
@@ -70,7 +71,7 @@ module _ (place : Pos) (x y : X) where
   second_has RestrictOut is e = absurd (cc)
   second_has Apply is e = absurd (cc)
 
-  first_operand : (op : Op2) → joins op ≡ true → Contains (operands (two op place x y)) x
+  first_operand : (op : Op2) → is_built_two op ≡ true → Contains (operands (two op place x y)) x
   first_operand Intersect is = first_of x (y ∷ [])
   first_operand Union is = first_of x (y ∷ [])
   first_operand Difference is = first_of x (y ∷ [])
@@ -80,7 +81,7 @@ module _ (place : Pos) (x y : X) where
   first_operand RestrictOut is = first_of x (y ∷ [])
   first_operand Apply is = absurd (cc)
 
-  second_operand : (op : Op2) → joins op ≡ true → Contains (operands (two op place x y)) y
+  second_operand : (op : Op2) → is_built_two op ≡ true → Contains (operands (two op place x y)) y
   second_operand Intersect is = second_of x y
   second_operand Union is = second_of x y
   second_operand Difference is = second_of x y
@@ -92,12 +93,12 @@ module _ (place : Pos) (x y : X) where
 
 module _ (items : List Item) (most : ℕ) where
   -- what stops some expressions stops all that they are among
-  widened : (es fs : List X) → ((e : X) → Contains es e → (f : X) × Contains fs f × IsAmong items e f) → (s : ClassStop Chain) → IsStopOf items es most s → IsStopOf items fs most s
+  pub widened : (es fs : List X) → ((e : X) → Contains es e → (f : X) × Contains fs f × IsAmong items e f) → (s : ClassStop Chain) → IsStopOf items es most s → IsStopOf items fs most s
   widened es fs among Classes stop = (are_widened items es fs among).trees most stop
   widened es fs among (Wide c) stop = (are_widened items es fs among).wide (bits_of c.width) stop
   widened es fs among Memory stop = tt
 
-  of_expression : (x : X) (s : ClassStop Chain) → StopsExpression items x most s → IsStopOf items (x ∷ []) most s
+  pub of_expression : (x : X) (s : ClassStop Chain) → StopsExpression items x most s → IsStopOf items (x ∷ []) most s
   of_expression x Classes stop = stop.1
   of_expression x (Wide c) stop = stop.1
   of_expression x Memory stop = tt
@@ -117,23 +118,23 @@ module _ (items : List Item) (most : ℕ) where
   by_operand : (x e : X) → Contains (operands e) x → (s : ClassStop Chain) → IsStopOf items (x ∷ []) most s → IsStopOf items (e ∷ []) most s
   by_operand x e at = widened (x ∷ []) (e ∷ []) (λ z here. (e, first_of e [], subst (λ w. IsAmong items w e) (the_only x z here) ((are_among items).operand e x at)))
 
-  pub first_stops : (op : Op2) (place : Pos) (x y : X) → joins op ≡ true → (s : ClassStop Chain) → StopsExpression items x most s → StopsExpression items (two op place x y) most s
+  pub first_stops : (op : Op2) (place : Pos) (x y : X) → is_built_two op ≡ true → (s : ClassStop Chain) → StopsExpression items x most s → StopsExpression items (two op place x y) most s
   first_stops op place x y is s stop = has_some x (two op place x y) s (first_has place x y op is) stop (by_operand x (two op place x y) (first_operand place x y op is) s (of_expression x s stop))
 
-  pub second_stops : (op : Op2) (place : Pos) (x y : X) → joins op ≡ true → (s : ClassStop Chain) → StopsExpression items y most s → StopsExpression items (two op place x y) most s
+  pub second_stops : (op : Op2) (place : Pos) (x y : X) → is_built_two op ≡ true → (s : ClassStop Chain) → StopsExpression items y most s → StopsExpression items (two op place x y) most s
   second_stops op place x y is s stop = has_some y (two op place x y) s (second_has place x y op is) stop (by_operand y (two op place x y) (second_operand place x y op is) s (of_expression y s stop))
 
   -- of the operand of an operation on one
-  only_has : (op : Op1) (place : Pos) (x : X) → negates op ≡ true → has_classes (one op place x) ≡ true
+  only_has : (op : Op1) (place : Pos) (x : X) → is_built_one op ≡ true → has_classes (one op place x) ≡ true
   only_has Complement place x is = refl
   only_has Minimize place x is = refl
   only_has Domain place x is = absurd (cc)
   only_has GetWitness place x is = refl
 
-  pub only_tells : (op : Op1) (place : Pos) (x : X) → negates op ≡ true → (s : ClassStop Chain) → IsStopOf items (x ∷ []) most s → StopsExpression items (one op place x) most s
+  pub only_tells : (op : Op1) (place : Pos) (x : X) → is_built_one op ≡ true → (s : ClassStop Chain) → IsStopOf items (x ∷ []) most s → StopsExpression items (one op place x) most s
   only_tells op place x is s stop = telling (one op place x) s (only_has op place x is) (by_operand x (one op place x) (first_of x []) s stop)
 
-  pub only_stops : (op : Op1) (place : Pos) (x : X) → negates op ≡ true → (s : ClassStop Chain) → StopsExpression items x most s → StopsExpression items (one op place x) most s
+  pub only_stops : (op : Op1) (place : Pos) (x : X) → is_built_one op ≡ true → (s : ClassStop Chain) → StopsExpression items x most s → StopsExpression items (one op place x) most s
   only_stops op place x is s stop = only_tells op place x is s (of_expression x s stop)
 
   -- of the second operand of a difference

@@ -17,3 +17,4 @@ pub mod TypeNames
 pub mod Scoped
 pub mod Stepping
 pub mod Defined
+pub mod Witnessed

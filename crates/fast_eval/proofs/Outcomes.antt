@@ -9,13 +9,13 @@ use Rattle.model_grammar.specs.declared.Op2.TheVariants.{Intersect, Union, Diffe
 use Rattle.model_grammar.specs.Syntax.{X, named, one, two, literal, Claim, DefItem, AssertItem, Body, def, assertion, Item}
 use Rattle.model_meaning.specs.Values.{Printed}
 use Rattle.model_meaning.specs.Truth.{Shows}
+use Rattle.model_run.specs.Built.{is_built_language, is_built_one, is_built_two}
 use Rattle.model_run.specs.Items.{expressions_in, has_classes, claim_has_classes, tells_apart, judged_claim, by_expressions, IsComposedIn, in_expression, IsComposable}
 use Rattle.model_run.specs.Causes.{AreAllLarge, HasCause, too_large}
 use Rattle.model_run.specs.Outcomes.{silent, IsDefLine}
 use Rattle.lin_solve.specs.declared.chain.Chain.{Chain}
 use Rattle.sta_classes.specs.declared.stop.ClassStop.{ClassStop}
 use Rattle.sta_classes.specs.declared.stop.ClassStop.TheVariants.{Classes, Wide, Memory}
-use Rattle.fast_eval.specs.Forms.{negates, joins, is_form}
 use Rattle.fast_eval.specs.Stops.{IsStopOf, StopsExpression, IsCauseFor}
 
 -- ---- nothing is composed in what can be evaluated
@@ -25,7 +25,7 @@ form_parts true b e = (refl, e)
 form_parts false b e = absurd (cc)
 
 module _ (x y : X) where
-  in_neither : (op : Op2) (place : Pos) (e f : X) → joins op ≡ true → ¬ (IsComposedIn x y e) → ¬ (IsComposedIn x y f) → IsComposedIn x y (two op place e f) → ⊥
+  in_neither : (op : Op2) (place : Pos) (e f : X) → is_built_two op ≡ true → ¬ (IsComposedIn x y e) → ¬ (IsComposedIn x y f) → IsComposedIn x y (two op place e f) → ⊥
   in_neither Intersect place e f is first second (inl at) = first at
   in_neither Intersect place e f is first second (inr at) = second at
   in_neither Union place e f is first second (inl at) = first at
@@ -38,20 +38,20 @@ module _ (x y : X) where
   in_neither RestrictOut place e f is first second at = absurd (cc)
   in_neither Apply place e f is first second at = absurd (cc)
 
-  none_composed : (e : X) → is_form e ≡ true → IsComposedIn x y e → ⊥
+  none_composed : (e : X) → is_built_language e ≡ true → IsComposedIn x y e → ⊥
   none_composed (named n) form is = is
-  none_composed (one op place e) form is = none_composed e (form_parts (negates op) (is_form e) form).1 is
+  none_composed (one op place e) form is = none_composed e (form_parts (is_built_one op) (is_built_language e) form).1 is
   none_composed (literal name labels es) form is = absurd (cc)
   none_composed (two op place e f) form is =
-      let outer = form_parts (joins op) (is_form e && is_form f) form in
-      let inner = form_parts (is_form e) (is_form f) outer.1 in
+      let outer = form_parts (is_built_two op) (is_built_language e && is_built_language f) form in
+      let inner = form_parts (is_built_language e) (is_built_language f) outer.1 in
       in_neither op place e f outer.0 (none_composed e inner.0) (none_composed f inner.1) is
 
-pub forms_compose : (items : List Item) (body : Body) → ((e : X) → Contains (expressions_in body) e → is_form e ≡ true) → IsComposable items body
+pub forms_compose : (items : List Item) (body : Body) → ((e : X) → Contains (expressions_in body) e → is_built_language e ≡ true) → IsComposable items body
 forms_compose items body each x y (in_expression _ e at is) = absurd (none_composed x y e (each e at) is)
 
 -- a definition of a language by such an expression has no line
-pub def_silent : (items : List Item) (trees : List Printed) (d : DefItem) (x : X) → is_form x ≡ true → IsDefLine items trees d x silent
+pub def_silent : (items : List Item) (trees : List Printed) (d : DefItem) (x : X) → is_built_language x ≡ true → IsDefLine items trees d x silent
 def_silent items trees d (named n) form = refl
 def_silent items trees d (one Complement place x) form = refl
 def_silent items trees d (one Minimize place x) form = absurd (cc)

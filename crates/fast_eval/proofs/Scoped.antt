@@ -1,7 +1,10 @@
 -- What is so in the scope of an expression is so of the program and of what was built for its names.
-use Rattle.std.proofs.Common.{◌≡◌, ℕ, List, sym, ap, subst}
+use Rattle.std.proofs.Common.{◌≡◌, ◌↔◌, ℕ, Bool, true, List, [], ◌∷◌, sym, ap, subst}
+use Rattle.model_tree.specs.Tree.{LabelTree}
+use Rattle.model_tree.specs.Signature.{HasType}
 use Rattle.fast_tree.specs.declared.label.Label.{Label}
 use Rattle.model_grammar.specs.Syntax.{X, Claim, Item}
+use Rattle.model_meaning.specs.Meaning.{IsInLanguage, input_type}
 use Rattle.model_run.specs.Items.{judged_claim}
 use Rattle.program_check.specs.declared.programs.Checked.{Checked}
 use Rattle.lin_solve.specs.declared.chain.Chain.{Chain}
@@ -15,6 +18,7 @@ use Rattle.fast_eval.specs.Forms.{AreNamed, IsMadeOn}
 use Rattle.fast_eval.specs.Found.{IsFoundOf}
 use Rattle.fast_eval.specs.Scopes.{items_in, type_in, IsScopeOf, IsOperandOf}
 use Rattle.fast_eval.specs.Stops.{IsStopOf, StopsExpression}
+use Rattle.fast_eval.specs.Witnesses.{IsWitnessOf}
 
 module _ (checked : Checked) (b : Built) (limit : ℕ) (x : X) (s : Scope) (is : IsScopeOf checked b limit x s) where
   abbrev items : List Item
@@ -42,3 +46,15 @@ module _ (checked : Checked) (b : Built) (limit : ℕ) (x : X) (s : Scope) (is :
 
   pub claim_back : (claim : Claim) (st : ClassStop Chain) → IsStopOf (items_in s) (judged_claim (items_in s) claim) s.limit st → IsStopOf items (judged_claim items claim) limit st
   claim_back claim st h = subst (λ n. IsStopOf items (judged_claim items claim) n st) is.most (subst (λ its. IsStopOf its (judged_claim its claim) s.limit st) items_are h)
+
+  pub witness_back : (y : X) (f : Found Label) → IsWitnessOf (items_in s) y f → IsWitnessOf items y f
+  witness_back y f h = subst (λ its. IsWitnessOf its y f) items_are h
+
+  pub one_back : (y : X) (st : ClassStop Chain) → IsStopOf (items_in s) (y ∷ []) s.limit st → IsStopOf items (y ∷ []) limit st
+  one_back y st h = subst (λ n. IsStopOf items (y ∷ []) n st) is.most (subst (λ its. IsStopOf its (y ∷ []) s.limit st) items_are h)
+
+  pub typed_in : (y : X) (t : LabelTree) → HasType (input_type items y) t → HasType (input_type (items_in s) y) t
+  typed_in y t h = subst (λ its. HasType (input_type its y) t) (sym items_are) h
+
+  pub inside_back : (y : X) (t : LabelTree) (b : Bool) → (b ≡ true) ↔ IsInLanguage (items_in s) y t → (b ≡ true) ↔ IsInLanguage items y t
+  inside_back y t b h = subst (λ its. (b ≡ true) ↔ IsInLanguage its y t) items_are h

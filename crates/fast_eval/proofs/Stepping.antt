@@ -13,6 +13,7 @@ use Rattle.model_checks.specs.Expressions.{is_known_later, expected_as, needs_be
 use Rattle.model_checks.specs.Programs.{body_failures, claim_failures}
 use Rattle.model_checks.specs.Sound.{IsSound, StandsIn}
 use Rattle.model_checks.proofs.Soundness.{empty_first, empty_second, not_false, is_there, found_passes}
+use Rattle.model_run.specs.Built.{is_built_language}
 use Rattle.model_run.specs.Parts.{IsOn}
 use Rattle.meaning_laws.proofs.Kinded.{IsTypedAs, IsKinded, kinded, kind_needed, named_kind, through, from_declared}
 use Rattle.meaning_laws.proofs.Known.{IsKnown, IsFound, has_name, names_known, found_of}
@@ -21,7 +22,7 @@ use Rattle.sta_theory.proofs.Lists.{first_in, later_in}
 use Rattle.fast_build.specs.Items.{own_lang, find_lang}
 use Rattle.fast_eval.specs.declared.built.Built.{Built}
 use Rattle.fast_eval.specs.Table.{IsNamed}
-use Rattle.fast_eval.specs.Forms.{EachName, AreKnown, is_form, IsMadeOn}
+use Rattle.fast_eval.specs.Forms.{EachName, AreKnown, IsMadeOn}
 use Rattle.fast_eval.proofs.Typing.{made_of_form}
 
 -- what is found in a front is what is found
@@ -44,7 +45,7 @@ found_there p (z ∷ xs) x e = by (p z) e (found_there p xs x)
 module _ (items : List Item) (whole : IsSound items) where
   -- ---- types
 
-  pub def_made : (item : Item) (at : StandsIn items item) (d : DefItem) → item.body ≡ def d → d.into ≡ None → is_form d.value ≡ true → IsMadeOn items d.from.text d.value
+  pub def_made : (item : Item) (at : StandsIn items item) (d : DefItem) → item.body ≡ def d → d.into ≡ None → is_built_language d.value ≡ true → IsMadeOn items d.from.text d.value
   def_made item at d is alone form =
       let c = checked items whole item at d is in
       let has = value_has items whole item at d is in
@@ -67,7 +68,7 @@ module _ (items : List Item) (whole : IsSound items) where
   empty_inside : (before : List Item) (x : X) → is_empty (claim_failures items before (empty x)) ≡ true → is_empty (x_failures items before 0 None x) ≡ true
   empty_inside before x e = empty_first (x_failures items before 0 None x) _ e
 
-  pub empty_made : (before : List Item) (x : X) → is_empty (claim_failures items before (empty x)) ≡ true → kind_of items x ≡ Some language → is_form x ≡ true → (type : List ℕ) × IsMadeOn items type x
+  pub empty_made : (before : List Item) (x : X) → is_empty (claim_failures items before (empty x)) ≡ true → kind_of items x ≡ Some language → is_built_language x ≡ true → (type : List ℕ) × IsMadeOn items type x
   empty_made before x e kind form =
       let inside = empty_inside before x e in
       let (type, on) = typed_as x (kinded items whole before 0 None x inside) kind in
@@ -79,7 +80,7 @@ module _ (items : List Item) (whole : IsSound items) where
     pub first : IsMadeOn items type x
     pub second : IsMadeOn items type y
 
-  pub equal_made : (before : List Item) (x y : X) → is_empty (claim_failures items before (equal x y)) ≡ true → is_form x ≡ true → is_form y ≡ true → AreMadeOnOne x y
+  pub equal_made : (before : List Item) (x y : X) → is_empty (claim_failures items before (equal x y)) ≡ true → is_built_language x ≡ true → is_built_language y ≡ true → AreMadeOnOne x y
   equal_made before x y e form_x form_y =
       let wx = whole_failures items before None language x in
       let wanted = type_as items before language x in

@@ -15,10 +15,11 @@ use Rattle.model_checks.specs.Rules.{differ}
 use Rattle.model_checks.specs.Expressions.{nesting_failures, expected_as, wanted_second, needs_be, x_failures}
 use Rattle.model_checks.specs.Sound.{IsSound}
 use Rattle.model_checks.proofs.Soundness.{empty_first, empty_second}
+use Rattle.model_run.specs.Built.{is_built_language, is_built_one, is_built_two}
 use Rattle.model_run.specs.Parts.{IsOn}
 use Rattle.meaning_laws.proofs.Kinded.{IsTypedAs, kinded, kind_needed, through}
 use Rattle.meaning_laws.proofs.Valued.{same_types, not_other}
-use Rattle.fast_eval.specs.Forms.{negates, joins, is_form, IsMadeOn}
+use Rattle.fast_eval.specs.Forms.{IsMadeOn}
 
 module _ (items : List Item) (whole : IsSound items) where
   -- nothing fails in the operands, and they are languages on one type
@@ -55,7 +56,7 @@ module _ (items : List Item) (whole : IsSound items) where
         same = same_types items (type_of items x) (type_of items y) own_x.1.0 own_y.1.0 own_x.1.1 own_y.1.1 (subst (λ w. differ w (type_of items y) ≡ false) (wanted ∙ type_x) told);
       }
 
-  sides : (before : List Item) (around : ℕ) (expected : Option (List ℕ)) (op : Op2) (place : Pos) (x y : X) → joins op ≡ true → is_empty (x_failures items before around expected (two op place x y)) ≡ true → AreSides before around op x y
+  sides : (before : List Item) (around : ℕ) (expected : Option (List ℕ)) (op : Op2) (place : Pos) (x y : X) → is_built_two op ≡ true → is_empty (x_failures items before around expected (two op place x y)) ≡ true → AreSides before around op x y
   sides before around expected Intersect place x y is e = sides_of before around expected Intersect place x y refl refl refl e
   sides before around expected Union place x y is e = sides_of before around expected Union place x y refl refl refl e
   sides before around expected Difference place x y is e = sides_of before around expected Difference place x y refl refl refl e
@@ -66,7 +67,7 @@ module _ (items : List Item) (whole : IsSound items) where
   sides before around expected Apply place x y is e = absurd (cc)
 
   -- the type of such an operation is that of its first operand
-  first_type : (op : Op2) (place : Pos) (x y : X) (type : List ℕ) → joins op ≡ true → kind_of items x ≡ Some language → type_of items (two op place x y) ≡ Some type → type_of items x ≡ Some type
+  first_type : (op : Op2) (place : Pos) (x y : X) (type : List ℕ) → is_built_two op ≡ true → kind_of items x ≡ Some language → type_of items (two op place x y) ≡ Some type → type_of items x ≡ Some type
   first_type Intersect place x y type is kind e = sym (through language (kind_of items x) (type_of items x) kind) ∙ e
   first_type Union place x y type is kind e = sym (through language (kind_of items x) (type_of items x) kind) ∙ e
   first_type Difference place x y type is kind e = sym (through language (kind_of items x) (type_of items x) kind) ∙ e
@@ -81,7 +82,7 @@ module _ (items : List Item) (whole : IsSound items) where
     fine : is_empty (x_failures items before (suc around) None x) ≡ true
     kind : kind_of items x ≡ Some language
 
-  only : (before : List Item) (around : ℕ) (expected : Option (List ℕ)) (op : Op1) (place : Pos) (x : X) → negates op ≡ true → is_empty (x_failures items before around expected (one op place x)) ≡ true → IsOnly before around x
+  only : (before : List Item) (around : ℕ) (expected : Option (List ℕ)) (op : Op1) (place : Pos) (x : X) → is_built_one op ≡ true → is_empty (x_failures items before around expected (one op place x)) ≡ true → IsOnly before around x
   only before around expected Complement place x is e =
       let fx = x_failures items before (suc around) None x in
       let bx = needs_be items before None language x in
@@ -92,7 +93,7 @@ module _ (items : List Item) (whole : IsSound items) where
   only before around expected Domain place x is e = absurd (cc)
   only before around expected GetWitness place x is e = absurd (cc)
 
-  only_type : (op : Op1) (place : Pos) (x : X) (type : List ℕ) → negates op ≡ true → kind_of items x ≡ Some language → type_of items (one op place x) ≡ Some type → type_of items x ≡ Some type
+  only_type : (op : Op1) (place : Pos) (x : X) (type : List ℕ) → is_built_one op ≡ true → kind_of items x ≡ Some language → type_of items (one op place x) ≡ Some type → type_of items x ≡ Some type
   only_type Complement place x type is kind e = sym (through language (kind_of items x) (type_of items x) kind) ∙ e
   only_type Minimize place x type is kind e = absurd (cc)
   only_type Domain place x type is kind e = absurd (cc)
@@ -103,16 +104,16 @@ module _ (items : List Item) (whole : IsSound items) where
   and_parts false b e = absurd (cc)
 
   -- an expression of a form that can be evaluated is made of languages on its type
-  pub made_of_form : (before : List Item) (around : ℕ) (expected : Option (List ℕ)) (x : X) (type : List ℕ) → is_form x ≡ true → is_empty (x_failures items before around expected x) ≡ true → IsOn items x type → IsMadeOn items type x
+  pub made_of_form : (before : List Item) (around : ℕ) (expected : Option (List ℕ)) (x : X) (type : List ℕ) → is_built_language x ≡ true → is_empty (x_failures items before around expected x) ≡ true → IsOn items x type → IsMadeOn items type x
   made_of_form before around expected (named n) type form e on = on
   made_of_form before around expected (one op place x) type form e on =
-      let parts = and_parts (negates op) (is_form x) form in
+      let parts = and_parts (is_built_one op) (is_built_language x) form in
       let o = only before around expected op place x parts.0 e in
       (parts.0, made_of_form before (suc around) None x type parts.1 o.fine (o.kind, only_type op place x type parts.0 o.kind on.1))
   made_of_form before around expected (literal name labels xs) type form e on = absurd (cc)
   made_of_form before around expected (two op place x y) type form e on =
-      let outer = and_parts (joins op) (is_form x && is_form y) form in
-      let inner = and_parts (is_form x) (is_form y) outer.1 in
+      let outer = and_parts (is_built_two op) (is_built_language x && is_built_language y) form in
+      let inner = and_parts (is_built_language x) (is_built_language y) outer.1 in
       let s = sides before around expected op place x y outer.0 e in
       let first = first_type op place x y type outer.0 s.first_kind on.1 in (
         outer.0,

@@ -7,6 +7,7 @@ use Rattle.model_grammar.specs.declared.Op2.TheVariants.{Intersect, Union, Diffe
 use Rattle.model_grammar.specs.Syntax.{X, named, one, two, literal, Claim, equal, member, empty, type_check, Item}
 use Rattle.model_names.specs.Kinds.{Kind, language, transformation, a_tree}
 use Rattle.program_check.specs.Tells.{Told}
+use Rattle.model_run.specs.Built.{is_built_one, is_built_two}
 use Rattle.model_run.specs.Parts.{IsOn}
 use Rattle.fast_build.specs.Items.{find_lang}
 use Rattle.fast_eval.specs.declared.built.Built.{Built}
@@ -27,35 +28,11 @@ AreNamed b = EachName (IsNamed b)
 abbrev pub AreKnown : List Item → Built → X → Type 0
 AreKnown items b = EachName (λ name. (is_some (find_lang items name) ≡ true) ⊎ IsNamed b name)
 
--- the operations on a language, and on two, that are built
-abbrev pub negates : Op1 → Bool
-negates Complement = true
-negates Minimize = false
-negates Domain = false
-negates GetWitness = false
-
-abbrev pub joins : Op2 → Bool
-joins Intersect = true
-joins Union = true
-joins Difference = true
-joins PreImage = false
-joins Compose = false
-joins Restrict = false
-joins RestrictOut = false
-joins Apply = false
-
--- an expression of names by such operations
-abbrev pub is_form : X → Bool
-is_form (named n) = true
-is_form (one op place x) = negates op && is_form x
-is_form (two op place x y) = joins op && (is_form x && is_form y)
-is_form (literal name labels xs) = false
-
 -- made by such operations of names of languages on the type
 abbrev pub IsMadeOn : List Item → List ℕ → X → Type 0
 IsMadeOn items type (named n) = IsOn items (named n) type
-IsMadeOn items type (one op place x) = (negates op ≡ true) × IsMadeOn items type x
-IsMadeOn items type (two op place x y) = (joins op ≡ true) × IsMadeOn items type x × IsMadeOn items type y
+IsMadeOn items type (one op place x) = (is_built_one op ≡ true) × IsMadeOn items type x
+IsMadeOn items type (two op place x y) = (is_built_two op ≡ true) × IsMadeOn items type x × IsMadeOn items type y
 IsMadeOn items type (literal name labels xs) = ⊥
 
 -- the name of the type, where a language is told of

@@ -4,3 +4,4 @@ pub mod Found
 pub mod Table
 pub mod Forms
 pub mod Scopes
+pub mod Witnesses

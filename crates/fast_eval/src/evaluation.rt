@@ -4,9 +4,10 @@ ghost use Rattle.std.specs.Prelude.{◌≡◌, IfOk, IfErr, true};
 ghost use Rattle.fast_syntax.specs.View.{plain_name};
 ghost use Rattle.fast_syntax.specs.Plain.{plain_x};
 ghost use Rattle.model_grammar.specs.Syntax as plain;
+ghost use Rattle.model_run.specs.Built.{is_built_one, is_built_two};
 ghost use Rattle.model_run.specs.Parts.{IsOn};
 ghost use Rattle.fast_eval.specs.Built.{IsBuiltOf};
-ghost use Rattle.fast_eval.specs.Forms.{AreNamed, negates, joins, IsMadeOn};
+ghost use Rattle.fast_eval.specs.Forms.{AreNamed, IsMadeOn};
 ghost use Rattle.fast_eval.specs.Scopes.{items_in, type_in, IsScope, lang_of, IsLow, IsOperandOf};
 ghost use Rattle.fast_eval.specs.Stops.{StopsExpression};
 ghost use Rattle.fast_eval.specs.Table.{IsNamed};
@@ -78,7 +79,7 @@ fn join(
     b: &Lang<RowAtom>,
 ) -> Result<Lang<RowAtom>, ClassStop<Chain>>
     requires scope { IsScope scope.now }
-    requires op { joins op ≡ true }
+    requires op { is_built_two op ≡ true }
     requires first { (x : plain.X) × IsBuiltOf (items_in scope.now) x (type_in scope.now) a.now }
     requires second { (y : plain.X) × IsBuiltOf (items_in scope.now) y (type_in scope.now) b.now }
     ensures built { IfOk result (λ c. (place : _) (x y : plain.X) → IsBuiltOf (items_in scope.now) x (type_in scope.now) a.now → IsBuiltOf (items_in scope.now) y (type_in scope.now) b.now → IsBuiltOf (items_in scope.now) (plain.two op place x y) (type_in scope.now) c) }
@@ -100,7 +101,7 @@ fn negate(
     a: &Lang<RowAtom>,
 ) -> Result<Lang<RowAtom>, ClassStop<Chain>>
     requires scope { IsScope scope.now }
-    requires op { negates op ≡ true }
+    requires op { is_built_one op ≡ true }
     requires operand { (x : plain.X) × IsBuiltOf (items_in scope.now) x (type_in scope.now) a.now }
     ensures built { IfOk result (λ c. (place : _) (x : plain.X) → IsBuiltOf (items_in scope.now) x (type_in scope.now) a.now → IsBuiltOf (items_in scope.now) (plain.one op place x) (type_in scope.now) c) }
     ensures stop { IfErr result (λ s. (place : _) (x : plain.X) → IsBuiltOf (items_in scope.now) x (type_in scope.now) a.now → StopsExpression (items_in scope.now) (plain.one op place x) scope.now.limit s) }

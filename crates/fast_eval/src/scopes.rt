@@ -28,7 +28,7 @@ fn language_in(kind: Option<Kind3<'_>>) -> Option<&Text>
 }
 
 /// The name of the type of an expression's trees.
-fn type_of<'c>(checked: &'c Checked, x: &X) -> Option<&'c Text>
+pub fn type_of<'c>(checked: &'c Checked, x: &X) -> Option<&'c Text>
     requires { IsChecked checked.now }
     ensures { (type : List ℕ) → IsMadeOn (items_of checked.now) type (plain_x x.now) → option_map (λ t. t.now) result ≡ Some type }
 {

@@ -1,0 +1,48 @@
+use Rattle.std.proofs.Common.{[], ◌∷◌}
+use Rattle.std.proofs.lemmas.Result.{IfOk-weaker, IfErr-weaker}
+use Rattle.fast_syntax.specs.Plain.{plain_x}
+use Rattle.sta_classes.specs.Meant.{StopsClasses}
+use Rattle.sta_ops.specs.Empty.{IsEmptyAnswer}
+use Rattle.record_label.specs.Meaning.{row_meaning}
+use Rattle.fast_eval.specs.Scopes.{items_in, type_in}
+use Rattle.fast_eval.specs.Stops.{IsStopOf}
+use Rattle.fast_eval.specs.Witnesses.{IsWitnessOf}
+use Rattle.fast_eval.proofs.Claims.{of_expression}
+use Rattle.fast_eval.proofs.Keeping.{on_err}
+use Rattle.fast_eval.proofs.Ready.{operand_built, atoms_fit}
+use Rattle.fast_eval.proofs.Stopped.{stops_one}
+use Rattle.fast_eval.proofs.Witnessed.{found_witness}
+use Rattle.fast_eval.proofs.witnesses.least.Goals as goal
+
+pub empty-requires : goal.empty-requires
+empty-requires c =
+    let s = c.args.scope.now in
+    let x = plain_x c.args.x.now in
+    let l = c.lang_of.result.now in
+    let built = operand_built (items_in s) x (type_in s) s.built.now c.in_ok-a.a l c.in_ok-a.ensures.built c.lang_of.ensures in
+    record { fit = atoms_fit (items_in s) (type_in s) x l built s.theory c.requires.scope.labels }
+
+pub returns-in_err-a-clause-stop : goal.returns-in_err-a-clause-stop
+returns-in_err-a-clause-stop c =
+    let s = c.args.scope.now in
+    let x = plain_x c.args.x.now in
+    on_err (IsStopOf (items_in s) (x ∷ []) s.limit) c.from_residual.result c.in_err-a.field-0.0 c.from_residual.ensures.1
+    (of_expression (items_in s) s.limit x c.in_err-a.field-0.0 c.in_err-a.ensures.stop)
+
+pub returns-clause-found : goal.returns-clause-found
+returns-clause-found c =
+    let s = c.args.scope.now in
+    let x = plain_x c.args.x.now in
+    let l = c.lang_of.result.now in
+    let built = operand_built (items_in s) x (type_in s) s.built.now c.in_ok-a.a l c.in_ok-a.ensures.built c.lang_of.ensures in
+    IfOk-weaker c.empty.result (IsEmptyAnswer (row_meaning s.theory) l.sta l.state s.limit) (IsWitnessOf (items_in s) x)
+    (found_witness (items_in s) (type_in s) s.theory c.requires.scope.labels x l built s.limit c.requires.scope.shallow) c.empty.ensures.found
+
+pub returns-clause-stop : goal.returns-clause-stop
+returns-clause-stop c =
+    let s = c.args.scope.now in
+    let x = plain_x c.args.x.now in
+    let l = c.lang_of.result.now in
+    let built = operand_built (items_in s) x (type_in s) s.built.now c.in_ok-a.a l c.in_ok-a.ensures.built c.lang_of.ensures in
+    IfErr-weaker c.empty.result (StopsClasses (row_meaning s.theory) l.sta s.limit) (IsStopOf (items_in s) (x ∷ []) s.limit)
+    (stops_one (items_in s) (type_in s) s.theory c.requires.scope.labels x l built s.limit) c.empty.ensures.stop

@@ -1,0 +1,49 @@
+use Rattle.std.proofs.Common.{[], ◌∷◌}
+use Rattle.std.proofs.lemmas.Result.{IfOk-weaker, IfErr-weaker}
+use Rattle.fast_syntax.specs.Plain.{plain_x}
+use Rattle.fast_build.specs.Items.{items_of}
+use Rattle.fast_eval.specs.Scopes.{items_in}
+use Rattle.fast_eval.specs.Stops.{IsStopOf}
+use Rattle.fast_eval.specs.Witnesses.{IsWitnessOf}
+use Rattle.fast_eval.proofs.Scoped.{made_there, named_there, witness_back, one_back}
+use Rattle.fast_eval.proofs.witnesses.witness.Goals as goal
+
+pub returns-in_err-build_names-clause-built : goal.returns-in_err-build_names-clause-built
+returns-in_err-build_names-clause-built c = c.build_names.ensures.built c.requires.built
+
+pub scope_of-requires-clause-built : goal.scope_of-requires-clause-built
+scope_of-requires-clause-built c = c.build_names.ensures.built c.requires.built
+
+pub returns-in_err-scope-clause-built : goal.returns-in_err-scope-clause-built
+returns-in_err-scope-clause-built c = c.build_names.ensures.built c.requires.built
+
+pub least-requires : goal.least-requires
+least-requires c =
+    let k = c.args.checked.now in
+    let b = c.build_names.new.built in
+    let x = plain_x c.args.x.now in
+    let s = c.in_ok-scope.scope in
+    let is = c.in_ok-scope.ensures.of in
+    record {
+      scope = c.in_ok-scope.ensures.scope;
+      made = made_there k b c.args.limit x s is c.requires.made.0 c.requires.made.1 x c.requires.made.1;
+      named = named_there k b c.args.limit x s is x (c.in_ok-build_names.ensures {u = tt}).named;
+    }
+
+pub returns-clause-found : goal.returns-clause-found
+returns-clause-found c =
+    let k = c.args.checked.now in
+    let x = plain_x c.args.x.now in
+    let s = c.in_ok-scope.scope in
+    IfOk-weaker c.least.result (IsWitnessOf (items_in s) x) (IsWitnessOf (items_of k) x) (witness_back k c.build_names.new.built c.args.limit x s c.in_ok-scope.ensures.of x) c.least.ensures.found
+
+pub returns-clause-stop : goal.returns-clause-stop
+returns-clause-stop c =
+    let k = c.args.checked.now in
+    let x = plain_x c.args.x.now in
+    let s = c.in_ok-scope.scope in
+    IfErr-weaker c.least.result (IsStopOf (items_in s) (x ∷ []) s.limit) (IsStopOf (items_of k) (x ∷ []) c.args.limit)
+    (one_back k c.build_names.new.built c.args.limit x s c.in_ok-scope.ensures.of x) c.least.ensures.stop
+
+pub returns-clause-built : goal.returns-clause-built
+returns-clause-built c = c.build_names.ensures.built c.requires.built

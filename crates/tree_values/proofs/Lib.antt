@@ -1,0 +1,12 @@
+pub mod Kept
+pub mod Sized
+pub mod Weights
+pub mod Closed
+pub mod Labelled
+pub mod Numbers
+pub mod Stopped
+pub mod Folding
+pub mod Evaluated
+pub mod Programs
+pub mod Outcomes
+pub mod Sided

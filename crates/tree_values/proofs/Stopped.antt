@@ -1,0 +1,132 @@
+-- What stops the evaluation of a part of a tree expression stops that of the whole.
+use Rattle.std.proofs.Common.{◌≡◌, inl, inr, ◌||◌, ◌<◌, ℕ, zero, suc, Bool, true, false, List, [], ◌∷◌, ◌++◌, length, get_or, Contains, refl, subst, arith}
+use Rattle.std.proofs.lemmas.List.Elements.{Contains-append_left, Contains-append_right}
+use Rattle.fast_fault.specs.declared.place.Pos.{Pos}
+use Rattle.model_tree.specs.Tree.{LabelTree, node_count}
+use Rattle.model_tree.specs.Signature.{PlainSignature}
+use Rattle.model_program.specs.Syntax.{Name}
+use Rattle.model_grammar.specs.declared.Op1.TheVariants.{Complement, Minimize, Domain, GetWitness}
+use Rattle.model_grammar.specs.declared.Op2.TheVariants.{Intersect, Union, Difference, PreImage, Compose, Restrict, RestrictOut, Apply}
+use Rattle.model_grammar.specs.Syntax.{Expr, X, named, one, two, literal, Xs, and_x, Item}
+use Rattle.model_meaning.specs.Meaning.{input_type}
+use Rattle.model_meaning.specs.Values.{Printed, IsValue}
+use Rattle.model_run.specs.Items.{used_in, used_in_all, has_classes, some_has_classes, OfSomeTree, OfSomeTreeIn}
+use Rattle.model_layers.proofs.Wider.{are_among}
+use Rattle.fast_syntax.specs.declared.items.X as code
+use Rattle.fast_syntax.specs.Plain.{plain_x}
+use Rattle.fast_syntax.specs.Slices.{plain_children}
+use Rattle.lin_solve.specs.declared.chain.Chain.{Chain}
+use Rattle.sta_classes.specs.declared.stop.ClassStop.{ClassStop}
+use Rattle.sta_classes.specs.declared.stop.ClassStop.TheVariants.{Classes, Wide, Memory}
+use Rattle.fast_eval.specs.Stops.{StopsExpression}
+use Rattle.fast_eval.proofs.Claims.{widened, of_expression}
+use Rattle.tree_values.specs.declared.stops.ValueStop.{ValueStop}
+use Rattle.tree_values.specs.declared.stops.ValueStop.TheVariants.{Stopped, NoTree, TooLarge}
+use Rattle.tree_values.specs.Members.{IsMemberStop}
+use Rattle.tree_values.specs.Stops.{FindsNothing, FindsLarge, HasLarge, NeedsClasses, IsStopBy, IsValueStop, IsStopIn}
+use Rattle.tree_values.specs.Values.{IsFindStop}
+
+left_true : (a b : Bool) → a ≡ true → (a || b) ≡ true
+left_true true b e = refl
+left_true false b e = absurd (cc)
+
+right_true : (a b : Bool) → b ≡ true → (a || b) ≡ true
+right_true true b e = refl
+right_true false b e = e
+
+needs : (has has_too : Bool) → (has ≡ true → has_too ≡ true) → (s : ClassStop Chain) → NeedsClasses has s → NeedsClasses has_too s
+needs has has_too to Classes h = to h
+needs has has_too to (Wide c) h = to h
+needs has has_too to Memory h = tt
+
+module _ (items : List Item) (printed : List Printed) (most : ℕ) where
+  -- what is used or holds of a part is used or holds of the whole
+  goes_up : (has has_too : Bool) (used used_too : List X) (Of Of_too : (PlainSignature → X → Type 0) → Type 0)
+      → (has ≡ true → has_too ≡ true) → ((e : X) → Contains used e → Contains used_too e) → ((P : PlainSignature → X → Type 0) → Of P → Of_too P)
+      → (s : ValueStop) → IsStopBy items printed most has used Of s → IsStopBy items printed most has_too used_too Of_too s
+  goes_up has has_too used used_too Of Of_too to within up (Stopped s) h = (needs has has_too to s h.0, widened items most used used_too (λ e at. (e, within e at, (are_among items).same e)) s h.1)
+  goes_up has has_too used used_too Of Of_too to within up NoTree h = up (FindsNothing items) h
+  goes_up has has_too used used_too Of Of_too to within up TooLarge (inl h) = inl (up (FindsLarge items) h)
+  goes_up has has_too used used_too Of Of_too to within up TooLarge (inr h) = inr (up (HasLarge items printed) h)
+
+  module _ (signature : PlainSignature) where
+    -- ---- of literals
+
+    stop_first : (x : X) (xs : Xs) (s : ValueStop) → IsValueStop items printed most signature x s → IsStopIn items printed most signature (and_x x xs) s
+    stop_first x xs =
+        goes_up (has_classes x) (some_has_classes (and_x x xs)) (used_in x) (used_in_all (and_x x xs)) (λ P. OfSomeTree items P signature x) (λ P. OfSomeTreeIn items P signature (and_x x xs))
+        (left_true (has_classes x) (some_has_classes xs)) (Contains-append_left (used_in x) (used_in_all xs)) (λ P h. inl h)
+
+    stop_later : (x : X) (xs : Xs) (s : ValueStop) → IsStopIn items printed most signature xs s → IsStopIn items printed most signature (and_x x xs) s
+    stop_later x xs =
+        goes_up (some_has_classes xs) (some_has_classes (and_x x xs)) (used_in_all xs) (used_in_all (and_x x xs)) (λ P. OfSomeTreeIn items P signature xs) (λ P. OfSomeTreeIn items P signature (and_x x xs))
+        (right_true (has_classes x) (some_has_classes xs)) (Contains-append_right (used_in x) (used_in_all xs)) (λ P h. inr h)
+
+    -- of one of the children
+    pub stop_at : (xs : List code.X) (i : ℕ) (x : code.X) → i < length xs → x ≡ get_or xs i x → (s : ValueStop) → IsValueStop items printed most signature (plain_x x) s → IsStopIn items printed most signature (plain_children xs) s
+    stop_at [] i x low is s h = absurd (omega (arith, low))
+    stop_at (y ∷ xs) zero x low is s h = stop_first (plain_x y) (plain_children xs) s (subst (λ z. IsValueStop items printed most signature (plain_x z) s) is h)
+    stop_at (y ∷ xs) (suc i) x low is s h = stop_later (plain_x y) (plain_children xs) s (stop_at xs i x (omega (arith, low)) is s h)
+
+    pub stop_literal : (name : Name) (labels : List Expr) (xs : Xs) (s : ValueStop) → IsStopIn items printed most signature xs s → IsValueStop items printed most signature (literal name labels xs) s
+    stop_literal name labels xs =
+        goes_up (some_has_classes xs) (some_has_classes xs) (used_in_all xs) (used_in_all xs) (λ P. OfSomeTreeIn items P signature xs) (λ P. OfSomeTree items P signature (literal name labels xs))
+        (λ e. e) (λ e at. at) (λ P h. inr h)
+
+    -- want of memory has a cause in each expression
+    pub stop_memory : (x : X) → IsValueStop items printed most signature x (Stopped Memory)
+    stop_memory x = (tt, tt)
+
+    pub stop_memory_in : (xs : Xs) → IsStopIn items printed most signature xs (Stopped Memory)
+    stop_memory_in xs = (tt, tt)
+
+    -- ---- of trees that are found
+
+    always : (s : ClassStop Chain) → NeedsClasses true s
+    always Classes = refl
+    always (Wide c) = refl
+    always Memory = tt
+
+    pub stop_found : (place : Pos) (x : X) (s : ValueStop) → IsFindStop items x most s → IsValueStop items printed most signature (one GetWitness place x) s
+    stop_found place x (Stopped s) h = (always s, h)
+    stop_found place x NoTree h = h
+    stop_found place x TooLarge h = inl h
+
+    -- ---- of large values
+
+    large_here : (x : X) (t : LabelTree) → IsValue items printed signature x t → 1048576 < node_count t → OfSomeTree items (HasLarge items printed) signature x
+    large_here (named n) t is large = (t, is, inl large)
+    large_here (one GetWitness place x) t is large = (t, is, inl large)
+    large_here (one Complement place x) t is large = absurd is
+    large_here (one Minimize place x) t is large = absurd is
+    large_here (one Domain place x) t is large = absurd is
+    large_here (two Apply place f x) t is large = inl (t, is, inl large)
+    large_here (two Intersect place x y) t is large = absurd is
+    large_here (two Union place x y) t is large = absurd is
+    large_here (two Difference place x y) t is large = absurd is
+    large_here (two PreImage place x y) t is large = absurd is
+    large_here (two Compose place x y) t is large = absurd is
+    large_here (two Restrict place x y) t is large = absurd is
+    large_here (two RestrictOut place x y) t is large = absurd is
+    large_here (literal name labels xs) t is large = inl (t, is, inl large)
+
+    pub stop_large : (x : X) (t : LabelTree) → IsValue items printed signature x t → 1048576 < node_count t → IsValueStop items printed most signature x TooLarge
+    stop_large x t is large = inr (large_here x t is large)
+
+  -- ---- of statements
+
+  pub stop_value : (x y : X) (s : ValueStop) → IsValueStop items printed most (input_type items y) x s → IsMemberStop items printed most x y s
+  stop_value x y =
+      goes_up (has_classes x) (has_classes x || has_classes y) (used_in x) (used_in x ++ y ∷ []) (λ P. OfSomeTree items P (input_type items y) x) (λ P. OfSomeTree items P (input_type items y) x)
+      (left_true (has_classes x) (has_classes y)) (Contains-append_left (used_in x) (y ∷ [])) (λ P h. h)
+
+  told : (y : X) (s : ClassStop Chain) → StopsExpression items y most s → NeedsClasses (has_classes y) s
+  told y Classes h = h.0
+  told y (Wide c) h = h.0
+  told y Memory h = tt
+
+  pub stop_language : (x y : X) (s : ClassStop Chain) → StopsExpression items y most s → IsMemberStop items printed most x y (Stopped s)
+  stop_language x y s h = (
+    needs (has_classes y) (has_classes x || has_classes y) (right_true (has_classes x) (has_classes y)) s (told y s h),
+    widened items most (y ∷ []) (used_in x ++ y ∷ []) (λ e at. (e, Contains-append_right (used_in x) (y ∷ []) e at, (are_among items).same e)) s (of_expression items most y s h),
+  )

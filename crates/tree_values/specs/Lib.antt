@@ -1,0 +1,5 @@
+pub mod Trees
+pub mod Forms
+pub mod Stops
+pub mod Values
+pub mod Members

@@ -1,0 +1,164 @@
+//! Values of tree expressions.
+
+ghost use Rattle.std.specs.Prelude.{◌≡◌, ◌≤◌, ℕ, List, Some, IfOk, IfErr, is_some, true};
+ghost use Rattle.fast_syntax.specs.Plain.{plain_x};
+ghost use Rattle.fast_syntax.specs.Slices.{plain_children};
+ghost use Rattle.model_tree.specs.Tree.{LabelTree};
+ghost use Rattle.model_tree.specs.Signature.{HasType};
+ghost use Rattle.model_meaning.specs.Values.{Printed, IsValue};
+ghost use Rattle.fast_eval.specs.Forms.{AreKnown, IsMadeOn};
+ghost use Rattle.fast_eval.specs.Found.{IsInLimits};
+ghost use Rattle.fast_eval.specs.Table.{IsGrown, AreBuilt};
+ghost use Rattle.tree_values.specs.Forms.{IsTreeOn, AreTreesOn, IsTreeKnown, AreTreesKnown};
+ghost use Rattle.tree_values.specs.Stops.{IsValueStop, IsStopIn};
+ghost use Rattle.tree_values.specs.Trees.{meant, tree_at, Tells};
+ghost use Rattle.tree_values.specs.Values.{items_in, type_in, IsGiven, IsHeld, HasLeast, IsFindStop, HasValue, HaveValues};
+
+use crate::literals::literal;
+use crate::sizes::{Below, Measured, copied, joined, left, measure, nothing_below};
+use crate::stops::ValueStop;
+use crate::trees::Trees;
+use fast_eval::{Built, witness};
+use fast_fault::{Memory, Text};
+use fast_syntax::items::X;
+use fast_tree::{Label, Tree};
+use model_grammar::Op1;
+use program_check::Checked;
+use sta_ops::Found;
+use std::alloc::Global;
+
+/// What tree expressions are evaluated with.
+#[derive(Drop)]
+pub struct Given<'s> {
+    pub checked: &'s Checked,
+    /// The trees that were printed for earlier items.
+    pub trees: &'s Trees,
+    /// How many trees may be told apart.
+    pub limit: u32,
+}
+
+/// The tree that was printed under the name, if there is room for it.
+fn named(alloc: Global, given: &Given, room: u64, name: &Text) -> Result<Option<Measured>, Memory>
+    requires given { IsGiven given.now }
+    requires known { is_some (tree_at given.now.trees.now name.now) ≡ true }
+    ensures { IfOk result (λ v. (t : LabelTree) → tree_at given.now.trees.now name.now ≡ Some t → IsHeld room t v) }
+{
+    let Some(tree) = given.trees.at(name) else {
+        unreachable!()
+    };
+    copied(alloc, room, tree)
+}
+
+/// A least tree of the language, if there is room for it.
+fn found(
+    alloc: Global,
+    given: &Given,
+    built: &mut Built,
+    room: u64,
+    x: &X,
+) -> Result<Option<Measured>, ValueStop>
+    requires given { IsGiven given.now }
+    requires built { AreBuilt (items_in given.now) built.old }
+    requires made { (type : List ℕ) × IsMadeOn (items_in given.now) type (plain_x x.now) }
+    requires known { AreKnown (items_in given.now) built.old (plain_x x.now) }
+    ensures built { AreBuilt (items_in given.now) built.new }
+    ensures grown { IsGrown built.old built.new }
+    ensures found { IfOk result (HasLeast (items_in given.now) (plain_x x.now) room) }
+    ensures stop { IfErr result (IsFindStop (items_in given.now) (plain_x x.now) given.now.limit) }
+{
+    match witness(alloc, given.checked, built, given.limit, x)? {
+        Found::Absent => Err(ValueStop::NoTree),
+        Found::Shown(tree) => Ok(measure(room, tree)),
+        Found::TooBig => Err(ValueStop::TooLarge),
+    }
+}
+
+/// A value of the expression, if there is room for it.
+#[cycle(evaluate)]
+fn evaluate(
+    alloc: Global,
+    given: &Given,
+    built: &mut Built,
+    of: &Text,
+    room: u64,
+    x: &X,
+) -> Result<Option<Measured>, ValueStop>
+    requires given { IsGiven given.now }
+    requires built { AreBuilt (items_in given.now) built.old }
+    requires made { IsTreeOn (items_in given.now) of.now (plain_x x.now) }
+    requires known { IsTreeKnown (items_in given.now) given.now.trees.now built.old (plain_x x.now) }
+    requires small { room ≤ 1048576 }
+    ensures built { AreBuilt (items_in given.now) built.new }
+    ensures grown { IsGrown built.old built.new }
+    ensures value { IfOk result (λ v. (printed : List Printed) → Tells given.now.trees.now printed → HasValue (items_in given.now) printed (type_in given.now of.now) (plain_x x.now) room v) }
+    ensures stop { IfErr result (λ s. (printed : List Printed) → Tells given.now.trees.now printed → IsValueStop (items_in given.now) printed given.now.limit (type_in given.now of.now) (plain_x x.now) s) }
+{
+    match x {
+        X::Named(name) => Ok(named(alloc, given, room, &name.text)?),
+        X::One(_, _, inside) => found(alloc, given, built, room, inside),
+        X::Literal(name, labels, xs) => {
+            let Some(below) = evaluate_all(alloc, given, built, of, room, xs)? else {
+                return Ok(None);
+            };
+            if below.depth > 2000 {
+                return Err(ValueStop::TooLarge);
+            }
+            let tree = literal(alloc, given.checked, of, &name.text, labels, below)?;
+            Ok(Some(tree))
+        }
+        X::Two(..) => unreachable!(),
+    }
+}
+
+/// Values of the expressions below a node, if there is room for all and the node.
+#[cycle(evaluate)]
+fn evaluate_all(
+    alloc: Global,
+    given: &Given,
+    built: &mut Built,
+    of: &Text,
+    room: u64,
+    xs: &[X],
+) -> Result<Option<Below>, ValueStop>
+    requires given { IsGiven given.now }
+    requires built { AreBuilt (items_in given.now) built.old }
+    requires made { AreTreesOn (items_in given.now) of.now (plain_children xs.now) }
+    requires known { AreTreesKnown (items_in given.now) given.now.trees.now built.old (plain_children xs.now) }
+    requires small { room ≤ 1048576 }
+    ensures built { AreBuilt (items_in given.now) built.new }
+    ensures grown { IsGrown built.old built.new }
+    ensures values { IfOk result (λ b. (printed : List Printed) → Tells given.now.trees.now printed → HaveValues (items_in given.now) printed (type_in given.now of.now) (plain_children xs.now) room b) }
+    ensures stop { IfErr result (λ s. (printed : List Printed) → Tells given.now.trees.now printed → IsStopIn (items_in given.now) printed given.now.limit (type_in given.now of.now) (plain_children xs.now) s) }
+{
+    let mut below = nothing_below(alloc, room);
+    'xs: for x in xs {
+        let value = evaluate(alloc, given, built, of, left(room, &below), x)?;
+        below = joined(below, value)?;
+    }
+    Ok(below)
+}
+
+/// A value of the expression, of which a tree of the type with this name is expected.
+pub fn value(
+    alloc: Global,
+    given: &Given,
+    built: &mut Built,
+    of: &Text,
+    x: &X,
+) -> Result<Tree<Label>, ValueStop>
+    requires given { IsGiven given.now }
+    requires built { AreBuilt (items_in given.now) built.old }
+    requires made { IsTreeOn (items_in given.now) of.now (plain_x x.now) }
+    requires known { IsTreeKnown (items_in given.now) given.now.trees.now built.old (plain_x x.now) }
+    ensures built { AreBuilt (items_in given.now) built.new }
+    ensures grown { IsGrown built.old built.new }
+    ensures value { IfOk result (λ t. (printed : List Printed) → Tells given.now.trees.now printed → IsValue (items_in given.now) printed (type_in given.now of.now) (plain_x x.now) (meant t)) }
+    ensures typed { IfOk result (λ t. HasType (type_in given.now of.now) (meant t)) }
+    ensures limits { IfOk result (λ t. IsInLimits (meant t)) }
+    ensures stop { IfErr result (λ s. (printed : List Printed) → Tells given.now.trees.now printed → IsValueStop (items_in given.now) printed given.now.limit (type_in given.now of.now) (plain_x x.now) s) }
+{
+    match evaluate(alloc, given, built, of, 1048576, x)? {
+        Some(found) => Ok(found.tree),
+        None => Err(ValueStop::TooLarge),
+    }
+}
