@@ -1,0 +1,145 @@
+-- Verdicts on statements, and why there is none.
+use Rattle.std.proofs.Common.{◌≡◌, inl, inr, ℕ, Bool, true, false, not, List, [], ◌∷◌, Some, None, Contains, refl, sym, ap, subst, ◌∙◌}
+use Rattle.model_tree.specs.Tree.{Tree, LabelTree, relabel}
+use Rattle.model_tree.specs.Scalars.{has_scalars}
+use Rattle.model_tree.specs.Signature.{HasType}
+use Rattle.fast_tree.specs.Entries.{label_meaning}
+use Rattle.fast_tree.specs.declared.label.Label.{Label}
+use Rattle.model_grammar.specs.Syntax.{X, Claim, equal, member, empty, type_check, AssertItem, assertion, def, tree, DefItem, Item}
+use Rattle.model_meaning.specs.Meaning.{input_type, signature_named}
+use Rattle.model_meaning.specs.Values.{Printed}
+use Rattle.model_meaning.specs.Truth.{IsTrue, Shows}
+use Rattle.model_meaning.proofs.Members.{one_of, none_of}
+use Rattle.model_run.specs.Built.{is_language, is_built_language, is_built_claim}
+use Rattle.model_run.specs.Causes.{AreAllLarge, HasCause, too_large}
+use Rattle.model_run.specs.Items.{claimed, expressions_in, judged_claim, claim_has_classes, IsComposable}
+use Rattle.model_run.specs.Outcomes.{Outcome, true_verdict, tree_verdict, claim_type, trees_in, IsShownWith, IsVerdict, IsOutcomeOf}
+use Rattle.model_run.specs.Printable.{IsPrintable}
+use Rattle.lin_solve.specs.declared.chain.Chain.{Chain}
+use Rattle.sta_classes.specs.declared.stop.ClassStop.{ClassStop}
+use Rattle.sta_classes.specs.declared.stop.ClassStop.TheVariants.{Classes, Wide, Memory}
+use Rattle.fast_build.proofs.Elements.{first_true, second_true}
+use Rattle.fast_eval.specs.Found.{IsInLimits}
+use Rattle.fast_eval.specs.Forms.{IsMadeOn}
+use Rattle.fast_eval.proofs.Claims.{made_on}
+use Rattle.fast_eval.specs.Stops.{IsStopOf, IsCauseFor}
+use Rattle.fast_eval.specs.Stops.{StopsExpression}
+use Rattle.fast_eval.proofs.Outcomes.{forms_compose, def_cause, claim_cause, large_cause}
+use Rattle.tree_values.specs.Trees.{Tells}
+use Rattle.tree_values.specs.declared.trees.Trees.{Trees}
+use Rattle.fast_session.specs.declared.items.Around.{Around}
+use Rattle.fast_session.specs.declared.items.Kept.{Kept}
+use Rattle.fast_session.specs.declared.verdicts.Verdict.{Verdict}
+use Rattle.fast_session.specs.Answers.{stopped_by, verdict_on}
+use Rattle.fast_session.specs.Kept.{items_in}
+use Rattle.fast_session.specs.Items.{HaveScalars, IsTyped, IsBuiltMore, IsDone, IsStoppedAt, is_member, spoken_of, verdict_outcome, IsVerdictOn}
+use Rattle.fast_session.proofs.Keeping.{kept_built}
+use Rattle.fast_session.proofs.Silent.{no_tree}
+
+-- a tree in the limits whose texts are lists of scalars can be shown
+pub shown_if : (t : LabelTree) → IsInLimits t → has_scalars t ≡ true → IsPrintable t
+shown_if t limits scalars = record { kept = limits.kept; scalars = scalars; small = limits.small; shallow = limits.shallow }
+
+-- what stops the search for classes is a cause
+pub stopped_cause : (items : List Item) (limit : ℕ) (item : Item) (old : Kept) (s : ClassStop Chain)
+    → ((done : List Outcome) → Tells old.trees (trees_in done) → IsCauseFor items limit (trees_in done) item.body s) → IsStoppedAt items limit item old (stopped_by limit s)
+stopped_cause items limit item old Classes cause = cause
+stopped_cause items limit item old (Wide c) cause = cause
+stopped_cause items limit item old Memory cause = tt
+
+-- a definition whose language isn't built has the cause
+pub def_stops : (items : List Item) (limit : ℕ) (item : Item) (old : Kept) (d : DefItem) → item.body ≡ def d → (stop : ClassStop Chain) → StopsExpression items d.value limit stop → IsStoppedAt items limit item old (stopped_by limit stop)
+def_stops items limit item old d is stop cause = stopped_cause items limit item old stop (λ done told. subst (λ b. IsCauseFor items limit (trees_in done) b stop) (sym is) (def_cause items limit (trees_in done) d stop cause))
+
+-- the type of whose trees a statement speaks is that of its expression
+claim_type_is : (items : List Item) (claim : Claim) → claim_type items claim ≡ input_type items (spoken_of claim)
+claim_type_is items (equal x y) = refl
+claim_type_is items (member x y) = refl
+claim_type_is items (empty x) = refl
+claim_type_is items (type_check x f y) = refl
+
+-- the verdict with the type of this name
+pub named_verdict : (items : List Item) (s : AssertItem) (type of : List ℕ) → IsMadeOn items type (spoken_of s.claim) → Some of ≡ Some type → (n : ℕ) (v : Verdict) → verdict_on n v.passes (signature_named items (Some of)) v.shown ≡ verdict_outcome items n s v
+named_verdict items s type of made is n v =
+    ap (λ t. verdict_on n v.passes t v.shown) (ap (signature_named items) (is ∙ sym (made_on items type (spoken_of s.claim) made).1) ∙ sym (claim_type_is items s.claim))
+
+module _ (items : List Item) (limit : ℕ) where
+  -- ---- statements of languages
+
+  -- a tree that shows that such a statement is false has the type of which that speaks, and goes with the verdict
+  shows_with : (trees : List Printed) (claim : Claim) (wanted : Bool) (t : LabelTree) → Shows items claim t → IsShownWith items trees claim wanted (not wanted) t
+  shows_with trees (equal x y) wanted t shows = (refl, shows)
+  shows_with trees (member x y) wanted t shows = absurd shows
+  shows_with trees (empty x) wanted t shows = (refl, shows)
+  shows_with trees (type_check x f y) wanted t shows = (refl, shows)
+
+  shows_typed : (claim : Claim) (t : LabelTree) → Shows items claim t → HasType (claim_type items claim) t
+  shows_typed (equal x y) t shows = shows.0
+  shows_typed (member x y) t shows = absurd shows
+  shows_typed (empty x) t shows = shows.0
+  shows_typed (type_check x f y) t shows = shows.0
+
+  pub true_of : (line : ℕ) (s : AssertItem) (old : Kept) (v : Verdict) → v.passes ≡ s.wanted → v.shown ≡ None → IsTrue items s.claim → IsVerdictOn items line s old v
+  true_of line s old v passes none is =
+      let o : verdict_outcome items line s v ≡ true_verdict line v.passes = ap (verdict_on line v.passes (claim_type items s.claim)) none in
+      record {
+        may = λ done told scalars. subst (IsVerdict items (trees_in done) line s) (sym o) (refl, passes, is);
+        typed = subst IsTyped (sym o) tt;
+      }
+
+  pub shown_of : (line : ℕ) (s : AssertItem) (old : Kept) (v : Verdict) (t : Tree Label) → v.passes ≡ not s.wanted → v.shown ≡ Some t → Shows items s.claim (relabel label_meaning t) → IsInLimits (relabel label_meaning t) → IsVerdictOn items line s old v
+  shown_of line s old v t passes some shows limits =
+      let o : verdict_outcome items line s v ≡ tree_verdict line v.passes (claim_type items s.claim) (relabel label_meaning t) = ap (verdict_on line v.passes (claim_type items s.claim)) some in
+      record {
+        may = λ done told scalars. subst (IsVerdict items (trees_in done) line s) (sym o) (
+          refl,
+          refl,
+          subst (λ p. IsShownWith items (trees_in done) s.claim s.wanted p (relabel label_meaning t)) (sym passes) (shows_with (trees_in done) s.claim s.wanted (relabel label_meaning t) shows),
+          shown_if (relabel label_meaning t) limits (subst HaveScalars o scalars),
+        );
+        typed = subst IsTyped (sym o) (shows_typed s.claim (relabel label_meaning t) shows);
+      }
+
+  has_if : (claim : Claim) → is_member claim ≡ false → claim_has_classes claim ≡ true
+  has_if (equal x y) of = refl
+  has_if (member x y) of = absurd (cc)
+  has_if (empty x) of = refl
+  has_if (type_check x f y) of = refl
+
+  module _ (item : Item) (old : Kept) (s : AssertItem) (is : item.body ≡ assertion s) where
+    pub judged_stops : is_member s.claim ≡ false → (stop : ClassStop Chain) → IsStopOf items (judged_claim items s.claim) limit stop → IsStoppedAt items limit item old (stopped_by limit stop)
+    judged_stops of stop cause = stopped_cause items limit item old stop (λ done told. subst (λ b. IsCauseFor items limit (trees_in done) b stop) (sym is) (claim_cause items limit (trees_in done) s stop (has_if s.claim of) cause))
+
+    pub judged_large : AreAllLarge (Shows items s.claim) → (done : List Outcome) → HasCause items limit (trees_in done) item.body too_large
+    judged_large large done = subst (λ b. HasCause items limit (trees_in done) b too_large) (sym is) (large_cause items limit (trees_in done) s large)
+
+-- ---- assertions that have their verdict
+
+module _ (a : Around) (item : Item) (old new : Kept) (s : AssertItem) (is : item.body ≡ assertion s) where
+  pub done_verdict : (o : Outcome) (v : Verdict) → o ≡ verdict_outcome (items_in a) item.place.line s v → IsComposable (items_in a) item.body → IsBuiltMore (items_in a) old new → IsVerdictOn (items_in a) item.place.line s old v → IsDone (items_in a) item old new o
+  done_verdict o v same composable more verdict =
+      let untold : (done : List Outcome) → trees_in (o ∷ done) ≡ trees_in done = λ done. ap (λ p. trees_in (p ∷ done)) same ∙ no_tree done item.place.line v.passes (claim_type (items_in a) s.claim) v.shown in
+      record {
+        may = λ done told scalars. record {
+          composable = composable;
+          is = subst (λ b. IsOutcomeOf (items_in a) (trees_in done) item.place.line b o) (sym is) (subst (IsVerdict (items_in a) (trees_in done) item.place.line s) (sym same) (verdict.may done told (subst HaveScalars same scalars)));
+        };
+        typed = subst IsTyped (sym same) verdict.typed;
+        told = λ done told. subst (Tells new.trees) (sym (untold done)) (subst (λ (ts : Trees). Tells ts (trees_in done)) (sym more.trees) told);
+        kept = λ before was. kept_built before item (items_in a) old new more was
+            (λ d other. let no : assertion s ≡ def d = sym is ∙ other in absurd (cc))
+            (λ t other. let no : assertion s ≡ tree t = sym is ∙ other in cc);
+      }
+
+-- nothing is composed in statements of languages
+claim_composes : (items : List Item) (claim : Claim) → is_member claim ≡ false → is_built_claim items claim ≡ true → (e : X) → Contains (claimed claim) e → is_built_language e ≡ true
+claim_composes items (equal x y) of built e at = elim (one_of x e (y ∷ []) at) [
+  | inl same ↦ subst (λ z. is_built_language z ≡ true) same (first_true (is_built_language x) (is_built_language y) built)
+  | inr other ↦ elim (one_of y e [] other) [ inl same ↦ subst (λ z. is_built_language z ≡ true) same (second_true (is_built_language x) (is_built_language y) built) | inr none ↦ absurd (none_of e none) ]
+]
+claim_composes items (member x y) of built e at = absurd (cc)
+claim_composes items (empty x) of built e at = elim (one_of x e [] at) [ inl same ↦ subst (λ z. is_built_language z ≡ true) same (second_true (is_language _) (is_built_language x) built) | inr none ↦ absurd (none_of e none) ]
+claim_composes items (type_check x f y) of built e at = absurd (cc)
+
+pub assertion_composes : (items : List Item) (item : Item) (s : AssertItem) → item.body ≡ assertion s → is_member s.claim ≡ false → is_built_claim items s.claim ≡ true → IsComposable items item.body
+assertion_composes items item s is of built = forms_compose items item.body (λ e at. claim_composes items s.claim of built e (subst (λ b. Contains (expressions_in b) e) is at))

@@ -1,0 +1,90 @@
+-- Verdicts on statements that a tree is in a language.
+use Rattle.std.proofs.Common.{◌≡◌, ℕ, true, false, not, ◌&&◌, List, Some, refl, sym, ap, subst}
+use Rattle.model_tree.specs.Signature.{HasType}
+use Rattle.model_grammar.specs.Syntax.{X, Claim, equal, member, empty, type_check, AssertItem, assertion, Item}
+use Rattle.model_meaning.specs.Meaning.{input_type}
+use Rattle.model_run.specs.Built.{is_built_language, is_built_tree, is_built_claim}
+use Rattle.model_run.specs.Items.{IsComposable}
+use Rattle.model_run.specs.Outcomes.{Outcome, tree_verdict, claim_type, trees_in, IsShownWith, IsVerdict}
+use Rattle.fast_build.proofs.Elements.{first_true, second_true}
+use Rattle.fast_eval.specs.Found.{IsInLimits}
+use Rattle.fast_eval.specs.Forms.{AreKnown, IsMadeOn}
+use Rattle.tree_values.specs.declared.members.Membership.{Membership}
+use Rattle.tree_values.specs.declared.stops.ValueStop.{ValueStop}
+use Rattle.tree_values.specs.Forms.{IsTreeOn, IsTreeKnown}
+use Rattle.tree_values.specs.Members.{IsMember, IsMemberStop}
+use Rattle.tree_values.specs.Stops.{IsCauseOf}
+use Rattle.tree_values.specs.Trees.{meant, Tells}
+use Rattle.tree_values.proofs.Outcomes.{member_composes, member_cause, member_shown}
+use Rattle.tree_values.proofs.Programs.{AreSides, member_made, member_known}
+use Rattle.fast_session.specs.declared.items.Around.{Around}
+use Rattle.fast_session.specs.declared.items.Kept.{Kept}
+use Rattle.fast_session.specs.declared.verdicts.Verdict.{Verdict}
+use Rattle.fast_session.specs.Answers.{stopped_value, verdict_on}
+use Rattle.fast_session.specs.Kept.{items_in, IsReady}
+use Rattle.fast_session.specs.Items.{HaveScalars, IsTyped, IsStoppedAt, is_member, spoken_of, verdict_outcome, IsVerdictOn}
+use Rattle.fast_session.proofs.Judging.{shown_if, assertion_composes}
+use Rattle.fast_session.proofs.Printing.{stopped_value_cause}
+use Rattle.fast_session.proofs.Ready.{whole, claim_built, IsClaimReady, assertion_ready}
+
+module _ (a : Around) (item : Item) (old : Kept) (ready : IsReady a item old) (s : AssertItem) (is : item.body ≡ assertion s) (x y : X) (same : s.claim ≡ member x y) where
+  built_member : (is_built_tree x && is_built_language y) ≡ true
+  built_member = subst (λ c. is_built_claim (items_in a) c ≡ true) same (claim_built a item old ready s is)
+
+  form_x : is_built_tree x ≡ true
+  form_x = first_true (is_built_tree x) (is_built_language y) built_member
+
+  form_y : is_built_language y ≡ true
+  form_y = second_true (is_built_tree x) (is_built_language y) built_member
+
+  sides : AreSides (items_in a) (whole a item old ready) x y
+  sides = member_made (items_in a) (whole a item old ready) item ready.at s x y is same form_x form_y
+
+  pub member_on : (type : List ℕ) × IsMadeOn (items_in a) type y × IsTreeOn (items_in a) type x
+  member_on = (sides.type, sides.right, sides.left)
+
+  pub member_names : IsTreeKnown (items_in a) old.trees old.built x × AreKnown (items_in a) old.built y
+  member_names = member_known (items_in a) (whole a item old ready) item ready.at s x y is same form_x form_y old.built old.trees ready.kept.defined ready.kept.printed
+
+  pub member_composable : IsComposable (items_in a) item.body
+  member_composable = subst (IsComposable (items_in a)) (sym is) (member_composes (items_in a) s x y same form_x form_y)
+
+  pub member_stops : (stop : ValueStop) → ((done : List Outcome) → Tells old.trees (trees_in done) → IsMemberStop (items_in a) (trees_in done) a.limit x y stop) → IsStoppedAt (items_in a) a.limit item old (stopped_value a.limit stop)
+  member_stops stop cause = stopped_value_cause (items_in a) a.limit item old stop (λ done told. subst (λ b. IsCauseOf (items_in a) a.limit (trees_in done) b stop) (sym is) (member_cause (items_in a) a.limit (trees_in done) s x y same stop (cause done told)))
+
+  pub member_verdict : (line : ℕ) (v : Verdict) (m : Membership) → (m.inside ≡ true → v.passes ≡ s.wanted) → (m.inside ≡ false → v.passes ≡ not s.wanted) → v.shown ≡ Some m.tree
+      → ((done : List Outcome) → Tells old.trees (trees_in done) → IsMember (items_in a) (trees_in done) x y m) → HasType (input_type (items_in a) y) (meant m.tree) → IsInLimits (meant m.tree) → IsVerdictOn (items_in a) line s old v
+  member_verdict line v m where_inside where_outside some told_of typed limits =
+      let o : verdict_outcome (items_in a) line s v ≡ tree_verdict line v.passes (claim_type (items_in a) s.claim) (meant m.tree) = ap (verdict_on line v.passes (claim_type (items_in a) s.claim)) some in
+      let type_is : claim_type (items_in a) s.claim ≡ input_type (items_in a) y = ap (claim_type (items_in a)) same in
+      record {
+        may = λ done told scalars. subst (IsVerdict (items_in a) (trees_in done) line s) (sym o) (
+          refl,
+          refl,
+          subst (λ c. IsShownWith (items_in a) (trees_in done) c s.wanted v.passes (meant m.tree)) (sym same) (member_shown (items_in a) (trees_in done) x y m s.wanted v.passes (told_of done told) where_inside where_outside),
+          shown_if (meant m.tree) limits (subst HaveScalars o scalars),
+        );
+        typed = subst IsTyped (sym o) (subst (λ t. HasType t (meant m.tree)) (sym type_is) typed);
+      }
+
+-- ---- statements of both kinds
+
+module _ (a : Around) (item : Item) (old : Kept) (ready : IsReady a item old) (s : AssertItem) (is : item.body ≡ assertion s) where
+  spoken_by : (claim : Claim) → s.claim ≡ claim → (is_member claim ≡ false → IsClaimReady a item old ready claim) → (type : List ℕ) × IsMadeOn (items_in a) type (spoken_of claim)
+  spoken_by (equal x y) same ready_of = let r = ready_of refl in (r.type, r.on.0)
+  spoken_by (member x y) same ready_of = let m = member_on a item old ready s is x y same in (m.0, m.1)
+  spoken_by (empty x) same ready_of = let r = ready_of refl in (r.type, r.on)
+  spoken_by (type_check x f y) same ready_of = let r = ready_of refl in absurd r.on
+
+  -- the expression with the type of whose trees the statement speaks
+  pub spoken_made : (type : List ℕ) × IsMadeOn (items_in a) type (spoken_of s.claim)
+  spoken_made = spoken_by s.claim refl (assertion_ready a item old ready s is)
+
+  composed_by : (claim : Claim) → s.claim ≡ claim → (is_member claim ≡ false → IsComposable (items_in a) item.body) → IsComposable (items_in a) item.body
+  composed_by (equal x y) same else = else refl
+  composed_by (member x y) same else = member_composable a item old ready s is x y same
+  composed_by (empty x) same else = else refl
+  composed_by (type_check x f y) same else = else refl
+
+  pub composes : IsComposable (items_in a) item.body
+  composes = composed_by s.claim refl (λ of. assertion_composes (items_in a) item s is of (claim_built a item old ready s is))

@@ -1,0 +1,96 @@
+-- An item of a tree, whose value is kept for its name.
+use Rattle.std.proofs.Common.{◌≡◌, ℕ, true, List, [], ◌∷◌, ◌++◌, Some, cond, refl, sym, ap, subst, ◌∙◌}
+use Rattle.std.specs.Prelude.{is_some}
+use Rattle.model_tree.specs.Tree.{LabelTree}
+use Rattle.model_tree.specs.Signature.{PlainSignature, HasType}
+use Rattle.model_grammar.specs.Syntax.{def, tree, TreeItem, Item}
+use Rattle.model_names.specs.Declared.{same_text}
+use Rattle.model_meaning.specs.Meaning.{signature_named}
+use Rattle.model_meaning.specs.Values.{IsValue}
+use Rattle.model_checks.proofs.Soundness.{same_from_test}
+use Rattle.model_run.specs.Built.{is_built_body, is_built_tree}
+use Rattle.model_run.specs.Items.{IsComposable}
+use Rattle.model_run.specs.Outcomes.{Outcome, tree_line, trees_in, IsOutcomeOf}
+use Rattle.fast_build.proofs.Naming.{same_itself}
+use Rattle.fast_eval.specs.Found.{IsInLimits}
+use Rattle.fast_eval.specs.Table.{AreBuilt, IsGrown}
+use Rattle.sta_classes.specs.declared.stop.ClassStop.TheVariants.{Classes, Wide, Memory}
+use Rattle.tree_values.specs.declared.stops.ValueStop.{ValueStop}
+use Rattle.tree_values.specs.declared.stops.ValueStop.TheVariants.{Stopped, NoTree, TooLarge}
+use Rattle.tree_values.specs.declared.trees.Trees.{Trees}
+use Rattle.tree_values.specs.Forms.{IsTreeOn, IsTreeKnown}
+use Rattle.tree_values.specs.Stops.{IsValueStop, IsCauseOf}
+use Rattle.tree_values.specs.Trees.{tree_at, Adds, Tells}
+use Rattle.tree_values.proofs.Outcomes.{tree_composes, tree_cause}
+use Rattle.tree_values.proofs.Programs.{tree_made, tree_is_known, type_by_name}
+use Rattle.fast_session.specs.declared.items.Around.{Around}
+use Rattle.fast_session.specs.declared.items.Kept.{Kept}
+use Rattle.fast_session.specs.Answers.{stopped_value}
+use Rattle.fast_session.specs.Kept.{items_in, IsKept, IsReady}
+use Rattle.fast_session.specs.Items.{IsBuiltMore, IsDone, IsStoppedAt}
+use Rattle.fast_session.proofs.Judging.{shown_if}
+use Rattle.fast_session.proofs.Keeping.{defined_more, printed_more, still_there, own_there, typed_more}
+use Rattle.fast_session.proofs.Ready.{whole}
+
+-- what stops the evaluation of a tree expression is a cause
+pub stopped_value_cause : (items : List Item) (limit : ℕ) (item : Item) (old : Kept) (s : ValueStop)
+    → ((done : List Outcome) → Tells old.trees (trees_in done) → IsCauseOf items limit (trees_in done) item.body s) → IsStoppedAt items limit item old (stopped_value limit s)
+stopped_value_cause items limit item old (Stopped Classes) cause = cause
+stopped_value_cause items limit item old (Stopped (Wide c)) cause = cause
+stopped_value_cause items limit item old (Stopped Memory) cause = tt
+stopped_value_cause items limit item old NoTree cause = cause
+stopped_value_cause items limit item old TooLarge cause = cause
+
+-- a tree that is kept for its name is the first that was printed
+told_more : (old new : Trees) (name : List ℕ) (signature : PlainSignature) (t : LabelTree) → Adds old new name t → (done : List Outcome) → Tells old (trees_in done) → Tells new (trees_in (tree_line name signature t ∷ done))
+told_more old new name signature t added done told other = added other ∙ ap (cond (same_text name other) (Some t)) (told other)
+
+module _ (a : Around) (item : Item) (old : Kept) (ready : IsReady a item old) (t : TreeItem) (is : item.body ≡ tree t) where
+  abbrev type : PlainSignature
+  type = signature_named (items_in a) (Some t.of.text)
+
+  tree_form : is_built_tree t.value ≡ true
+  tree_form = subst (λ b. is_built_body (items_in a) b ≡ true) is ready.is_built
+
+  pub value_made : IsTreeOn (items_in a) t.of.text t.value
+  value_made = tree_made (items_in a) (whole a item old ready) item ready.at t is tree_form
+
+  pub value_known : IsTreeKnown (items_in a) old.trees old.built t.value
+  value_known = tree_is_known (items_in a) (whole a item old ready) item ready.at t is tree_form old.built old.trees ready.kept.defined ready.kept.printed
+
+  pub value_stops : (s : ValueStop) → ((done : List Outcome) → Tells old.trees (trees_in done) → IsValueStop (items_in a) (trees_in done) a.limit type t.value s) → IsStoppedAt (items_in a) a.limit item old (stopped_value a.limit s)
+  value_stops s cause = stopped_value_cause (items_in a) a.limit item old s (λ done told. subst (λ b. IsCauseOf (items_in a) a.limit (trees_in done) b s) (sym is) (tree_cause (items_in a) a.limit (trees_in done) t s (cause done told)))
+
+  -- more was built, and then the tree was kept for its name
+  pub record IsPrinted (middle new : Kept) (v : LabelTree) : Type 0 where
+    pub more : IsBuiltMore (items_in a) old middle
+    pub added : Adds middle.trees new.trees t.name.text v
+    pub built : new.built ≡ middle.built
+
+  module _ (middle new : Kept) (v : LabelTree) (printed : IsPrinted middle new v) where
+    added_to_old : Adds old.trees new.trees t.name.text v
+    added_to_old = subst (λ (ts : Trees). Adds ts new.trees t.name.text v) printed.more.trees printed.added
+
+    own_tree : (u : TreeItem) → item.body ≡ tree u → t ≡ u
+    own_tree u other = let same : tree t ≡ tree u = sym is ∙ other in cc
+
+    kept_tree : HasType type v → IsInLimits v → (before : List Item) → IsKept (items_in a) before old → IsKept (items_in a) (before ++ item ∷ []) new
+    kept_tree typed limits before was = record {
+      built = subst (AreBuilt (items_in a)) (sym printed.built) printed.more.built;
+      typed = typed_more old.trees new.trees t.name.text v added_to_old (items_in a) (same_from_test t.name.text)
+          (subst (λ s. HasType s v) (sym (type_by_name (items_in a) (whole a item old ready) item ready.at t is)) typed) limits was.typed;
+      defined = defined_more before item old.built new.built (subst (IsGrown old.built) (sym printed.built) printed.more.grown) was.defined (λ d other. let no : tree t ≡ def d = sym is ∙ other in absurd (cc));
+      printed = printed_more before item old.trees new.trees (still_there old.trees new.trees t.name.text v added_to_old) was.printed
+          (λ u other. subst (λ (w : TreeItem). is_some (tree_at new.trees w.name.text) ≡ true) (own_tree u other) (own_there old.trees new.trees t.name.text v added_to_old (same_itself t.name.text)));
+    }
+
+    pub done_tree : (o : Outcome) → o ≡ tree_line t.name.text type v → ((done : List Outcome) → Tells old.trees (trees_in done) → IsValue (items_in a) (trees_in done) type t.value v) → HasType type v → IsInLimits v → IsDone (items_in a) item old new o
+    done_tree o same value typed limits = subst (IsDone (items_in a) item old new) (sym same) (record {
+      may = λ done told scalars. record {
+        composable = subst (IsComposable (items_in a)) (sym is) (tree_composes (items_in a) t tree_form);
+        is = subst (λ b. IsOutcomeOf (items_in a) (trees_in done) item.place.line b (tree_line t.name.text type v)) (sym is) (refl, refl, value done told, shown_if v limits scalars);
+      };
+      typed = typed;
+      told = told_more old.trees new.trees t.name.text type v added_to_old;
+      kept = kept_tree typed limits;
+    })

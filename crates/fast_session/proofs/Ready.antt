@@ -1,0 +1,110 @@
+-- An item that is ready brings to its evaluation what that requires.
+use Rattle.std.proofs.Common.{◌≡◌, ℕ, true, false, not, ◌&&◌, List, ◌∷◌, ◌++◌, Option, Some, None, refl, ap, subst, ◌∙◌}
+use Rattle.std.specs.Prelude.{is_some}
+use Rattle.std.specs.Option.{option_and_then}
+use Rattle.model_program.specs.Syntax.{Name}
+use Rattle.model_grammar.specs.Syntax.{X, Claim, equal, member, empty, type_check, DefItem, def, AssertItem, assertion, Item}
+use Rattle.model_names.specs.Declared.{own_name}
+use Rattle.model_names.specs.Kinds.{Kind, language, transformation, a_tree, defined_kind, declared_type, kind_of}
+use Rattle.model_checks.specs.Failures.{is_empty}
+use Rattle.model_checks.specs.Expressions.{expected_as, type_as, needs_be, x_failures}
+use Rattle.model_checks.specs.Programs.{body_failures, claim_failures}
+use Rattle.model_checks.specs.Sound.{IsSound}
+use Rattle.model_checks.proofs.Soundness.{empty_first, empty_second}
+use Rattle.model_checks.proofs.SoundWhole.{sound}
+use Rattle.model_meaning.specs.Reached.{own_value, definition_of}
+use Rattle.meaning_laws.proofs.Valued.{checked}
+use Rattle.model_run.specs.Built.{is_language, is_built_language, is_built_claim, is_built_body}
+use Rattle.fast_build.proofs.Elements.{first_true, second_true}
+use Rattle.fast_eval.specs.Forms.{IsMadeOn, AreKnown, IsClaimOn, IsClaimKnown}
+use Rattle.fast_eval.proofs.Stepping.{def_made, empty_made, equal_made, known_of}
+use Rattle.fast_session.specs.declared.items.Around.{Around}
+use Rattle.fast_session.specs.declared.items.Kept.{Kept}
+use Rattle.fast_session.specs.Kept.{items_in, IsReady}
+use Rattle.fast_session.specs.Items.{is_member}
+
+module _ (a : Around) (item : Item) (k : Kept) (ready : IsReady a item k) where
+  pub whole : IsSound (items_in a)
+  whole = sound (items_in a) ready.checked.well_formed
+
+  abbrev before : List Item
+  before = ready.at.before
+
+  -- the names in an expression of the item that has no failures
+  known : (around : ℕ) (expected : Option (List ℕ)) (type : List ℕ) (x : X) → is_empty (x_failures (items_in a) before around expected x) ≡ true → IsMadeOn (items_in a) type x → AreKnown (items_in a) k.built x
+  known around expected type x fine made = known_of (items_in a) whole k.built before (item ∷ ready.at.behind) ready.at.is ready.kept.defined around expected type x fine made
+
+  -- ---- definitions
+
+  module _ (d : DefItem) (is : item.body ≡ def d) where
+    built_def : (not (is_some d.into) && is_built_language d.value) ≡ true
+    built_def = subst (λ b. is_built_body (items_in a) b ≡ true) is ready.is_built
+
+    none_if : (o : Option Name) → not (is_some o) ≡ true → o ≡ None
+    none_if None e = refl
+    none_if (Some n) e = absurd (cc)
+
+    pub def_alone : d.into ≡ None
+    def_alone = none_if d.into (first_true (not (is_some d.into)) (is_built_language d.value) built_def)
+
+    pub def_form : is_built_language d.value ≡ true
+    def_form = second_true (not (is_some d.into)) (is_built_language d.value) built_def
+
+    pub def_is : definition_of (items_in a) d.name.text ≡ Some d.value
+    def_is = ap (option_and_then (λ (i : Item). own_value i.body)) (whole.found_item item d.name ready.at (ap own_name is)) ∙ ap own_value is
+
+    pub def_made_on : IsMadeOn (items_in a) d.from.text d.value
+    def_made_on = def_made (items_in a) whole item ready.at d is def_alone def_form
+
+    pub def_known : AreKnown (items_in a) k.built d.value
+    def_known = known 0 (expected_as (defined_kind d.into) (declared_type (items_in a) d.from)) d.from.text d.value (checked (items_in a) whole item ready.at d is).inside def_made_on
+
+  -- ---- statements
+
+  kind_language : (o : Option Kind) → is_language o ≡ true → o ≡ Some language
+  kind_language None e = absurd (cc)
+  kind_language (Some language) e = refl
+  kind_language (Some transformation) e = absurd (cc)
+  kind_language (Some a_tree) e = absurd (cc)
+
+  module _ (s : AssertItem) (is : item.body ≡ assertion s) where
+    pub claim_fine : is_empty (claim_failures (items_in a) before s.claim) ≡ true
+    claim_fine = subst (λ b. is_empty (body_failures (items_in a) before b) ≡ true) is (whole.each item ready.at)
+
+    pub claim_built : is_built_claim (items_in a) s.claim ≡ true
+    claim_built = subst (λ b. is_built_body (items_in a) b ≡ true) is ready.is_built
+
+  -- its expressions are of languages on one type, and their names are known
+  pub record IsClaimReady (claim : Claim) : Type 0 where
+    pub type : List ℕ
+    pub on : IsClaimOn (items_in a) type claim
+    pub known : IsClaimKnown (items_in a) k.built claim
+
+  claim_ready : (claim : Claim) → is_member claim ≡ false → is_empty (claim_failures (items_in a) before claim) ≡ true → is_built_claim (items_in a) claim ≡ true → IsClaimReady claim
+  claim_ready (equal x y) of fine built =
+      let form_x = first_true (is_built_language x) (is_built_language y) built in
+      let form_y = second_true (is_built_language x) (is_built_language y) built in
+      let wanted = type_as (items_in a) before language x in
+      let fx = x_failures (items_in a) before 0 None x in
+      let bx = needs_be (items_in a) before None language x in
+      let fy = x_failures (items_in a) before 0 None y in
+      let by = needs_be (items_in a) before wanted language y in
+      let m = equal_made (items_in a) whole before x y fine form_x form_y in
+      record {
+        type = m.type;
+        on = (m.first, m.second);
+        known = (known 0 None m.type x (empty_first fx bx (empty_first (fx ++ bx) (fy ++ by) fine)) m.first, known 0 None m.type y (empty_first fy by (empty_second (fx ++ bx) (fy ++ by) fine)) m.second);
+      }
+  claim_ready (member x y) of fine built = absurd (cc)
+  claim_ready (empty x) of fine built =
+      let kind = kind_language (kind_of (items_in a) x) (first_true (is_language (kind_of (items_in a) x)) (is_built_language x) built) in
+      let m = empty_made (items_in a) whole before x fine kind (second_true (is_language (kind_of (items_in a) x)) (is_built_language x) built) in
+      record {
+        type = m.0;
+        on = m.1;
+        known = known 0 None m.0 x (empty_first (x_failures (items_in a) before 0 None x) _ fine) m.1;
+      }
+  claim_ready (type_check x f y) of fine built = absurd (cc)
+
+  pub assertion_ready : (s : AssertItem) → item.body ≡ assertion s → is_member s.claim ≡ false → IsClaimReady s.claim
+  assertion_ready s is of = claim_ready s.claim of (claim_fine s is) (claim_built s is)

@@ -1,0 +1,12 @@
+use Rattle.std.proofs.lemmas.Result.{IfErr-weaker}
+use Rattle.fast_session.proofs.Printing.{value_made, value_known, value_stops}
+use Rattle.fast_session.proofs.trees.value_of.Goals as goal
+
+pub value-requires-clause-made : goal.value-requires-clause-made
+value-requires-clause-made c = value_made _ _ _ c.requires.ready _ c.requires.is
+
+pub value-requires-clause-known : goal.value-requires-clause-known
+value-requires-clause-known c = value_known _ _ _ c.requires.ready _ c.requires.is
+
+pub returns-clause-stop : goal.returns-clause-stop
+returns-clause-stop c = IfErr-weaker c.value.result _ _ (λ s stop. value_stops _ _ _ c.requires.ready _ c.requires.is s (λ done told. stop _ told)) c.value.ensures.stop

@@ -1,0 +1,86 @@
+-- What answers say.
+use Rattle.std.specs.Prelude.{ℕ, Bool, List, Option, Some, None}
+use Rattle.fast_fault.specs.declared.place.Pos.{Pos}
+use Rattle.model_tree.specs.Tree.{Tree, relabel}
+use Rattle.model_tree.specs.Signature.{PlainSignature}
+use Rattle.fast_tree.specs.Entries.{label_meaning}
+use Rattle.fast_tree.specs.declared.label.Label.{Label}
+use Rattle.model_grammar.specs.Syntax.{Item}
+use Rattle.model_meaning.specs.Meaning.{signature_named}
+use Rattle.model_run.specs.Causes.{Stop, more_classes, too_wide, empty_language, too_large}
+use Rattle.model_run.specs.Lines.{stop_code}
+use Rattle.model_run.specs.Outcomes.{Outcome, silent, tree_line, true_verdict, tree_verdict}
+use Rattle.lin_solve.specs.declared.chain.Chain.{Chain}
+use Rattle.lin_solve.specs.Shown.{bits_of}
+use Rattle.sta_classes.specs.declared.stop.ClassStop.{ClassStop}
+use Rattle.sta_classes.specs.declared.stop.ClassStop.TheVariants as classes
+use Rattle.tree_values.specs.declared.stops.ValueStop.{ValueStop}
+use Rattle.tree_values.specs.declared.stops.ValueStop.TheVariants as values
+use Rattle.fast_session.specs.declared.answers.Cause.{Cause}
+use Rattle.fast_session.specs.declared.answers.Cause.TheVariants.{Classes, Width, EmptyLanguage, TreeSize}
+use Rattle.fast_session.specs.declared.answers.Stopped.{Stopped}
+use Rattle.fast_session.specs.declared.answers.Stopped.TheVariants as stopped
+use Rattle.fast_session.specs.declared.answers.Line.{Line}
+use Rattle.fast_session.specs.declared.answers.Line.TheVariants as line
+use Rattle.fast_session.specs.declared.answers.Step.{Step}
+use Rattle.fast_session.specs.declared.answers.Step.TheVariants as step
+use Rattle.fast_session.specs.declared.answers.Halt.{Halt}
+use Rattle.fast_session.specs.declared.answers.Halt.TheVariants as halt
+use Rattle.fast_session.specs.declared.answers.Ending.{Ending}
+use Rattle.fast_session.specs.declared.answers.Ending.TheVariants as ending
+
+-- ---- causes
+
+abbrev pub plain_cause : Cause → Stop
+plain_cause (Classes limit) = more_classes limit
+plain_cause (Width bits) = too_wide bits
+plain_cause EmptyLanguage = empty_language
+plain_cause TreeSize = too_large
+
+-- what stops an item where the search for classes stops, and where a tree expression has no value that can be shown
+abbrev pub stopped_by : ℕ → ClassStop Chain → Stopped
+stopped_by limit classes.Classes = stopped.By (Classes limit)
+stopped_by limit (classes.Wide c) = stopped.By (Width (bits_of c.width))
+stopped_by limit classes.Memory = stopped.Memory
+
+abbrev pub stopped_value : ℕ → ValueStop → Stopped
+stopped_value limit (values.Stopped s) = stopped_by limit s
+stopped_value limit values.NoTree = stopped.By EmptyLanguage
+stopped_value limit values.TooLarge = stopped.By TreeSize
+
+-- ---- lines
+
+-- a verdict on an assertion in this line of the text, with the tree that goes with it
+abbrev pub verdict_on : ℕ → Bool → PlainSignature → Option (Tree Label) → Outcome
+verdict_on n passes signature None = true_verdict n passes
+verdict_on n passes signature (Some t) = tree_verdict n passes signature (relabel label_meaning t)
+
+abbrev pub line_outcome : List Item → Line → Outcome
+line_outcome items (line.Tree name of t) = tree_line name (signature_named items (Some of)) (relabel label_meaning t)
+line_outcome items (line.Verdict n passes of shown) = verdict_on n passes (signature_named items (Some of)) shown
+
+-- an item without a line is silent
+abbrev pub given : List Item → Option Line → Outcome
+given items None = silent
+given items (Some l) = line_outcome items l
+
+-- ---- steps and halts
+
+abbrev pub step_of : Option Line → Step
+step_of None = step.Silent
+step_of (Some l) = step.Line l
+
+-- at an item that isn't done
+abbrev pub halt_at : Pos → Stopped → Halt
+halt_at place (stopped.By cause) = halt.Refused cause place
+halt_at place stopped.Memory = halt.Memory
+
+-- how a session ends with a halt, and what it answers from then on
+abbrev pub ending_of : Halt → Ending
+ending_of (halt.Refused cause place) = ending.Refused (record { code = stop_code (plain_cause cause); place = place })
+ending_of (halt.Ended refusal) = ending.Refused refusal
+ending_of halt.Memory = ending.Memory
+
+abbrev pub again : Ending → Halt
+again (ending.Refused refusal) = halt.Ended refusal
+again ending.Memory = halt.Memory

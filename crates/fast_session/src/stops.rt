@@ -1,0 +1,31 @@
+//! Why items aren't done, by what stops their parts.
+
+ghost use Rattle.std.specs.Prelude.{◌≡◌};
+ghost use Rattle.fast_session.specs.Answers.{stopped_by, stopped_value};
+
+use crate::answers::{Cause, Stopped};
+use lin_solve::Chain;
+use sta_classes::ClassStop;
+use tree_values::ValueStop;
+
+/// Where the search for classes stops.
+pub fn stopped(limit: u32, stop: ClassStop<Chain>) -> Stopped
+    ensures { result ≡ stopped_by limit stop }
+{
+    match stop {
+        ClassStop::Classes => Stopped::By(Cause::Classes(limit)),
+        ClassStop::Wide(chain) => Stopped::By(Cause::Width(chain.width.bits())),
+        ClassStop::Memory => Stopped::Memory,
+    }
+}
+
+/// Where a tree expression has no value that can be shown.
+pub fn unvalued(limit: u32, stop: ValueStop) -> Stopped
+    ensures { result ≡ stopped_value limit stop }
+{
+    match stop {
+        ValueStop::Stopped(stop) => stopped(limit, stop),
+        ValueStop::NoTree => Stopped::By(Cause::EmptyLanguage),
+        ValueStop::TooLarge => Stopped::By(Cause::TreeSize),
+    }
+}
