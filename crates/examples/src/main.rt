@@ -9,7 +9,7 @@ use fast_tool::run;
 use std::io;
 use std::rt::Files;
 
-const NAMES: [&str; 4] = ["access", "documents", "parcels", "switches"];
+const NAMES: [&str; 5] = ["access", "documents", "parcels", "policies", "switches"];
 
 /// The most bytes of a stored report.
 const LONGEST: u64 = 65536;

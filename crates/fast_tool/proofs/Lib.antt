@@ -1,5 +1,4 @@
 pub mod Texts
-pub mod Judging
 pub mod AllBuilt
 pub mod Runs
-pub mod Decided
+pub mod Numerals

@@ -19,6 +19,8 @@ use Rattle.model_refusals.specs.Refusals.{start}
 use Rattle.model_run.specs.Texts.{IsChecked, IsRefused}
 use Rattle.model_run.specs.Report.{IsTextRefused, CheckReport, RunReport, CommandReport, StatusReport, UsageReport, IsWords, IsReport, Reports, items_script}
 use Rattle.fast_tool.specs.Taken.{IsProgramOf, HeldReport, TextAnswer}
+use Rattle.fast_session.specs.declared.session.Session.{Session}
+use Rattle.fast_session.specs.Sessions.{items_in}
 use Rattle.fast_tool.specs.Runs.{IsFault, EndsWith, ItemsReport}
 use Rattle.fast_tool.proofs.Runs.{appends_none}
 
@@ -113,8 +115,11 @@ pub unbuilt_report : (file : List ℕ) (limit : ℕ) (items : List Item) (place 
 unbuilt_report file limit items place status before after at (inl (e, a)) = rw e (refusal_line NotYet file place, inl (place, at, (refl, refl)), a)
 unbuilt_report file limit items place status before after at (inr (fault, (front, back, joined, a))) = (front, fault_of (RunReport file limit items) status front fault (inl (place, at, (back, joined))), a)
 
-pub built_report : (file : List ℕ) (limit : ℕ) (items : List Item) (status : Status) (before after : Option (List ℕ)) → unbuilt_at items ≡ None → Reports (ItemsReport file items limit) status before after → Reports (StatusReport (RunReport file limit items)) status before after
-built_report file limit items status before after built r = reports_map (Writes (items_script items limit file)) (RunReport file limit items) (λ ending report w. inr (built, w)) status before after r
+pub built_report : (file : List ℕ) (limit : ℕ) (items : List Item) (s : Session) (status : Status) (before after : Option (List ℕ)) → items_in s ≡ items → s.limit ≡ limit → unbuilt_at items ≡ None → Reports (ItemsReport file s) status before after
+    → Reports (StatusReport (RunReport file limit items)) status before after
+built_report file limit items s status before after program limited built r =
+    reports_map (Writes (items_script items limit file)) (RunReport file limit items) (λ ending report w. inr (built, w)) status before after
+    (subst (λ n. Reports (StatusReport (Writes (items_script items n file))) status before after) limited (subst (λ its. Reports (StatusReport (Writes (items_script its s.limit file))) status before after) program r))
 
 -- ---- the words
 

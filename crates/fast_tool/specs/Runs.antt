@@ -1,15 +1,17 @@
 -- How a run goes on, and how it ends.
-use Rattle.std.specs.Prelude.{◌≡◌, ℕ, Bool, List, Option, ◌⊎◌, drop}
+use Rattle.std.specs.Prelude.{◌≡◌, ℕ, Bool, List, ◌∷◌, Option, ◌⊎◌, drop, length}
 use Rattle.fast_fault.specs.declared.status.Status.{Status}
 use Rattle.fast_fault.specs.declared.status.Status.TheVariants.{RunRefused, SinkFault, Memory}
 use Rattle.fast_fault.specs.Written.{Appends, AppendsPrefix}
 use Rattle.model_grammar.specs.Syntax.{Item}
-use Rattle.model_run.specs.Outcomes.{Outcome, line_of, says_fail, has_failed}
+use Rattle.model_run.specs.Causes.{Stop, HasCause}
+use Rattle.model_run.specs.Outcomes.{Outcome, trees_in, IsOutcome, line_of, says_fail, has_failed}
 use Rattle.model_run.specs.Lines.{stop_line}
 use Rattle.model_run.specs.Scripts.{Comes, Writes}
 use Rattle.model_run.specs.Report.{items_script, StatusReport}
-use Rattle.fast_tool.specs.declared.verdicts.Stop.{Stop}
-use Rattle.fast_tool.specs.Decided.{plain_stop, IsCauseOf, MayGive}
+use Rattle.fast_session.specs.Items.{HaveScalars}
+use Rattle.fast_session.specs.Sessions.{items_in, IsAt, IsItemAt}
+use Rattle.fast_session.specs.declared.session.Session.{Session}
 
 abbrev pub IsFault : Status → Type 0
 IsFault status = (status ≡ SinkFault) ⊎ (status ≡ Memory)
@@ -18,37 +20,56 @@ IsFault status = (status ≡ SinkFault) ⊎ (status ≡ Memory)
 abbrev pub EndsWith : Option (List ℕ) → Option (List ℕ) → List ℕ → Status → Status → Type 0
 EndsWith before after line status answer = ((answer ≡ status) × Appends before after line) ⊎ (IsFault answer × AppendsPrefix before after line)
 
--- an item's line was put, if it has one
-pub record IsDone (items : List Item) (item : Item) (before after : Option (List ℕ)) (fails : Bool) : Type 0 where
+-- nothing was put, for want of memory; or a front of the line, which can be shown, with a fault
+abbrev pub IsCutShort : Outcome → Option (List ℕ) → Option (List ℕ) → Status → Type 0
+IsCutShort o before after status = ((status ≡ Memory) × (after ≡ before)) ⊎ (IsFault status × HaveScalars o × AppendsPrefix before after (line_of o))
+
+-- the next item of a session whose earlier ones had these outcomes
+abbrev pub IsNextItem : Session → List Outcome → Item → Type 0
+IsNextItem s done item = IsItemAt (items_in s) (length done) item
+
+-- its line was put, if it has one
+pub record IsDone (old new : Session) (done : List Outcome) (before after : Option (List ℕ)) (fails : Bool) : Type 0 where
+  pub item : Item
+  pub is : IsNextItem old done item
   pub outcome : Outcome
-  pub may : MayGive items item outcome
+  pub may : IsOutcome (items_in old) (trees_in done) item outcome
+  pub at : IsAt new (outcome ∷ done)
   pub fails_is : fails ≡ says_fail outcome
   pub appended : Appends before after (line_of outcome)
 
--- a fault or want of memory left a front of the item's line
-pub record IsCutOff (items : List Item) (item : Item) (before after : Option (List ℕ)) (status : Status) : Type 0 where
+-- a fault or want of memory left a front of its line
+pub record IsCutOff (old : Session) (done : List Outcome) (before after : Option (List ℕ)) (status : Status) : Type 0 where
+  pub item : Item
+  pub is : IsNextItem old done item
   pub outcome : Outcome
-  pub may : MayGive items item outcome
+  pub may : IsOutcome (items_in old) (trees_in done) item outcome
   pub front : AppendsPrefix before after (line_of outcome)
   pub fault : IsFault status
 
--- the refusal for a cause that the item has was put, or a front of it with a fault
-pub record IsEnded (file : List ℕ) (items : List Item) (limit : ℕ) (item : Item) (before after : Option (List ℕ)) (status : Status) : Type 0 where
+-- the refusal for a cause that it has was put, or a front of it with a fault
+pub record IsEnded (file : List ℕ) (old : Session) (done : List Outcome) (before after : Option (List ℕ)) (status : Status) : Type 0 where
+  pub item : Item
+  pub is : IsNextItem old done item
   pub stop : Stop
-  pub cause : IsCauseOf items limit item.body stop
-  pub ends : EndsWith before after (stop_line (plain_stop stop) file item.place) RunRefused status
+  pub cause : HasCause (items_in old) old.limit (trees_in done) item.body stop
+  pub ends : EndsWith before after (stop_line stop file item.place) RunRefused status
 
-abbrev pub IsStopped : List ℕ → List Item → ℕ → Item → Option (List ℕ) → Option (List ℕ) → Status → Type 0
-IsStopped file items limit item before after status = ((status ≡ Memory) × (after ≡ before)) ⊎ IsCutOff items item before after status ⊎ IsEnded file items limit item before after status
+abbrev pub IsStopped : List ℕ → Session → List Outcome → Option (List ℕ) → Option (List ℕ) → Status → Type 0
+IsStopped file old done before after status = ((status ≡ Memory) × (after ≡ before)) ⊎ IsCutOff old done before after status ⊎ IsEnded file old done before after status
 
--- the lines of the first items were appended
-pub record Past (file : List ℕ) (items : List Item) (limit count : ℕ) (failed : Bool) (before now : Option (List ℕ)) : Type 0 where
+-- so many items of the program are done, and their lines were appended
+pub record Past (file : List ℕ) (items : List Item) (limit count : ℕ) (s : Session) (failed : Bool) (before now : Option (List ℕ)) : Type 0 where
+  pub program : items_in s ≡ items
+  pub limited : s.limit ≡ limit
   pub outcomes : List Outcome
+  pub counted : length outcomes ≡ count
+  pub at : IsAt s outcomes
   pub written : List ℕ
   pub come : Comes (items_script items limit file) (record { left = drop count items; done = outcomes }) written
   pub failed_is : has_failed outcomes ≡ failed
   pub appended : Appends before now written
 
--- what a run of the items may report
-abbrev pub ItemsReport : List ℕ → List Item → ℕ → Status → List ℕ → Type 0
-ItemsReport file items limit = StatusReport (Writes (items_script items limit file))
+-- what a run of the items of the session may report
+abbrev pub ItemsReport : List ℕ → Session → Status → List ℕ → Type 0
+ItemsReport file s = StatusReport (Writes (items_script (items_in s) s.limit file))

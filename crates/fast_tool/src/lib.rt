@@ -9,7 +9,6 @@ mod lines;
 mod reading;
 mod refusals;
 mod top;
-mod verdicts;
 mod words;
 
 pub use top::run;

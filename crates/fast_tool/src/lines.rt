@@ -1,15 +1,21 @@
-//! The lines of verdicts.
+//! The lines of items.
 
-ghost use Rattle.std.specs.Prelude.{◌≡◌, ◌++◌, IfOk, string_bytes, codes, decimal, true};
+ghost use Rattle.std.specs.Prelude.{◌≡◌, ◌++◌, List, ℕ, Some, IfOk, OnOk, string_bytes, codes, decimal, true};
 ghost use Rattle.model_tree.specs.Tree.{relabel};
 ghost use Rattle.model_tree.specs.Scalars.{has_scalars};
 ghost use Rattle.model_tree.specs.Signature.{HasType};
+ghost use Rattle.model_meaning.specs.Meaning.{signature_named};
 ghost use Rattle.fast_tree.specs.Entries.{label_meaning};
-ghost use Rattle.fast_tree.specs.Signatures.{plain_signature};
-ghost use Rattle.model_run.specs.Outcomes.{verdict, true_verdict, tree_verdict, line_of};
+ghost use Rattle.model_run.specs.Outcomes.{verdict, tree_line, shown_tree, line_of};
+ghost use Rattle.program_check.specs.Tells.{IsChecked};
+ghost use Rattle.fast_build.specs.Items.{items_of};
+ghost use Rattle.fast_session.specs.Answers.{verdict_on, line_outcome};
+ghost use Rattle.fast_session.specs.Items.{HaveScalars, IsTyped};
 
-use fast_fault::Memory;
-use fast_tree::{Label, Signature, Tree, print_tree};
+use fast_fault::{Memory, Text};
+use fast_session::Line;
+use fast_tree::{Label, Tree, print_tree};
+use program_check::Checked;
 use std::alloc::Global;
 
 /// The words of a verdict, up to where its tree may stand.
@@ -23,30 +29,83 @@ fn head(alloc: Global, line: u32, passes: bool) -> Result<String, Memory>
     }
 }
 
-/// The line of a verdict without a tree.
-pub fn plain_line(alloc: Global, line: u32, passes: bool) -> Result<Vec<u8>, Memory>
-    ensures { IfOk result (λ text. text.items ≡ line_of (true_verdict line passes)) }
+/// Appends a space and the text of a tree of the type with this name.
+fn append_tree(
+    alloc: Global,
+    text: &mut Vec<u8>,
+    checked: &Checked,
+    of: &Text,
+    tree: &Tree<Label>,
+) -> Result<(), Memory>
+    requires checked { IsChecked checked.now }
+    requires typed { HasType (signature_named (items_of checked.now) (Some of.now)) (relabel label_meaning tree.now) }
+    ensures text { OnOk result (text.new.items ≡ text.old.items ++ shown_tree (signature_named (items_of checked.now) (Some of.now)) (relabel label_meaning tree.now)) }
+    ensures scalars { OnOk result (has_scalars (relabel label_meaning tree.now) ≡ true) }
 {
-    let mut text = head(alloc, line, passes)?.into_bytes();
+    let Some(signature) = checked.signature(of) else {
+        unreachable!()
+    };
+    text.push(b' ')?;
+    text.extend_from_slice(&print_tree(alloc, tree, signature)?)?;
+    Ok(())
+}
+
+/// The line of a tree that has its name.
+fn tree_text(
+    alloc: Global,
+    checked: &Checked,
+    name: &Text,
+    of: &Text,
+    tree: &Tree<Label>,
+) -> Result<Vec<u8>, Memory>
+    requires checked { IsChecked checked.now }
+    requires typed { HasType (signature_named (items_of checked.now) (Some of.now)) (relabel label_meaning tree.now) }
+    ensures text { IfOk result (λ text. text.items ≡ line_of (tree_line name.now (signature_named (items_of checked.now) (Some of.now)) (relabel label_meaning tree.now))) }
+    ensures scalars { OnOk result (has_scalars (relabel label_meaning tree.now) ≡ true) }
+{
+    let mut text = Vec::from_slice(alloc, b"tree ")?;
+    text.extend_from_slice(name.as_str().as_bytes())?;
+    append_tree(alloc, &mut text, checked, of, tree)?;
     text.push(b'\n')?;
     Ok(text)
 }
 
-/// The line of a verdict with a tree.
-pub fn tree_line(
+/// The line of a verdict, with the tree of the type with this name that goes with it.
+fn verdict_text(
     alloc: Global,
+    checked: &Checked,
     line: u32,
     passes: bool,
-    signature: &Signature,
-    tree: &Tree<Label>,
+    of: &Text,
+    shown: &Option<Tree<Label>>,
 ) -> Result<Vec<u8>, Memory>
-    requires { HasType (plain_signature signature.now) (relabel label_meaning tree.now) }
-    ensures text { IfOk result (λ text. text.items ≡ line_of (tree_verdict line passes (plain_signature signature.now) (relabel label_meaning tree.now))) }
-    ensures scalars { IfOk result (λ _. has_scalars (relabel label_meaning tree.now) ≡ true) }
+    requires checked { IsChecked checked.now }
+    requires typed { IsTyped (verdict_on line passes (signature_named (items_of checked.now) (Some of.now)) shown.now) }
+    ensures text { IfOk result (λ text. text.items ≡ line_of (verdict_on line passes (signature_named (items_of checked.now) (Some of.now)) shown.now)) }
+    ensures scalars { OnOk result (HaveScalars (verdict_on line passes (signature_named (items_of checked.now) (Some of.now)) shown.now)) }
 {
     let mut text = head(alloc, line, passes)?.into_bytes();
-    text.push(b' ')?;
-    text.extend_from_slice(&print_tree(alloc, tree, signature)?)?;
+    if let Some(tree) = shown {
+        append_tree(alloc, &mut text, checked, of, tree)?;
+    }
     text.push(b'\n')?;
     Ok(text)
+}
+
+/// The text of a line.
+pub fn line_text(alloc: Global, checked: &Checked, line: &Line) -> Result<Vec<u8>, Memory>
+    requires checked { IsChecked checked.now }
+    requires typed { IsTyped (line_outcome (items_of checked.now) line.now) }
+    ensures text { IfOk result (λ text. text.items ≡ line_of (line_outcome (items_of checked.now) line.now)) }
+    ensures scalars { OnOk result (HaveScalars (line_outcome (items_of checked.now) line.now)) }
+{
+    match line {
+        Line::Tree { name, of, tree } => tree_text(alloc, checked, name, of, tree),
+        Line::Verdict {
+            line,
+            passes,
+            of,
+            shown,
+        } => verdict_text(alloc, checked, *line, *passes, of, shown),
+    }
 }

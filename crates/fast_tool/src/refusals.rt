@@ -3,12 +3,12 @@
 ghost use Rattle.std.specs.Prelude.{◌≡◌, ◌≤◌, ◌⊎◌, IfOk, IfErr, OnOk, OnErr, Err, string_bytes};
 ghost use Rattle.fast_fault.specs.Written.{Appends, AppendsPrefix, Rose};
 ghost use Rattle.fast_fault.specs.declared.status.Status.TheVariants.{TextRefused, RunRefused, SinkFault};
-ghost use Rattle.model_run.specs.Lines.{refusal_showing, refusal_line, stop_code, stop_shows, stop_line};
-ghost use Rattle.fast_tool.specs.Decided.{plain_stop};
+ghost use Rattle.model_run.specs.Lines.{refusal_showing, refusal_line, stop_shows, stop_line};
+ghost use Rattle.fast_session.specs.Answers.{plain_cause};
 ghost use Rattle.fast_tool.specs.Runs.{IsFault, EndsWith};
 
-use crate::verdicts::Stop;
-use fast_fault::{Code, Memory, Pos, PutFault, Refusal, Sink, Status};
+use fast_fault::{Memory, Pos, PutFault, Refusal, Sink, Status};
+use fast_session::Cause;
 use std::alloc::Global;
 
 /// Puts a line.
@@ -62,32 +62,22 @@ pub fn refuse<K: Sink>(alloc: Global, sink: &mut K, file: &str, refusal: Refusal
 }
 
 /// What the line of a refusal of an item shows behind the place.
-fn stop_shows(alloc: Global, stop: Stop) -> Result<String, Memory>
-    ensures { IfOk result (λ text. string_bytes text ≡ stop_shows (plain_stop stop)) }
+fn shown_for(alloc: Global, cause: Cause) -> Result<String, Memory>
+    ensures { IfOk result (λ text. string_bytes text ≡ stop_shows (plain_cause cause)) }
 {
-    match stop {
-        Stop::Classes(limit) => Ok(format!(in alloc; " {limit}")?),
-        Stop::Width(bits) => Ok(format!(in alloc; " {bits}")?),
-        Stop::TreeSize => Ok(String::new(alloc)),
-    }
-}
-
-fn stop_code(stop: Stop) -> Code
-    ensures { result ≡ stop_code (plain_stop stop) }
-{
-    match stop {
-        Stop::Classes(_) => Code::Classes,
-        Stop::Width(_) => Code::Width,
-        Stop::TreeSize => Code::TreeSize,
+    match cause {
+        Cause::Classes(limit) => Ok(format!(in alloc; " {limit}")?),
+        Cause::Width(bits) => Ok(format!(in alloc; " {bits}")?),
+        Cause::EmptyLanguage | Cause::TreeSize => Ok(String::new(alloc)),
     }
 }
 
 /// The line of a refusal of an item, for the cause that it has.
-fn stop_text(alloc: Global, file: &str, place: Pos, stop: Stop) -> Result<String, Memory>
-    ensures { IfOk result (λ text. string_bytes text ≡ stop_line (plain_stop stop) file.now place) }
+fn refused_text(alloc: Global, file: &str, place: Pos, cause: Cause) -> Result<String, Memory>
+    ensures { IfOk result (λ text. string_bytes text ≡ stop_line (plain_cause cause) file.now place) }
 {
-    let shown = stop_shows(alloc, stop)?;
-    let code = stop_code(stop);
+    let shown = shown_for(alloc, cause)?;
+    let code = cause.code();
     refusal_text(alloc, file, Refusal { code, place }, shown.as_str())
 }
 
@@ -97,13 +87,13 @@ pub fn refuse_item<K: Sink>(
     sink: &mut K,
     file: &str,
     place: Pos,
-    stop: Stop,
+    cause: Cause,
 ) -> Status
-    ensures ends { EndsWith (K.written sink.old) (K.written sink.new) (stop_line (plain_stop stop) file.now place) RunRefused result }
+    ensures ends { EndsWith (K.written sink.old) (K.written sink.new) (stop_line (plain_cause cause) file.now place) RunRefused result }
     ensures later { K.faults sink.old ≤ K.faults sink.new }
     ensures rose { result ≡ SinkFault → Rose (K.faults sink.old) (K.faults sink.new) }
 {
-    match stop_text(alloc, file, place, stop) {
+    match refused_text(alloc, file, place, cause) {
         Ok(line) => put_last(sink, line.as_bytes(), Status::RunRefused),
         Err(Memory) => Status::Memory,
     }

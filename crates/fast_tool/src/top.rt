@@ -1,6 +1,6 @@
 //! The top call: the words, the text, and what the command does with the program.
 
-ghost use Rattle.std.specs.Prelude.{◌≡◌, ◌≢◌, ◌≤◌, ℕ, List, Option, Some, None, IfOk, map, string_bytes, true};
+ghost use Rattle.std.specs.Prelude.{◌≡◌, ◌≢◌, ◌≤◌, ℕ, List, Option, IfOk, IfSome, map, string_bytes, true};
 ghost use Rattle.fast_fault.specs.Written.{Rose};
 ghost use Rattle.fast_fault.specs.declared.status.Status.TheVariants.{SinkFault, TextFault};
 ghost use Rattle.fast_syntax.specs.Plain.{plain_program};
@@ -61,15 +61,17 @@ fn check_file<T: TextSource, K: Sink>(
 fn run_file<T: TextSource, K: Sink>(
     alloc: Global,
     file: &str,
+    limit: Option<u32>,
     texts: &mut T,
     sink: &mut K,
 ) -> Status
-    ensures report { Reports (StatusReport (CommandReport (run_form file.now None) (T.held texts.old))) result (K.written sink.old) (K.written sink.new) }
+    requires few { IfSome limit (λ n. n ≤ 2000) }
+    ensures report { Reports (StatusReport (CommandReport (run_form file.now limit) (T.held texts.old))) result (K.written sink.old) (K.written sink.new) }
     ensures rose { result ≡ SinkFault → Rose (K.faults sink.old) (K.faults sink.new) }
     ensures take_rose { result ≡ TextFault → Rose (T.faults texts.old) (T.faults texts.new) }
 {
     match take_checked(alloc, file, texts, sink) {
-        Ok(checked) => run_program(alloc, file, &checked, sink),
+        Ok(checked) => run_program(alloc, file, checked, limit.unwrap_or(1000), sink),
         Err(status) => status,
     }
 }
@@ -89,7 +91,7 @@ fn obey<T: TextSource, K: Sink>(
     match read_words(words) {
         None => put_last(sink, USAGE.as_bytes(), Status::Words),
         Some(Command::Check { file }) => check_file(alloc, file, texts, sink),
-        Some(Command::Run { file }) => run_file(alloc, file, texts, sink),
+        Some(Command::Run { file, limit }) => run_file(alloc, file, limit, texts, sink),
     }
 }
 

@@ -1,16 +1,50 @@
 //! The words of a command line.
 
-ghost use Rattle.std.specs.Prelude.{◌≡◌, [], ◌∷◌, map, string_bytes, IfSome, IfNone};
+ghost use Rattle.std.specs.Prelude.{◌≡◌, ℕ, [], ◌∷◌, true, false, map, decimal, string_bytes, IfSome, IfNone};
 ghost use Rattle.model_run.specs.Words.{CommandForm};
 ghost use Rattle.model_run.specs.Report.{IsWords};
-ghost use Rattle.fast_tool.specs.Commands.{command_form};
+ghost use Rattle.fast_tool.specs.Commands.{command_form, IsLimit};
 
 /// What the words ask for.
 pub enum Command<'w> {
     /// Read and check the file.
     Check { file: &'w str },
-    /// Do each item of the file in order.
-    Run { file: &'w str },
+    /// Do each item of the file in order. The limit is how many trees may be told apart.
+    Run { file: &'w str, limit: Option<u32> },
+}
+
+/// Whether these are the decimal digits of the number.
+#[tactic(auto, using(crate::proofs::Numerals::on_digits))]
+fn is_decimal(number: u32, digits: &[u8]) -> bool
+    ensures yes { result ≡ true → digits.now ≡ decimal number }
+    ensures no { result ≡ false → ¬ (digits.now ≡ decimal number) }
+{
+    let Some((last, front)) = digits.split_last() else {
+        return false;
+    };
+    if *last != b'0' + (number % 10) as u8 {
+        return false;
+    }
+    if number < 10 {
+        front.is_empty()
+    } else {
+        is_decimal(number / 10, front)
+    }
+}
+
+/// The number of trees that may be told apart, where the word is one.
+#[tactic(auto, using(crate::proofs::Numerals::on_digits))]
+fn limit_of(word: &str) -> Option<u32>
+    ensures some { IfSome result (IsLimit word.now) }
+    ensures none { IfNone result ((n : ℕ) → ¬ (IsLimit word.now n)) }
+{
+    let Ok(number) = word.parse::<u32>() else {
+        return None;
+    };
+    if number < 1 || number > 2000 || !is_decimal(number, word.as_bytes()) {
+        return None;
+    }
+    Some(number)
 }
 
 /// The command of two words.
@@ -23,9 +57,26 @@ fn of_two<'w>(verb: &str, file: &'w str) -> Option<Command<'w>>
     } else if verb == "check" {
         Some(Command::Check { file })
     } else if verb == "run" {
-        Some(Command::Run { file })
+        Some(Command::Run { file, limit: None })
     } else {
         None
+    }
+}
+
+/// The command of four words.
+fn of_four<'w>(verb: &str, file: &'w str, option: &str, number: &str) -> Option<Command<'w>>
+    ensures some { IfSome result (λ c. IsWords (verb.now ∷ file.now ∷ option.now ∷ number.now ∷ []) (command_form c)) }
+    ensures none { IfNone result ((form : CommandForm) → ¬ (IsWords (verb.now ∷ file.now ∷ option.now ∷ number.now ∷ []) form)) }
+{
+    if file.is_empty() || verb != "run" || option != "--classes" {
+        return None;
+    }
+    match limit_of(number) {
+        Some(limit) => Some(Command::Run {
+            file,
+            limit: Some(limit),
+        }),
+        None => None,
     }
 }
 
@@ -36,6 +87,10 @@ pub fn read_words<'w>(words: &'w [String]) -> Option<Command<'w>>
 {
     match words {
         [verb, file] => of_two(verb.as_str(), file.as_str()),
+        [verb, file, option, number] => {
+            let (verb, file) = (verb.as_str(), file.as_str());
+            of_four(verb, file, option.as_str(), number.as_str())
+        }
         _ => None,
     }
 }

@@ -1,0 +1,5 @@
+use Rattle.std.proofs.Common.{ℕ}
+use Rattle.fast_tool.proofs.words.+is_decimal.Given as goal
+
+abbrev pub decreases-is_decimal : goal.decreases-is_decimal
+decreases-is_decimal l = l.number
