@@ -1,0 +1,11 @@
+pub mod Firsts
+pub mod Rounds
+pub mod Lists
+pub mod Kinds
+pub mod Values
+pub mod Steps
+pub mod Probes
+pub mod Nodes
+pub mod Tables
+pub mod Demands
+pub mod Targets
