@@ -30,16 +30,24 @@ bools() {
 }
 mixed() { each "$1" '"x = " k " and s = \"t" k "\" and b"' | rules "x : Int, s : String, b : Bool"; }
 
-# The same questions in the language of z3: for each rule, whether it and no earlier one holds.
-z3_equal() {
-  echo '(declare-const x Int)'
-  awk -v count="$1" 'BEGIN { for (k = 0; k < count; k++) {
-    print "(push)"
-    printf "(assert (= x %d))", k
-    for (j = 0; j < k; j++) printf "(assert (not (= x %d)))", j
-    print "(check-sat)(pop)"
-  } }'
+# Questions in the language of z3, in one process for all questions of a text: for each rule, whether it holds where no earlier
+# one does. The line of awk's expression over k is one rule's guard.
+questions() {
+  local count=$1 sort=$2 guard=$3 name
+  for name in x y; do echo "(declare-const $name $sort)"; done
+  awk -v count="$count" "function guard(k) { return $guard } BEGIN { for (k = 0; k < count; k++) {
+    print \"(push)\"
+    print \"(assert \" guard(k) \")\"
+    for (j = 0; j < k; j++) print \"(assert (not \" guard(j) \"))\"
+    print \"(check-sat)(pop)\"
+  } }"
 }
+
+z3_equal() { questions "$1" Int '"(= x " k ")"'; }
+z3_above() { questions "$1" Int '"(and (= x " k ") (> y " k "))"'; }
+z3_overlapping() { questions "$1" Int '"(and (> x " k ") (< x " k + 10 "))"'; }
+z3_one_text() { questions "$1" String '"(= x \"t" k "\")"'; }
+z3_remainders() { questions "$1" Int '"(= (mod x " k + 2 ") 1)"'; }
 
 ask_z3() {
   command -v z3 >/dev/null || return
@@ -48,13 +56,16 @@ ask_z3() {
   shift
   for count in "$@"; do
     "z3_$kind" "$count" >"$folder/question"
-    printf '%-12s %8s %14s\n' "" "$count" "$( { time z3 -smt2 "$folder/question" >/dev/null; } 2>&1 | tr -d .)"
+    printf '%-12s %8s %14s\n' "" "$count" "$( { time timeout 20 z3 -smt2 "$folder/question" >/dev/null; } 2>&1 | tr -d .)"
   done
 }
 
 for kind in equal above overlapping one_text two_texts some_equal none_equal mixed; do
   table run "$kind" 10 20 40 80 160 320
 done
-table run remainders 2 4 6 8 10 11
+table run remainders 2 4 6 8 10 11 12
 table run bools 2 4 8
-ask_z3 equal 10 20 40 80 160 320
+for kind in equal above overlapping one_text; do
+  ask_z3 "$kind" 10 20 40 80 160 320
+done
+ask_z3 remainders 2 4 6 8 10 11 12

@@ -1,8 +1,8 @@
 #!/usr/bin/env bash
 # Measures operations on languages: a cycle of K languages over lists, each of which takes the lists whose length has its
 # remainder by K, against a second cycle, and with its complement; random alternating languages over binary trees, with
-# their complements; and Boolean formulas as trees. Where MONA is there, it is asked the same of the cycles, as a formula
-# over the sets of accepting positions, with ten seconds a question.
+# their complements; and Boolean formulas as trees. Where MONA is there, it is asked the same, as a formula over sets of
+# positions or nodes, with ten seconds and four gigabytes a question.
 . "$(dirname "${BASH_SOURCE[0]}")/common.sh"
 
 # K languages of lists under names that begin so.
@@ -37,32 +37,69 @@ random_complement() {
 
 # Which formulas over K nested operators are true: each is true or false, and none is both.
 formulas() {
-  echo 'type F[]{yes(0), no(0), not(1), and(2), or(2)}'
+  echo 'type F[]{yes(0), no(0), neg(1), all(2), any(2)}'
   echo 'lang true0 : F { yes() }'
   echo 'lang false0 : F { no() }'
   local own
   for ((own = 1; own <= $1; own++)); do
     local t="true$((own - 1))" f="false$((own - 1))"
-    echo "lang true$own : F { yes() | not(x) given ($f x) | and(x, y) given ($t x) ($t y) | or(x, y) given ($t x) | or(x, y) given ($t y) }"
-    echo "lang false$own : F { no() | not(x) given ($t x) | or(x, y) given ($f x) ($f y) | and(x, y) given ($f x) | and(x, y) given ($f y) }"
+    echo "lang true$own : F { yes() | neg(x) given ($f x) | all(x, y) given ($t x) ($t y) | any(x, y) given ($t x) | any(x, y) given ($t y) }"
+    echo "lang false$own : F { no() | neg(x) given ($t x) | any(x, y) given ($f x) ($f y) | all(x, y) given ($f x) | all(x, y) given ($f y) }"
   done
   echo "assert-true (is-empty (difference true$1 (union true$1 false$1)))"
 }
 
-# For each K, whether two cycles have the same first language, in the language of MONA: position p is in X0, Y0 and so on
-# where the list of length p is.
+# The cycle of K sets of positions under a name, in the language of MONA: position p is in the first one, the second one and
+# so on where the list of length p is in that language.
+mona_cycle() {
+  awk -v count="$1" -v name="$2" 'BEGIN {
+    printf "var2 %s0", name
+    for (k = 1; k < count; k++) printf ", %s%d", name, k
+    print ";"
+    printf "assert all1 p: (p in %s0 <=> (p = 0 | (p > 0 & p - 1 in %s%d)));\n", name, name, count - 1
+    for (k = 1; k < count; k++) printf "assert all1 p: (p in %s%d <=> (p > 0 & p - 1 in %s%d));\n", name, k, name, k - 1
+  }'
+}
+
 mona_equal_cycles() {
+  echo 'm2l-str;'
+  mona_cycle "$1" X
+  mona_cycle "$1" Y
+  echo 'all1 p: (p in X0 <=> p in Y0);'
+}
+
+mona_complemented_cycle() {
+  echo 'm2l-str;'
+  mona_cycle "$1" X
+  echo 'var2 Z; assert all1 p: (p in Z <=> p notin X0);'
+  echo '(all1 p: ~(p in X0 & p in Z)) & (all1 p: (p in X0 <=> p notin Z));'
+}
+
+# As sets of nodes of a tree, of which D has all.
+mona_random_complement() {
+  python3 "$here/bench/random_languages.py" "$1" 1 mona
+  echo 'var2 Z; assert all1 p: (p in Z <=> (p in D & p notin R0));'
+  echo '~(root in R0 & root in Z);'
+}
+
+# Y has the leaves that are yes, O the nodes with two children that are or.
+mona_formulas() {
   awk -v count="$1" 'BEGIN {
-    print "m2l-str;"
-    for (f = 0; f < 2; f++) {
-      name = f ? "Y" : "X"
-      printf "var2 %s0", name
-      for (k = 1; k < count; k++) printf ", %s%d", name, k
-      print ";"
-      printf "assert all1 p: (p in %s0 <=> (p = 0 | (p > 0 & p - 1 in %s%d)));\n", name, name, count - 1
-      for (k = 1; k < count; k++) printf "assert all1 p: (p in %s%d <=> (p > 0 & p - 1 in %s%d));\n", name, k, name, k - 1
+    print "ws2s;"
+    printf "var2 D, Y, O"
+    for (k = 0; k <= count; k++) printf ", T%d, F%d", k, k
+    print ";"
+    print "assert root in D & (all1 p: p in D & p ~= root => p^ in D) & (all1 p: p.1 in D => p.0 in D);"
+    print "assert all1 p: (p in T0 <=> (p in D & p.0 notin D & p in Y));"
+    print "assert all1 p: (p in F0 <=> (p in D & p.0 notin D & p notin Y));"
+    for (k = 1; k <= count; k++) {
+      t = "T" k - 1; f = "F" k - 1
+      leaf = "p.0 notin D & p %s Y"; negation = "p.0 in D & p.1 notin D & p.0 in %s"
+      all = "p.1 in D & p %s O & p.0 in %s & p.1 in %s"; some = "p.1 in D & p %s O & (p.0 in %s | p.1 in %s)"
+      printf "assert all1 p: (p in T%d <=> (p in D & ((" leaf ") | (" negation ") | (" all ") | (" some "))));\n", k, "in", f, "notin", t, t, "in", t, t
+      printf "assert all1 p: (p in F%d <=> (p in D & ((" leaf ") | (" negation ") | (" all ") | (" some "))));\n", k, "notin", t, "in", f, f, "notin", f, f
     }
-    print "all1 p: (p in X0 <=> p in Y0);"
+    printf "~(root in T%d & ~(root in T%d | root in F%d));\n", count, count, count
   }'
 }
 
@@ -73,13 +110,17 @@ ask_mona() {
   shift
   for count in "$@"; do
     "mona_$kind" "$count" >"$folder/question.mona"
-    took=$( { time timeout 10 mona -q "$folder/question.mona" >/dev/null 2>&1; } 2>&1 | tr -d .)
-    printf '%-12s %8s %14s\n' "" "$count" "$((10#$took))"
+    took=$( { time (ulimit -v 4000000; timeout 10 mona -q "$folder/question.mona" >"$folder/answer" 2>/dev/null); } 2>&1 | tr -d .)
+    grep -q valid "$folder/answer" || took="no answer in"
+    printf '%-12s %8s %14s\n' "" "$count" "${took#"${took%%[!0]*}"}"
   done
 }
 
 table run equal_cycles 50 100 200 400
 table run complemented_cycle 50 100 200 400
-table run random_complement 8 16 32
-table run formulas 2 4 8 16
-ask_mona equal_cycles 4 8 12 16 20
+table run random_complement 4 6 8 10
+table run formulas 4 8 16 32 64
+ask_mona equal_cycles 4 8 12 16
+ask_mona complemented_cycle 4 8 16 20
+ask_mona random_complement 4 6 8 10
+ask_mona formulas 4 8 16 32 64

@@ -206,3 +206,10 @@ none_either i d R T a b r (inr e) f g = subst (NoneFrom i d R T) (sym e) g
 
 pub below_of : (a : ℤ) → (a ≡ pos 0 → ⊥) → a ≤ℤ pos 0 → a <ℤ pos 0
 below_of a n l = by_lt_z a (pos 0) (λ h. h) (λ g. absurd (n (omega (arith, ints))))
+
+-- where not even the first offset meets the condition, nothing does
+pub refuted_now : (c : Condition) (vs : List ℤ) (n : ℤ) → pos 0 <ℤ n → ((s : ℕ) (ws : List ℤ) → pos s <ℤ n → Meets c.kind ((dot c.coefficients ws +ℤ c.constant) +ℤ (pos 0 *ℤ pos s)) → ⊥) → Meets c.kind (dot c.coefficients vs +ℤ c.constant) → ⊥
+refuted_now c vs n p none held = none 0 vs p (subst (Meets c.kind) same held)
+  where
+    same : dot c.coefficients vs +ℤ c.constant ≡ (dot c.coefficients vs +ℤ c.constant) +ℤ (pos 0 *ℤ pos 0)
+    same = omega (arith, ints)

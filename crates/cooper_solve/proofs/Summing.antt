@@ -5,7 +5,8 @@ use Rattle.std.specs.Prelude.{◌≤ℤ◌, ◌<ℤ◌, int_lt, true}
 use Rattle.std.proofs.lemmas.Int.{ints, by_lt_z}
 use Rattle.math_int.specs.Whole.{IsFloor}
 use Rattle.std.proofs.lemmas.List.{length-map}
-use Rattle.std.proofs.lemmas.List.Elements.{All-append, All-cons, All-nil}
+use Rattle.std.specs.List.{All}
+use Rattle.std.proofs.lemmas.List.Elements.{All-append, All-cons, All-nil, All-head, All-tail}
 use Rattle.math_int.proofs.Laws.{times-le, times-add}
 use Rattle.math_cooper.specs.Line.{AtLeastZero, Meets}
 use Rattle.math_cooper.specs.System.{Condition, Affine, affine_value, dot, add_times, Holds}
@@ -65,3 +66,7 @@ tighter vs (pos n) q f v p e g h = by_lt_z (dot v vs +ℤ q) (pos 0)
 
     split : pos n *ℤ (dot v vs +ℤ q) ≡ (pos n *ℤ dot v vs) +ℤ (pos n *ℤ q)
     split = times-add (pos n) (dot v vs) q
+
+pub split_last : (P : Affine → Type 0) (xs : List Affine) (x : Affine) → All P (xs ++ x ∷ []) → All P xs × P x
+split_last P [] x h = (All-nil P, All-head P x [] h)
+split_last P (y ∷ xs) x h = let r = split_last P xs x (All-tail P y (xs ++ x ∷ []) h) in (All-cons P y xs (All-head P y (xs ++ x ∷ []) h) r.0, r.1)

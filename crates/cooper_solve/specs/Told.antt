@@ -1,6 +1,5 @@
 -- What the search tells: a solution, one that is far off, puts that lead to a number that is too wide, or that there is none.
-use Rattle.std.specs.Prelude.{ℕ, ℤ, pos, ◌*ℤ◌, ◌<ℤ◌, ◌≡◌, ◌<◌, ◌+◌, ◌⊎◌, List, [], ◌∷◌, ◌++◌, map, reverse, take, slice_index_or, unsigned_abs}
-use Rattle.model_tree.specs.Range.{IsLabelNumber}
+use Rattle.std.specs.Prelude.{ℕ, ℤ, pos, ◌*ℤ◌, ◌<ℤ◌, ◌≡◌, ◌<◌, ◌+◌, ◌⊎◌, List, [], ◌∷◌, ◌++◌, map, reverse, take, unsigned_abs}
 use Rattle.std.specs.List.{All, Contains}
 use Rattle.model_chain.specs.Chains.{HasFarValue}
 use Rattle.math_cooper.specs.System.{Condition, Affine, affine_value, put_all, unit_all, divides_condition, IsSolvable}

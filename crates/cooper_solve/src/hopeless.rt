@@ -25,6 +25,9 @@ fn common_divisor(row: &[i128]) -> i128 {
     let mut common = 0;
     for number in row {
         common = gcd(common, *number).unwrap_or(1);
+        if common == 1 {
+            return 1;
+        }
     }
     common
 }
@@ -98,15 +101,6 @@ fn inequalities(alloc: Global, system: &[Constraint]) -> Result<Vec<Linear>, All
         push_inequality(alloc, constraint, &mut out)?;
     }
     Ok(out)
-}
-
-fn copy(alloc: Global, form: &Linear) -> Result<Linear, AllocError>
-    ensures { IfOk result (λ r. r ≡ form.now) }
-{
-    Ok(Linear {
-        constant: form.constant,
-        coefficients: Vec::from_slice(alloc, &form.coefficients)?,
-    })
 }
 
 fn mixed_constant(a: i128, x: i128, b: i128, y: i128) -> Option<i128>
@@ -211,35 +205,50 @@ fn push_sums(
     Ok(())
 }
 
-// The inequality at the end if it lacks the variable, and else its sums that do.
-fn push_without(
+// The inequality at the end of those that lack the variable, or of those that have it.
+fn part(
+    form: Linear,
+    variable: usize,
+    others: &mut Vec<Linear>,
+    own: &mut Vec<Linear>,
+) -> Result<(), Memory>
+    ensures { IfOk result (λ _. (vs : List ℤ) → IsAtLeast vs form → (AreAtLeast vs others.old.items → AreAtLeast vs others.new.items) × (AreAtLeast vs own.old.items → AreAtLeast vs own.new.items)) }
+{
+    if coefficient(&form, variable) == 0 {
+        others.push(form)?;
+    } else {
+        own.push(form)?;
+    }
+    Ok(())
+}
+
+// The sums without the variable of these, which have it, at the end.
+fn push_all_sums(
     alloc: Global,
-    forms: &[Linear],
-    form: &Linear,
+    own: &[Linear],
     variable: usize,
     out: &mut Vec<Linear>,
 ) -> Result<(), Memory>
-    ensures { IfOk result (λ _. (vs : List ℤ) → AreAtLeast vs forms.now → IsAtLeast vs form.now → AreAtLeast vs out.old.items → AreAtLeast vs out.new.items) }
+    ensures { IfOk result (λ _. (vs : List ℤ) → AreAtLeast vs own.now → AreAtLeast vs out.old.items → AreAtLeast vs out.new.items) }
 {
-    let lead = coefficient(form, variable);
-    if lead == 0 {
-        out.push(copy(alloc, form)?)?;
-        return Ok(());
-    }
-    if lead > 0 {
-        return push_sums(alloc, forms, form, variable, out);
+    for form in own {
+        if coefficient(form, variable) > 0 {
+            push_sums(alloc, own, form, variable, out)?;
+        }
     }
     Ok(())
 }
 
 // The inequalities that lack the variable, and the sums that do.
-fn eliminated(alloc: Global, forms: &[Linear], variable: usize) -> Result<Vec<Linear>, Memory>
-    ensures { IfOk result (λ r. (vs : List ℤ) → AreAtLeast vs forms.now → AreAtLeast vs r.items) }
+fn eliminated(alloc: Global, forms: Vec<Linear>, variable: usize) -> Result<Vec<Linear>, Memory>
+    ensures { IfOk result (λ r. (vs : List ℤ) → AreAtLeast vs forms.items → AreAtLeast vs r.items) }
 {
     let mut out = Vec::new(alloc);
+    let mut own = Vec::new(alloc);
     for form in forms {
-        push_without(alloc, forms, form, variable, &mut out)?;
+        part(form, variable, &mut out, &mut own)?;
     }
+    push_all_sums(alloc, &own, variable, &mut out)?;
     Ok(out)
 }
 
@@ -266,35 +275,80 @@ fn any_false(forms: &[Linear]) -> bool
     false
 }
 
-// How many sums the variable makes, if it is there.
-fn count_sums(forms: &[Linear], variable: usize) -> Option<usize> {
-    let mut positive: usize = 0;
-    let mut negative: usize = 0;
-    for form in forms {
-        let lead = coefficient(form, variable);
-        if lead > 0 {
-            positive = positive.saturating_add(1);
-        }
-        if lead < 0 {
-            negative = negative.saturating_add(1);
-        }
-    }
-    if positive == 0 && negative == 0 {
-        return None;
-    }
-    Some(positive.saturating_mul(negative))
+// How many sums a variable makes, and with which coefficients it stands in inequalities.
+#[derive(Clone, Copy)]
+struct Price {
+    positive: usize,
+    negative: usize,
+    ones: usize,
+    minus_ones: usize,
 }
 
-// The variable that makes the fewest sums.
-fn cheapest(forms: &[Linear], count: usize) -> Option<usize> {
-    let mut best = None;
-    let mut fewest = usize::MAX;
-    for variable in 0..count {
-        if let Some(sums) = count_sums(forms, variable) {
-            if sums < fewest {
-                fewest = sums;
-                best = Some(variable);
+impl Price {
+    fn of(forms: &[Linear], variable: usize) -> Price {
+        let mut price = Price {
+            positive: 0,
+            negative: 0,
+            ones: 0,
+            minus_ones: 0,
+        };
+        for form in forms {
+            let lead = coefficient(form, variable);
+            if lead > 0 {
+                price.positive = price.positive.saturating_add(1);
             }
+            if lead < 0 {
+                price.negative = price.negative.saturating_add(1);
+            }
+            if lead == 1 {
+                price.ones = price.ones.saturating_add(1);
+            }
+            if lead == -1 {
+                price.minus_ones = price.minus_ones.saturating_add(1);
+            }
+        }
+        price
+    }
+
+    // Whether its sums say of whole numbers all that the inequalities say (0), or may do so where it has one value (1).
+    fn loss(self) -> usize {
+        if self.ones == self.positive || self.minus_ones == self.negative {
+            return 0;
+        }
+        if self.ones > 0 && self.minus_ones > 0 {
+            return 1;
+        }
+        2
+    }
+
+    fn sums(self) -> usize {
+        self.positive.saturating_mul(self.negative)
+    }
+
+    // Whether it is the variable of some inequality, and better than the other.
+    fn is_less(self, other: Option<Price>) -> bool {
+        if self.positive == 0 && self.negative == 0 {
+            return false;
+        }
+        match other {
+            None => true,
+            Some(other) => {
+                self.loss() < other.loss()
+                    || (self.loss() == other.loss() && self.sums() < other.sums())
+            }
+        }
+    }
+}
+
+// The variable that makes the fewest sums, of those that lose nothing if there are such. One is kept.
+fn cheapest(forms: &[Linear], count: usize, kept: Option<usize>) -> Option<usize> {
+    let mut best = None;
+    let mut least = None;
+    for variable in 0..count {
+        let price = Price::of(forms, variable);
+        if kept != Some(variable) && price.is_less(least) {
+            least = Some(price);
+            best = Some(variable);
         }
     }
     best
@@ -309,10 +363,72 @@ pub fn is_hopeless(alloc: Global, system: &[Constraint], count: usize) -> Result
         if any_false(&forms) {
             return Ok(true);
         }
-        match cheapest(&forms, count) {
+        match cheapest(&forms, count, None) {
             None => return Ok(false),
-            Some(variable) => forms = eliminated(alloc, &forms, variable)?,
+            Some(variable) => forms = eliminated(alloc, forms, variable)?,
         }
     }
     Ok(any_false(&forms))
+}
+
+/// From where and how far a variable may go, where sums of inequalities say so: it need not go so far.
+#[derive(Clone, Copy)]
+pub struct Reach {
+    pub low: Option<i128>,
+    pub high: Option<i128>,
+}
+
+impl Reach {
+    // What is left by an inequality with no other variable.
+    fn narrowed(self, form: &Linear, variable: usize) -> Reach {
+        let lead = coefficient(form, variable);
+        let quotient = match lead.checked_abs() {
+            Some(size) if size > 0 => div_floor(form.constant, size),
+            _ => None,
+        };
+        let Some(bound) = quotient else {
+            return self;
+        };
+        if lead < 0 {
+            return match self.high {
+                Some(high) if high <= bound => self,
+                _ => Reach {
+                    low: self.low,
+                    high: Some(bound),
+                },
+            };
+        }
+        match (self.low, bound.checked_neg()) {
+            (_, None) => self,
+            (Some(low), Some(least)) if low >= least => self,
+            (_, least) => Reach {
+                low: least,
+                high: self.high,
+            },
+        }
+    }
+}
+
+/// The reach of a variable.
+pub fn reach_of(
+    alloc: Global,
+    system: &[Constraint],
+    count: usize,
+    variable: usize,
+) -> Result<Reach, Memory> {
+    let mut forms = inequalities(alloc, system)?;
+    for _ in 0..count {
+        match cheapest(&forms, count, Some(variable)) {
+            None => break,
+            Some(other) => forms = eliminated(alloc, forms, other)?,
+        }
+    }
+    let mut reach = Reach {
+        low: None,
+        high: None,
+    };
+    for form in &forms {
+        reach = reach.narrowed(form, variable);
+    }
+    Ok(reach)
 }

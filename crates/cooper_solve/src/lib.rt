@@ -18,6 +18,7 @@ mod skip;
 
 pub use constraint::{Constraint, Relation};
 pub use found::{Found, Put, Solution};
-pub use hopeless::is_hopeless;
+pub use hopeless::{Reach, is_hopeless, reach_of};
 pub use scale::zeros;
 pub use search::solve;
+pub use skip::is_refuted;

@@ -4,7 +4,7 @@ ghost use Rattle.std.specs.Prelude.{◌≡◌, ◌+◌, ◌+ℤ◌, ◌*ℤ◌, 
 ghost use Rattle.std.specs.Int.{◌∣◌};
 ghost use Rattle.std.specs.List.{All};
 ghost use Rattle.math_cooper.specs.Line.{Divides, Meets};
-ghost use Rattle.math_cooper.specs.System.{HasWidth, dot, sign};
+ghost use Rattle.math_cooper.specs.System.{HasWidth, Solves, dot, sign};
 ghost use Rattle.cooper_solve.specs.Views.{IsUnitLead, slope, NoneFrom};
 
 use crate::constraint::{Constraint, Direction, Relation};
@@ -116,6 +116,19 @@ fn skip_one(constraint: &Constraint, slope: i128, left: i128) -> i128
             skip_undivided(constraint.constant, common, slope, left)
         }
     }
+}
+
+/// Whether some condition holds at no values, by its own numbers: what divides its divisor and all coefficients doesn't divide
+/// the constant, or the constant is negative and there are no coefficients.
+pub fn is_refuted(system: &[Constraint]) -> bool
+    ensures { IsTrue result → (vs : List ℤ) → Solves vs system.now → ⊥ }
+{
+    for constraint in system {
+        if skip_one(constraint, 0, 1) > 0 {
+            return true;
+        }
+    }
+    false
 }
 
 fn slope_of(direction: Direction, lead: i128) -> i128

@@ -9,7 +9,15 @@ use fast_tool::run;
 use std::io;
 use std::rt::Files;
 
-const NAMES: [&str; 5] = ["access", "documents", "parcels", "policies", "switches"];
+const NAMES: [&str; 7] = [
+    "access",
+    "documents",
+    "parcels",
+    "policies",
+    "sanitiser",
+    "sessions",
+    "switches",
+];
 
 /// The most bytes of a stored report.
 const LONGEST: u64 = 65536;

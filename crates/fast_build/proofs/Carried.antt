@@ -1,5 +1,5 @@
 -- The automaton of a language carries the language.
-use Rattle.std.proofs.Common.{◌≡◌, inl, inr, ℕ, zero, ◌<◌, ◌≤◌, ◌↔◌, Bool, true, List, [], ◌∷◌, ◌⊎◌, Option, Some, None, map, length, get_or, All, Contains, refl, sym, ap, subst, ◌∙◌, arith}
+use Rattle.std.proofs.Common.{◌≡◌, inl, inr, ℕ, ◌<◌, ◌≤◌, List, [], ◌∷◌, ◌⊎◌, Option, Some, None, map, length, get_or, All, Contains, refl, sym, ap, subst, ◌∙◌, arith}
 use Rattle.std.proofs.lemmas.Bool.{cases_lt}
 use Rattle.std.proofs.lemmas.List.{get_or-map, get_or_past, length-map}
 use Rattle.model_tree.specs.Label.{Label}
@@ -8,19 +8,16 @@ use Rattle.model_tree.specs.Signature.{HasType, HasSorts, sorts_of}
 use Rattle.model_tree.specs.Formula.{Formula, yes, formula_holds}
 use Rattle.model_program.specs.Syntax.{Name}
 use Rattle.model_grammar.specs.Syntax.{Expr, named, Item}
-use Rattle.model_grammar.specs.Syntax as syntax
-use Rattle.model_names.specs.Declared.{name_of, rules_of}
+use Rattle.model_names.specs.Declared.{name_of}
 use Rattle.model_names.specs.Kinds.{type_of}
 use Rattle.model_meaning.specs.Types.{input_of, values_of}
-use Rattle.model_meaning.specs.Languages.{guard_holds}
 use Rattle.model_meaning.specs.Meaning.{signature_named}
 use Rattle.model_meaning.specs.Reached.{Reaches}
 use Rattle.model_meaning.proofs.Named.{input_type_of_name}
 use Rattle.model_label.specs.Meaning.{is_true}
 use Rattle.model_sta.specs.Automaton.{Rule}
 use Rattle.model_sta.specs.Automaton as automata
-use Rattle.model_sta.specs.Operations.{Auto}
-use Rattle.model_run.specs.Seen.{tested, guard_truth, fields_at, IsTest, of_language, IsLabelOf}
+use Rattle.model_run.specs.Seen.{of_language, IsLabelOf}
 use Rattle.model_layers.specs.Carries.{IsTyped}
 use Rattle.model_layers.specs.Written.{IsLanguageFor, IsWrittenGuard, AreWrittenGuards, AreLanguagesReached}
 use Rattle.model_layers.proofs.Names.{names_are_carried, names_are_seen}

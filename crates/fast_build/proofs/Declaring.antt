@@ -18,7 +18,7 @@ text_is None n e = absurd (cc)
 text_is (Some m) n e = same_from_test m.text n e
 
 -- an item that is found declares its name
-item_declared : (items : List Item) (n : List ℕ) → is_some (find_item items n) ≡ true → Contains (map own_text items) n
+pub item_declared : (items : List Item) (n : List ℕ) → is_some (find_item items n) ≡ true → Contains (map own_text items) n
 item_declared [] n e = absurd (cc)
 item_declared (x ∷ xs) n e = by (declares n x) refl e (item_declared xs n)
   where

@@ -11,3 +11,17 @@ pub mod Meaning
 pub mod Rounds
 pub mod Whole
 pub mod Carried
+pub mod Closing
+pub mod Transforming
+pub mod Calling
+pub mod CallRounds
+pub mod TermParts
+pub mod OutStands
+pub mod Relating
+pub mod Paired
+pub mod TermFacts
+pub mod CalledFacts
+pub mod WholeTrans
+pub mod Gathering
+pub mod CarryingTrans
+pub mod Copying

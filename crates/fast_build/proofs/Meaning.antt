@@ -81,14 +81,14 @@ module _ (items : List Item) (laws : AreByRules items) (t : PlainSignature) (pla
     -- ---- demands
 
     -- the names that are demanded have states
-    abbrev Demanded : List Demand → Type 0
+    abbrev pub Demanded : List Demand → Type 0
     Demanded given = (d : Demand) → Contains given d → Among d.language.text
 
-    abbrev MeansAll : LabelTree → Type 0
+    abbrev pub MeansAll : LabelTree → Type 0
     MeansAll u = (n : List ℕ) → Among n → Means n u
 
     -- each child is in every language that is demanded of its variable
-    abbrev Wanted : List Demand → List ℕ → LabelTree → Type 0
+    abbrev pub Wanted : List Demand → List ℕ → LabelTree → Type 0
     Wanted given var u = (d : Demand) → Contains given d → same_text d.child.text var ≡ true → IsInLanguage items (named d.language) u
 
     wanted_more : (u : LabelTree) (d : Demand) (ds : List Demand) (var : List ℕ) → Means d.language.text u → (Wanted ds var u ↔ list_all (is_accepted automaton u) (numbers_for place ds var) ≡ true)
@@ -114,7 +114,7 @@ module _ (items : List Item) (laws : AreByRules items) (t : PlainSignature) (pla
     wanted_match u means [] there var = (λ h. refl, λ h d at is. absurd (none_of d at))
     wanted_match u means (d ∷ ds) there var = wanted_more u d ds var (means d.language.text (there d (here d ds))) (wanted_match u means ds (λ e at. there e (later_in d e ds at)) var)
 
-    abbrev Meets : Trees Label → Type 0
+    abbrev pub Meets : Trees Label → Type 0
     Meets us = (given : List Demand) → Demanded given → (vars : List Name) → AreDemanded items us vars given ↔ meet_demands automaton us (numbers_for_each place given vars) ≡ true
 
     meets_more : (u : LabelTree) (us : Trees Label) → MeansAll u → Meets us → Meets (tree u us)
@@ -132,7 +132,7 @@ module _ (items : List Item) (laws : AreByRules items) (t : PlainSignature) (pla
       head_match : (r : Rule) (p : PlainRule RowAtom) → IsRuleFor t place p r → heads t r c l ≡ ((p.constructor == c) && formula_holds (λ a. row_holds a l) p.guard)
       head_match r p is = ap₂ (λ x y. x && y) (number_named t r.ctor.text p.constructor c apart is.numbered low) (sym (guard_means t.fields r.guard p.guard l is.guard sorted))
 
-      rule_match : (r : Rule) (p : PlainRule RowAtom) → IsRuleFor t place p r → Demanded r.given
+      pub rule_match : (r : Rule) (p : PlainRule RowAtom) → IsRuleFor t place p r → Demanded r.given
           → Applies items t r (node c l us) ↔ ((p.constructor == c) && (formula_holds (λ a. row_holds a l) p.guard && meet_demands automaton us p.demands)) ≡ true
       rule_match r p is there =
           let law = laws.applies t r c l us in
@@ -190,6 +190,6 @@ module _ (items : List Item) (laws : AreByRules items) (t : PlainSignature) (pla
       pub means : (u : LabelTree) → HasType t u → MeansAll u
       means (node c l us) h = by_each (node c l us) h (by_rules c l us (subst (λ (n : ℕ). c < n) ctors_many h.0) h.2 (meets us h.3))
 
-      meets : (us : Trees Label) → EachHasType t us → Meets us
+      pub meets : (us : Trees Label) → EachHasType t us → Meets us
       meets no_trees h = λ given there vars. (λ k. refl, λ k. tt)
       meets (tree u us) h = meets_more u us (means u h.0) (meets us h.1)

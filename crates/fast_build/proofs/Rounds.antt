@@ -61,7 +61,7 @@ in_demanded (s ∷ rs) r d (zero, low, is) given =
 in_demanded (s ∷ rs) r d (suc k, low, is) given = Contains-append_right (demanded_by s.given) (demanded_in rs) d.language.text (in_demanded rs r d (k, omega (arith, low), is) given)
 
 module _ (items : List Item) (name : List ℕ) where
-  demanded_reached : (other last : List ℕ) → Reaches items name other → Contains (demanded_in (rules_of items other)) last → Reaches items name last
+  pub demanded_reached : (other last : List ℕ) → Reaches items name other → Contains (demanded_in (rules_of items other)) last → Reaches items name last
   demanded_reached other last reached at = let d = demanded_some (rules_of items other) last at in subst (Reaches items name) d.is (by_demand other d.rule d.demand reached d.among d.named)
 
   -- before the first round

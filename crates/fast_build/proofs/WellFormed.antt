@@ -27,7 +27,7 @@ same_itself : (x : List ℕ) → same_text x x ≡ true
 same_itself x = (bytes_eq-Decides x x).1 refl
 
 -- what is true of each that is contained is true of all
-all_from : {A : Type 0} (p : A → Bool) (xs : List A) → ((x : A) → Contains xs x → p x ≡ true) → list_all p xs ≡ true
+pub all_from : {A : Type 0} (p : A → Bool) (xs : List A) → ((x : A) → Contains xs x → p x ≡ true) → list_all p xs ≡ true
 all_from p [] each = refl
 all_from p (x ∷ xs) each = ap₂ (λ a b. a && b) (each x (0, omega arith, refl)) (all_from p xs (λ y at. each y (later y at)))
   where
@@ -39,19 +39,19 @@ none_mapped : (x : Name) (ns : List Name) → list_any (same_text x.text) (map (
 none_mapped x [] = refl
 none_mapped x (n ∷ ns) = ap (λ b. same_text x.text n.text || b) (none_mapped x ns)
 
-apart_texts : (ns : List Name) → are_apart (map (λ n. n.text) ns) ≡ are_distinct ns
+pub apart_texts : (ns : List Name) → are_apart (map (λ n. n.text) ns) ≡ are_distinct ns
 apart_texts [] = refl
 apart_texts (n ∷ ns) = ap₂ (λ a b. not a && b) (none_mapped n ns) (apart_texts ns)
 
-abbrev plain_ctor : CtorItem → PlainConstructor
+abbrev pub plain_ctor : CtorItem → PlainConstructor
 plain_ctor c = record { name = c.name.text; rank = rank_of c.rank }
 
-ctor_texts : (cs : List CtorItem) → map (λ (c : PlainConstructor). c.name) (map plain_ctor cs) ≡ map (λ (n : Name). n.text) (names_of_ctors cs)
+pub ctor_texts : (cs : List CtorItem) → map (λ (c : PlainConstructor). c.name) (map plain_ctor cs) ≡ map (λ (n : Name). n.text) (names_of_ctors cs)
 ctor_texts [] = refl
 ctor_texts (c ∷ cs) = ap (λ ns. c.name.text ∷ ns) (ctor_texts cs)
 
 -- the constructor that is found
-ctor_found : (cs : List CtorItem) (name : List ℕ) (c : CtorItem) → find_ctor cs name ≡ Some c → find_constructor (map plain_ctor cs) name ≡ Some (plain_ctor c)
+pub ctor_found : (cs : List CtorItem) (name : List ℕ) (c : CtorItem) → find_ctor cs name ≡ Some c → find_constructor (map plain_ctor cs) name ≡ Some (plain_ctor c)
 ctor_found [] name c e = absurd (cc)
 ctor_found (x ∷ xs) name c e = by (same_text x.name.text name) e (ctor_found xs name c)
   where
@@ -59,7 +59,7 @@ ctor_found (x ∷ xs) name c e = by (same_text x.name.text name) e (ctor_found x
     by true e later = let same : x ≡ c = cc in ap (λ y. Some (plain_ctor y)) same
     by false e later = later e
 
-rank_same : (r : ℤ) (k : ℕ) → is_rank k r ≡ true → (rank_of r == k) ≡ true
+pub rank_same : (r : ℤ) (k : ℕ) → is_rank k r ≡ true → (rank_of r == k) ≡ true
 rank_same (pos n) k e = e
 rank_same (negsuc n) k e = absurd (cc)
 

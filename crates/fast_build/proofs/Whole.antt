@@ -54,19 +54,19 @@ few_numbers names (d ∷ ds) var all = by (same_text d.child.text var) (few_numb
     by true rest = All-cons (λ s. s < length names) (number_in names d.language.text) (numbers_for (number_in names) ds var) (numbered_below names d.language.text (all 0 d.language.text (omega arith))) rest
     by false rest = rest
 
-few_numbers_each : (names : List (List ℕ)) (given : List Demand) (vars : List Name) → All (Contains names) (demanded_by given) → All (All (λ s. s < length names)) (numbers_for_each (number_in names) given vars)
+pub few_numbers_each : (names : List (List ℕ)) (given : List Demand) (vars : List Name) → All (Contains names) (demanded_by given) → All (All (λ s. s < length names)) (numbers_for_each (number_in names) given vars)
 few_numbers_each names given [] all = All-nil (All (λ s. s < length names))
 few_numbers_each names given (v ∷ vars) all = All-cons (All (λ s. s < length names)) (numbers_for (number_in names) given v.text) (numbers_for_each (number_in names) given vars) (few_numbers names given v.text all) (few_numbers_each names given vars all)
 
 -- a rule has as many variables as its constructor has children
-vars_many : (t : PlainSignature) (r : Rule) (n : ℕ) → has_rank t r ≡ true → IsNumbered t.constructors r.ctor.text n → length r.vars ≡ get_or (ranks_of t) n 0
+pub vars_many : (t : PlainSignature) (r : Rule) (n : ℕ) → has_rank t r ≡ true → IsNumbered t.constructors r.ctor.text n → length r.vars ≡ get_or (ranks_of t) n 0
 vars_many t r n ok at =
     sym (eqb-true (ctor_at t.constructors n).rank (length r.vars) (sym (ap (λ found. option_map_or (λ c. c.rank == length r.vars) found false) at.found) ∙ ok))
     ∙ sym (get_or-map (λ (c : PlainConstructor). c.rank) t.constructors n _ 0 at.below)
 
 module _ (t : PlainSignature) (names : List (List ℕ)) where
   -- the labels of the type have fields of these sorts
-  abbrev fits : RowAtom → Type 0
+  abbrev pub fits : RowAtom → Type 0
   fits = RowFits (sorts_of t)
 
   rule_fits : (items : List Item) (of : Name) (r : Rule) (p : StaRule RowAtom) → rule_stands items of t r ≡ true → All (Contains names) (demanded_by r.given) → IsRuleFor t (number_in names) (plain_rule p) r → RuleFits (ranks_of t) (length names) p
@@ -101,20 +101,20 @@ module _ (t : PlainSignature) (names : List (List ℕ)) where
       All-cons (λ those. All (RuleFits (ranks_of t) (length names)) those.items) s ss (rules_fit items l.of l.rules s.items (ok 0 l (omega arith)) (known 0 l (omega arith)) are.0)
       (states_fit items ls ss (All-tail (λ k. list_all (rule_stands items k.of t) k.rules ≡ true) l ls ok) (All-tail (λ k. All (Contains names) (demanded_in k.rules)) l ls known) are.1)
 
-  states_atoms : (ls : List (List Rule)) (states : List (List (PlainRule RowAtom))) → AreStatesFor t (number_in names) states ls → All (λ ps. All (λ p. EveryAtom fits p.guard) ps) states
+  pub states_atoms : (ls : List (List Rule)) (states : List (List (PlainRule RowAtom))) → AreStatesFor t (number_in names) states ls → All (λ ps. All (λ p. EveryAtom fits p.guard) ps) states
   states_atoms [] [] are = All-nil (λ ps. All (λ p. EveryAtom fits p.guard) ps)
   states_atoms [] (s ∷ ss) are = absurd are
   states_atoms (l ∷ ls) [] are = absurd are
   states_atoms (l ∷ ls) (s ∷ ss) are = All-cons (λ ps. All (λ p. EveryAtom fits p.guard) ps) s ss (rules_atoms l s are.0) (states_atoms ls ss are.1)
 
   -- what is so of the guards of the rules is so of their formulas
-  guards_of : (Q : Formula RowAtom → Type 0) (rs : List Rule) (ps : List (PlainRule RowAtom)) → AreRulesFor t (number_in names) ps rs → ((r : Rule) (f : Formula RowAtom) → Contains rs r → IsGuardFor t.fields r.guard f → Q f) → All (λ p. Q p.guard) ps
+  pub guards_of : (Q : Formula RowAtom → Type 0) (rs : List Rule) (ps : List (PlainRule RowAtom)) → AreRulesFor t (number_in names) ps rs → ((r : Rule) (f : Formula RowAtom) → Contains rs r → IsGuardFor t.fields r.guard f → Q f) → All (λ p. Q p.guard) ps
   guards_of Q [] [] are each = All-nil (λ p. Q p.guard)
   guards_of Q [] (p ∷ ps) are each = absurd are
   guards_of Q (r ∷ rs) [] are each = absurd are
   guards_of Q (r ∷ rs) (p ∷ ps) are each = All-cons (λ q. Q q.guard) p ps (each r p.guard (0, omega arith, refl) are.0.guard) (guards_of Q rs ps are.1 (λ s f at is. each s f (Contains-append_right (r ∷ []) rs s at) is))
 
-  state_at : (ls : List (List Rule)) (states : List (List (PlainRule RowAtom))) (k : ℕ) → AreStatesFor t (number_in names) states ls → AreRulesFor t (number_in names) (get_or states k []) (get_or ls k [])
+  pub state_at : (ls : List (List Rule)) (states : List (List (PlainRule RowAtom))) (k : ℕ) → AreStatesFor t (number_in names) states ls → AreRulesFor t (number_in names) (get_or states k []) (get_or ls k [])
   state_at [] [] k are = tt
   state_at [] (s ∷ ss) k are = absurd are
   state_at (l ∷ ls) [] k are = absurd are

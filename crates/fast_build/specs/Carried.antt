@@ -1,7 +1,5 @@
 -- What the automaton of a name shows of the name.
 use Rattle.std.specs.Prelude.{ℕ, List}
-use Rattle.model_tree.specs.Label.{Label}
-use Rattle.model_sta.specs.Operations.{Auto}
 use Rattle.model_grammar.specs.Syntax.{named, Item}
 use Rattle.model_program.specs.Syntax.{Name}
 use Rattle.sta_core.specs.Machine.{Machine}

@@ -1,7 +1,13 @@
 pub mod Items
+pub mod Transformations
 pub mod Numbers
 pub mod Reached
+pub mod Called
 pub mod Stands
 pub mod Rules
+pub mod Terms
+pub mod OutRules
 pub mod Automaton
+pub mod Transducer
 pub mod Carried
+pub mod CarriedTrans

@@ -28,7 +28,8 @@ use record_label::RowAtom;
 use sta_core::{Lang, Sta, StaRule};
 use std::alloc::Global;
 
-fn ranks_of(alloc: Global, constructors: &[CtorOf]) -> Result<Vec<u32>, Memory>
+/// How many children each of the constructors has.
+pub fn ranks_of(alloc: Global, constructors: &[CtorOf]) -> Result<Vec<u32>, Memory>
     ensures { IfOk result (λ ranks. ranks.items ≡ map (λ c. c.rank) constructors.now) }
 {
     let mut ranks = Vec::new(alloc);
@@ -39,7 +40,7 @@ fn ranks_of(alloc: Global, constructors: &[CtorOf]) -> Result<Vec<u32>, Memory>
 }
 
 /// The rules of each state, for the languages that are reached.
-fn states_for(
+pub fn states_for(
     alloc: Global,
     signature: &Signature,
     reached: &Reached,

@@ -24,7 +24,7 @@ pub struct Reached<'p> {
 }
 
 /// Adds the name, unless it is there.
-fn add_name(alloc: Global, name: &Text, names: &mut IndexSet<Text>) -> Result<(), Memory>
+pub fn add_name(alloc: Global, name: &Text, names: &mut IndexSet<Text>) -> Result<(), Memory>
     ensures { OnOk result (IsGrown names.old.keys names.new.keys (name.now ∷ [])) }
 {
     if !names.contains(name) {
@@ -34,7 +34,11 @@ fn add_name(alloc: Global, name: &Text, names: &mut IndexSet<Text>) -> Result<()
 }
 
 /// Adds the languages that are demanded.
-fn add_demanded(alloc: Global, given: &[Demand], names: &mut IndexSet<Text>) -> Result<(), Memory>
+pub fn add_demanded(
+    alloc: Global,
+    given: &[Demand],
+    names: &mut IndexSet<Text>,
+) -> Result<(), Memory>
     ensures { OnOk result (IsGrown names.old.keys names.new.keys (demanded_by (map plain_demand given.now))) }
 {
     'given: for demand in given {
@@ -44,7 +48,11 @@ fn add_demanded(alloc: Global, given: &[Demand], names: &mut IndexSet<Text>) -> 
 }
 
 /// Adds the languages that the rules demand.
-fn add_languages(alloc: Global, rules: &[Rule], names: &mut IndexSet<Text>) -> Result<(), Memory>
+pub fn add_languages(
+    alloc: Global,
+    rules: &[Rule],
+    names: &mut IndexSet<Text>,
+) -> Result<(), Memory>
     ensures { OnOk result (IsGrown names.old.keys names.new.keys (demanded_in (map plain_rule rules.now))) }
 {
     'rules: for rule in rules {

@@ -35,7 +35,7 @@ fn guard_for(alloc: Global, signature: &Signature, rule: &Rule) -> Result<Formul
 }
 
 /// The rule of the automaton for a rule.
-fn rule_for(
+pub fn rule_for(
     alloc: Global,
     signature: &Signature,
     names: &IndexSet<Text>,

@@ -5,7 +5,7 @@ use Rattle.model_tree.specs.Signature.{Sort, HasSorts, HasType, ranks_of, sorts_
 use Rattle.fast_tree.specs.Entries.{label_meaning}
 use Rattle.fast_tree.specs.declared.label.Label.{Label}
 use Rattle.model_grammar.specs.Syntax.{X, Claim, equal, empty, Item}
-use Rattle.model_meaning.specs.Meaning.{IsInLanguage, signature_named}
+use Rattle.model_meaning.specs.Meaning.{signature_named}
 use Rattle.model_meaning.specs.Truth.{ExactlyOne, IsAmong, IsTrue, Shows}
 use Rattle.model_sta.specs.Automaton.{is_accepted}
 use Rattle.model_sta.specs.Sets.{Fits}

@@ -1,5 +1,5 @@
 -- What stops the evaluation of an operand stops that of the whole, and of a statement.
-use Rattle.std.proofs.Common.{◌≡◌, ◌||◌, inl, inr, ℕ, Bool, true, false, List, [], ◌∷◌, Some, Contains, refl, sym, ap, subst, ◌∙◌}
+use Rattle.std.proofs.Common.{◌≡◌, ◌||◌, ℕ, Bool, true, false, List, [], ◌∷◌, Some, Contains, refl, sym, subst}
 use Rattle.fast_fault.specs.declared.place.Pos.{Pos}
 use Rattle.model_grammar.specs.declared.Op1.{Op1}
 use Rattle.model_grammar.specs.declared.Op1.TheVariants.{Complement, Minimize, Domain, GetWitness}
@@ -8,13 +8,12 @@ use Rattle.model_grammar.specs.declared.Op2.TheVariants.{Intersect, Union, Diffe
 use Rattle.model_grammar.specs.Syntax.{X, named, one, two, literal, empty, Item}
 use Rattle.model_names.specs.Kinds.{language, kind_of}
 use Rattle.model_run.specs.Built.{is_built_one, is_built_two}
-use Rattle.model_run.specs.Parts.{operands, IsOn, HasMoreTrees}
+use Rattle.model_run.specs.Parts.{operands, IsOn}
 use Rattle.model_run.specs.Items.{has_classes, judged_empty, judged_claim}
-use Rattle.model_run.specs.Causes.{IsTooWide}
 use Rattle.model_layers.specs.Causes.{IsAmong}
 use Rattle.model_layers.proofs.Chosen.{first_of, second_of}
 use Rattle.model_layers.proofs.Sight.{the_only}
-use Rattle.model_layers.proofs.Types.{union_on, intersection_on, difference_on, complement_on}
+use Rattle.model_layers.proofs.Types.{union_on, intersection_on, difference_on, complement_on, minimize_on}
 use Rattle.model_layers.proofs.Wider.{are_among, are_widened}
 use Rattle.lin_solve.specs.declared.chain.Chain.{Chain}
 use Rattle.lin_solve.specs.Shown.{bits_of}
@@ -27,7 +26,7 @@ use Rattle.fast_eval.specs.Stops.{IsStopOf, StopsExpression}
 pub made_on : (items : List Item) (type : List ℕ) (x : X) → IsMadeOn items type x → IsOn items x type
 made_on items type (named n) made = made
 made_on items type (one Complement place x) made = complement_on items place x x type (made_on items type x made.1)
-made_on items type (one Minimize place x) made = let no : false ≡ true = made.0 in absurd (cc)
+made_on items type (one Minimize place x) made = minimize_on items place x x type (made_on items type x made.1)
 made_on items type (one Domain place x) made = let no : false ≡ true = made.0 in absurd (cc)
 made_on items type (one GetWitness place x) made = let no : false ≡ true = made.0 in absurd (cc)
 made_on items type (literal name labels xs) made = absurd made

@@ -6,7 +6,9 @@ pub mod Operations
 pub mod NamesBuilt
 pub mod Stopped
 pub mod Answered
+pub mod Places
 pub mod Keeping
+pub mod Labels
 pub mod Claims
 pub mod Ready
 pub mod Typing
@@ -18,3 +20,5 @@ pub mod Scoped
 pub mod Stepping
 pub mod Defined
 pub mod Witnessed
+pub mod TransBuilt
+pub mod Applying

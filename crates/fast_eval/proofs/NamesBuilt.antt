@@ -1,5 +1,5 @@
 -- What is built for a name by its rules, or by the expression of its definition.
-use Rattle.std.proofs.Common.{◌≡◌, ℕ, Bool, true, List, [], ◌∷◌, Option, Some, None, map, get_or, All, Contains, refl, sym, ap, subst, ◌∙◌, arith}
+use Rattle.std.proofs.Common.{◌≡◌, ℕ, true, List, [], ◌∷◌, Option, Some, None, map, get_or, All, Contains, refl, sym, ap, subst, ◌∙◌, arith}
 use Rattle.std.specs.Option.{option_map}
 use Rattle.std.proofs.lemmas.List.Elements.{All-nil, All-cons, All-head, All-tail, All-append, All-map}
 use Rattle.model_tree.specs.Formula.{Formula}
@@ -27,7 +27,6 @@ use Rattle.label_core.specs.Pair.{lefts}
 use Rattle.label_core.specs.declared.pair.PairAtom.{PairAtom}
 use Rattle.label_core.specs.declared.pair.PairAtom.TheVariants.{Left, Right}
 use Rattle.label_split.proofs.SameAtoms.{all_atoms}
-use Rattle.lin_solve.specs.declared.compare.Compare.{Compare}
 use Rattle.lin_solve.specs.Plain.{plain_compare}
 use Rattle.sta_core.specs.Machine.{PlainRule}
 use Rattle.sta_core.specs.Sta.{automaton_of, AtomsFit}

@@ -1,8 +1,8 @@
 -- What operations promise over the trees of one type is so over fewer trees.
-use Rattle.std.proofs.Common.{◌≡◌, ◌⊎◌, ◌<◌, inl, inr, ℕ, List}
+use Rattle.std.proofs.Common.{◌⊎◌, inl, inr, List}
 use Rattle.model_tree.specs.Tree.{Tree}
 use Rattle.model_sta.specs.Automaton.{Rule}
-use Rattle.model_sta.specs.Operations.{Auto, Has, InOne, Alike, OfState, OfClasses, IsMadeOf, OfBoth, OfBothOrClasses, IsUnion, IsIntersection, IsDifference, IsComplement}
+use Rattle.model_sta.specs.Operations.{Auto, Has, InOne, Alike, OfState, OfClasses, IsMadeOf, OfBoth, OfBothOrClasses, IsUnion, IsIntersection, IsDifference, IsComplement, IsMinimal}
 
 module _ {L : Type 0} (Typed Fewer : Tree L → Type 0) (within : (t : Tree L) → Fewer t → Typed t) where
   alike : (P Q : Tree L → Type 0) → Alike Typed P Q → Alike Fewer P Q
@@ -38,6 +38,9 @@ module _ {L : Type 0} (Typed Fewer : Tree L → Type 0) (within : (t : Tree L) �
 
   pub difference : (a b c : Auto L) → IsDifference Typed a b c → IsDifference Fewer a b c
   difference a b c = made (OfBothOrClasses Typed a b) (OfBothOrClasses Fewer a b) c (λ t. Has a.rules a.start t × ¬ (Has b.rules b.start t)) (or_classes a b)
+
+  pub minimal : (a c : Auto L) → IsMinimal Typed a c → IsMinimal Fewer a c
+  minimal a c = made (OfBothOrClasses Typed a a) (OfBothOrClasses Fewer a a) c (Has a.rules a.start) (or_classes a a)
 
   pub complement : (a c : Auto L) → IsComplement Typed a c → IsComplement Fewer a c
   complement a c = made (OfBothOrClasses Typed a a) (OfBothOrClasses Fewer a a) c (λ t. ¬ (Has a.rules a.start t)) (or_classes a a)

@@ -1,21 +1,21 @@
 -- What an item gives, and the causes for which it stops, by what is found of its expressions.
-use Rattle.std.proofs.Common.{◌≡◌, ◌⊎◌, inl, inr, ◌&&◌, ◌||◌, ℕ, Bool, true, false, List, [], ◌∷◌, Contains, refl}
-use Rattle.std.specs.Prelude.{not, is_some}
+use Rattle.std.proofs.Common.{◌≡◌, inl, inr, ◌&&◌, ◌||◌, ℕ, Bool, true, false, List, Contains, refl, Option, Some, None, ap}
+use Rattle.std.specs.Prelude.{is_some}
 use Rattle.fast_fault.specs.declared.place.Pos.{Pos}
-use Rattle.model_tree.specs.Tree.{LabelTree}
 use Rattle.model_grammar.specs.declared.Op1.TheVariants.{Complement, Minimize, Domain, GetWitness}
 use Rattle.model_grammar.specs.declared.Op2.{Op2}
 use Rattle.model_grammar.specs.declared.Op2.TheVariants.{Intersect, Union, Difference, PreImage, Compose, Restrict, RestrictOut, Apply}
-use Rattle.model_grammar.specs.Syntax.{X, named, one, two, literal, Claim, DefItem, AssertItem, Body, def, assertion, Item}
+use Rattle.model_grammar.specs.Syntax.{X, named, one, two, literal, DefItem, AssertItem, Body, def, assertion, Item}
 use Rattle.model_meaning.specs.Values.{Printed}
 use Rattle.model_meaning.specs.Truth.{Shows}
 use Rattle.model_run.specs.Built.{is_built_language, is_built_one, is_built_two}
-use Rattle.model_run.specs.Items.{expressions_in, has_classes, claim_has_classes, tells_apart, judged_claim, by_expressions, IsComposedIn, in_expression, IsComposable}
+use Rattle.model_run.specs.Items.{expressions_in, has_classes, claim_has_classes, judged_claim, by_expressions, IsComposedIn, in_expression, IsComposable}
 use Rattle.model_run.specs.Causes.{AreAllLarge, HasCause, too_large}
-use Rattle.model_run.specs.Outcomes.{silent, IsDefLine}
+use Rattle.model_run.specs.Outcomes.{IsDefLine}
 use Rattle.lin_solve.specs.declared.chain.Chain.{Chain}
 use Rattle.sta_classes.specs.declared.stop.ClassStop.{ClassStop}
 use Rattle.sta_classes.specs.declared.stop.ClassStop.TheVariants.{Classes, Wide, Memory}
+use Rattle.fast_eval.specs.Counted.{IsCounted, outcome_of}
 use Rattle.fast_eval.specs.Stops.{IsStopOf, StopsExpression, IsCauseFor}
 
 -- ---- nothing is composed in what can be evaluated
@@ -50,15 +50,16 @@ module _ (x y : X) where
 pub forms_compose : (items : List Item) (body : Body) → ((e : X) → Contains (expressions_in body) e → is_built_language e ≡ true) → IsComposable items body
 forms_compose items body each x y (in_expression _ e at is) = absurd (none_composed x y e (each e at) is)
 
--- a definition of a language by such an expression has no line
-pub def_silent : (items : List Item) (trees : List Printed) (d : DefItem) (x : X) → is_built_language x ≡ true → IsDefLine items trees d x silent
-def_silent items trees d (named n) form = refl
-def_silent items trees d (one Complement place x) form = refl
-def_silent items trees d (one Minimize place x) form = absurd (cc)
-def_silent items trees d (one Domain place x) form = refl
-def_silent items trees d (one GetWitness place x) form = refl
-def_silent items trees d (two op place x y) form = refl
-def_silent items trees d (literal name labels xs) form = absurd (cc)
+-- the outcome of a definition of a language by such an expression, by the count that it asks for
+pub def_outcome : (items : List Item) (trees : List Printed) (d : DefItem) (x : X) → is_built_language x ≡ true → (count : Option ℕ) → IsCounted items x count → IsDefLine items trees d x (outcome_of d.name.text count)
+def_outcome items trees d (named n) form count is = ap (outcome_of d.name.text) is
+def_outcome items trees d (one Complement place x) form count is = ap (outcome_of d.name.text) is
+def_outcome items trees d (one Minimize place x) form None is = absurd is
+def_outcome items trees d (one Minimize place x) form (Some n) is = (refl, is)
+def_outcome items trees d (one Domain place x) form count is = ap (outcome_of d.name.text) is
+def_outcome items trees d (one GetWitness place x) form count is = ap (outcome_of d.name.text) is
+def_outcome items trees d (two op place x y) form count is = ap (outcome_of d.name.text) is
+def_outcome items trees d (literal name labels xs) form count is = absurd (cc)
 
 -- ---- causes
 

@@ -6,12 +6,13 @@ use Rattle.model_grammar.specs.Syntax.{X, Item}
 use Rattle.model_meaning.specs.Meaning.{signature_named}
 use Rattle.sta_core.specs.Sta.{AtomsFit, rule_meaning}
 use Rattle.sta_core.specs.declared.Lang.{Lang}
+use Rattle.sta_min.specs.declared.least.Minimal.{Minimal}
 use Rattle.record_label.specs.Rows.{RowAtom, row_holds, RowFits}
 use Rattle.fast_eval.specs.Built.{IsBuiltOf}
 use Rattle.fast_eval.specs.Scopes.{lang_of, IsOperandOf}
 use Rattle.fast_eval.specs.declared.built.Built.{Built}
 use Rattle.fast_eval.specs.declared.evaluation.Operand.{Operand}
-use Rattle.fast_eval.specs.declared.evaluation.Operand.TheVariants.{Made}
+use Rattle.fast_eval.specs.declared.evaluation.Operand.TheVariants.{Made, Least}
 
 module _ (items : List Item) (type : List ℕ) (x : X) (a : Lang RowAtom) (built : IsBuiltOf items x type a) where
   -- its start is a state
@@ -33,3 +34,6 @@ operand_built items e type b o l is same = subst (IsBuiltOf items e type) (sym s
 -- and one that was made is an operand
 pub made_operand : (items : List Item) (e : X) (type : List ℕ) (b : Built) (l : Lang RowAtom) → IsBuiltOf items e type l → IsOperandOf items e type b (Made l)
 made_operand items e type b l built = record { low = tt; built = λ d. built }
+
+pub least_operand : (items : List Item) (e : X) (type : List ℕ) (b : Built) (m : Minimal RowAtom) → IsBuiltOf items e type m.lang → IsOperandOf items e type b (Least m)
+least_operand items e type b m built = record { low = tt; built = λ d. built }

@@ -1,5 +1,5 @@
 -- What is so in the scope of an expression is so of the program and of what was built for its names.
-use Rattle.std.proofs.Common.{◌≡◌, ◌↔◌, ℕ, Bool, true, List, [], ◌∷◌, sym, ap, subst}
+use Rattle.std.proofs.Common.{◌≡◌, ◌↔◌, ℕ, Bool, true, List, [], ◌∷◌, Option, sym, ap, subst}
 use Rattle.model_tree.specs.Tree.{LabelTree}
 use Rattle.model_tree.specs.Signature.{HasType}
 use Rattle.fast_tree.specs.declared.label.Label.{Label}
@@ -14,6 +14,7 @@ use Rattle.fast_build.specs.Items.{items_of}
 use Rattle.fast_eval.specs.declared.built.Built.{Built}
 use Rattle.fast_eval.specs.declared.evaluation.Scope.{Scope}
 use Rattle.fast_eval.specs.declared.evaluation.Operand.{Operand}
+use Rattle.fast_eval.specs.Counted.{IsCounted}
 use Rattle.fast_eval.specs.Forms.{AreNamed, IsMadeOn}
 use Rattle.fast_eval.specs.Found.{IsFoundOf}
 use Rattle.fast_eval.specs.Scopes.{items_in, type_in, IsScopeOf, IsOperandOf}
@@ -37,6 +38,9 @@ module _ (checked : Checked) (b : Built) (limit : ℕ) (x : X) (s : Scope) (is :
   -- and back
   pub operand_back : (type : List ℕ) → IsMadeOn items type x → (o : Operand) → IsOperandOf (items_in s) x (type_in s) s.built.now o → IsOperandOf items x type b o
   operand_back type made o h = subst (λ t. IsOperandOf items x t b o) (is.on type made) (subst (λ k. IsOperandOf items x (type_in s) k o) is.table (subst (λ its. IsOperandOf its x (type_in s) s.built.now o) items_are h))
+
+  pub counted_back : (count : Option ℕ) → IsCounted (items_in s) x count → IsCounted items x count
+  counted_back count h = subst (λ its. IsCounted its x count) items_are h
 
   pub stop_back : (st : ClassStop Chain) → StopsExpression (items_in s) x s.limit st → StopsExpression items x limit st
   stop_back st h = subst (λ n. StopsExpression items x n st) is.most (subst (λ its. StopsExpression its x s.limit st) items_are h)

@@ -1,11 +1,11 @@
 -- What stops the search for classes of automata shows of the expressions that they were built for.
-use Rattle.std.proofs.Common.{◌≡◌, ℕ, inl, inr, zero, suc, Bool, true, List, [], ◌∷◌, ◌++◌, Some, map, All, Contains, refl, sym, ap, ap₂, subst, ◌∙◌, arith}
+use Rattle.std.proofs.Common.{◌≡◌, ℕ, inl, inr, suc, List, [], ◌∷◌, ◌++◌, Some, map, All, Contains, refl, sym, ap₂, subst, arith}
 use Rattle.std.proofs.lemmas.List.Elements.{All-map, All-weaker}
 use Rattle.model_tree.specs.Label.{Label}
 use Rattle.model_tree.specs.Kept.{is_kept_label}
 use Rattle.model_tree.specs.Tree.{LabelTree}
 use Rattle.model_tree.specs.Formula.{Formula, formula_holds}
-use Rattle.model_tree.specs.Signature.{Sort, HasSorts, ranks_of, sorts_of}
+use Rattle.model_tree.specs.Signature.{Sort, HasSorts, sorts_of}
 use Rattle.model_grammar.specs.Syntax.{X, Item}
 use Rattle.model_meaning.specs.Meaning.{signature_named}
 use Rattle.model_sta.specs.Automaton.{Rule, rules_of}
@@ -17,7 +17,6 @@ use Rattle.model_chain.specs.Chains as chains
 use Rattle.model_chain.specs.Chains.{Passes, IsFar}
 use Rattle.model_chain.specs.Literals as plain
 use Rattle.model_chain.specs.Literals.{Literal}
-use Rattle.model_run.specs.Seen.{IsLabelOf}
 use Rattle.model_layers.specs.Carries.{IsTyped}
 use Rattle.model_layers.specs.Compared.{IsOneOf, IsWideOver}
 use Rattle.model_layers.proofs.Told.{trees_go_up}
@@ -33,12 +32,12 @@ use Rattle.lin_solve.specs.declared.compare.Compare.{Compare}
 use Rattle.lin_solve.specs.Plain.{plain_compare, plain_literal, plain_literals}
 use Rattle.lin_solve.specs.Shown.{bits_of, plain_chain, PassesWidth}
 use Rattle.lin_solve.proofs.Once.{plain_different}
-use Rattle.sta_core.specs.Machine.{Machine, PlainRule}
+use Rattle.sta_core.specs.Machine.{PlainRule}
 use Rattle.sta_core.specs.Sta.{automaton_of, rule_meaning}
 use Rattle.sta_core.specs.declared.Lang.{Lang}
 use Rattle.sta_core.proofs.Meaning.{All_from_map}
 use Rattle.sta_classes.specs.Guards.{all_guards, atoms_of_all, truths}
-use Rattle.sta_classes.specs.Meant.{HasMoreClasses, StopsClasses}
+use Rattle.sta_classes.specs.Meant.{StopsClasses}
 use Rattle.sta_classes.specs.declared.stop.ClassStop.{ClassStop}
 use Rattle.sta_classes.specs.declared.stop.ClassStop.TheVariants.{Classes, Wide, Memory}
 use Rattle.sta_ops.specs.Empty.{StopsEither}

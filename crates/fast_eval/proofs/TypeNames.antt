@@ -1,20 +1,22 @@
 -- The names of the types of expressions.
-use Rattle.std.proofs.Common.{◌≡◌, ◌≤◌, ℕ, true, false, List, Option, Some, None, length, refl, sym, ap, subst, ◌∙◌, arith}
+use Rattle.std.proofs.Common.{◌≡◌, ◌≤◌, ℕ, List, Option, Some, None, length, refl, sym, ap, ap₂, subst, ◌∙◌}
 use Rattle.std.specs.Option.{option_map, option_map_or, option_and_then}
 use Rattle.std.proofs.lemmas.List.{length-map}
-use Rattle.model_tree.specs.Signature.{PlainSignature}
+use Rattle.indexmap.specs.IndexMap.{IndexMap}
+use Rattle.model_tree.specs.Signature.{Sort, PlainSignature, sorts_of}
 use Rattle.model_program.specs.Syntax.{Name, TypeItem}
 use Rattle.model_grammar.specs.Syntax.{X, named, one, two, literal, Body, sorts, tree, lang, trans, def, assertion, Item}
 use Rattle.model_names.specs.Declared.{same_text, types_of, find_type, find_item}
-use Rattle.model_names.specs.Kinds.{language, transformation, a_tree, defined_kind, declared_type, own_kind, own_type, type_of}
+use Rattle.model_names.specs.Kinds.{language, transformation, defined_kind, declared_type, own_kind, own_type, own_output}
 use Rattle.model_meaning.specs.Types.{signature_of, no_signature}
 use Rattle.model_meaning.specs.Meaning.{signature_named}
 use Rattle.model_checks.specs.Sound.{IsSound}
 use Rattle.model_checks.proofs.Soundness.{same_from_test, found_passes}
 use Rattle.model_checks.proofs.SoundWhole.{finds}
-use Rattle.model_run.specs.Parts.{IsOn}
+use Rattle.model_run.specs.Parts.{IsOn, IsFrom}
 use Rattle.program_check.specs.Tells.{Told, stands_for}
-use Rattle.fast_eval.specs.Forms.{IsMadeOn}
+use Rattle.fast_eval.specs.Forms.{IsMadeOn, IsMadeFrom}
+use Rattle.fast_eval.specs.Table.{labels_of, AreLabels}
 
 -- a type that is declared has the name that is looked up
 pub record IsDeclared (items : List Item) (type : List ℕ) : Type 0 where
@@ -72,7 +74,55 @@ module _ (items : List Item) (type : List ℕ) where
       let sound = whole.types item d.item at is in
       rw length-map sound.few_fields
 
--- the signature that a checked program tells of the type of an expression
+-- what the name of a transformation stands for
+module _ (items : List Item) (from into : List ℕ) where
+  pub record AreDeclared (told : Option Told) : Type 0 where
+    pub stands : told ≡ Some (transformation, (from, Some into))
+    pub input : IsDeclared items from
+    pub output : IsDeclared items into
+
+  both_declared : (n m : Name) → declared_type items n ≡ Some from → declared_type items m ≡ Some into → AreDeclared (Some (transformation, (n.text, Some m.text)))
+  both_declared n m on out =
+      let d = declared items n from on in
+      let e = declared items m into out in
+      record { stands = ap₂ (λ s t. Some (transformation, (s, Some t))) (sym d.0) (sym e.0); input = d.1; output = e.1 }
+
+  trans_by_body : (body : Body) → own_kind body ≡ Some transformation → option_and_then (declared_type items) (own_type body) ≡ Some from → option_and_then (declared_type items) (own_output body) ≡ Some into → AreDeclared (stands_for body)
+  trans_by_body (sorts t) kind on out = absurd (cc)
+  trans_by_body (tree t) kind on out = absurd (cc)
+  trans_by_body (lang l) kind on out = absurd (cc)
+  trans_by_body (trans t) kind on out = both_declared t.from t.into on out
+  trans_by_body (def d) kind on out = by d.into kind out
+    where
+      by : (o : Option Name) → Some (defined_kind o) ≡ Some transformation → option_and_then (declared_type items) o ≡ Some into → AreDeclared (Some (defined_kind o, (d.from.text, option_map (λ n. n.text) o)))
+      by None is out = absurd (cc)
+      by (Some n) is out = both_declared d.from n on out
+  trans_by_body (assertion a) kind on out = absurd (cc)
+
+  trans_by_item : (found : Option Item) → option_and_then (λ item. own_kind item.body) found ≡ Some transformation → option_and_then (declared_type items) (option_and_then (λ item. own_type item.body) found) ≡ Some from
+      → option_and_then (declared_type items) (option_and_then (λ item. own_output item.body) found) ≡ Some into → AreDeclared (option_and_then (λ item. stands_for item.body) found)
+  trans_by_item None kind on out = absurd (cc)
+  trans_by_item (Some item) kind on out = trans_by_body item.body kind on out
+
+  pub trans_stands : (n : Name) → IsFrom items (named n) from into → AreDeclared (option_and_then (λ item. stands_for item.body) (find_item items n.text))
+  trans_stands n on = trans_by_item (find_item items n.text) on.0 on.1 on.2
+
+  -- the types of an expression are declared
+  pub types_there : (x : X) → IsMadeFrom items from into x → IsDeclared items from × IsDeclared items into
+  types_there (named n) made = let d = trans_stands n made in (d.input, d.output)
+  types_there (one op place x) made = absurd made
+  types_there (two op place x y) made = absurd made
+  types_there (literal name labels xs) made = absurd made
+
+-- a type that is told of has few fields
+pub few_of : (items : List Item) (of : List ℕ) → IsSound items → (s : PlainSignature) → Some s ≡ option_map signature_of (find_type items of) → length s.fields ≤ 8
+few_of items of whole s e = by (find_type items of) refl e
+  where
+    by : (o : Option TypeItem) → find_type items of ≡ o → Some s ≡ option_map signature_of o → length s.fields ≤ 8
+    by None found is = absurd (cc)
+    by (Some t) found is = let same : s ≡ signature_of t = cc in subst (λ (k : PlainSignature). length k.fields ≤ 8) (sym same) (few_fields items of whole (record { item = t; found = found }))
+
+-- what is so of the type of an expression
 module _ (items : List Item) (x : X) (of : List ℕ) (is : (type : List ℕ) → IsMadeOn items type x → Some of ≡ Some type) (made : (type : List ℕ) × IsMadeOn items type x) where
   same_of : (s t : List ℕ) → Some s ≡ Some t → s ≡ t
   same_of s t e = cc
@@ -83,14 +133,15 @@ module _ (items : List Item) (x : X) (of : List ℕ) (is : (type : List ℕ) →
   pub of_is : (type : List ℕ) → IsMadeOn items type x → of ≡ type
   of_is type also = same_of of type (is type also)
 
-  pub told_signature : option_map signature_of (find_type items of) ≡ Some (signature_of (type_there items of x made_on_of).item)
-  told_signature = ap (option_map signature_of) (type_there items of x made_on_of).found
+  pub told_labels : {S : Type 0} (labels : IndexMap (List ℕ) (List Sort) S) → AreLabels items labels → labels_of labels of ≡ Some (sorts_of (signature_named items (Some of)))
+  told_labels labels are = let d = type_there items of x made_on_of in are of d.item d.found ∙ ap (λ s. Some (sorts_of s)) (sym (signature_there items of d))
 
-  pub signature_is : (s : PlainSignature) → Some s ≡ option_map signature_of (find_type items of) → s ≡ signature_named items (Some of)
-  signature_is s e = let same : s ≡ signature_of (type_there items of x made_on_of).item = same_signature s (signature_of (type_there items of x made_on_of).item) (e ∙ told_signature) in same ∙ sym (signature_there items of (type_there items of x made_on_of))
-    where
-      same_signature : (s t : PlainSignature) → Some s ≡ Some t → s ≡ t
-      same_signature s t e = cc
+-- what is told of a name by its types
+pub input_told : (t u : Told) → Some t ≡ Some u → t.1.0 ≡ u.1.0
+input_told t u e = let same : t ≡ u = cc in ap (λ (k : Told). k.1.0) same
 
-  pub few_of : IsSound items → (s : PlainSignature) → Some s ≡ option_map signature_of (find_type items of) → length s.fields ≤ 8
-  few_of whole s e = subst (λ (k : PlainSignature). length k.fields ≤ 8) (sym (signature_is s e)) (subst (λ (k : PlainSignature). length k.fields ≤ 8) (sym (signature_there items of (type_there items of x made_on_of))) (few_fields items of whole (type_there items of x made_on_of)))
+pub output_told : (t u : Told) (b into : List ℕ) → Some t ≡ Some u → t.1.1 ≡ Some b → u.1.1 ≡ Some into → b ≡ into
+output_told t u b into e first second =
+    let same : t ≡ u = cc in
+    let outputs : Some b ≡ Some into = sym first ∙ (ap (λ (k : Told). k.1.1) same ∙ second) in
+    cc

@@ -1,9 +1,6 @@
 -- The operands of an expression of a well-formed program are languages on its type, and its names are known.
-use Rattle.std.proofs.Common.{◌≡◌, ◌⊎◌, inl, inr, ℕ, suc, Bool, true, false, not, ◌&&◌, List, [], ◌∷◌, ◌++◌, Option, Some, None, refl, sym, ap, subst, ◌∙◌}
-use Rattle.std.specs.Prelude.{is_some}
-use Rattle.std.specs.Option.{option_and_then}
+use Rattle.std.proofs.Common.{◌≡◌, ℕ, suc, Bool, true, false, ◌&&◌, List, ◌++◌, Option, Some, None, refl, sym, subst, ◌∙◌}
 use Rattle.fast_fault.specs.declared.place.Pos.{Pos}
-use Rattle.model_program.specs.Syntax.{Name}
 use Rattle.model_grammar.specs.declared.Op1.{Op1}
 use Rattle.model_grammar.specs.declared.Op1.TheVariants.{Complement, Minimize, Domain, GetWitness}
 use Rattle.model_grammar.specs.declared.Op2.{Op2}
@@ -89,13 +86,18 @@ module _ (items : List Item) (whole : IsSound items) where
       let inner = empty_second (nesting_failures around place) (fx ++ bx) e in
       let fine = empty_first fx bx inner in
       record { fine = fine; kind = (kind_needed items before language None x (kinded items whole before (suc around) None x fine) (empty_second fx bx inner)).0 }
-  only before around expected Minimize place x is e = absurd (cc)
+  only before around expected Minimize place x is e =
+      let fx = x_failures items before (suc around) None x in
+      let bx = needs_be items before None language x in
+      let inner = empty_second (nesting_failures around place) (fx ++ bx) e in
+      let fine = empty_first fx bx inner in
+      record { fine = fine; kind = (kind_needed items before language None x (kinded items whole before (suc around) None x fine) (empty_second fx bx inner)).0 }
   only before around expected Domain place x is e = absurd (cc)
   only before around expected GetWitness place x is e = absurd (cc)
 
   only_type : (op : Op1) (place : Pos) (x : X) (type : List ℕ) → is_built_one op ≡ true → kind_of items x ≡ Some language → type_of items (one op place x) ≡ Some type → type_of items x ≡ Some type
   only_type Complement place x type is kind e = sym (through language (kind_of items x) (type_of items x) kind) ∙ e
-  only_type Minimize place x type is kind e = absurd (cc)
+  only_type Minimize place x type is kind e = sym (through language (kind_of items x) (type_of items x) kind) ∙ e
   only_type Domain place x type is kind e = absurd (cc)
   only_type GetWitness place x type is kind e = absurd (cc)
 

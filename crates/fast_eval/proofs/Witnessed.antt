@@ -1,25 +1,21 @@
 -- What is answered of trees of an automaton says of the trees of its expression.
-use Rattle.std.proofs.Common.{◌≡◌, ◌↔◌, ◌≤◌, ℕ, Bool, true, false, ◌&&◌, List, [], ◌∷◌, Some, refl, sym, ap, subst, ◌∙◌, arith}
-use Rattle.model_tree.specs.Label as model
+use Rattle.std.proofs.Common.{◌≡◌, ◌↔◌, ◌≤◌, ℕ, Bool, true, false, ◌&&◌, List, Some, refl, sym, subst, ◌∙◌, arith}
 use Rattle.model_tree.specs.Tree.{LabelTree, Tree, node, Trees, no_trees, tree, relabel, relabel_all, EveryLabel, EveryLabelOfAll}
-use Rattle.model_tree.specs.Signature.{Sort, HasSorts, HasType, EachHasType, PlainSignature, ranks_of, sorts_of}
+use Rattle.model_tree.specs.Signature.{Sort, HasSorts, HasType, EachHasType, PlainSignature, sorts_of}
 use Rattle.model_tree.specs.Kept.{is_kept, are_kept, is_kept_label}
 use Rattle.fast_tree.specs.Entries.{label_meaning}
 use Rattle.fast_tree.specs.declared.label.Label.{Label}
 use Rattle.model_grammar.specs.Syntax.{X, Item}
 use Rattle.model_meaning.specs.Meaning.{IsInLanguage, IsTreeOf, input_type, signature_named}
-use Rattle.model_sta.specs.Automaton.{is_accepted}
 use Rattle.model_sta.specs.Sets.{Fits}
 use Rattle.model_layers.specs.Carries.{IsTyped}
-use Rattle.lin_solve.specs.declared.chain.Chain.{Chain}
-use Rattle.sta_core.specs.Sta.{automaton_of}
 use Rattle.sta_core.specs.declared.Lang.{Lang}
 use Rattle.sta_ops.specs.Asked.{IsAskedTree}
 use Rattle.sta_ops.specs.Empty.{IsEmptyAnswer}
 use Rattle.sta_ops.specs.declared.emptiness.Found.{Found}
 use Rattle.sta_ops.specs.declared.emptiness.Found.TheVariants.{Absent, Shown, TooBig}
 use Rattle.record_label.specs.Meaning.{row_meaning}
-use Rattle.record_label.specs.Rows.{RowAtom, row_holds, KeepsSorts}
+use Rattle.record_label.specs.Rows.{RowAtom, KeepsSorts}
 use Rattle.label_core.specs.Meaning.{KeepsValue}
 use Rattle.fast_eval.specs.Built.{IsBuiltOf}
 use Rattle.fast_eval.specs.Witnesses.{IsWitnessOf}
@@ -73,8 +69,8 @@ both_true false b e = absurd (cc)
 -- the labels of a tree of the type that is kept are those that the theory keeps
 module _ (s : PlainSignature) where
   mutual
-    keeps : (t : Tree Label) → HasType s (relabel label_meaning t) → is_kept (relabel label_meaning t) ≡ true → EveryLabel (KeepsValue (row_meaning (sorts_of s))) t
-    keeps (node c l ts) typed kept =
+    pub keeps_typed : (t : Tree Label) → HasType s (relabel label_meaning t) → is_kept (relabel label_meaning t) ≡ true → EveryLabel (KeepsValue (row_meaning (sorts_of s))) t
+    keeps_typed (node c l ts) typed kept =
         let both = both_true (is_kept_label (label_meaning l)) (are_kept (relabel_all label_meaning ts)) kept in
         ((typed.2, both.0), keeps_all ts typed.3 both.1)
 
@@ -82,10 +78,10 @@ module _ (s : PlainSignature) where
     keeps_all no_trees typed kept = tt
     keeps_all (tree t ts) typed kept =
         let both = both_true (is_kept (relabel label_meaning t)) (are_kept (relabel_all label_meaning ts)) kept in
-        (keeps t typed.0 both.0, keeps_all ts typed.1 both.1)
+        (keeps_typed t typed.0 both.0, keeps_all ts typed.1 both.1)
 
 module _ (items : List Item) (type : List ℕ) (sorts : List Sort) (labels : sorts ≡ sorts_of (signature_named items (Some type))) (x : X) (a : Lang RowAtom) (built : IsBuiltOf items x type a) where
   pub kept_labels : (t : Tree Label) → HasType (input_type items x) (relabel label_meaning t) → is_kept (relabel label_meaning t) ≡ true → EveryLabel (KeepsValue (row_meaning sorts)) t
   kept_labels t typed kept =
       subst (λ s. EveryLabel (KeepsValue (row_meaning s)) t) (sym labels)
-      (keeps (signature_named items (Some type)) t (type_by items type x a built (relabel label_meaning t) _ built.carries.is_on.1 typed) kept)
+      (keeps_typed (signature_named items (Some type)) t (type_by items type x a built (relabel label_meaning t) _ built.carries.is_on.1 typed) kept)

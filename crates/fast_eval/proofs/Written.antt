@@ -7,7 +7,6 @@ use Rattle.model_grammar.specs.declared.Rel.{Rel}
 use Rattle.model_grammar.specs.declared.Chain.TheVariants.{Disjunction, Conjunction, Sum, Product}
 use Rattle.model_grammar.specs.Syntax.{Expr, field, number, text, truth, negation, compare, minus, chain, Parts, no_parts, part}
 use Rattle.model_label.specs.Tests.{is_text}
-use Rattle.model_form.specs.Form.{Form}
 use Rattle.model_guard.specs.Forms.{form_of}
 use Rattle.model_guard.specs.Guards.{is_guard, are_guards}
 use Rattle.model_guard.specs.Compares.{comparison}

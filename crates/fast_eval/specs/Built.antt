@@ -13,8 +13,16 @@ use Rattle.sta_core.specs.declared.Lang.{Lang}
 use Rattle.sta_classes.specs.Guards.{all_guards, atoms_of_all}
 use Rattle.sta_ops.specs.Languages.{auto_of}
 use Rattle.record_label.specs.Rows.{RowAtom, row_holds, RowFits}
-use Rattle.model_layers.specs.Carries.{Carries}
-use Rattle.model_layers.specs.Seen.{IsSeen}
+use Rattle.fast_build.specs.declared.transducer.BuiltTrans.{BuiltTrans}
+use Rattle.model_tree.specs.Label.{Label}
+use Rattle.model_sttr.specs.Transducer.{Trans, SttrFits}
+use Rattle.sttr_core.specs.Machine.{transducer_of}
+use Rattle.sttr_core.specs.Fits.{MapsAre, LabelsFit}
+use Rattle.record_label.specs.Maps.{EntriesFit, sort_by}
+use Rattle.record_label.specs.PlainMaps.{plain_entry}
+use Rattle.fast_build.specs.Terms.{row_make}
+use Rattle.model_layers.specs.Carries.{Carries, CarriesTrans}
+use Rattle.model_layers.specs.Seen.{IsSeen, IsSeenTrans}
 use Rattle.model_layers.specs.Compared.{AreCompared}
 
 -- the comparisons of whole numbers in formulas, and in the guards of an automaton
@@ -33,3 +41,17 @@ pub record IsBuiltOf (items : List Item) (e : X) (type : List ℕ) (l : Lang Row
   pub compared : AreCompared items e type (compares_in l.sta)
   pub ranks : l.sta.ranks ≡ ranks_of (signature_named items (Some type))
   pub fit : AtomsFit (RowFits (sorts_of (signature_named items (Some type)))) l.sta
+
+-- the transducer over labels, and its start
+abbrev pub trans_of : BuiltTrans → Trans Label
+trans_of f = record { sttr = transducer_of row_holds row_make f.trans.sttr; start = f.trans.state }
+
+-- The transducer was built for the expression of a transformation between the types of these names: it has the relation of the
+-- expression, each state has one of which the expression is made, and its guards and maps are seen in the expression. Its rules
+-- are over the constructors and labels of the input type, and make labels of the output type.
+pub record IsTransBuiltOf (items : List Item) (e : X) (from into : List ℕ) (f : BuiltTrans) : Type 0 where
+  pub carries : CarriesTrans items e from into (trans_of f)
+  pub seen : IsSeenTrans items e from into (trans_of f).sttr
+  pub fit : SttrFits (trans_of f).sttr (ranks_of (signature_named items (Some from)))
+  pub labels : LabelsFit (RowFits (sorts_of (signature_named items (Some from)))) (λ m. EntriesFit (sorts_of (signature_named items (Some from))) (map plain_entry m.entries.items)) f.trans.sttr
+  pub made : MapsAre (λ m. map sort_by (map plain_entry m.entries.items) ≡ sorts_of (signature_named items (Some into))) f.trans.sttr

@@ -1,7 +1,11 @@
 pub mod Built
+pub mod Counted
 pub mod Stops
 pub mod Found
+pub mod Places
 pub mod Table
 pub mod Forms
 pub mod Scopes
 pub mod Witnesses
+pub mod Defined
+pub mod Outputs

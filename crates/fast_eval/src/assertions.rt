@@ -42,7 +42,7 @@ fn find_in(
     ensures stop { IfErr result (IsStopOf (items_of checked.now) (judged_claim (items_of checked.now) (plain.empty (plain_x x.now))) limit) }
 {
     build_names(alloc, checked, built, x)?;
-    let scope = scope_of(alloc, checked, built, limit, x)?;
+    let scope = scope_of(checked, built, limit, x);
     judge_empty(alloc, &scope, x)
 }
 
@@ -68,7 +68,7 @@ fn find_between(
 {
     build_names(alloc, checked, built, x)?;
     build_names(alloc, checked, built, y)?;
-    let scope = scope_of(alloc, checked, built, limit, x)?;
+    let scope = scope_of(checked, built, limit, x);
     judge_equal(alloc, &scope, x, y)
 }
 

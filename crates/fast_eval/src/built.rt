@@ -1,77 +1,149 @@
 //! What was built for names.
 
-ghost use Rattle.std.specs.Prelude.{◌≡◌, ◌<◌, ℕ, List, None, OnOk, OnErr, length, get_or};
+ghost use Rattle.std.specs.Prelude.{◌≡◌, List, OnOk, IfOk, is_some, true};
+ghost use Rattle.std.specs.Option.{option_map};
 ghost use Rattle.model_grammar.specs.Syntax.{Item};
-ghost use Rattle.fast_eval.specs.Table.{place_in, Adds, Keeps, IsNamed, IsGrown, IsBuiltNamed, IsThere, AreBuilt};
+ghost use Rattle.model_names.specs.Declared.{find_type};
+ghost use Rattle.model_names.specs.Kinds.{transformation};
+ghost use Rattle.program_check.specs.Tells.{IsChecked};
+ghost use Rattle.fast_build.specs.Items.{items_of};
+ghost use Rattle.fast_eval.specs.Table.{labels_of, AddsLabels, HasBuilt, IsNamed, IsGrown, IsBuiltNamed, IsTransBuiltNamed, IsLanguageAt, IsTransAt, AreLabels, AreBuilt};
 
+use crate::table::Table;
+use fast_build::BuiltTrans;
 use fast_fault::{Memory, Text};
+use fast_syntax::items::Body;
 use indexmap::IndexMap;
-use record_label::RowAtom;
+use program_check::Checked;
+use record_label::{RowAtom, RowLabels};
 use sta_core::Lang;
 use std::alloc::Global;
 
-/// The automata of languages that were built, and for each name the place of its own. Several names may have one.
+/// The automata of languages and the transducers of transformations that were built for names. Beside them the labels of
+/// each type of the program, made once.
 #[derive(Drop)]
 pub struct Built {
-    pub(crate) langs: Vec<Lang<RowAtom>>,
-    pub(crate) places: IndexMap<Text, usize>,
+    languages: Table<Lang<RowAtom>>,
+    transformations: Table<BuiltTrans>,
+    labels: IndexMap<Text, RowLabels>,
+}
+
+/// Keeps the labels of the type of this name.
+fn add_labels(
+    alloc: Global,
+    checked: &Checked,
+    labels: &mut IndexMap<Text, RowLabels>,
+    of: &Text,
+) -> Result<(), Memory>
+    requires checked { IsChecked checked.now }
+    requires declared { is_some (find_type (items_of checked.now) of.now) ≡ true }
+    ensures added { OnOk result (AddsLabels (items_of checked.now) labels.old labels.new of.now) }
+{
+    let Some(signature) = checked.signature(of) else {
+        unreachable!()
+    };
+    let own = RowLabels::new(alloc, signature)?;
+    labels.insert(of.copy(alloc)?, own)?;
+    Ok(())
+}
+
+/// The labels of each type of the program.
+fn labels_of_types(alloc: Global, checked: &Checked) -> Result<IndexMap<Text, RowLabels>, Memory>
+    requires { IsChecked checked.now }
+    ensures { IfOk result (AreLabels (items_of checked.now)) }
+{
+    let mut labels = IndexMap::new(alloc);
+    'items: for item in &checked.program().items {
+        if let Body::Sorts(own) = &item.body {
+            add_labels(alloc, checked, &mut labels, &own.name.text)?;
+        }
+    }
+    Ok(labels)
 }
 
 impl Built {
-    /// Nothing.
-    pub fn new(alloc: Global) -> Built
-        ensures { (name : List ℕ) → place_in result name ≡ None }
+    /// The labels of the program's types, and no language or transformation.
+    pub fn new(alloc: Global, checked: &Checked) -> Result<Built, Memory>
+        requires { IsChecked checked.now }
+        ensures { IfOk result (AreBuilt (items_of checked.now)) }
     {
-        Built {
-            langs: Vec::new(alloc),
-            places: IndexMap::new(alloc),
-        }
+        let labels = labels_of_types(alloc, checked)?;
+        Ok(Built {
+            languages: Table::new(alloc),
+            transformations: Table::new(alloc),
+            labels,
+        })
     }
 
-    /// The place of the language of this name.
-    pub fn place(&self, name: &Text) -> Option<usize>
-        ensures { result ≡ place_in self.now name.now }
+    /// The labels of the type of this name.
+    pub fn labels(&self, of: &Text) -> Option<&RowLabels>
+        ensures { option_map (λ labels. labels.now) result ≡ labels_of self.now.labels of.now }
     {
-        self.places.get(name).copied()
+        self.labels.get(of)
     }
 
-    /// The language at this place.
-    pub fn at(&self, place: usize) -> &Lang<RowAtom>
-        requires { place < length self.now.langs.items }
-        ensures { result.now ≡ get_or self.now.langs.items place result.now }
+    /// The languages that were built.
+    pub fn languages(&self) -> &Table<Lang<RowAtom>>
+        ensures { result.now ≡ self.now.languages }
     {
-        &self.langs[place]
-    }
-
-    /// Puts the name at this place, unless it has one.
-    fn put(&mut self, alloc: Global, name: &Text, place: usize) -> Result<(), Memory>
-        ensures named { OnOk result (Adds self.old self.new name.now place) }
-        ensures langs { self.new.langs ≡ self.old.langs }
-        ensures refused { OnErr result (Keeps self.old self.new) }
-    {
-        if self.places.get(name).is_none() {
-            self.places.insert(name.copy(alloc)?, place)?;
-        }
-        Ok(())
+        &self.languages
     }
 
     /// Gives the name the language at this place, unless it has one.
-    pub fn name(&mut self, alloc: Global, name: &Text, place: usize) -> Result<(), Memory>
-        ensures built { (items : List Item) → AreBuilt items self.old → IsThere items self.old.langs.items name.now place → AreBuilt items self.new }
+    pub fn name_language(&mut self, alloc: Global, name: &Text, place: usize) -> Result<(), Memory>
+        ensures built { (items : List Item) → AreBuilt items self.old → IsLanguageAt items self.old name.now place → AreBuilt items self.new }
         ensures grown { IsGrown self.old self.new }
         ensures named { OnOk result (IsNamed self.new name.now) }
     {
-        self.put(alloc, name, place)
+        self.languages.put(alloc, name, place)
     }
 
     /// Keeps a language for the name, unless it has one.
-    pub fn add(&mut self, alloc: Global, name: &Text, lang: Lang<RowAtom>) -> Result<(), Memory>
+    pub fn add_language(
+        &mut self,
+        alloc: Global,
+        name: &Text,
+        lang: Lang<RowAtom>,
+    ) -> Result<(), Memory>
         ensures built { (items : List Item) → AreBuilt items self.old → IsBuiltNamed items name.now lang → AreBuilt items self.new }
         ensures grown { IsGrown self.old self.new }
         ensures named { OnOk result (IsNamed self.new name.now) }
     {
-        let place = self.langs.len();
-        self.langs.push(lang)?;
-        self.put(alloc, name, place)
+        self.languages.add(alloc, name, lang)
+    }
+
+    /// The transformations that were built.
+    pub fn transformations(&self) -> &Table<BuiltTrans>
+        ensures { result.now ≡ self.now.transformations }
+    {
+        &self.transformations
+    }
+
+    /// Gives the name the transformation at this place, unless it has one.
+    pub fn name_transformation(
+        &mut self,
+        alloc: Global,
+        name: &Text,
+        place: usize,
+    ) -> Result<(), Memory>
+        ensures built { (items : List Item) → AreBuilt items self.old → IsTransAt items self.old name.now place → AreBuilt items self.new }
+        ensures grown { IsGrown self.old self.new }
+        ensures named { OnOk result (HasBuilt transformation self.new name.now) }
+    {
+        self.transformations.put(alloc, name, place)
+    }
+
+    /// Keeps a transformation for the name, unless it has one.
+    pub fn add_transformation(
+        &mut self,
+        alloc: Global,
+        name: &Text,
+        trans: BuiltTrans,
+    ) -> Result<(), Memory>
+        ensures built { (items : List Item) → AreBuilt items self.old → IsTransBuiltNamed items name.now trans → AreBuilt items self.new }
+        ensures grown { IsGrown self.old self.new }
+        ensures named { OnOk result (HasBuilt transformation self.new name.now) }
+    {
+        self.transformations.add(alloc, name, trans)
     }
 }

@@ -1,19 +1,24 @@
-//! Definitions of languages.
+//! Definitions of languages and transformations.
 
 ghost use Rattle.std.specs.Prelude.{◌≡◌, ◌≤◌, ℕ, List, Some, IfOk, IfErr, OnOk};
-ghost use Rattle.fast_syntax.specs.Plain.{plain_x};
+ghost use Rattle.model_grammar.specs.Syntax.{Item};
+ghost use Rattle.fast_syntax.specs.Plain.{plain_x, plain_def};
+ghost use Rattle.model_names.specs.Kinds as kinds;
 ghost use Rattle.model_meaning.specs.Reached.{definition_of};
 ghost use Rattle.program_check.specs.Tells.{IsChecked};
 ghost use Rattle.fast_build.specs.Items.{items_of};
-ghost use Rattle.fast_eval.specs.Forms.{AreKnown, AreNamed, IsMadeOn};
-ghost use Rattle.fast_eval.specs.Scopes.{IsOperandOf};
+ghost use Rattle.fast_eval.specs.Counted.{IsCounted};
+ghost use Rattle.fast_eval.specs.Forms.{AreKnown, AreNamed, IsMadeOn, IsMadeFrom, IsTransKnown};
+ghost use Rattle.fast_eval.specs.Defined.{IsDefined, IsMadeInto, AreKnownInto};
+ghost use Rattle.fast_eval.specs.Scopes.{count_of, IsOperandOf, IsOperandNamed};
 ghost use Rattle.fast_eval.specs.Stops.{StopsExpression};
-ghost use Rattle.fast_eval.specs.Table.{IsNamed, IsGrown, AreBuilt};
+ghost use Rattle.fast_eval.specs.Table.{HasBuilt, IsNamed, IsGrown, AreBuilt};
 
 use crate::built::Built;
 use crate::evaluation::{Operand, language};
-use crate::names::build_names;
+use crate::names::{build_names, transformation};
 use crate::scopes::scope_of;
+use fast_fault::{Memory, Text};
 use fast_syntax::items::{DefItem, X};
 use lin_solve::Chain;
 use program_check::Checked;
@@ -34,20 +39,71 @@ fn value(
     requires named { AreNamed built.now (plain_x x.now) }
     requires shallow { limit ≤ 2000 }
     ensures built { IfOk result (λ o. (type : List ℕ) → IsMadeOn (items_of checked.now) type (plain_x x.now) → IsOperandOf (items_of checked.now) (plain_x x.now) type built.now o) }
+    ensures counted { IfOk result (λ o. IsCounted (items_of checked.now) (plain_x x.now) (count_of o)) }
     ensures stop { IfErr result (StopsExpression (items_of checked.now) (plain_x x.now) limit) }
 {
-    let scope = scope_of(alloc, checked, built, limit, x)?;
+    let scope = scope_of(checked, built, limit, x);
     language(alloc, &scope, x)
 }
 
-/// Builds the language of a definition, and keeps it for its name.
-pub fn define(
+/// Keeps the automaton for the name, unless it has one. Gives the count of a least one.
+fn keep(
+    alloc: Global,
+    built: &mut Built,
+    name: &Text,
+    operand: Operand,
+) -> Result<Option<u32>, Memory>
+    ensures built { (items : List Item) → AreBuilt items built.old → IsOperandNamed items name.now built.old operand → AreBuilt items built.new }
+    ensures grown { IsGrown built.old built.new }
+    ensures named { OnOk result (IsNamed built.new name.now) }
+    ensures count { IfOk result (λ count. count ≡ count_of operand) }
+{
+    match operand {
+        Operand::Kept(place) => {
+            built.name_language(alloc, name, place)?;
+            Ok(None)
+        }
+        Operand::Made(lang) => {
+            built.add_language(alloc, name, lang)?;
+            Ok(None)
+        }
+        Operand::Least(minimal) => {
+            let count = minimal.count;
+            built.add_language(alloc, name, minimal.lang)?;
+            Ok(Some(count))
+        }
+    }
+}
+
+/// Builds the transformation of a definition, and keeps it for its name.
+fn define_transformation(
+    alloc: Global,
+    checked: &Checked,
+    built: &mut Built,
+    def: &DefItem,
+) -> Result<(), Memory>
+    requires checked { IsChecked checked.now }
+    requires built { AreBuilt (items_of checked.now) built.old }
+    requires defined { definition_of (items_of checked.now) def.now.name.text ≡ Some (plain_x def.now.value) }
+    requires made { (from into : List ℕ) × IsMadeFrom (items_of checked.now) from into (plain_x def.now.value) }
+    requires known { IsTransKnown (items_of checked.now) built.old (plain_x def.now.value) }
+    ensures built { AreBuilt (items_of checked.now) built.new }
+    ensures grown { IsGrown built.old built.new }
+    ensures named { OnOk result (HasBuilt kinds.transformation built.new def.now.name.text) }
+{
+    let place = transformation(alloc, checked, built, &def.value)?;
+    built.name_transformation(alloc, &def.name.text, place)
+}
+
+/// Builds the language of a definition, and keeps it for its name. Gives the size of the least automaton, where the
+/// definition asks for it.
+fn define_language(
     alloc: Global,
     checked: &Checked,
     built: &mut Built,
     limit: u32,
     def: &DefItem,
-) -> Result<(), ClassStop<Chain>>
+) -> Result<Option<u32>, ClassStop<Chain>>
     requires checked { IsChecked checked.now }
     requires built { AreBuilt (items_of checked.now) built.old }
     requires defined { definition_of (items_of checked.now) def.now.name.text ≡ Some (plain_x def.now.value) }
@@ -57,12 +113,40 @@ pub fn define(
     ensures built { AreBuilt (items_of checked.now) built.new }
     ensures grown { IsGrown built.old built.new }
     ensures named { OnOk result (IsNamed built.new def.now.name.text) }
+    ensures counted { IfOk result (IsCounted (items_of checked.now) (plain_x def.now.value)) }
     ensures stop { IfErr result (StopsExpression (items_of checked.now) (plain_x def.now.value) limit) }
 {
     build_names(alloc, checked, built, &def.value)?;
-    match value(alloc, checked, built, limit, &def.value)? {
-        Operand::Kept(place) => built.name(alloc, &def.name.text, place)?,
-        Operand::Made(lang) => built.add(alloc, &def.name.text, lang)?,
+    let operand = value(alloc, checked, built, limit, &def.value)?;
+    Ok(keep(alloc, built, &def.name.text, operand)?)
+}
+
+/// Builds the language or transformation of a definition, and keeps it for its name. Gives the size of the least automaton,
+/// where the definition asks for it.
+pub fn define(
+    alloc: Global,
+    checked: &Checked,
+    built: &mut Built,
+    limit: u32,
+    def: &DefItem,
+) -> Result<Option<u32>, ClassStop<Chain>>
+    requires checked { IsChecked checked.now }
+    requires built { AreBuilt (items_of checked.now) built.old }
+    requires defined { definition_of (items_of checked.now) def.now.name.text ≡ Some (plain_x def.now.value) }
+    requires made { IsMadeInto (items_of checked.now) (plain_def def.now).into (plain_x def.now.value) }
+    requires known { AreKnownInto (items_of checked.now) built.old (plain_def def.now).into (plain_x def.now.value) }
+    requires shallow { limit ≤ 2000 }
+    ensures built { AreBuilt (items_of checked.now) built.new }
+    ensures grown { IsGrown built.old built.new }
+    ensures named { OnOk result (IsDefined built.new (plain_def def.now)) }
+    ensures counted { IfOk result (IsCounted (items_of checked.now) (plain_x def.now.value)) }
+    ensures stop { IfErr result (StopsExpression (items_of checked.now) (plain_x def.now.value) limit) }
+{
+    match &def.into {
+        None => define_language(alloc, checked, built, limit, def),
+        Some(_) => {
+            define_transformation(alloc, checked, built, def)?;
+            Ok(None)
+        }
     }
-    Ok(())
 }

@@ -1,14 +1,15 @@
 //! The automata of expressions of languages.
 
-ghost use Rattle.std.specs.Prelude.{◌≡◌, IfOk, IfErr, true};
+ghost use Rattle.std.specs.Prelude.{◌≡◌, IfOk, IfErr, None, true};
 ghost use Rattle.fast_syntax.specs.View.{plain_name};
 ghost use Rattle.fast_syntax.specs.Plain.{plain_x};
 ghost use Rattle.model_grammar.specs.Syntax as plain;
 ghost use Rattle.model_run.specs.Built.{is_built_one, is_built_two};
 ghost use Rattle.model_run.specs.Parts.{IsOn};
 ghost use Rattle.fast_eval.specs.Built.{IsBuiltOf};
+ghost use Rattle.fast_eval.specs.Counted.{IsCounted};
 ghost use Rattle.fast_eval.specs.Forms.{AreNamed, IsMadeOn};
-ghost use Rattle.fast_eval.specs.Scopes.{items_in, type_in, IsScope, lang_of, IsLow, IsOperandOf};
+ghost use Rattle.fast_eval.specs.Scopes.{items_in, type_in, IsScope, lang_of, IsLow, count_of, IsOperandOf};
 ghost use Rattle.fast_eval.specs.Stops.{StopsExpression};
 ghost use Rattle.fast_eval.specs.Table.{IsNamed};
 
@@ -22,6 +23,7 @@ use program_check::Checked;
 use record_label::{RowAtom, RowLabels};
 use sta_classes::ClassStop;
 use sta_core::Lang;
+use sta_min::{Minimal, minimize};
 use sta_ops::{complement, difference, intersect, union};
 use std::alloc::Global;
 
@@ -34,16 +36,18 @@ pub struct Scope<'s> {
     /// The name of the type of the trees.
     pub of: &'s Text,
     /// The labels of that type.
-    pub theory: RowLabels,
+    pub theory: &'s RowLabels,
     /// How many trees may be told apart.
     pub limit: u32,
 }
 
-/// The automaton of an expression: the one at a place among those that were built for names, or one that was made.
+/// The automaton of an expression: the one at a place among those that were built for names, one that was made, or the least
+/// one with its count.
 #[derive(Drop)]
 pub enum Operand {
     Kept(usize),
     Made(Lang<RowAtom>),
+    Least(Minimal<RowAtom>),
 }
 
 /// The automaton itself.
@@ -52,8 +56,9 @@ pub fn lang_of<'l>(built: &'l Built, operand: &'l Operand) -> &'l Lang<RowAtom>
     ensures { result.now ≡ lang_of built.now operand.now result.now }
 {
     match operand {
-        Operand::Kept(place) => built.at(*place),
+        Operand::Kept(place) => built.languages().at(*place),
         Operand::Made(lang) => lang,
+        Operand::Least(minimal) => &minimal.lang,
     }
 }
 
@@ -62,9 +67,10 @@ fn named(scope: &Scope, name: &Name) -> Operand
     requires scope { IsScope scope.now }
     requires on { IsOn (items_in scope.now) (plain.named (plain_name name.now)) (type_in scope.now) }
     requires named { IsNamed scope.now.built.now name.now.text }
-    ensures { IsOperandOf (items_in scope.now) (plain.named (plain_name name.now)) (type_in scope.now) scope.now.built.now result }
+    ensures operand { IsOperandOf (items_in scope.now) (plain.named (plain_name name.now)) (type_in scope.now) scope.now.built.now result }
+    ensures uncounted { count_of result ≡ None }
 {
-    let Some(place) = scope.built.place(&name.text) else {
+    let Some(place) = scope.built.languages().place(&name.text) else {
         unreachable!()
     };
     Operand::Kept(place)
@@ -86,28 +92,30 @@ fn join(
     ensures stop { IfErr result (λ s. (place : _) (x y : plain.X) → IsBuiltOf (items_in scope.now) x (type_in scope.now) a.now → IsBuiltOf (items_in scope.now) y (type_in scope.now) b.now → StopsExpression (items_in scope.now) (plain.two op place x y) scope.now.limit s) }
 {
     match op {
-        Op2::Union => Ok(union(&scope.theory, alloc, a, b)?),
-        Op2::Intersect => Ok(intersect(&scope.theory, alloc, a, b)?),
-        Op2::Difference => difference(&scope.theory, alloc, a, b, scope.limit),
+        Op2::Union => Ok(union(scope.theory, alloc, a, b)?),
+        Op2::Intersect => Ok(intersect(scope.theory, alloc, a, b)?),
+        Op2::Difference => difference(scope.theory, alloc, a, b, scope.limit),
         _ => unreachable!(),
     }
 }
 
 /// What an operation makes of a language.
-fn negate(
+fn changed(
     alloc: Global,
     scope: &Scope,
     op: Op1,
     a: &Lang<RowAtom>,
-) -> Result<Lang<RowAtom>, ClassStop<Chain>>
+) -> Result<Operand, ClassStop<Chain>>
     requires scope { IsScope scope.now }
     requires op { is_built_one op ≡ true }
     requires operand { (x : plain.X) × IsBuiltOf (items_in scope.now) x (type_in scope.now) a.now }
-    ensures built { IfOk result (λ c. (place : _) (x : plain.X) → IsBuiltOf (items_in scope.now) x (type_in scope.now) a.now → IsBuiltOf (items_in scope.now) (plain.one op place x) (type_in scope.now) c) }
+    ensures built { IfOk result (λ o. (place : _) (x : plain.X) → IsBuiltOf (items_in scope.now) x (type_in scope.now) a.now → IsOperandOf (items_in scope.now) (plain.one op place x) (type_in scope.now) scope.now.built.now o) }
+    ensures counted { IfOk result (λ o. (place : _) (x : plain.X) → IsBuiltOf (items_in scope.now) x (type_in scope.now) a.now → IsCounted (items_in scope.now) (plain.one op place x) (count_of o)) }
     ensures stop { IfErr result (λ s. (place : _) (x : plain.X) → IsBuiltOf (items_in scope.now) x (type_in scope.now) a.now → StopsExpression (items_in scope.now) (plain.one op place x) scope.now.limit s) }
 {
     match op {
-        Op1::Complement => complement(&scope.theory, alloc, a, scope.limit),
+        Op1::Complement => Ok(Operand::Made(complement(scope.theory, alloc, a, scope.limit)?)),
+        Op1::Minimize => Ok(Operand::Least(minimize(scope.theory, alloc, a, scope.limit)?)),
         _ => unreachable!(),
     }
 }
@@ -118,6 +126,7 @@ pub fn language(alloc: Global, scope: &Scope, x: &X) -> Result<Operand, ClassSto
     requires made { IsMadeOn (items_in scope.now) (type_in scope.now) (plain_x x.now) }
     requires named { AreNamed scope.now.built.now (plain_x x.now) }
     ensures built { IfOk result (IsOperandOf (items_in scope.now) (plain_x x.now) (type_in scope.now) scope.now.built.now) }
+    ensures counted { IfOk result (λ o. IsCounted (items_in scope.now) (plain_x x.now) (count_of o)) }
     ensures stop { IfErr result (StopsExpression (items_in scope.now) (plain_x x.now) scope.now.limit) }
 {
     match x {
@@ -132,7 +141,7 @@ pub fn language(alloc: Global, scope: &Scope, x: &X) -> Result<Operand, ClassSto
         X::One(op, _, inside) => {
             let of = language(alloc, scope, inside)?;
             let lang = lang_of(scope.built, &of);
-            Ok(Operand::Made(negate(alloc, scope, *op, lang)?))
+            changed(alloc, scope, *op, lang)
         }
         X::Literal(..) => unreachable!(),
     }

@@ -1,21 +1,19 @@
 //! Scopes of expressions.
 
-ghost use Rattle.std.specs.Prelude.{◌≡◌, ◌≤◌, ℕ, List, Some, IfOk};
+ghost use Rattle.std.specs.Prelude.{◌≡◌, ◌≤◌, ℕ, List, Some};
 ghost use Rattle.std.specs.Option.{option_map};
 ghost use Rattle.fast_syntax.specs.Plain.{plain_x};
 ghost use Rattle.program_check.specs.Tells.{IsChecked, kind_view};
 ghost use Rattle.fast_build.specs.Items.{items_of};
-ghost use Rattle.fast_eval.specs.Forms.{language_in, IsMadeOn};
-ghost use Rattle.fast_eval.specs.Scopes.{IsScope, IsScopeOf};
+ghost use Rattle.fast_eval.specs.Forms.{language_in, IsMadeOn, IsMadeFrom};
+ghost use Rattle.fast_eval.specs.Scopes.{IsScope, IsScopeOf, AreEnds};
 ghost use Rattle.fast_eval.specs.Table.{AreBuilt};
 
 use crate::built::Built;
 use crate::evaluation::Scope;
-use fast_fault::{Memory, Text};
+use fast_fault::Text;
 use fast_syntax::items::X;
 use program_check::{Checked, Kind3};
-use record_label::RowLabels;
-use std::alloc::Global;
 
 /// The name of the type of a language.
 fn language_in(kind: Option<Kind3<'_>>) -> Option<&Text>
@@ -40,33 +38,46 @@ pub fn type_of<'c>(checked: &'c Checked, x: &X) -> Option<&'c Text>
     }
 }
 
+/// The names of the types of a transformation: of its inputs, and of its outputs.
+#[derive(Clone, Copy)]
+pub struct Ends<'c> {
+    pub from: &'c Text,
+    pub into: &'c Text,
+}
+
+/// The names of the types of an expression of a transformation.
+pub fn ends_of<'c>(checked: &'c Checked, f: &X) -> Ends<'c>
+    requires checked { IsChecked checked.now }
+    requires made { (from into : List ℕ) × IsMadeFrom (items_of checked.now) from into (plain_x f.now) }
+    ensures { (from into : List ℕ) → IsMadeFrom (items_of checked.now) from into (plain_x f.now) → AreEnds from into result }
+{
+    let X::Named(name) = f else { unreachable!() };
+    let Some(Kind3::Transformation(from, into)) = checked.kind(&name.text) else {
+        unreachable!()
+    };
+    Ends { from, into }
+}
+
 /// The scope of an expression.
-pub fn scope_of<'s>(
-    alloc: Global,
-    checked: &'s Checked,
-    built: &'s Built,
-    limit: u32,
-    x: &X,
-) -> Result<Scope<'s>, Memory>
+pub fn scope_of<'s>(checked: &'s Checked, built: &'s Built, limit: u32, x: &X) -> Scope<'s>
     requires checked { IsChecked checked.now }
     requires built { AreBuilt (items_of checked.now) built.now }
     requires shallow { limit ≤ 2000 }
     requires made { (type : List ℕ) × IsMadeOn (items_of checked.now) type (plain_x x.now) }
-    ensures scope { IfOk result IsScope }
-    ensures of { IfOk result (IsScopeOf checked.now built.now limit (plain_x x.now)) }
+    ensures scope { IsScope result }
+    ensures of { IsScopeOf checked.now built.now limit (plain_x x.now) result }
 {
     let Some(of) = type_of(checked, x) else {
         unreachable!()
     };
-    let Some(signature) = checked.signature(of) else {
+    let Some(theory) = built.labels(of) else {
         unreachable!()
     };
-    let theory = RowLabels::new(alloc, signature)?;
-    Ok(Scope {
+    Scope {
         checked,
         built,
         of,
         theory,
         limit,
-    })
+    }
 }

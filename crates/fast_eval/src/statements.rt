@@ -26,7 +26,7 @@ pub fn judge_empty(alloc: Global, scope: &Scope, x: &X) -> Result<Found<Label>, 
     ensures stop { IfErr result (IsStopOf (items_in scope.now) (judged_claim (items_in scope.now) (plain.empty (plain_x x.now))) scope.now.limit) }
 {
     let a = language(alloc, scope, x)?;
-    empty(&scope.theory, alloc, lang_of(scope.built, &a), scope.limit)
+    empty(scope.theory, alloc, lang_of(scope.built, &a), scope.limit)
 }
 
 /// Whether the two languages have the same trees; else a tree that is in exactly one of them.
@@ -48,5 +48,5 @@ pub fn judge_equal(
     let b = language(alloc, scope, y)?;
     let a = lang_of(scope.built, &a);
     let b = lang_of(scope.built, &b);
-    equal(&scope.theory, alloc, a, b, scope.limit)
+    equal(scope.theory, alloc, a, b, scope.limit)
 }

@@ -1,7 +1,12 @@
 //! Trees that languages have, and whether a tree is in one.
 
 ghost use Rattle.std.specs.Prelude.{◌≡◌, ◌≤◌, ◌↔◌, ℕ, List, [], ◌∷◌, IfOk, IfErr, true};
-ghost use Rattle.model_tree.specs.Tree.{relabel};
+ghost use Rattle.model_tree.specs.Tree.{relabel, EveryLabel};
+ghost use Rattle.model_sta.specs.Automaton.{is_accepted};
+ghost use Rattle.label_core.specs.Meaning.{KeepsValue};
+ghost use Rattle.sta_core.specs.Sta.{automaton_of, AtomsFit};
+ghost use Rattle.record_label.specs.Meaning.{row_meaning};
+ghost use Rattle.record_label.specs.Rows.{RowFits, row_holds};
 ghost use Rattle.model_tree.specs.Signature.{HasType};
 ghost use Rattle.model_tree.specs.Kept.{is_kept};
 ghost use Rattle.fast_tree.specs.Entries.{label_meaning};
@@ -19,12 +24,15 @@ use crate::built::Built;
 use crate::evaluation::{Scope, lang_of, language};
 use crate::names::build_names;
 use crate::scopes::scope_of;
+use fast_fault::Memory;
 use fast_syntax::items::X;
 use fast_tree::{Label, Tree};
 use lin_solve::Chain;
 use program_check::Checked;
+use record_label::{RowAtom, RowLabels};
 use sta_classes::ClassStop;
-use sta_core::accepts;
+use sta_core::Lang;
+use sta_marks::mark_nodes;
 use sta_ops::{Found, empty};
 use std::alloc::Global;
 
@@ -37,7 +45,7 @@ fn least(alloc: Global, scope: &Scope, x: &X) -> Result<Found<Label>, ClassStop<
     ensures stop { IfErr result (IsStopOf (items_in scope.now) (plain_x x.now ∷ []) scope.now.limit) }
 {
     let a = language(alloc, scope, x)?;
-    empty(&scope.theory, alloc, lang_of(scope.built, &a), scope.limit)
+    empty(scope.theory, alloc, lang_of(scope.built, &a), scope.limit)
 }
 
 /// A least tree of the language of an expression; or that there is none, or only trees that are too large.
@@ -59,8 +67,23 @@ pub fn witness(
     ensures stop { IfErr result (IsStopOf (items_of checked.now) (plain_x x.now ∷ []) limit) }
 {
     build_names(alloc, checked, built, x)?;
-    let scope = scope_of(alloc, checked, built, limit, x)?;
+    let scope = scope_of(checked, built, limit, x);
     least(alloc, &scope, x)
+}
+
+/// Whether the language has the tree.
+fn has_tree(
+    alloc: Global,
+    theory: &RowLabels,
+    lang: &Lang<RowAtom>,
+    tree: &Tree<Label>,
+) -> Result<bool, Memory>
+    requires fits { AtomsFit (RowFits theory.now) lang.now.sta }
+    requires labels { EveryLabel (KeepsValue (row_meaning theory.now)) tree.now }
+    ensures { IfOk result (λ inside. inside ≡ is_accepted (automaton_of row_holds lang.now.sta) (relabel label_meaning tree.now) lang.now.state) }
+{
+    let marks = mark_nodes(theory, alloc, &lang.sta, tree)?;
+    Ok(marks.has(0, lang.state))
 }
 
 /// Whether a tree is in the language of an expression, each of whose names has a language.
@@ -80,7 +103,7 @@ fn is_inside(
 {
     let a = language(alloc, scope, y)?;
     let lang = lang_of(scope.built, &a);
-    Ok(accepts(&scope.theory, &lang.sta, lang.state, tree))
+    Ok(has_tree(alloc, scope.theory, lang, tree)?)
 }
 
 /// Whether a tree is in the language of an expression.
@@ -105,6 +128,6 @@ pub fn belongs(
     ensures stop { IfErr result (StopsExpression (items_of checked.now) (plain_x y.now) limit) }
 {
     build_names(alloc, checked, built, y)?;
-    let scope = scope_of(alloc, checked, built, limit, y)?;
+    let scope = scope_of(checked, built, limit, y);
     is_inside(alloc, &scope, y, tree)
 }

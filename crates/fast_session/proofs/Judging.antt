@@ -27,6 +27,8 @@ use Rattle.fast_eval.specs.Stops.{StopsExpression}
 use Rattle.fast_eval.proofs.Outcomes.{forms_compose, def_cause, claim_cause, large_cause}
 use Rattle.tree_values.specs.Trees.{Tells}
 use Rattle.tree_values.specs.declared.trees.Trees.{Trees}
+use Rattle.fast_session.specs.declared.answers.Cause.TheVariants.{TreeSize}
+use Rattle.fast_session.specs.declared.answers.Stopped.TheVariants.{By}
 use Rattle.fast_session.specs.declared.items.Around.{Around}
 use Rattle.fast_session.specs.declared.items.Kept.{Kept}
 use Rattle.fast_session.specs.declared.verdicts.Verdict.{Verdict}
@@ -43,8 +45,8 @@ shown_if t limits scalars = record { kept = limits.kept; scalars = scalars; smal
 -- what stops the search for classes is a cause
 pub stopped_cause : (items : List Item) (limit : ℕ) (item : Item) (old : Kept) (s : ClassStop Chain)
     → ((done : List Outcome) → Tells old.trees (trees_in done) → IsCauseFor items limit (trees_in done) item.body s) → IsStoppedAt items limit item old (stopped_by limit s)
-stopped_cause items limit item old Classes cause = cause
-stopped_cause items limit item old (Wide c) cause = cause
+stopped_cause items limit item old Classes cause = (λ done told shown. cause done told, tt)
+stopped_cause items limit item old (Wide c) cause = (λ done told shown. cause done told, tt)
 stopped_cause items limit item old Memory cause = tt
 
 -- a definition whose language isn't built has the cause
@@ -110,8 +112,8 @@ module _ (items : List Item) (limit : ℕ) where
     pub judged_stops : is_member s.claim ≡ false → (stop : ClassStop Chain) → IsStopOf items (judged_claim items s.claim) limit stop → IsStoppedAt items limit item old (stopped_by limit stop)
     judged_stops of stop cause = stopped_cause items limit item old stop (λ done told. subst (λ b. IsCauseFor items limit (trees_in done) b stop) (sym is) (claim_cause items limit (trees_in done) s stop (has_if s.claim of) cause))
 
-    pub judged_large : AreAllLarge (Shows items s.claim) → (done : List Outcome) → HasCause items limit (trees_in done) item.body too_large
-    judged_large large done = subst (λ b. HasCause items limit (trees_in done) b too_large) (sym is) (large_cause items limit (trees_in done) s large)
+    pub judged_large : AreAllLarge (Shows items s.claim) → IsStoppedAt items limit item old (By TreeSize)
+    judged_large large = (λ done told shown. subst (λ b. HasCause items limit (trees_in done) b too_large) (sym is) (large_cause items limit (trees_in done) s large), tt)
 
 -- ---- assertions that have their verdict
 

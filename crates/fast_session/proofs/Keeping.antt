@@ -5,16 +5,19 @@ use Rattle.model_tree.specs.Tree.{LabelTree}
 use Rattle.model_tree.specs.Signature.{HasType}
 use Rattle.model_grammar.specs.Syntax.{DefItem, def, TreeItem, tree, Item}
 use Rattle.model_names.specs.Declared.{same_text}
+use Rattle.model_names.specs.Kinds.{defined_kind}
 use Rattle.model_meaning.specs.Types.{input_of}
 use Rattle.model_meaning.proofs.Members.{one_of, none_of}
 use Rattle.sta_theory.proofs.Lists.{append_member}
 use Rattle.fast_eval.specs.Found.{IsInLimits}
-use Rattle.fast_eval.specs.Table.{IsGrown, IsNamed}
+use Rattle.fast_eval.specs.Defined.{IsDefined, AreDefined}
+use Rattle.fast_eval.specs.Table.{IsGrown}
 use Rattle.fast_eval.specs.declared.built.Built.{Built}
+use Rattle.fast_eval.proofs.Keeping.{built_grown}
 use Rattle.tree_values.specs.Trees.{tree_at, Adds, AreTypedTrees, ArePrinted}
 use Rattle.tree_values.specs.declared.trees.Trees.{Trees}
 use Rattle.fast_session.specs.declared.items.Kept.{Kept}
-use Rattle.fast_session.specs.Kept.{AreDefined, IsKept}
+use Rattle.fast_session.specs.Kept.{IsKept}
 use Rattle.fast_session.specs.Items.{IsBuiltMore}
 
 module _ (before : List Item) (item : Item) where
@@ -25,9 +28,9 @@ module _ (before : List Item) (item : Item) where
     | inr there ↦ elim (one_of item other [] there) [ inl same ↦ inr same | inr none ↦ absurd (none_of other none) ]
   ]
 
-  pub defined_more : (old new : Built) → IsGrown old new → AreDefined old before → ((d : DefItem) → item.body ≡ def d → IsNamed new d.name.text) → AreDefined new (before ++ item ∷ [])
+  pub defined_more : (old new : Built) → IsGrown old new → AreDefined old before → ((d : DefItem) → item.body ≡ def d → IsDefined new d) → AreDefined new (before ++ item ∷ [])
   defined_more old new grown was own other d at is = elim (last other at) [
-    | inl here ↦ grown d.name.text (was other d here is)
+    | inl here ↦ built_grown old new grown (defined_kind d.into) d.name.text (was other d here is)
     | inr same ↦ own d (ap (λ (i : Item). i.body) same ∙ is)
   ]
 
@@ -40,7 +43,7 @@ module _ (before : List Item) (item : Item) where
 
   module _ (items : List Item) (old new : Kept) (more : IsBuiltMore items old new) (was : IsKept items before old) where
     -- an item that has no tree
-    pub kept_built : ((d : DefItem) → item.body ≡ def d → IsNamed new.built d.name.text) → ((t : TreeItem) → ¬ (item.body ≡ tree t)) → IsKept items (before ++ item ∷ []) new
+    pub kept_built : ((d : DefItem) → item.body ≡ def d → IsDefined new.built d) → ((t : TreeItem) → ¬ (item.body ≡ tree t)) → IsKept items (before ++ item ∷ []) new
     kept_built own none = record {
       built = more.built;
       typed = subst (AreTypedTrees items) (sym more.trees) was.typed;

@@ -6,3 +6,7 @@ pub mod Printing
 pub mod Members
 pub mod Next
 pub mod Stepping
+pub mod Following
+pub mod Building
+pub mod Prepared
+pub mod Composed

@@ -13,7 +13,7 @@ use Rattle.tree_values.specs.declared.members.Membership.{Membership}
 use Rattle.tree_values.specs.declared.stops.ValueStop.{ValueStop}
 use Rattle.tree_values.specs.Forms.{IsTreeOn, IsTreeKnown}
 use Rattle.tree_values.specs.Members.{IsMember, IsMemberStop}
-use Rattle.tree_values.specs.Stops.{IsCauseOf}
+use Rattle.tree_values.specs.Stops.{IsStopTyped, IsCauseOf}
 use Rattle.tree_values.specs.Trees.{meant, Tells}
 use Rattle.tree_values.proofs.Outcomes.{member_composes, member_cause, member_shown}
 use Rattle.tree_values.proofs.Programs.{AreSides, member_made, member_known}
@@ -49,8 +49,8 @@ module _ (a : Around) (item : Item) (old : Kept) (ready : IsReady a item old) (s
   pub member_composable : IsComposable (items_in a) item.body
   member_composable = subst (IsComposable (items_in a)) (sym is) (member_composes (items_in a) s x y same form_x form_y)
 
-  pub member_stops : (stop : ValueStop) → ((done : List Outcome) → Tells old.trees (trees_in done) → IsMemberStop (items_in a) (trees_in done) a.limit x y stop) → IsStoppedAt (items_in a) a.limit item old (stopped_value a.limit stop)
-  member_stops stop cause = stopped_value_cause (items_in a) a.limit item old stop (λ done told. subst (λ b. IsCauseOf (items_in a) a.limit (trees_in done) b stop) (sym is) (member_cause (items_in a) a.limit (trees_in done) s x y same stop (cause done told)))
+  pub member_stops : (stop : ValueStop) → ((done : List Outcome) → Tells old.trees (trees_in done) → IsMemberStop (items_in a) (trees_in done) a.limit x y stop) → IsStopTyped (items_in a) stop → IsStoppedAt (items_in a) a.limit item old (stopped_value a.limit stop)
+  member_stops stop cause typed = stopped_value_cause (items_in a) a.limit item old stop (λ done told. subst (λ b. IsCauseOf (items_in a) a.limit (trees_in done) b stop) (sym is) (member_cause (items_in a) a.limit (trees_in done) s x y same stop (cause done told))) typed
 
   pub member_verdict : (line : ℕ) (v : Verdict) (m : Membership) → (m.inside ≡ true → v.passes ≡ s.wanted) → (m.inside ≡ false → v.passes ≡ not s.wanted) → v.shown ≡ Some m.tree
       → ((done : List Outcome) → Tells old.trees (trees_in done) → IsMember (items_in a) (trees_in done) x y m) → HasType (input_type (items_in a) y) (meant m.tree) → IsInLimits (meant m.tree) → IsVerdictOn (items_in a) line s old v

@@ -1,7 +1,5 @@
 -- From one item of a session to the next.
-use Rattle.std.proofs.Common.{◌≡◌, ◌<◌, ◌+◌, ℕ, suc, Bool, true, false, not, List, [], ◌∷◌, ◌++◌, Some, None, take, drop, length, get_or, refl, sym, ap, ◌∙◌}
-use Rattle.std.proofs.Math.Seq.{drop-cons}
-use Rattle.std.proofs.lemmas.List.{take_more, take-append-drop}
+use Rattle.std.proofs.Common.{◌≡◌, ◌<◌, ℕ, Bool, true, false, not, List, [], ◌∷◌, Some, None, length, get_or, refl, sym, ◌∙◌}
 use Rattle.std.specs.Prelude.{find}
 use Rattle.std.specs.List.{list_all}
 use Rattle.std.specs.Option.{option_map}
@@ -9,20 +7,12 @@ use Rattle.model_grammar.specs.Syntax.{Item}
 use Rattle.model_run.specs.Built.{is_built, unbuilt_at}
 use Rattle.fast_build.proofs.Elements.{all_contained}
 use Rattle.model_meaning.proofs.Members.{none_of}
-use Rattle.fast_eval.specs.Table.{place_in}
+use Rattle.fast_eval.specs.Table.{AreBuilt}
 use Rattle.tree_values.specs.Trees.{tree_at}
 use Rattle.fast_session.specs.declared.items.Kept.{Kept}
 use Rattle.fast_session.specs.Kept.{IsKept}
 
 module _ (items : List Item) (n : ℕ) (item : Item) (low : n < length items) (is : item ≡ get_or items n item) where
-  -- where the next item stands
-  pub splits_next : items ≡ take n items ++ item ∷ drop (suc n) items
-  splits_next = sym (take-append-drop n items) ∙ ap (λ xs. take n items ++ xs) (drop-cons items n item low ∙ ap (λ x. x ∷ drop (suc n) items) (sym is))
-
-  -- the items that are done with it
-  pub done_next : take (n + 1) items ≡ take n items ++ item ∷ []
-  done_next = take_more items n item low ∙ ap (λ x. take n items ++ x ∷ []) (sym is)
-
   pub built_next : list_all (is_built items) items ≡ true → is_built items item ≡ true
   built_next all = all_contained (is_built items) items n item all is low
 
@@ -39,9 +29,9 @@ pub all_built : (items : List Item) → unbuilt_at items ≡ None → list_all (
 all_built items e = none_unbuilt (is_built items) items e
 
 -- at the start nothing is kept
-pub nothing_kept : (items : List Item) (k : Kept) → ((name : List ℕ) → place_in k.built name ≡ None) → ((name : List ℕ) → tree_at k.trees name ≡ None) → IsKept items [] k
-nothing_kept items k unbuilt unprinted = record {
-  built = λ name place is. let no : None ≡ Some place = sym (unbuilt name) ∙ is in absurd (cc);
+pub nothing_kept : (items : List Item) (k : Kept) → AreBuilt items k.built → ((name : List ℕ) → tree_at k.trees name ≡ None) → IsKept items [] k
+nothing_kept items k built unprinted = record {
+  built = built;
   typed = λ name t is. let no : None ≡ Some t = sym (unprinted name) ∙ is in absurd (cc);
   defined = λ item d at is. absurd (none_of item at);
   printed = λ item t at is. absurd (none_of item at);

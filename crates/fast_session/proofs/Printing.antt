@@ -1,6 +1,6 @@
 -- An item of a tree, whose value is kept for its name.
 use Rattle.std.proofs.Common.{◌≡◌, ℕ, true, List, [], ◌∷◌, ◌++◌, Some, cond, refl, sym, ap, subst, ◌∙◌}
-use Rattle.std.specs.Prelude.{is_some}
+use Rattle.std.specs.Prelude.{is_some, Result, Ok, Err, IfErr}
 use Rattle.model_tree.specs.Tree.{LabelTree}
 use Rattle.model_tree.specs.Signature.{PlainSignature, HasType}
 use Rattle.model_grammar.specs.Syntax.{def, tree, TreeItem, Item}
@@ -16,10 +16,10 @@ use Rattle.fast_eval.specs.Found.{IsInLimits}
 use Rattle.fast_eval.specs.Table.{AreBuilt, IsGrown}
 use Rattle.sta_classes.specs.declared.stop.ClassStop.TheVariants.{Classes, Wide, Memory}
 use Rattle.tree_values.specs.declared.stops.ValueStop.{ValueStop}
-use Rattle.tree_values.specs.declared.stops.ValueStop.TheVariants.{Stopped, NoTree, TooLarge}
+use Rattle.tree_values.specs.declared.stops.ValueStop.TheVariants.{Stopped, NoTree, TooLarge, LabelRange, Outputs, NoOutput, SeveralOutputs}
 use Rattle.tree_values.specs.declared.trees.Trees.{Trees}
 use Rattle.tree_values.specs.Forms.{IsTreeOn, IsTreeKnown}
-use Rattle.tree_values.specs.Stops.{IsValueStop, IsCauseOf}
+use Rattle.tree_values.specs.Stops.{IsValueStop, IsStopTyped, IsCauseOf}
 use Rattle.tree_values.specs.Trees.{tree_at, Adds, Tells}
 use Rattle.tree_values.proofs.Outcomes.{tree_composes, tree_cause}
 use Rattle.tree_values.proofs.Programs.{tree_made, tree_is_known, type_by_name}
@@ -32,14 +32,23 @@ use Rattle.fast_session.proofs.Judging.{shown_if}
 use Rattle.fast_session.proofs.Keeping.{defined_more, printed_more, still_there, own_there, typed_more}
 use Rattle.fast_session.proofs.Ready.{whole}
 
+-- two facts of a refusal together
+pub if_err_both : {T E : Type 0} (r : Result T E) (P Q R : E → Type 0) → ((e : E) → P e → Q e → R e) → IfErr r P → IfErr r Q → IfErr r R
+if_err_both (Ok x) P Q R f p q = tt
+if_err_both (Err e) P Q R f p q = f e p q
+
 -- what stops the evaluation of a tree expression is a cause
 pub stopped_value_cause : (items : List Item) (limit : ℕ) (item : Item) (old : Kept) (s : ValueStop)
-    → ((done : List Outcome) → Tells old.trees (trees_in done) → IsCauseOf items limit (trees_in done) item.body s) → IsStoppedAt items limit item old (stopped_value limit s)
-stopped_value_cause items limit item old (Stopped Classes) cause = cause
-stopped_value_cause items limit item old (Stopped (Wide c)) cause = cause
-stopped_value_cause items limit item old (Stopped Memory) cause = tt
-stopped_value_cause items limit item old NoTree cause = cause
-stopped_value_cause items limit item old TooLarge cause = cause
+    → ((done : List Outcome) → Tells old.trees (trees_in done) → IsCauseOf items limit (trees_in done) item.body s) → IsStopTyped items s → IsStoppedAt items limit item old (stopped_value limit s)
+stopped_value_cause items limit item old (Stopped Classes) cause typed = (λ done told shown. cause done told, tt)
+stopped_value_cause items limit item old (Stopped (Wide c)) cause typed = (λ done told shown. cause done told, tt)
+stopped_value_cause items limit item old (Stopped Memory) cause typed = tt
+stopped_value_cause items limit item old NoTree cause typed = (λ done told shown. cause done told, tt)
+stopped_value_cause items limit item old TooLarge cause typed = (λ done told shown. cause done told, tt)
+stopped_value_cause items limit item old (LabelRange n) cause typed = (λ done told shown. cause done told, tt)
+stopped_value_cause items limit item old (Outputs load) cause typed = (λ done told shown. cause done told, tt)
+stopped_value_cause items limit item old (NoOutput t) cause typed = (cause, typed)
+stopped_value_cause items limit item old (SeveralOutputs two) cause typed = (cause, typed)
 
 -- a tree that is kept for its name is the first that was printed
 told_more : (old new : Trees) (name : List ℕ) (signature : PlainSignature) (t : LabelTree) → Adds old new name t → (done : List Outcome) → Tells old (trees_in done) → Tells new (trees_in (tree_line name signature t ∷ done))
@@ -58,8 +67,8 @@ module _ (a : Around) (item : Item) (old : Kept) (ready : IsReady a item old) (t
   pub value_known : IsTreeKnown (items_in a) old.trees old.built t.value
   value_known = tree_is_known (items_in a) (whole a item old ready) item ready.at t is tree_form old.built old.trees ready.kept.defined ready.kept.printed
 
-  pub value_stops : (s : ValueStop) → ((done : List Outcome) → Tells old.trees (trees_in done) → IsValueStop (items_in a) (trees_in done) a.limit type t.value s) → IsStoppedAt (items_in a) a.limit item old (stopped_value a.limit s)
-  value_stops s cause = stopped_value_cause (items_in a) a.limit item old s (λ done told. subst (λ b. IsCauseOf (items_in a) a.limit (trees_in done) b s) (sym is) (tree_cause (items_in a) a.limit (trees_in done) t s (cause done told)))
+  pub value_stops : (s : ValueStop) → ((done : List Outcome) → Tells old.trees (trees_in done) → IsValueStop (items_in a) (trees_in done) a.limit type t.value s) → IsStopTyped (items_in a) s → IsStoppedAt (items_in a) a.limit item old (stopped_value a.limit s)
+  value_stops s cause typed = stopped_value_cause (items_in a) a.limit item old s (λ done told. subst (λ b. IsCauseOf (items_in a) a.limit (trees_in done) b s) (sym is) (tree_cause (items_in a) a.limit (trees_in done) t s (cause done told))) typed
 
   -- more was built, and then the tree was kept for its name
   pub record IsPrinted (middle new : Kept) (v : LabelTree) : Type 0 where

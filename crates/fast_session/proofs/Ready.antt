@@ -1,23 +1,21 @@
 -- An item that is ready brings to its evaluation what that requires.
-use Rattle.std.proofs.Common.{◌≡◌, ℕ, true, false, not, ◌&&◌, List, ◌∷◌, ◌++◌, Option, Some, None, refl, ap, subst, ◌∙◌}
-use Rattle.std.specs.Prelude.{is_some}
+use Rattle.std.proofs.Common.{◌≡◌, ℕ, true, false, ◌&&◌, List, ◌∷◌, ◌++◌, Option, Some, None, refl, ap, subst, ◌∙◌}
 use Rattle.std.specs.Option.{option_and_then}
-use Rattle.model_program.specs.Syntax.{Name}
 use Rattle.model_grammar.specs.Syntax.{X, Claim, equal, member, empty, type_check, DefItem, def, AssertItem, assertion, Item}
 use Rattle.model_names.specs.Declared.{own_name}
-use Rattle.model_names.specs.Kinds.{Kind, language, transformation, a_tree, defined_kind, declared_type, kind_of}
+use Rattle.model_names.specs.Kinds.{Kind, language, transformation, a_tree, kind_of}
 use Rattle.model_checks.specs.Failures.{is_empty}
-use Rattle.model_checks.specs.Expressions.{expected_as, type_as, needs_be, x_failures}
+use Rattle.model_checks.specs.Expressions.{type_as, needs_be, x_failures}
 use Rattle.model_checks.specs.Programs.{body_failures, claim_failures}
 use Rattle.model_checks.specs.Sound.{IsSound}
 use Rattle.model_checks.proofs.Soundness.{empty_first, empty_second}
 use Rattle.model_checks.proofs.SoundWhole.{sound}
 use Rattle.model_meaning.specs.Reached.{own_value, definition_of}
-use Rattle.meaning_laws.proofs.Valued.{checked}
-use Rattle.model_run.specs.Built.{is_language, is_built_language, is_built_claim, is_built_body}
+use Rattle.model_run.specs.Built.{is_language, is_built_language, is_built_value, is_built_claim, is_built_body}
 use Rattle.fast_build.proofs.Elements.{first_true, second_true}
 use Rattle.fast_eval.specs.Forms.{IsMadeOn, AreKnown, IsClaimOn, IsClaimKnown}
-use Rattle.fast_eval.proofs.Stepping.{def_made, empty_made, equal_made, known_of}
+use Rattle.fast_eval.specs.Defined.{IsMadeInto, AreKnownInto}
+use Rattle.fast_eval.proofs.Stepping.{value_form, def_made_into, def_known_into, empty_made, equal_made, known_of}
 use Rattle.fast_session.specs.declared.items.Around.{Around}
 use Rattle.fast_session.specs.declared.items.Kept.{Kept}
 use Rattle.fast_session.specs.Kept.{items_in, IsReady}
@@ -37,27 +35,20 @@ module _ (a : Around) (item : Item) (k : Kept) (ready : IsReady a item k) where
   -- ---- definitions
 
   module _ (d : DefItem) (is : item.body ≡ def d) where
-    built_def : (not (is_some d.into) && is_built_language d.value) ≡ true
-    built_def = subst (λ b. is_built_body (items_in a) b ≡ true) is ready.is_built
-
-    none_if : (o : Option Name) → not (is_some o) ≡ true → o ≡ None
-    none_if None e = refl
-    none_if (Some n) e = absurd (cc)
-
-    pub def_alone : d.into ≡ None
-    def_alone = none_if d.into (first_true (not (is_some d.into)) (is_built_language d.value) built_def)
+    value_built : is_built_value d.into d.value ≡ true
+    value_built = subst (λ b. is_built_body (items_in a) b ≡ true) is ready.is_built
 
     pub def_form : is_built_language d.value ≡ true
-    def_form = second_true (not (is_some d.into)) (is_built_language d.value) built_def
+    def_form = value_form d.into d.value value_built
 
     pub def_is : definition_of (items_in a) d.name.text ≡ Some d.value
     def_is = ap (option_and_then (λ (i : Item). own_value i.body)) (whole.found_item item d.name ready.at (ap own_name is)) ∙ ap own_value is
 
-    pub def_made_on : IsMadeOn (items_in a) d.from.text d.value
-    def_made_on = def_made (items_in a) whole item ready.at d is def_alone def_form
+    pub def_made : IsMadeInto (items_in a) d.into d.value
+    def_made = def_made_into (items_in a) whole item ready.at d is value_built
 
-    pub def_known : AreKnown (items_in a) k.built d.value
-    def_known = known 0 (expected_as (defined_kind d.into) (declared_type (items_in a) d.from)) d.from.text d.value (checked (items_in a) whole item ready.at d is).inside def_made_on
+    pub def_known : AreKnownInto (items_in a) k.built d.into d.value
+    def_known = def_known_into (items_in a) whole item ready.at d is k.built (λ m. Unit {0}) (λ other e at body wanted. ready.kept.defined other e at body) (λ m at. tt) def_made
 
   -- ---- statements
 

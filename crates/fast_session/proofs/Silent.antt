@@ -3,22 +3,24 @@ use Rattle.std.proofs.Common.{◌≡◌, inl, inr, ℕ, Bool, true, List, [], �
 use Rattle.model_tree.specs.Tree.{Tree}
 use Rattle.model_tree.specs.Signature.{PlainSignature}
 use Rattle.fast_tree.specs.declared.label.Label.{Label}
-use Rattle.model_grammar.specs.Syntax.{X, sorts, tree, lang, def, DefItem, TreeItem, Item}
+use Rattle.model_grammar.specs.Syntax.{X, sorts, tree, lang, trans, def, DefItem, TreeItem, Item}
 use Rattle.model_meaning.specs.Values.{Printed}
 use Rattle.model_meaning.proofs.Members.{one_of, none_of}
 use Rattle.model_run.specs.Built.{is_built_language}
 use Rattle.model_run.specs.Items.{expressions_in}
 use Rattle.model_run.specs.Outcomes.{Outcome, silent, trees_in, IsOutcomeOf}
+use Rattle.fast_eval.specs.Counted.{IsCounted, outcome_of}
 use Rattle.fast_eval.specs.Table.{AreBuilt}
-use Rattle.fast_eval.proofs.Outcomes.{forms_compose, def_silent}
-use Rattle.fast_eval.specs.Table.{IsNamed}
+use Rattle.fast_eval.proofs.Outcomes.{forms_compose, def_outcome}
+use Rattle.fast_eval.specs.Defined.{IsDefined}
+use Rattle.fast_eval.proofs.Keeping.{none_more}
 use Rattle.tree_values.specs.Trees.{Tells}
 use Rattle.tree_values.specs.declared.trees.Trees.{Trees}
 use Rattle.fast_session.specs.declared.items.Around.{Around}
 use Rattle.fast_session.specs.declared.items.Kept.{Kept}
 use Rattle.fast_session.specs.Answers.{verdict_on}
 use Rattle.fast_session.specs.Kept.{items_in, IsReady}
-use Rattle.fast_session.specs.Items.{IsBuiltMore, IsDone}
+use Rattle.fast_session.specs.Items.{IsTyped, IsBuiltMore, IsDone}
 use Rattle.fast_session.proofs.Keeping.{kept_built}
 use Rattle.fast_session.proofs.Ready.{def_form}
 
@@ -29,7 +31,7 @@ no_tree done line passes signature (Some t) = refl
 
 -- nothing was built
 pub nothing_more : (items : List Item) (k : Kept) → AreBuilt items k.built → IsBuiltMore items k k
-nothing_more items k built = record { built = built; grown = λ name named. named; trees = refl }
+nothing_more items k built = record { built = built; grown = none_more k.built; trees = refl }
 
 module _ (items : List Item) (item : Item) where
   -- an item without a line, which has no expression
@@ -42,7 +44,7 @@ module _ (items : List Item) (item : Item) where
     kept = λ before was. kept_built before item items k k (nothing_more items k was.built) was (λ d is. absurd (no_def d is)) no_tree;
   }
 
-  -- an item of a type, and of a language
+  -- an item of a type, of a language, and of a transformation
   pub done_sorts : (k : Kept) (t : _) → item.body ≡ sorts t → IsDone items item k k silent
   done_sorts k t is = done_bare k
       (λ e at. none_of e (subst (λ b. Contains (expressions_in b) e) is at))
@@ -57,6 +59,22 @@ module _ (items : List Item) (item : Item) where
       (λ d other. let no : lang l ≡ def d = sym is ∙ other in cc)
       (λ u other. let no : lang l ≡ tree u = sym is ∙ other in cc)
 
+  pub done_trans : (k : Kept) (t : _) → item.body ≡ trans t → IsDone items item k k silent
+  done_trans k t is = done_bare k
+      (λ e at. none_of e (subst (λ b. Contains (expressions_in b) e) is at))
+      (λ trees. subst (λ b. IsOutcomeOf items trees item.place.line b silent) (sym is) refl)
+      (λ d other. let no : trans t ≡ def d = sym is ∙ other in cc)
+      (λ u other. let no : trans t ≡ tree u = sym is ∙ other in cc)
+
+-- a count is no tree
+counted_typed : (name : List ℕ) (count : Option ℕ) → IsTyped (outcome_of name count)
+counted_typed name None = tt
+counted_typed name (Some n) = tt
+
+counted_tells : (name : List ℕ) (count : Option ℕ) (done : List Outcome) → trees_in (outcome_of name count ∷ done) ≡ trees_in done
+counted_tells name None done = refl
+counted_tells name (Some n) done = refl
+
 -- a definition
 module _ (a : Around) (item : Item) (old new : Kept) (ready : IsReady a item old) (d : DefItem) (is : item.body ≡ def d) where
   own_def : (e : DefItem) → item.body ≡ def e → d ≡ e
@@ -65,15 +83,15 @@ module _ (a : Around) (item : Item) (old new : Kept) (ready : IsReady a item old
   form_of : (e : X) → Contains (d.value ∷ []) e → is_built_language e ≡ true
   form_of e at = elim (one_of d.value e [] at) [ inl same ↦ subst (λ x. is_built_language x ≡ true) same (def_form a item old ready d is) | inr none ↦ absurd (none_of e none) ]
 
-  pub done_def : IsBuiltMore (items_in a) old new → IsNamed new.built d.name.text → IsDone (items_in a) item old new silent
-  done_def more named = record {
+  pub done_def : IsBuiltMore (items_in a) old new → IsDefined new.built d → (count : Option ℕ) → IsCounted (items_in a) d.value count → IsDone (items_in a) item old new (outcome_of d.name.text count)
+  done_def more named count counted = record {
     may = λ done told scalars. record {
       composable = forms_compose (items_in a) item.body (λ e at. form_of e (subst (λ b. Contains (expressions_in b) e) is at));
-      is = subst (λ b. IsOutcomeOf (items_in a) (trees_in done) item.place.line b silent) (sym is) (def_silent (items_in a) (trees_in done) d d.value (def_form a item old ready d is));
+      is = subst (λ b. IsOutcomeOf (items_in a) (trees_in done) item.place.line b (outcome_of d.name.text count)) (sym is) (def_outcome (items_in a) (trees_in done) d d.value (def_form a item old ready d is) count counted);
     };
-    typed = tt;
-    told = λ done told. subst (λ (ts : Trees). Tells ts (trees_in done)) (sym more.trees) told;
+    typed = counted_typed d.name.text count;
+    told = λ done told. subst (λ (outcomes : List Printed). Tells new.trees outcomes) (sym (counted_tells d.name.text count done)) (subst (λ (ts : Trees). Tells ts (trees_in done)) (sym more.trees) told);
     kept = λ before was. kept_built before item (items_in a) old new more was
-        (λ e other. subst (λ (f : DefItem). IsNamed new.built f.name.text) (own_def e other) named)
+        (λ e other. subst (λ (f : DefItem). IsDefined new.built f) (own_def e other) named)
         (λ t other. let no : def d ≡ tree t = sym is ∙ other in cc);
   }

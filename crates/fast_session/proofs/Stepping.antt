@@ -19,7 +19,7 @@ use Rattle.fast_session.specs.Answers.{given, step_of, halt_at}
 use Rattle.fast_session.specs.Items.{IsDone, IsStoppedAt}
 use Rattle.fast_session.specs.Kept.{IsKept}
 use Rattle.fast_session.specs.Sessions.{items_in, IsAt, IsItemAt, IsNext, IsStep, IsHalt}
-use Rattle.fast_session.proofs.Next.{done_next}
+use Rattle.fast_eval.proofs.Labels.{done_next}
 
 -- the item at a place of a checked program
 pub item_there : (c : Checked) (p : Program) (xs : List syntax.Item) (n len : ℕ) (x : syntax.Item) → p ≡ c.program → xs ≡ p.items.items → n < len → len ≡ length xs → x ≡ get_or xs n x → IsItemAt (items_of c) n (plain_item x)
@@ -33,7 +33,7 @@ module _ (old : Session) (done : List Outcome) (at : IsAt old done) (item : Item
   here = (subst (λ n. n < length (items_in old)) (sym at.count) low, is ∙ ap (λ n. get_or (items_in old) n item) (sym at.count))
 
   pub halt_is : (s : Stopped) → IsStoppedAt (items_in old) old.limit item old.kept s → IsHalt old done (halt_at item.place s)
-  halt_is (By cause) stopped = (item, here, refl, stopped done at.told)
+  halt_is (By cause) stopped = (item, here, refl, stopped.0 done at.told, stopped.1)
   halt_is Memory stopped = tt
 
   module _ (new : Session) (same : new.checked ≡ old.checked) (limited : new.limit ≡ old.limit) (next : new.next ≡ old.next + 1) (running : new.ended ≡ None) where

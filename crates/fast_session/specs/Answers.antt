@@ -1,23 +1,30 @@
 -- What answers say.
-use Rattle.std.specs.Prelude.{ℕ, Bool, List, Option, Some, None}
+use Rattle.std.specs.Prelude.{◌≡◌, ℕ, Bool, true, List, Option, Some, None}
 use Rattle.fast_fault.specs.declared.place.Pos.{Pos}
+use Rattle.fast_fault.specs.declared.code.Code.{Code}
+use Rattle.fast_fault.specs.declared.code.Code.TheVariants as codes
 use Rattle.model_tree.specs.Tree.{Tree, relabel}
-use Rattle.model_tree.specs.Signature.{PlainSignature}
+use Rattle.model_tree.specs.Scalars.{has_scalars}
+use Rattle.model_tree.specs.Signature.{PlainSignature, HasType}
 use Rattle.fast_tree.specs.Entries.{label_meaning}
 use Rattle.fast_tree.specs.declared.label.Label.{Label}
 use Rattle.model_grammar.specs.Syntax.{Item}
 use Rattle.model_meaning.specs.Meaning.{signature_named}
-use Rattle.model_run.specs.Causes.{Stop, more_classes, too_wide, empty_language, too_large}
-use Rattle.model_run.specs.Lines.{stop_code}
-use Rattle.model_run.specs.Outcomes.{Outcome, silent, tree_line, true_verdict, tree_verdict}
+use Rattle.model_run.specs.Causes.{Stop, more_classes, too_wide, label_number, too_much, empty_language, no_output, two_outputs, too_large}
+use Rattle.model_run.specs.Outcomes.{Outcome, silent, tree_line, minimal_line, true_verdict, tree_verdict}
 use Rattle.lin_solve.specs.declared.chain.Chain.{Chain}
 use Rattle.lin_solve.specs.Shown.{bits_of}
 use Rattle.sta_classes.specs.declared.stop.ClassStop.{ClassStop}
 use Rattle.sta_classes.specs.declared.stop.ClassStop.TheVariants as classes
+use Rattle.sttr_apply.specs.declared.stop.ApplyStop.{ApplyStop}
+use Rattle.sttr_apply.specs.declared.stop.ApplyStop.TheVariants as apply
+use Rattle.sttr_apply.specs.Plain.{load_of}
 use Rattle.tree_values.specs.declared.stops.ValueStop.{ValueStop}
 use Rattle.tree_values.specs.declared.stops.ValueStop.TheVariants as values
+use Rattle.tree_values.specs.Stops.{type_of_tree, AreShown}
+use Rattle.tree_values.specs.Trees.{meant}
 use Rattle.fast_session.specs.declared.answers.Cause.{Cause}
-use Rattle.fast_session.specs.declared.answers.Cause.TheVariants.{Classes, Width, EmptyLanguage, TreeSize}
+use Rattle.fast_session.specs.declared.answers.Cause.TheVariants.{Classes, Width, LabelRange, Outputs, EmptyLanguage, NoOutput, SeveralOutputs, TreeSize}
 use Rattle.fast_session.specs.declared.answers.Stopped.{Stopped}
 use Rattle.fast_session.specs.declared.answers.Stopped.TheVariants as stopped
 use Rattle.fast_session.specs.declared.answers.Line.{Line}
@@ -31,11 +38,39 @@ use Rattle.fast_session.specs.declared.answers.Ending.TheVariants as ending
 
 -- ---- causes
 
-abbrev pub plain_cause : Cause → Stop
-plain_cause (Classes limit) = more_classes limit
-plain_cause (Width bits) = too_wide bits
-plain_cause EmptyLanguage = empty_language
-plain_cause TreeSize = too_large
+abbrev pub code_of : Cause → Code
+code_of (Classes limit) = codes.Classes
+code_of (Width bits) = codes.Width
+code_of (LabelRange n) = codes.LabelRange
+code_of (Outputs load) = codes.Outputs
+code_of EmptyLanguage = codes.EmptyLanguage
+code_of (NoOutput t) = codes.OutputCount
+code_of (SeveralOutputs two) = codes.OutputCount
+code_of TreeSize = codes.TreeSize
+
+module _ (items : List Item) where
+  abbrev pub plain_cause : Cause → Stop
+  plain_cause (Classes limit) = more_classes limit
+  plain_cause (Width bits) = too_wide bits
+  plain_cause (LabelRange n) = label_number n
+  plain_cause (Outputs load) = too_much (load_of load)
+  plain_cause EmptyLanguage = empty_language
+  plain_cause (NoOutput t) = no_output (type_of_tree items t) (meant t.tree)
+  plain_cause (SeveralOutputs two) = two_outputs (type_of_tree items two.input) (meant two.input.tree) (signature_named items (Some two.into)) (meant two.first) (meant two.second)
+  plain_cause TreeSize = too_large
+
+  -- the trees that the refusal shows have their types
+  abbrev pub IsCauseTyped : Cause → Type 0
+  IsCauseTyped (NoOutput t) = HasType (type_of_tree items t) (meant t.tree)
+  IsCauseTyped (SeveralOutputs two) =
+      HasType (type_of_tree items two.input) (meant two.input.tree) × HasType (signature_named items (Some two.into)) (meant two.first) × HasType (signature_named items (Some two.into)) (meant two.second)
+  IsCauseTyped cause = Unit {0}
+
+-- their texts are of Unicode scalars, which printing them shows
+abbrev pub CanBeShown : Cause → Type 0
+CanBeShown (NoOutput t) = has_scalars (meant t.tree) ≡ true
+CanBeShown (SeveralOutputs two) = AreShown two
+CanBeShown cause = Unit {0}
 
 -- what stops an item where the search for classes stops, and where a tree expression has no value that can be shown
 abbrev pub stopped_by : ℕ → ClassStop Chain → Stopped
@@ -43,10 +78,20 @@ stopped_by limit classes.Classes = stopped.By (Classes limit)
 stopped_by limit (classes.Wide c) = stopped.By (Width (bits_of c.width))
 stopped_by limit classes.Memory = stopped.Memory
 
+-- where there is no list of outputs
+abbrev pub stopped_outputs : ApplyStop → Stopped
+stopped_outputs (apply.Range n) = stopped.By (LabelRange n)
+stopped_outputs (apply.Load load) = stopped.By (Outputs load)
+stopped_outputs apply.Memory = stopped.Memory
+
 abbrev pub stopped_value : ℕ → ValueStop → Stopped
 stopped_value limit (values.Stopped s) = stopped_by limit s
 stopped_value limit values.NoTree = stopped.By EmptyLanguage
 stopped_value limit values.TooLarge = stopped.By TreeSize
+stopped_value limit (values.LabelRange n) = stopped.By (LabelRange n)
+stopped_value limit (values.Outputs load) = stopped.By (Outputs load)
+stopped_value limit (values.NoOutput t) = stopped.By (NoOutput t)
+stopped_value limit (values.SeveralOutputs two) = stopped.By (SeveralOutputs two)
 
 -- ---- lines
 
@@ -57,6 +102,7 @@ verdict_on n passes signature (Some t) = tree_verdict n passes signature (relabe
 
 abbrev pub line_outcome : List Item → Line → Outcome
 line_outcome items (line.Tree name of t) = tree_line name (signature_named items (Some of)) (relabel label_meaning t)
+line_outcome items (line.Minimal name n) = minimal_line name n
 line_outcome items (line.Verdict n passes of shown) = verdict_on n passes (signature_named items (Some of)) shown
 
 -- an item without a line is silent
@@ -77,7 +123,7 @@ halt_at place stopped.Memory = halt.Memory
 
 -- how a session ends with a halt, and what it answers from then on
 abbrev pub ending_of : Halt → Ending
-ending_of (halt.Refused cause place) = ending.Refused (record { code = stop_code (plain_cause cause); place = place })
+ending_of (halt.Refused cause place) = ending.Refused (record { code = code_of cause; place = place })
 ending_of (halt.Ended refusal) = ending.Refused refusal
 ending_of halt.Memory = ending.Memory
 

@@ -11,7 +11,7 @@ use Rattle.fast_session.specs.declared.answers.Stopped.{Stopped}
 use Rattle.fast_session.specs.declared.answers.Stopped.TheVariants.{By, Memory}
 use Rattle.fast_session.specs.declared.items.Kept.{Kept}
 use Rattle.fast_session.specs.declared.verdicts.Verdict.{Verdict}
-use Rattle.fast_session.specs.Answers.{plain_cause, verdict_on}
+use Rattle.fast_session.specs.Answers.{plain_cause, CanBeShown, IsCauseTyped, verdict_on}
 use Rattle.fast_session.specs.Kept.{IsKept}
 
 -- The texts in the tree of a line are lists of Unicode scalars, which printing it shows.
@@ -39,7 +39,8 @@ pub record IsDone (items : List Item) (item : Item) (old new : Kept) (o : Outcom
 
 -- the item has the cause
 abbrev pub IsStoppedAt : List Item → ℕ → Item → Kept → Stopped → Type 0
-IsStoppedAt items limit item old (By cause) = (done : List Outcome) → Tells old.trees (trees_in done) → HasCause items limit (trees_in done) item.body (plain_cause cause)
+IsStoppedAt items limit item old (By cause) =
+    ((done : List Outcome) → Tells old.trees (trees_in done) → CanBeShown cause → HasCause items limit (trees_in done) item.body (plain_cause items cause)) × IsCauseTyped items cause
 IsStoppedAt items limit item old Memory = Unit {0}
 
 -- ---- verdicts

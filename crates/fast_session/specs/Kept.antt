@@ -1,14 +1,13 @@
 -- What is kept of the items that are done.
 use Rattle.std.specs.Prelude.{◌≡◌, ◌≤◌, true, List}
-use Rattle.std.specs.List.{Contains}
-use Rattle.model_grammar.specs.Syntax.{DefItem, def, Item}
+use Rattle.model_grammar.specs.Syntax.{Item}
 use Rattle.model_checks.specs.Sound.{StandsIn}
 use Rattle.model_run.specs.Built.{is_built}
 use Rattle.model_run.specs.Outcomes.{Outcome, trees_in}
 use Rattle.program_check.specs.Tells.{IsChecked}
 use Rattle.fast_build.specs.Items.{items_of}
-use Rattle.fast_eval.specs.Table.{AreBuilt, IsNamed}
-use Rattle.fast_eval.specs.declared.built.Built.{Built}
+use Rattle.fast_eval.specs.Defined.{AreDefined}
+use Rattle.fast_eval.specs.Table.{AreBuilt}
 use Rattle.tree_values.specs.Trees.{Tells, AreTypedTrees, ArePrinted}
 use Rattle.fast_session.specs.declared.items.Around.{Around}
 use Rattle.fast_session.specs.declared.items.Kept.{Kept}
@@ -16,10 +15,6 @@ use Rattle.fast_session.specs.declared.items.Kept.{Kept}
 -- the items of the program
 abbrev pub items_in : Around → List Item
 items_in a = items_of a.checked.now
-
--- each definition among the items has a language
-abbrev pub AreDefined : Built → List Item → Type 0
-AreDefined b items = (item : Item) (d : DefItem) → Contains items item → item.body ≡ def d → IsNamed b d.name.text
 
 -- what was built is right, and trees have their types; each name of an item that is done has what it stands for
 pub record IsKept (items done : List Item) (k : Kept) : Type 0 where

@@ -4,6 +4,9 @@ use Rattle.std.specs.List.{list_all}
 use Rattle.model_grammar.specs.Syntax.{Item}
 use Rattle.model_run.specs.Built.{is_built}
 use Rattle.model_run.specs.Causes.{HasCause}
+use Rattle.model_names.specs.Kinds.{Kind}
+use Rattle.model_run.specs.Texts.{IsNameOf}
+use Rattle.fast_eval.specs.Forms.{IsReadyName}
 use Rattle.model_run.specs.Outcomes.{Outcome, silent, trees_in, IsOutcome}
 use Rattle.program_check.specs.Tells.{IsChecked}
 use Rattle.fast_build.specs.Items.{items_of}
@@ -13,7 +16,7 @@ use Rattle.fast_session.specs.declared.answers.Step.TheVariants as step
 use Rattle.fast_session.specs.declared.answers.Halt.{Halt}
 use Rattle.fast_session.specs.declared.answers.Halt.TheVariants as halt
 use Rattle.fast_session.specs.declared.session.Session.{Session}
-use Rattle.fast_session.specs.Answers.{plain_cause, line_outcome}
+use Rattle.fast_session.specs.Answers.{plain_cause, CanBeShown, IsCauseTyped, line_outcome}
 use Rattle.fast_session.specs.Kept.{IsKept}
 use Rattle.fast_session.specs.Items.{HaveScalars, IsTyped}
 
@@ -40,6 +43,17 @@ pub record IsAt (s : Session) (done : List Outcome) : Type 0 where
 abbrev pub IsSession : Session → Type 0
 IsSession s = ((done : List Outcome) × IsAt s done) ⊎ (is_some s.ended ≡ true)
 
+-- it hasn't ended, and what the language or transformation of the name needs is built
+pub record IsReadyFor (kind : Kind) (s : Session) (name : List ℕ) : Type 0 where
+  pub done : List Outcome
+  pub at : IsAt s done
+  pub named : IsNameOf (items_in s) kind name
+  pub known : IsReadyName kind (items_in s) s.kept.built name
+
+-- or it ended
+abbrev pub IsPrepared : Kind → Session → List ℕ → Type 0
+IsPrepared kind s name = IsReadyFor kind s name ⊎ (is_some s.ended ≡ true)
+
 pub record IsSameProgram (old new : Session) : Type 0 where
   pub program : new.checked ≡ old.checked
   pub limit : new.limit ≡ old.limit
@@ -65,6 +79,7 @@ IsStep old new done step.Done = (length (items_in old) ≡ length done) × (new 
 -- the next item has the cause, and this is its place
 abbrev pub IsHalt : Session → List Outcome → Halt → Type 0
 IsHalt old done (halt.Refused cause place) =
-    (item : Item) × IsItemAt (items_in old) (length done) item × (place ≡ item.place) × HasCause (items_in old) old.limit (trees_in done) item.body (plain_cause cause)
+    (item : Item) × IsItemAt (items_in old) (length done) item × (place ≡ item.place)
+    × (CanBeShown cause → HasCause (items_in old) old.limit (trees_in done) item.body (plain_cause (items_in old) cause)) × IsCauseTyped (items_in old) cause
 IsHalt old done (halt.Ended refusal) = ⊥
 IsHalt old done halt.Memory = Unit {0}

@@ -1,15 +1,20 @@
 //! The items of a program one by one: what each gives, with the trees that its line shows, or why the work stops at it.
 //!
 //! Its promise: a line is one that the item may have after those before it, no line comes exactly where the item has none, and a
-//! stop has its cause.
+//! stop has its cause. Where a session is asked for one name, it builds what that name needs and no more; then it says of each
+//! tree whether it is in the language, or what the outputs of the transformation are.
 #![tactic(auto)]
 
 mod answers;
+mod inside;
 mod items;
+mod needed;
+mod outputs;
+mod preparing;
 mod session;
 mod stops;
 mod trees;
 mod verdicts;
 
-pub use answers::{Cause, Ending, Halt, Line, Step};
+pub use answers::{Cause, Ending, Halt, Line, Step, Stopped};
 pub use session::Session;

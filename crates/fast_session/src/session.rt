@@ -1,18 +1,34 @@
 //! Sessions.
 
-ghost use Rattle.std.specs.Prelude.{◌≡◌, ◌≤◌, List, [], None, Some, Err, IfOk, IfErr};
+ghost use Rattle.std.specs.Prelude.{◌≡◌, ◌≤◌, ◌↔◌, ℕ, true, List, [], None, Some, Err, IfOk, IfErr, OnOk, length, map};
+ghost use Rattle.std.specs.Str.{chars};
+ghost use Rattle.model_tree.specs.Kept.{is_kept};
+ghost use Rattle.model_tree.specs.Signature.{HasType};
+ghost use Rattle.model_names.specs.Kinds.{Kind, language, transformation};
+ghost use Rattle.model_meaning.specs.Meaning.{IsInLanguage, input_type};
+ghost use Rattle.model_run.specs.Report.{named_x, AreNeededComposable};
+ghost use Rattle.model_run.specs.Texts.{IsNameOf};
+ghost use Rattle.tree_values.specs.Trees.{meant};
+ghost use Rattle.fast_session.specs.declared.answers.Halt.TheVariants as halts;
+ghost use Rattle.fast_eval.specs.Outputs.{cut_tree, AreOutputsOf};
+ghost use Rattle.fast_session.specs.Needed.{IsHaltNeeded, IsTreeStopped};
 ghost use Rattle.program_check.specs.Tells.{IsChecked};
 ghost use Rattle.model_run.specs.Built.{unbuilt_at};
 ghost use Rattle.model_run.specs.Outcomes.{Outcome};
 ghost use Rattle.fast_build.specs.Items.{items_of};
 ghost use Rattle.fast_session.specs.declared.answers.Ending.{Ending};
-ghost use Rattle.fast_session.specs.Answers.{again, ending_of, halt_at, step_of};
-ghost use Rattle.fast_session.specs.Sessions.{IsAt, IsSession, IsSameProgram, IsStep, IsHalt};
+ghost use Rattle.fast_session.specs.Answers.{again, ending_of, step_of};
+ghost use Rattle.fast_session.specs.Sessions.{items_in, IsAt, IsSession, IsSameProgram, IsReadyFor, IsPrepared, IsStep, IsHalt};
 
-use crate::answers::{Ending, Halt, Line, Step, Stopped};
+use crate::answers::{Ending, Halt, Line, Step, Stopped, ending_of, halt_at};
+use crate::inside::is_member;
 use crate::items::{Around, Kept, do_item};
+use crate::outputs::outputs_of;
+use crate::preparing::prepare;
+use fast_cut::Cut;
 use fast_eval::Built;
-use fast_fault::{Pos, Refusal};
+use fast_fault::Memory;
+use fast_tree::{Label, Tree};
 use program_check::Checked;
 use std::alloc::Global;
 use tree_values::Trees;
@@ -38,21 +54,6 @@ fn again(ending: Ending) -> Halt
     }
 }
 
-/// The halt at an item that isn't done, and how the session ended with it.
-fn halted(stopped: Stopped, place: Pos) -> (Halt, Ending)
-    ensures halt { result.0 ≡ halt_at place stopped }
-    ensures ending { result.1 ≡ ending_of result.0 }
-{
-    match stopped {
-        Stopped::By(cause) => {
-            let code = cause.code();
-            let ending = Ending::Refused(Refusal { code, place });
-            (Halt::Refused(cause, place), ending)
-        }
-        Stopped::Memory => (Halt::Memory, Ending::Memory),
-    }
-}
-
 /// The step to an item with this line.
 fn step_of(line: Option<Line>) -> Step
     ensures { result ≡ step_of line }
@@ -65,24 +66,23 @@ fn step_of(line: Option<Line>) -> Step
 
 impl Session {
     /// A session in which nothing is done. `limit` is how many trees may be told apart.
-    pub fn new(alloc: Global, checked: Checked, limit: u32) -> Session
+    pub fn new(alloc: Global, checked: Checked, limit: u32) -> Result<Session, Memory>
         requires checked { IsChecked checked }
         requires built { unbuilt_at (items_of checked) ≡ None }
         requires shallow { limit ≤ 2000 }
-        ensures at { IsAt result [] }
-        ensures program { result.checked ≡ checked }
-        ensures limit { result.limit ≡ limit }
+        ensures at { IfOk result (λ s. IsAt s []) }
+        ensures program { IfOk result (λ s. s.checked ≡ checked) }
+        ensures limit { IfOk result (λ s. s.limit ≡ limit) }
     {
-        Session {
+        let built = Built::new(alloc, &checked)?;
+        let trees = Trees::new(alloc);
+        Ok(Session {
             checked,
             limit,
-            kept: Kept {
-                built: Built::new(alloc),
-                trees: Trees::new(alloc),
-            },
+            kept: Kept { built, trees },
             next: 0,
             ended: None,
-        }
+        })
     }
 
     /// The program, as it was handed in.
@@ -90,6 +90,13 @@ impl Session {
         ensures { result.now ≡ self.now.checked }
     {
         &self.checked
+    }
+
+    /// How many languages were built.
+    pub fn languages(&self) -> usize
+        ensures { result ≡ length self.now.kept.built.languages.values.items }
+    {
+        self.kept.built.languages().count()
     }
 
     /// Does the next item.
@@ -120,10 +127,90 @@ impl Session {
                 Ok(step_of(line))
             }
             Err(stopped) => {
-                let (halt, ending) = halted(stopped, item.place);
-                self.ended = Some(ending);
+                let halt = halt_at(item.place, stopped);
+                self.ended = Some(ending_of(&halt));
                 Err(halt)
             }
         }
+    }
+
+    /// Builds what the language or transformation of the name needs.
+    pub fn prepare(&mut self, alloc: Global, name: &str) -> Result<(), Halt>
+        requires session { IsSession self.old }
+        ensures session { IsSession self.new }
+        ensures program { IsSameProgram self.old self.new }
+        ensures at { OnOk result ((done : List Outcome) → IsAt self.old done → IsAt self.new done) }
+        ensures prepared { (kind : Kind) → IsNameOf (items_in self.old) kind (chars name.now) → IsPrepared kind self.new (chars name.now) }
+        ensures composable { OnOk result (AreNeededComposable (items_in self.old) (chars name.now)) }
+        ensures halt { self.old.ended ≡ None → IfErr result (IsHaltNeeded (items_in self.old) self.old.limit (chars name.now)) }
+        ensures ended { IfErr result (λ halt. self.new.ended ≡ Some (ending_of halt)) }
+        ensures again { (e : Ending) → self.old.ended ≡ Some e → (result ≡ Err (again e)) × (self.new ≡ self.old) }
+    {
+        if let Some(ending) = self.ended {
+            return Err(again(ending));
+        }
+        let around = Around {
+            checked: &self.checked,
+            limit: self.limit,
+        };
+        match prepare(alloc, &around, &mut self.kept, name) {
+            Ok(()) => Ok(()),
+            Err(halt) => {
+                self.ended = Some(ending_of(&halt));
+                Err(halt)
+            }
+        }
+    }
+
+    /// Whether the tree is in the language of the name.
+    pub fn member(&mut self, alloc: Global, name: &str, tree: &Tree<Label>) -> Result<bool, Halt>
+        requires prepared { IsPrepared language self.old (chars name.now) }
+        requires typed { HasType (input_type (items_in self.old) (named_x (chars name.now))) (meant tree.now) }
+        requires kept { is_kept (meant tree.now) ≡ true }
+        ensures prepared { (kind : Kind) (other : List ℕ) → IsPrepared kind self.old other → IsPrepared kind self.new other }
+        ensures program { IsSameProgram self.old self.new }
+        ensures at { OnOk result ((done : List Outcome) → IsAt self.old done → IsAt self.new done) }
+        ensures inside { IfOk result (λ inside. (inside ≡ true) ↔ IsInLanguage (items_in self.old) (named_x (chars name.now)) (meant tree.now)) }
+        ensures memory { self.old.ended ≡ None → IfErr result (λ halt. halt ≡ halts.Memory) }
+        ensures ended { IfErr result (λ halt. self.new.ended ≡ Some (ending_of halt)) }
+        ensures again { (e : Ending) → self.old.ended ≡ Some e → (result ≡ Err (again e)) × (self.new ≡ self.old) }
+    {
+        if let Some(ending) = self.ended {
+            return Err(again(ending));
+        }
+        let around = Around {
+            checked: &self.checked,
+            limit: self.limit,
+        };
+        match is_member(alloc, &around, &mut self.kept, name, tree) {
+            Ok(inside) => Ok(inside),
+            Err(_refused) => {
+                self.ended = Some(Ending::Memory);
+                Err(Halt::Memory)
+            }
+        }
+    }
+
+    /// The outputs of the transformation of the name for the tree, in order. Whatever it answers, the session can go on.
+    pub fn outputs<'t>(
+        &mut self,
+        alloc: Global,
+        name: &str,
+        tree: &'t Tree<Label>,
+    ) -> Result<Vec<Cut<'t, Label>>, Stopped>
+        requires ready { IsReadyFor transformation self.old (chars name.now) }
+        requires typed { HasType (input_type (items_in self.old) (named_x (chars name.now))) (meant tree.now) }
+        requires kept { is_kept (meant tree.now) ≡ true }
+        ensures ready { (kind : Kind) (other : List ℕ) → IsReadyFor kind self.old other → IsReadyFor kind self.new other }
+        ensures program { IsSameProgram self.old self.new }
+        ensures at { (done : List Outcome) → IsAt self.old done → IsAt self.new done }
+        ensures outputs { IfOk result (λ cuts. AreOutputsOf (items_in self.old) (named_x (chars name.now)) (meant tree.now) (map cut_tree cuts.items)) }
+        ensures stopped { IfErr result (IsTreeStopped (items_in self.old) (chars name.now) (meant tree.now)) }
+    {
+        let around = Around {
+            checked: &self.checked,
+            limit: self.limit,
+        };
+        outputs_of(alloc, &around, &mut self.kept, name, tree)
     }
 }

@@ -1,8 +1,7 @@
 -- The search for an item that isn't built.
-use Rattle.std.proofs.Common.{◌≡◌, ℕ, suc, ◌+◌, ◌<◌, Bool, true, false, cond, List, [], ◌∷◌, Option, Some, None, map, drop, length, get_or, add-one, refl, sym, ap, ◌∙◌, arith}
+use Rattle.std.proofs.Common.{◌≡◌, ℕ, suc, ◌+◌, ◌<◌, Bool, true, cond, List, ◌∷◌, Option, Some, None, map, drop, length, get_or, add-one, sym, ap, ◌∙◌, arith}
 use Rattle.std.proofs.Math.Seq.{drop-cons}
 use Rattle.std.specs.Prelude.{not, find, ◌&&◌}
-use Rattle.std.specs.List.{list_all}
 use Rattle.std.specs.Option.{option_map, option_map_or}
 use Rattle.model_tree.specs.Tree.{node, LabelTree}
 use Rattle.model_tree.specs.Signature.{HasType}

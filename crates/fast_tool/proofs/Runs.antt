@@ -1,7 +1,8 @@
 -- What was appended so far, and what that makes of the report at each end.
-use Rattle.std.proofs.Common.{ℕ, ◌≡◌, ◌<◌, ◌+◌, List, [], ◌∷◌, ◌++◌, Option, Some, None, Bool, true, false, ◌||◌, length, get_or, drop, append_assoc, append-nil, add-one, suc, ap, ◌∙◌, sym, subst, inl, inr, refl, arith}
+use Rattle.std.proofs.Common.{ℕ, ◌≡◌, ◌+◌, List, [], ◌∷◌, ◌++◌, Option, Some, None, Bool, true, false, ◌||◌, length, drop, append_assoc, append-nil, add-one, suc, ap, ◌∙◌, sym, subst, inl, inr, refl}
 use Rattle.std.proofs.Math.Seq.{drop-cons}
 use Rattle.fast_fault.specs.Written.{Appends, AppendsPrefix}
+use Rattle.fast_fault.specs.declared.place.Pos.{Pos}
 use Rattle.fast_fault.specs.declared.status.Status.{Status}
 use Rattle.fast_fault.specs.declared.status.Status.TheVariants.{Hold, Fails, RunRefused, Memory}
 use Rattle.model_grammar.specs.Syntax.{Item}
@@ -13,7 +14,7 @@ use Rattle.model_run.specs.Report.{items_script, IsItemDone, StopsAtItem, Report
 use Rattle.fast_build.specs.Items.{items_of}
 use Rattle.fast_session.specs.declared.session.Session.{Session}
 use Rattle.fast_session.specs.Sessions.{items_in, IsAt, IsItemAt, IsSameProgram}
-use Rattle.fast_tool.specs.Runs.{IsFault, EndsWith, Past, IsDone, IsCutOff, IsEnded, IsStopped}
+use Rattle.fast_tool.specs.Runs.{IsFault, EndsWith, IsRefusal, Past, IsDone, IsCutOff, IsEnded, IsStopped}
 
 pub appends_both : (before middle after : Option (List ℕ)) (xs ys : List ℕ) → Appends before middle xs → Appends middle after ys → Appends before after (xs ++ ys)
 appends_both None middle after xs ys a b = tt
@@ -132,3 +133,11 @@ module _ (file : List ℕ) (items : List Item) (limit : ℕ) where
   fails_some s before now past = (past.written, (record { left = drop (length items) items; done = past.outcomes }, past.written, [], past.come, (drop_all items, past.failed_is, refl), sym (append-nil past.written)), past.appended)
 
 pub ruleset on_runs = (begin, holds, fails_some)
+
+-- an item that is refused
+module _ (file : List ℕ) (s : Session) (done : List Outcome) (Shown : Type 0) (place : Pos) (stop : Stop) (before after : Option (List ℕ)) (status : Status) where
+  pub item_refused : (item : Item) → IsItemAt (items_in s) (length done) item → place ≡ item.place → (Shown → HasCause (items_in s) s.limit (trees_in done) item.body stop) → IsRefusal Shown before after (stop_line stop file place) status
+      → IsStopped file s done before after status
+  item_refused item is at cause (inl none) = inl none
+  item_refused item is at cause (inr (shown, ends)) =
+      inr (inr (record { item = item; is = is; stop = stop; cause = cause shown; ends = subst (λ p. EndsWith before after (stop_line stop file p) RunRefused status) at ends }))

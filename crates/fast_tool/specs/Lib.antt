@@ -1,3 +1,4 @@
 pub mod Commands
 pub mod Runs
 pub mod Taken
+pub mod Answers

@@ -20,6 +20,10 @@ IsFault status = (status ≡ SinkFault) ⊎ (status ≡ Memory)
 abbrev pub EndsWith : Option (List ℕ) → Option (List ℕ) → List ℕ → Status → Status → Type 0
 EndsWith before after line status answer = ((answer ≡ status) × Appends before after line) ⊎ (IsFault answer × AppendsPrefix before after line)
 
+-- nothing was put, for want of memory; or the line of a refusal that can be shown, or a front of it with a fault
+abbrev pub IsRefusal : Type 0 → Option (List ℕ) → Option (List ℕ) → List ℕ → Status → Type 0
+IsRefusal Shown before after line status = ((status ≡ Memory) × (after ≡ before)) ⊎ (Shown × EndsWith before after line RunRefused status)
+
 -- nothing was put, for want of memory; or a front of the line, which can be shown, with a fault
 abbrev pub IsCutShort : Outcome → Option (List ℕ) → Option (List ℕ) → Status → Type 0
 IsCutShort o before after status = ((status ≡ Memory) × (after ≡ before)) ⊎ (IsFault status × HaveScalars o × AppendsPrefix before after (line_of o))

@@ -4,7 +4,7 @@ ghost use Rattle.std.specs.Prelude.{◌≡◌};
 ghost use Rattle.fast_syntax.specs.Plain.{plain_x, plain_claim, plain_def, plain_item};
 ghost use Rattle.fast_syntax.specs.Slices.{plain_children};
 ghost use Rattle.model_names.specs.Kinds.{kind_of};
-ghost use Rattle.model_run.specs.Built.{is_built_one, is_built_two, is_built_language, is_built_tree, are_built_trees, is_language, is_built_claim, is_built_body, is_built, unbuilt_at};
+ghost use Rattle.model_run.specs.Built.{is_built_one, is_built_two, is_built_language, is_built_transformation, is_built_value, is_built_tree, are_built_trees, is_language, is_built_claim, is_built_body, is_built, unbuilt_at};
 ghost use Rattle.program_check.specs.Tells.{IsChecked};
 ghost use Rattle.fast_build.specs.Items.{items_of};
 
@@ -26,8 +26,8 @@ fn is_built_one(op: Op1) -> bool
     ensures { result ≡ is_built_one op }
 {
     match op {
-        Op1::Complement => true,
-        Op1::Minimize | Op1::Domain | Op1::GetWitness => false,
+        Op1::Complement | Op1::Minimize => true,
+        Op1::Domain | Op1::GetWitness => false,
     }
 }
 
@@ -45,6 +45,23 @@ fn is_built_language(x: &X) -> bool
     }
 }
 
+/// Where a transformation is needed.
+fn is_built_transformation(x: &X) -> bool
+    ensures { result ≡ is_built_transformation (plain_x x.now) }
+{
+    matches!(x, X::Named(_))
+}
+
+/// The value of a definition.
+fn is_built_value(own: &DefItem) -> bool
+    ensures { result ≡ is_built_value (plain_def own.now).into (plain_def own.now).value }
+{
+    match own.into {
+        Some(_) => is_built_transformation(&own.value),
+        None => is_built_language(&own.value),
+    }
+}
+
 /// Where a tree is needed.
 #[cycle(trees)]
 fn is_built_tree(x: &X) -> bool
@@ -53,6 +70,7 @@ fn is_built_tree(x: &X) -> bool
     match x {
         X::Named(_) => true,
         X::One(Op1::GetWitness, _, inside) => is_built_language(inside),
+        X::Two(Op2::Apply, _, f, inside) => is_built_transformation(f) && is_built_tree(inside),
         X::One(..) | X::Two(..) => false,
         X::Literal(_, _, xs) => are_built_trees(xs),
     }
@@ -106,11 +124,10 @@ fn is_built(checked: &Checked, item: &Item) -> bool
     ensures { result ≡ is_built (items_of checked.now) (plain_item item.now) }
 {
     match &item.body {
-        Body::Sorts(_) | Body::Lang(_) => true,
+        Body::Sorts(_) | Body::Lang(_) | Body::Trans(_) => true,
         Body::Tree(own) => is_built_tree(&own.value),
-        Body::Def(own) => own.into.is_none() && is_built_language(&own.value),
+        Body::Def(own) => is_built_value(own),
         Body::Assert(own) => is_built_claim(checked, &own.claim),
-        Body::Trans(_) => false,
     }
 }
 

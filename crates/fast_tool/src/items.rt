@@ -27,7 +27,7 @@ fn says_fail(line: &Line) -> bool
     ensures { (items : List plain.Item) → result ≡ says_fail (line_outcome items line.now) }
 {
     match line {
-        Line::Tree { .. } => false,
+        Line::Tree { .. } | Line::Minimal { .. } => false,
         Line::Verdict { passes, .. } => !*passes,
     }
 }
@@ -74,7 +74,10 @@ fn do_next<K: Sink>(
         Ok(Step::Line(line)) => put_outcome(alloc, session.checked(), &line, sink),
         Ok(Step::Silent) => Ok(false),
         Ok(Step::Done) | Err(Halt::Ended(_)) => unreachable!(),
-        Err(Halt::Refused(cause, place)) => Err(refuse_item(alloc, sink, file, place, cause)),
+        Err(Halt::Refused(cause, place)) => {
+            let checked = session.checked();
+            Err(refuse_item(alloc, sink, checked, file, place, &cause))
+        }
         Err(Halt::Memory) => Err(Status::Memory),
     }
 }
@@ -119,9 +122,9 @@ pub fn run_program<K: Sink>(
             let code = Code::NotYet;
             refuse(alloc, sink, file, Refusal { code, place })
         }
-        None => {
-            let mut session = Session::new(alloc, checked, limit);
-            run_items(alloc, file, &mut session, sink)
-        }
+        None => match Session::new(alloc, checked, limit) {
+            Ok(mut session) => run_items(alloc, file, &mut session, sink),
+            Err(Memory) => Status::Memory,
+        },
     }
 }

@@ -3,9 +3,13 @@
 //! Its promise is the clause of `run`: what was written is, with the status, a legal report.
 #![tactic(auto)]
 
+mod answers;
+mod applied;
+mod asked;
 mod built;
 mod items;
 mod lines;
+mod named;
 mod reading;
 mod refusals;
 mod top;
@@ -13,5 +17,13 @@ mod words;
 
 pub use top::run;
 
+#[cfg(test)]
+mod accept_tests;
+#[cfg(test)]
+mod apply_tests;
+#[cfg(test)]
+mod definition_tests;
+#[cfg(test)]
+mod size_tests;
 #[cfg(test)]
 mod tests;

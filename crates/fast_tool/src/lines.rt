@@ -6,7 +6,7 @@ ghost use Rattle.model_tree.specs.Scalars.{has_scalars};
 ghost use Rattle.model_tree.specs.Signature.{HasType};
 ghost use Rattle.model_meaning.specs.Meaning.{signature_named};
 ghost use Rattle.fast_tree.specs.Entries.{label_meaning};
-ghost use Rattle.model_run.specs.Outcomes.{verdict, tree_line, shown_tree, line_of};
+ghost use Rattle.model_run.specs.Outcomes.{verdict, tree_line, minimal_line, shown_tree, line_of};
 ghost use Rattle.program_check.specs.Tells.{IsChecked};
 ghost use Rattle.fast_build.specs.Items.{items_of};
 ghost use Rattle.fast_session.specs.Answers.{verdict_on, line_outcome};
@@ -30,7 +30,7 @@ fn head(alloc: Global, line: u32, passes: bool) -> Result<String, Memory>
 }
 
 /// Appends a space and the text of a tree of the type with this name.
-fn append_tree(
+pub fn append_tree(
     alloc: Global,
     text: &mut Vec<u8>,
     checked: &Checked,
@@ -92,6 +92,16 @@ fn verdict_text(
     Ok(text)
 }
 
+/// The line of the size of a least automaton.
+fn minimal_text(alloc: Global, name: &Text, count: u32) -> Result<Vec<u8>, Memory>
+    ensures text { IfOk result (λ text. text.items ≡ line_of (minimal_line name.now count)) }
+{
+    let mut text = Vec::from_slice(alloc, b"minimal ")?;
+    text.extend_from_slice(name.as_str().as_bytes())?;
+    text.extend_from_slice(format!(in alloc; " {count}\n")?.as_bytes())?;
+    Ok(text)
+}
+
 /// The text of a line.
 pub fn line_text(alloc: Global, checked: &Checked, line: &Line) -> Result<Vec<u8>, Memory>
     requires checked { IsChecked checked.now }
@@ -101,6 +111,7 @@ pub fn line_text(alloc: Global, checked: &Checked, line: &Line) -> Result<Vec<u8
 {
     match line {
         Line::Tree { name, of, tree } => tree_text(alloc, checked, name, of, tree),
+        Line::Minimal { name, count } => minimal_text(alloc, name, *count),
         Line::Verdict {
             line,
             passes,

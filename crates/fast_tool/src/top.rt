@@ -8,6 +8,7 @@ ghost use Rattle.model_run.specs.Words.{CommandForm, check_form, run_form};
 ghost use Rattle.model_run.specs.Lines.{checked_line};
 ghost use Rattle.model_run.specs.Report.{CheckReport, StatusReport, CommandReport, IsReport, Reports, IsDoable, IsDoneOrStopped};
 
+use crate::asked::answer_file;
 use crate::items::run_program;
 use crate::reading::take_checked;
 use crate::refusals::put_last;
@@ -92,6 +93,7 @@ fn obey<T: TextSource, K: Sink>(
         None => put_last(sink, USAGE.as_bytes(), Status::Words),
         Some(Command::Check { file }) => check_file(alloc, file, texts, sink),
         Some(Command::Run { file, limit }) => run_file(alloc, file, limit, texts, sink),
+        Some(Command::Answer(asked)) => answer_file(alloc, asked, texts, sink),
     }
 }
 

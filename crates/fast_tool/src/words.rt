@@ -1,9 +1,27 @@
 //! The words of a command line.
 
-ghost use Rattle.std.specs.Prelude.{◌≡◌, ℕ, [], ◌∷◌, true, false, map, decimal, string_bytes, IfSome, IfNone};
+ghost use Rattle.std.specs.Prelude.{◌≡◌, ℕ, [], ◌∷◌, true, false, map, decimal, codes, string_bytes, IfSome, IfNone};
 ghost use Rattle.model_run.specs.Words.{CommandForm};
 ghost use Rattle.model_run.specs.Report.{IsWords};
-ghost use Rattle.fast_tool.specs.Commands.{command_form, IsLimit};
+ghost use Rattle.fast_tool.specs.Commands.{command_form, verb_asked, IsLimit};
+
+/// What is asked of trees.
+#[derive(Clone, Copy)]
+pub enum Question {
+    /// Whether they are in the language of a name.
+    Inside,
+    /// What the outputs of the transformation of a name are for them.
+    Outputs,
+}
+
+/// What is asked of a file of trees, by a name in a file.
+#[derive(Clone, Copy)]
+pub struct Asked<'w> {
+    pub question: Question,
+    pub file: &'w str,
+    pub name: &'w str,
+    pub trees: &'w str,
+}
 
 /// What the words ask for.
 pub enum Command<'w> {
@@ -11,6 +29,8 @@ pub enum Command<'w> {
     Check { file: &'w str },
     /// Do each item of the file in order. The limit is how many trees may be told apart.
     Run { file: &'w str, limit: Option<u32> },
+    /// Answer for each of the trees.
+    Answer(Asked<'w>),
 }
 
 /// Whether these are the decimal digits of the number.
@@ -63,12 +83,12 @@ fn of_two<'w>(verb: &str, file: &'w str) -> Option<Command<'w>>
     }
 }
 
-/// The command of four words.
-fn of_four<'w>(verb: &str, file: &'w str, option: &str, number: &str) -> Option<Command<'w>>
-    ensures some { IfSome result (λ c. IsWords (verb.now ∷ file.now ∷ option.now ∷ number.now ∷ []) (command_form c)) }
-    ensures none { IfNone result ((form : CommandForm) → ¬ (IsWords (verb.now ∷ file.now ∷ option.now ∷ number.now ∷ []) form)) }
+/// The command of `run` and three words.
+fn of_run<'w>(file: &'w str, option: &str, number: &str) -> Option<Command<'w>>
+    ensures some { IfSome result (λ c. IsWords (codes "run" ∷ file.now ∷ option.now ∷ number.now ∷ []) (command_form c)) }
+    ensures none { IfNone result ((form : CommandForm) → ¬ (IsWords (codes "run" ∷ file.now ∷ option.now ∷ number.now ∷ []) form)) }
 {
-    if file.is_empty() || verb != "run" || option != "--classes" {
+    if file.is_empty() || option != "--classes" {
         return None;
     }
     match limit_of(number) {
@@ -80,6 +100,43 @@ fn of_four<'w>(verb: &str, file: &'w str, option: &str, number: &str) -> Option<
     }
 }
 
+/// The command of `accepts` or `apply` and three words.
+fn of_question<'w>(
+    question: Question,
+    file: &'w str,
+    name: &'w str,
+    trees: &'w str,
+) -> Option<Command<'w>>
+    ensures some { IfSome result (λ c. IsWords (verb_asked question ∷ file.now ∷ name.now ∷ trees.now ∷ []) (command_form c)) }
+    ensures none { IfNone result ((form : CommandForm) → ¬ (IsWords (verb_asked question ∷ file.now ∷ name.now ∷ trees.now ∷ []) form)) }
+{
+    if file.is_empty() || name.is_empty() || trees.is_empty() {
+        return None;
+    }
+    Some(Command::Answer(Asked {
+        question,
+        file,
+        name,
+        trees,
+    }))
+}
+
+/// The command of four words.
+fn of_four<'w>(verb: &str, first: &'w str, second: &'w str, third: &'w str) -> Option<Command<'w>>
+    ensures some { IfSome result (λ c. IsWords (verb.now ∷ first.now ∷ second.now ∷ third.now ∷ []) (command_form c)) }
+    ensures none { IfNone result ((form : CommandForm) → ¬ (IsWords (verb.now ∷ first.now ∷ second.now ∷ third.now ∷ []) form)) }
+{
+    if verb == "run" {
+        of_run(first, second, third)
+    } else if verb == "accepts" {
+        of_question(Question::Inside, first, second, third)
+    } else if verb == "apply" {
+        of_question(Question::Outputs, first, second, third)
+    } else {
+        None
+    }
+}
+
 /// The command that the words are, if they are one.
 pub fn read_words<'w>(words: &'w [String]) -> Option<Command<'w>>
     ensures some { IfSome result (λ c. IsWords (map string_bytes words.now) (command_form c)) }
@@ -87,9 +144,9 @@ pub fn read_words<'w>(words: &'w [String]) -> Option<Command<'w>>
 {
     match words {
         [verb, file] => of_two(verb.as_str(), file.as_str()),
-        [verb, file, option, number] => {
-            let (verb, file) = (verb.as_str(), file.as_str());
-            of_four(verb, file, option.as_str(), number.as_str())
+        [verb, first, second, third] => {
+            let (verb, first) = (verb.as_str(), first.as_str());
+            of_four(verb, first, second.as_str(), third.as_str())
         }
         _ => None,
     }

@@ -19,10 +19,7 @@ impl Known {
     pub fn nothing(alloc: Global, atoms: usize) -> Result<Known, Memory>
         ensures { IfOk result (λ known. known.signs.items ≡ replicate atoms None) }
     {
-        let mut signs = Vec::new(alloc);
-        for _ in 0..atoms {
-            signs.push(None)?;
-        }
+        let signs = vec![in alloc; None; atoms]?;
         Ok(Known { signs })
     }
 

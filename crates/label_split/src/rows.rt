@@ -305,6 +305,25 @@ fn longer_row<T: Theory>(
     row_with(theory, alloc, atoms, last.formulas, signs, &mut row.active)
 }
 
+/// Of the numbers that tell a row from others the fewest: its own, or those of the sample that has its signs.
+fn fewest<V: Drop>(
+    alloc: Global,
+    last: &Sampled<V>,
+    sign: bool,
+    signs: &[bool],
+    own: Vec<usize>,
+) -> Result<Vec<usize>, Memory> {
+    match if sign { &last.on } else { &last.off } {
+        Sample::Nowhere | Sample::Unknown => Ok(own),
+        Sample::At(found) => {
+            if found.active.len() < own.len() && are_same(&found.row.signs, signs) {
+                return Ok(found.active.clone()?);
+            }
+            Ok(own)
+        }
+    }
+}
+
 /// Adds the rows of the formulas that begin with this row of all but the last formula.
 fn extend<T: Theory>(
     theory: &T,
@@ -328,8 +347,9 @@ fn extend<T: Theory>(
     if let Some(other) = longer_row(theory, alloc, atoms, last, &mut row, !holds)? {
         rows.push(other)?;
     }
-    let active = row.active;
+    let own = row.active;
     let kept = with_sign(row.row, holds)?;
+    let active = fewest(alloc, last, holds, &kept.signs, own)?;
     rows.push(Noted { row: kept, active })?;
     Ok(())
 }

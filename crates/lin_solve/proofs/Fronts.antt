@@ -20,7 +20,7 @@ pub step_low : (b : Bool) (n i : ℕ) → n ≤ i → cond b (n + 1) n ≤ i + 1
 step_low true n i h = omega arith
 step_low false n i h = omega arith
 
-count_push : (ls : List (Lit Compare)) (l : Lit Compare) → count_sides (plain_literals (ls ++ l ∷ [])) ≡ cond (needs_side (plain_literal l)) (count_sides (plain_literals ls) + 1) (count_sides (plain_literals ls))
+pub count_push : (ls : List (Lit Compare)) (l : Lit Compare) → count_sides (plain_literals (ls ++ l ∷ [])) ≡ cond (needs_side (plain_literal l)) (count_sides (plain_literals ls) + 1) (count_sides (plain_literals ls))
 count_push [] l = by (needs_side (plain_literal l))
   where
     by : (b : Bool) → cond b (suc 0) 0 ≡ cond b (0 + 1) 0

@@ -1,4 +1,5 @@
 pub mod Guessed
+pub mod Seeking
 pub mod Numbered
 pub mod Filled
 pub mod Pushed

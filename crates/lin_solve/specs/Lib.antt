@@ -6,3 +6,4 @@ pub mod Wholes
 pub mod Equal
 pub mod Kept
 pub mod Meaning
+pub mod Sought

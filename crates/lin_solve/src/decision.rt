@@ -10,6 +10,7 @@ ghost use Rattle.lin_solve.specs.Kept.{AreKept};
 
 use crate::chain::{Chain, Width, chain_of};
 use crate::compare::Compare;
+use crate::found::{Sought, seek};
 use crate::gaps::is_clear_clash;
 use crate::guess::guess;
 use crate::mend::mend;
@@ -102,6 +103,11 @@ pub fn decide(
     }
     if let Some(values) = mend(alloc, literals)? {
         return Ok(Verdict::Sat(values));
+    }
+    match seek(alloc, literals)? {
+        Sought::Values(values) => return Ok(Verdict::Sat(values)),
+        Sought::Never => return Ok(Verdict::Unsat),
+        Sought::Open => {}
     }
     if are_different(literals) && sided_stand_last(literals) {
         return decide_all(alloc, literals);

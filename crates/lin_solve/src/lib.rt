@@ -7,6 +7,7 @@
 mod chain;
 mod compare;
 mod decision;
+mod found;
 mod gaps;
 mod guess;
 mod ints;

@@ -10,7 +10,8 @@ use fast_tree::Tree;
 use flat_label::{BoolAtom, Bools, Never};
 use sta_classes::ClassStop;
 use sta_core::{Lang, StaRule, accepts};
-use sta_ops::{Found, complement, difference, empty, equal, intersect, union};
+use sta_min::{Minimal, minimize};
+use sta_ops::{Found, complement, difference, empty, equal, union};
 use std::alloc::Global;
 use std::test::Fail;
 
@@ -19,14 +20,14 @@ const MANY: u32 = 1000;
 
 /// The constructors by their ranks, and labels of so many truth values.
 #[derive(Drop)]
-pub struct Alphabet {
+pub(crate) struct Alphabet {
     alloc: Global,
     fields: u32,
     ranks: Vec<u32>,
 }
 
 impl Alphabet {
-    pub fn new(alloc: Global, fields: u32, ranks: &[u32]) -> Result<Alphabet, Fail> {
+    pub(crate) fn new(alloc: Global, fields: u32, ranks: &[u32]) -> Result<Alphabet, Fail> {
         let ranks = Vec::from_slice(alloc, ranks)?;
         Ok(Alphabet {
             alloc,
@@ -36,7 +37,7 @@ impl Alphabet {
     }
 
     /// The language of one of the states that have these rules.
-    pub fn lang_of(
+    pub(crate) fn lang_of(
         &self,
         rules: Vec<Vec<StaRule<BoolAtom>>>,
         state: u64,
@@ -55,7 +56,7 @@ impl Alphabet {
     }
 
     /// The language of state 0, where states have these rules.
-    pub fn lang(&self, lines: &[Line<'_, '_>]) -> Result<Lang<BoolAtom>, Fail>
+    pub(crate) fn lang(&self, lines: &[Line<'_, '_>]) -> Result<Lang<BoolAtom>, Fail>
         ensures { IfOk result (IsOver self.now.ranks.items self.now.fields) }
     {
         let mut rules = Vec::new(self.alloc);
@@ -65,7 +66,11 @@ impl Alphabet {
         self.lang_of(rules, 0)
     }
 
-    pub fn union(&self, a: &Lang<BoolAtom>, b: &Lang<BoolAtom>) -> Result<Lang<BoolAtom>, Fail>
+    pub(crate) fn union(
+        &self,
+        a: &Lang<BoolAtom>,
+        b: &Lang<BoolAtom>,
+    ) -> Result<Lang<BoolAtom>, Fail>
         requires first { IsOver self.now.ranks.items self.now.fields a.now }
         requires second { IsOver self.now.ranks.items self.now.fields b.now }
         ensures { IfOk result (IsOver self.now.ranks.items self.now.fields) }
@@ -74,17 +79,8 @@ impl Alphabet {
         Ok(union(&theory, self.alloc, a, b)?)
     }
 
-    pub fn intersect(&self, a: &Lang<BoolAtom>, b: &Lang<BoolAtom>) -> Result<Lang<BoolAtom>, Fail>
-        requires first { IsOver self.now.ranks.items self.now.fields a.now }
-        requires second { IsOver self.now.ranks.items self.now.fields b.now }
-        ensures { IfOk result (IsOver self.now.ranks.items self.now.fields) }
-    {
-        let theory = Bools::new(self.fields);
-        Ok(intersect(&theory, self.alloc, a, b)?)
-    }
-
     /// The complement, where there may be so many classes.
-    pub fn complement_within(
+    pub(crate) fn complement_within(
         &self,
         a: &Lang<BoolAtom>,
         most: u32,
@@ -96,14 +92,18 @@ impl Alphabet {
         complement(&theory, self.alloc, a, most)
     }
 
-    pub fn complement(&self, a: &Lang<BoolAtom>) -> Result<Lang<BoolAtom>, Fail>
+    pub(crate) fn complement(&self, a: &Lang<BoolAtom>) -> Result<Lang<BoolAtom>, Fail>
         requires { IsOver self.now.ranks.items self.now.fields a.now }
         ensures { IfOk result (IsOver self.now.ranks.items self.now.fields) }
     {
         Ok(self.complement_within(a, MANY).ok().ok_or("no complement")?)
     }
 
-    pub fn difference(&self, a: &Lang<BoolAtom>, b: &Lang<BoolAtom>) -> Result<Lang<BoolAtom>, Fail>
+    pub(crate) fn difference(
+        &self,
+        a: &Lang<BoolAtom>,
+        b: &Lang<BoolAtom>,
+    ) -> Result<Lang<BoolAtom>, Fail>
         requires first { IsOver self.now.ranks.items self.now.fields a.now }
         requires second { IsOver self.now.ranks.items self.now.fields b.now }
         ensures { IfOk result (IsOver self.now.ranks.items self.now.fields) }
@@ -116,8 +116,20 @@ impl Alphabet {
         )
     }
 
+    pub(crate) fn minimal(&self, a: &Lang<BoolAtom>) -> Result<Minimal<BoolAtom>, Fail>
+        requires { IsOver self.now.ranks.items self.now.fields a.now }
+        ensures { IfOk result (λ m. IsOver self.now.ranks.items self.now.fields m.lang) }
+    {
+        let theory = Bools::new(self.fields);
+        Ok(
+            minimize(&theory, self.alloc, a, MANY)
+                .ok()
+                .ok_or("no automaton")?,
+        )
+    }
+
     /// What is found of the trees of the language.
-    pub fn member(&self, a: &Lang<BoolAtom>) -> Result<Found<Vec<bool>>, Fail>
+    pub(crate) fn member(&self, a: &Lang<BoolAtom>) -> Result<Found<Vec<bool>>, Fail>
         requires { IsOver self.now.ranks.items self.now.fields a.now }
     {
         let theory = Bools::new(self.fields);
@@ -125,7 +137,11 @@ impl Alphabet {
     }
 
     /// What is found of the trees in exactly one of the languages.
-    pub fn telling(&self, a: &Lang<BoolAtom>, b: &Lang<BoolAtom>) -> Result<Found<Vec<bool>>, Fail>
+    pub(crate) fn telling(
+        &self,
+        a: &Lang<BoolAtom>,
+        b: &Lang<BoolAtom>,
+    ) -> Result<Found<Vec<bool>>, Fail>
         requires first { IsOver self.now.ranks.items self.now.fields a.now }
         requires second { IsOver self.now.ranks.items self.now.fields b.now }
         ensures { IfOk result (Shows (HasFields self.now.fields)) }
@@ -137,19 +153,11 @@ impl Alphabet {
         }
     }
 
-    pub fn accepts(&self, a: &Lang<BoolAtom>, tree: &Tree<Vec<bool>>) -> bool
+    pub(crate) fn accepts(&self, a: &Lang<BoolAtom>, tree: &Tree<Vec<bool>>) -> bool
         requires lang { IsOver self.now.ranks.items self.now.fields a.now }
         requires labels { EveryLabel (HasFields self.now.fields) tree.now }
     {
         let theory = Bools::new(self.fields);
         accepts(&theory, &a.sta, a.state, tree)
-    }
-
-    /// The leaf of constructor 0 whose fields all have the value.
-    pub fn leaf(&self, value: bool) -> Result<Tree<Vec<bool>>, Fail>
-        ensures { IfOk result (EveryLabel (HasFields self.now.fields)) }
-    {
-        let label = vec![in self.alloc; value; self.fields as usize]?;
-        Ok(Tree::new(0, label, Vec::new(self.alloc)))
     }
 }

@@ -8,14 +8,14 @@ use std::alloc::Global;
 
 /// The labels that a rule is for: all, none, or those with a field that is true.
 #[derive(Clone, Copy)]
-pub enum Guard {
+pub(crate) enum Guard {
     Each,
     Never,
     Where(u32),
 }
 
 /// A rule of a state: the state, the constructor, the labels, and what is demanded of each child.
-pub type Line<'a, 'b> = (u64, u32, Guard, &'a [&'b [u64]]);
+pub(crate) type Line<'a, 'b> = (u64, u32, Guard, &'a [&'b [u64]]);
 
 /// The guard as a formula.
 fn formula(guard: Guard) -> Formula<BoolAtom> {
@@ -36,7 +36,7 @@ fn lists(alloc: Global, demands: &[&[u64]]) -> Result<Vec<Vec<u64>>, Memory> {
 }
 
 /// Puts a rule behind those of its state. States between it and those that have rules get none.
-pub fn add_rule(
+pub(crate) fn add_rule(
     alloc: Global,
     line: Line<'_, '_>,
     rules: &mut Vec<Vec<StaRule<BoolAtom>>>,

@@ -57,29 +57,6 @@ fn the_complement_of_a_cycle_is_as_long(rt: HostRuntime) -> Result<(), Fail> {
     Ok(())
 }
 
-/// Of all leaves by one field, and of some node by the other one.
-#[test]
-fn complements_of_unions_and_intersections(rt: HostRuntime) -> Result<(), Fail> {
-    let alphabet = Alphabet::new(rt.alloc(), 2, &[0, 2])?;
-    let leaves = alphabet.lang(&[(0, 0, Where(0), &[]), (0, 1, Each, &[&[0], &[0]])])?;
-    let some = alphabet.lang(&[
-        (0, 0, Where(1), &[]),
-        (0, 1, Where(1), &[&[], &[]]),
-        (0, 1, Each, &[&[0], &[]]),
-        (0, 1, Each, &[&[], &[0]]),
-    ])?;
-    let not_leaves = alphabet.complement(&leaves)?;
-    let not_some = alphabet.complement(&some)?;
-    let neither = alphabet.complement(&alphabet.union(&leaves, &some)?)?;
-    let not_both = alphabet.complement(&alphabet.intersect(&leaves, &some)?)?;
-    let each_not = alphabet.intersect(&not_leaves, &not_some)?;
-    let either_not = alphabet.union(&not_leaves, &not_some)?;
-    assert!(rt; matches!(alphabet.telling(&neither, &each_not)?, Found::Absent));
-    assert!(rt; matches!(alphabet.telling(&not_both, &either_not)?, Found::Absent));
-    assert_eq!(rt; nodes(&alphabet.telling(&neither, &not_both)?), Some(1));
-    Ok(())
-}
-
 /// Where all leaves have the field, some leaf has; a least tree of which some leaf has and not all is of three nodes.
 #[test]
 fn differences_of_all_and_some(rt: HostRuntime) -> Result<(), Fail> {
@@ -107,54 +84,6 @@ fn differences_of_all_and_some(rt: HostRuntime) -> Result<(), Fail> {
     Ok(())
 }
 
-/// No tree is the leaf a and the leaf b, so none is above one that is both.
-#[test]
-fn both_demands_of_one_child(rt: HostRuntime) -> Result<(), Fail> {
-    let alphabet = Alphabet::new(rt.alloc(), 0, &[0, 0, 1])?;
-    let a = alphabet.lang(&[(0, 0, Each, &[])])?;
-    let b = alphabet.lang(&[(0, 1, Each, &[])])?;
-    let above = alphabet.lang(&[
-        (0, 2, Each, &[&[1, 2]]),
-        (1, 0, Each, &[]),
-        (2, 1, Each, &[]),
-    ])?;
-    let both = alphabet.intersect(&a, &b)?;
-    let first = alphabet.difference(&a, &b)?;
-    assert!(rt; matches!(alphabet.telling(&both, &above)?, Found::Absent));
-    match alphabet.telling(&first, &above)? {
-        Found::Shown(tree) => {
-            assert_eq!(rt; tree.nodes_up_to(9), Some(1));
-            assert!(rt; alphabet.accepts(&first, &tree));
-            assert!(rt; !alphabet.accepts(&above, &tree));
-        }
-        _ => panic!(rt; "no tree"),
-    }
-    Ok(())
-}
-
-/// Whether the complement has the leaf whose field is false, and the one whose field is true.
-fn leaves_outside(alphabet: &Alphabet, lang: &Lang<BoolAtom>) -> Result<(bool, bool), Fail>
-    requires { IsOver alphabet.now.ranks.items alphabet.now.fields lang.now }
-{
-    let others = alphabet.complement(lang)?;
-    let of_false = alphabet.accepts(&others, &alphabet.leaf(false)?);
-    let of_true = alphabet.accepts(&others, &alphabet.leaf(true)?);
-    Ok((of_false, of_true))
-}
-
-/// Leaves by their field: of no guard, of one, and of one beside its opposite.
-#[test]
-fn labels_that_no_guard_allows(rt: HostRuntime) -> Result<(), Fail> {
-    let alphabet = Alphabet::new(rt.alloc(), 1, &[0])?;
-    let never = alphabet.lang(&[(0, 0, Never, &[])])?;
-    let set = alphabet.lang(&[(0, 0, Where(0), &[])])?;
-    let both = alphabet.intersect(&set, &alphabet.complement(&set)?)?;
-    assert_eq!(rt; leaves_outside(&alphabet, &never)?, (true, true));
-    assert_eq!(rt; leaves_outside(&alphabet, &set)?, (true, false));
-    assert_eq!(rt; leaves_outside(&alphabet, &both)?, (true, true));
-    Ok(())
-}
-
 /// The full binary tree of so many levels.
 fn full(alloc: Global, alphabet: &Alphabet, levels: u64) -> Result<Lang<BoolAtom>, Fail>
     ensures { IfOk result (IsOver alphabet.now.ranks.items alphabet.now.fields) }
@@ -177,5 +106,28 @@ fn telling_trees_that_are_too_big(rt: HostRuntime) -> Result<(), Fail> {
     let big = full(rt.alloc(), &alphabet, 21)?;
     assert_eq!(rt; nodes(&alphabet.telling(&shown, &none)?), Some(1_048_575));
     assert!(rt; matches!(alphabet.telling(&big, &none)?, Found::TooBig));
+    Ok(())
+}
+
+/// Lists whose length has one of two remainders by 5 have five states, of which two are final.
+#[test]
+fn the_least_automaton_of_two_remainders(rt: HostRuntime) -> Result<(), Fail> {
+    let alphabet = Alphabet::new(rt.alloc(), 0, &[0, 1])?;
+    let multiples = cycle(rt.alloc(), &alphabet, 5)?;
+    let next = alphabet.lang(&[
+        (0, 1, Each, &[&[1]]),
+        (1, 0, Each, &[]),
+        (1, 1, Each, &[&[5]]),
+        (2, 1, Each, &[&[1]]),
+        (3, 1, Each, &[&[2]]),
+        (4, 1, Each, &[&[3]]),
+        (5, 1, Each, &[&[4]]),
+    ])?;
+    let either = alphabet.union(&multiples, &next)?;
+    let least = alphabet.minimal(&either)?;
+    assert_eq!(rt; least.count, 5);
+    assert_eq!(rt; least.lang.sta.states(), 6);
+    assert_eq!(rt; least.finals.len(), 2);
+    assert!(rt; matches!(alphabet.telling(&either, &least.lang)?, Found::Absent));
     Ok(())
 }

@@ -1,17 +1,17 @@
 -- The rules of a constructor that fire, by their numbers.
-use Rattle.std.proofs.Common.{ℕ, zero, suc, Vec, ◌≡◌, ◌<◌, ◌==◌, ◌&&◌, not, Bool, true, false, true≢false, List, [], ◌∷◌, ◌++◌, get_or, length, map, All, refl, sym, ap, ap₂, subst, ◌∙◌, arith, inl, inr, eqb-true, eq-eqb, ◌↔◌}
+use Rattle.std.proofs.Common.{ℕ, zero, suc, Vec, ◌≡◌, ◌<◌, ◌==◌, ◌&&◌, ◌||◌, not, Bool, true, false, true≢false, List, [], ◌∷◌, ◌++◌, get_or, length, map, All, refl, sym, ap, ap₂, subst, ◌∙◌, arith, inl, inr, eqb-true, eq-eqb, ◌↔◌}
 use Rattle.std.specs.List.{list_any, list_all}
 use Rattle.std.proofs.lemmas.Bool.{cases_lt}
 use Rattle.std.proofs.lemmas.List.{get_or_past, get_or-map, length-map}
 use Rattle.model_tree.specs.Label.{Label}
-use Rattle.model_tree.specs.Formula.{Formula, yes, no, atom, negation, all_of, some_of, formula_holds}
+use Rattle.model_tree.specs.Formula.{Formula, yes, no, atom, negation, all_of, some_of, Formulas, no_formulas, formula, formula_holds, all_hold, some_hold}
 use Rattle.model_sta.specs.Automaton.{Rule}
 use Rattle.model_sta.specs.Sets.{Row, has, rows_meet, fires, step}
 use Rattle.model_sta.proofs.Reached.{same_default}
 use Rattle.sta_core.specs.Machine.{plain_rule}
 use Rattle.sta_core.specs.Sta.{rule_meaning}
 use Rattle.sta_core.specs.declared.StaRule.{StaRule}
-use Rattle.sta_classes.specs.Applying.{plain_owned, is_yes, truth_at, AreOwned, IsFired}
+use Rattle.sta_classes.specs.Applying.{plain_owned, is_fixed, are_fixed, truth_at, AreOwned, IsFired}
 use Rattle.sta_classes.specs.Bits.{both}
 use Rattle.sta_classes.specs.Rules.{plain_rules, meaning_of}
 use Rattle.sta_classes.specs.declared.rules.Owned.{Owned}
@@ -50,7 +50,7 @@ element (x ∷ xs) zero low = (x, refl)
 element (x ∷ xs) (suc i) low = element xs i (omega arith)
 
 module _ {A : Type 0} where
-  -- rules without a guard fire wherever their demands are met
+  -- rules whose guards are told apart by no label fire alike
   module _ (w k t u : Owned A → Bool) where
     pub told_apart : (list : List (Owned A)) → ((x : Owned A) → w x ≡ false → t x ≡ u x) → both (both (map w list) (map k list)) (map t list) ≡ both (both (map w list) (map k list)) (map u list) → both (map k list) (map t list) ≡ both (map k list) (map u list)
     told_apart [] h e = refl
@@ -60,19 +60,27 @@ module _ {A : Type 0} where
         one true k t u h e = e
         one false k t u h e = ap (λ z. k && z) (h refl)
 
-  yes_holds : (holds : A → Bool) (f : Formula A) → is_yes f ≡ true → formula_holds holds f ≡ true
-  yes_holds holds yes e = refl
-  yes_holds holds no e = absurd (true≢false (sym e))
-  yes_holds holds (atom a) e = absurd (true≢false (sym e))
-  yes_holds holds (negation f) e = absurd (true≢false (sym e))
-  yes_holds holds (all_of fs) e = absurd (true≢false (sym e))
-  yes_holds holds (some_of fs) e = absurd (true≢false (sym e))
+  module _ (first second : A → Bool) where
+    mutual
+      fixed_holds : (f : Formula A) → is_fixed f ≡ true → formula_holds first f ≡ formula_holds second f
+      fixed_holds yes e = refl
+      fixed_holds no e = refl
+      fixed_holds (atom a) e = absurd (true≢false (sym e))
+      fixed_holds (negation f) e = ap not (fixed_holds f e)
+      fixed_holds (all_of fs) e = all_fixed fs e
+      fixed_holds (some_of fs) e = some_fixed fs e
 
-  -- a guard that is left out holds of all labels
-  pub yes_everywhere : (holds : A → Label → Bool) (l m : Label) (x : Owned A) → not (is_yes (plain_rule x.rule.now).guard) ≡ false → truth_at holds l x ≡ truth_at holds m x
-  yes_everywhere holds l m x e =
-      let is = not_false (is_yes (plain_rule x.rule.now).guard) e in
-      yes_holds (λ a. holds a l) (plain_rule x.rule.now).guard is ∙ sym (yes_holds (λ a. holds a m) (plain_rule x.rule.now).guard is)
+      all_fixed : (fs : Formulas A) → are_fixed fs ≡ true → all_hold first fs ≡ all_hold second fs
+      all_fixed no_formulas e = refl
+      all_fixed (formula f fs) e = let both = both_true (is_fixed f) (are_fixed fs) e in ap₂ (λ a b. a && b) (fixed_holds f both.0) (all_fixed fs both.1)
+
+      some_fixed : (fs : Formulas A) → are_fixed fs ≡ true → some_hold first fs ≡ some_hold second fs
+      some_fixed no_formulas e = refl
+      some_fixed (formula f fs) e = let both = both_true (is_fixed f) (are_fixed fs) e in ap₂ (λ a b. a || b) (fixed_holds f both.0) (some_fixed fs both.1)
+
+  -- a guard without atoms has one truth value at all labels
+  pub same_everywhere : (holds : A → Label → Bool) (l m : Label) (x : Owned A) → not (is_fixed (plain_rule x.rule.now).guard) ≡ false → truth_at holds l x ≡ truth_at holds m x
+  same_everywhere holds l m x e = fixed_holds (λ a. holds a l) (λ a. holds a m) (plain_rule x.rule.now).guard (not_false (is_fixed (plain_rule x.rule.now).guard) e)
 
 module _ {A G : Type 0} (holds : A → Label → Bool) (rules : List (Vec (StaRule A) G)) (c : ℕ) (list : List (Owned A)) (own : AreOwned rules c list) (qs : List Row) (l : Label) where
   -- the demands are met and the guard holds

@@ -28,3 +28,4 @@ pub mod Runs
 pub mod Trees
 pub mod Built
 pub mod Fired
+pub mod Fixed

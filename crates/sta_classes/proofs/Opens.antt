@@ -11,7 +11,7 @@ use Rattle.model_sta.proofs.Least.{numbered_at}
 use Rattle.label_core.specs.Meaning.{Meaning}
 use Rattle.sta_core.specs.Machine.{plain_rule}
 use Rattle.sta_core.specs.declared.StaRule.{StaRule}
-use Rattle.sta_classes.specs.Applying.{is_yes, truth_at, IsRules, IsFired}
+use Rattle.sta_classes.specs.Applying.{is_fixed, truth_at, IsRules, IsFired}
 use Rattle.sta_classes.specs.Bits.{both}
 use Rattle.sta_classes.specs.Rules.{plain_rules, meaning_of}
 use Rattle.sta_classes.specs.Rows.{found_of, founds, class_rows_at, class_counts_at, lists_of}
@@ -26,7 +26,7 @@ use Rattle.sta_classes.specs.declared.rules.Owned.{Owned}
 use Rattle.sta_classes.specs.declared.rules.Rules.{Rules}
 use Rattle.sta_classes.specs.declared.splits.Told.{Told}
 use Rattle.sta_classes.proofs.Rows.{rows_are, counts_are, all_each}
-use Rattle.sta_classes.proofs.Applying.{row_is_step, same_step, told_apart, yes_everywhere}
+use Rattle.sta_classes.proofs.Applying.{row_is_step, same_step, told_apart, same_everywhere}
 use Rattle.sta_classes.proofs.Meet.{both_maps}
 use Rattle.sta_classes.proofs.Listed.{cost_above}
 use Rattle.sta_classes.proofs.Firsts.{listed_low}
@@ -69,7 +69,7 @@ module _ {A V W G : Type 0} {label_of : V → Label} {holds : A → Label → Bo
   one_set l m e =
       same_step holds rules c R.list.items is.owned (class_rows_at found ks) l m
       (sym (both_maps meets (truth_at holds l) R.list.items)
-      ∙ told_apart (λ x. not (is_yes (plain_rule x.rule.now).guard)) meets (truth_at holds l) (truth_at holds m) R.list.items (yes_everywhere holds l m)
+      ∙ told_apart (λ x. not (is_fixed (plain_rule x.rule.now).guard)) meets (truth_at holds l) (truth_at holds m) R.list.items (same_everywhere holds l m)
       (ap₂ (λ g k. both (both g k) (map (truth_at holds l) R.list.items)) (sym is.guarded_are) (sym are.0) ∙ e ∙ ap₂ (λ g k. both (both g k) (map (truth_at holds m) R.list.items)) is.guarded_are are.0)
       ∙ both_maps meets (truth_at holds m) R.list.items)
 

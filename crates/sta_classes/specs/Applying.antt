@@ -1,8 +1,8 @@
 -- The rules of one constructor, numbered, and sets of their numbers.
-use Rattle.std.specs.Prelude.{ℕ, ◌≡◌, ◌<◌, ◌↔◌, Bool, true, false, not, List, [], ◌∷◌, map, get_or, length, Contains, Vec}
+use Rattle.std.specs.Prelude.{ℕ, ◌≡◌, ◌<◌, ◌↔◌, Bool, true, false, not, ◌&&◌, List, [], ◌∷◌, map, get_or, length, Contains, Vec}
 use Rattle.std.specs.List.{list_all}
 use Rattle.model_tree.specs.Label.{Label}
-use Rattle.model_tree.specs.Formula.{Formula, yes, no, atom, negation, all_of, some_of, formula_holds}
+use Rattle.model_tree.specs.Formula.{Formula, yes, no, atom, negation, all_of, some_of, Formulas, no_formulas, formula, formula_holds}
 use Rattle.model_sta.specs.Sets.{Row, has}
 use Rattle.sta_core.specs.Machine.{PlainRule, plain_rule}
 use Rattle.sta_core.specs.declared.StaRule.{StaRule}
@@ -17,14 +17,19 @@ chosen (true ∷ bs) (x ∷ xs) = x ∷ chosen bs xs
 chosen (false ∷ bs) (x ∷ xs) = chosen bs xs
 
 module _ {A : Type 0} where
-  -- a guard that is left out
-  abbrev pub is_yes : Formula A → Bool
-  is_yes yes = true
-  is_yes no = false
-  is_yes (atom a) = false
-  is_yes (negation f) = false
-  is_yes (all_of fs) = false
-  is_yes (some_of fs) = false
+  abbrev mutual
+    -- no atom stands in the formula, so it holds of all labels or of none
+    pub is_fixed : Formula A → Bool
+    is_fixed yes = true
+    is_fixed no = true
+    is_fixed (atom a) = false
+    is_fixed (negation f) = is_fixed f
+    is_fixed (all_of fs) = are_fixed fs
+    is_fixed (some_of fs) = are_fixed fs
+
+    pub are_fixed : Formulas A → Bool
+    are_fixed no_formulas = true
+    are_fixed (formula f fs) = is_fixed f && are_fixed fs
 
   -- a rule and its state
   abbrev pub plain_owned : Owned A → ℕ × PlainRule A
@@ -53,7 +58,7 @@ module _ {A : Type 0} where
   pub record IsRules {G : Type 0} (rules : List (Vec (StaRule A) G)) (c : ℕ) (own : Rules A) : Type 0 where
     pub owned : AreOwned rules c own.list.items
     pub all_are : own.all ≡ map (λ x. true) own.list.items
-    pub guarded_are : own.guarded ≡ map (λ x. not (is_yes (plain_rule x.rule.now).guard)) own.list.items
+    pub guarded_are : own.guarded ≡ map (λ x. not (is_fixed (plain_rule x.rule.now).guard)) own.list.items
 
   -- a rule with one of the numbers is of the state
   abbrev pub IsFired : List (Owned A) → Row → ℕ → Type 0

@@ -7,7 +7,7 @@ ghost use Rattle.model_tree.specs.Formula.{EveryAtom};
 ghost use Rattle.label_core.specs.Formula.{plain_formula};
 ghost use Rattle.label_core.specs.Meaning.{KeepsValue};
 ghost use Rattle.sta_core.specs.Machine.{plain_rule};
-ghost use Rattle.sta_classes.specs.Applying.{plain_owned, is_yes, meets_at, truth_at, chosen, guards_in, IsOwned, AreOwned, IsRules, IsFired};
+ghost use Rattle.sta_classes.specs.Applying.{plain_owned, is_fixed, meets_at, truth_at, chosen, guards_in, IsOwned, AreOwned, IsRules, IsFired};
 ghost use Rattle.sta_classes.specs.Bits.{both};
 ghost use Rattle.sta_classes.specs.declared.rules.Rules.{Rules};
 ghost use Rattle.sta_classes.specs.Grow.{Grown, Some};
@@ -92,21 +92,42 @@ fn all_of<A>(alloc: Global, list: &[Owned<A>]) -> Result<Row, Memory>
     Ok(made)
 }
 
-/// Whether the guard is left out.
-fn is_left_out<A>(guard: &Formula<A>) -> bool
-    ensures { result ≡ is_yes (plain_formula guard.now) }
+/// Whether no atom stands in the formula, so that no label needs to be asked.
+#[cycle(fixed)]
+#[tactic(auto, using(crate::proofs::Fixed::on_fixed))]
+fn is_fixed<A>(formula: &Formula<A>) -> bool
+    ensures { result ≡ is_fixed (plain_formula formula.now) }
 {
-    matches!(guard, Formula::Yes)
+    match formula {
+        Formula::Yes | Formula::No => true,
+        Formula::Atom(_) => false,
+        Formula::Not(inner) => is_fixed(inner),
+        Formula::And(parts) => are_fixed(parts),
+        Formula::Or(parts) => are_fixed(parts),
+    }
 }
 
-/// The numbers of the rules with a guard that isn't left out.
+/// The same of each of the formulas.
+#[cycle(fixed)]
+fn are_fixed<A>(formulas: &[Formula<A>]) -> bool
+    ensures { result ≡ list_all (λ f. is_fixed (plain_formula f)) formulas.now }
+{
+    for formula in formulas {
+        if !is_fixed(formula) {
+            return false;
+        }
+    }
+    true
+}
+
+/// The numbers of the rules with a guard that has atoms.
 fn guarded_of<A>(alloc: Global, list: &[Owned<A>]) -> Result<Row, Memory>
-    ensures { IfOk result (λ made. made ≡ map (λ x. not (is_yes (plain_rule x.rule.now).guard)) list.now) }
+    ensures { IfOk result (λ made. made ≡ map (λ x. not (is_fixed (plain_rule x.rule.now).guard)) list.now) }
 {
     let mut made = Row::new(alloc, list.len())?;
     for i in 0..list.len() {
         let rule = list[i].rule;
-        made.put(i, !is_left_out(&rule.guard));
+        made.put(i, !is_fixed(&rule.guard));
     }
     Ok(made)
 }

@@ -20,7 +20,7 @@ use Rattle.sta_min.specs.Tables.{kind_table, IsSpace, IsPartition}
 use Rattle.sta_min.proofs.Splitting.{of_all, one_long, is_split}
 use Rattle.sta_min.proofs.TableFacts.{facts}
 
-nth : {X : Type 0} (xs : List X) (k : ℕ) → k < length xs → (x : X) × (get_or xs k x ≡ x)
+pub nth : {X : Type 0} (xs : List X) (k : ℕ) → k < length xs → (x : X) × (get_or xs k x ≡ x)
 nth [] k low = absurd (omega arith)
 nth (x ∷ xs) zero low = (x, refl)
 nth (x ∷ xs) (suc k) low = nth xs k (omega arith)

@@ -16,3 +16,9 @@ pub mod Demanding
 pub mod Spaces
 pub mod Targeting
 pub mod Guarding
+pub mod Choosing
+pub mod Writing
+pub mod Owing
+pub mod Heading
+pub mod Ruling
+pub mod Building

@@ -9,3 +9,7 @@ pub mod Nodes
 pub mod Tables
 pub mod Demands
 pub mod Targets
+pub mod Heads
+pub mod Parents
+pub mod Written
+pub mod Least

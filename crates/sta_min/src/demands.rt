@@ -43,6 +43,17 @@ pub fn demands_of(alloc: Global, free: &[bool], blocks: &[u32]) -> Result<Vec<Ve
     Ok(demands)
 }
 
+/// Copies of the demands.
+pub fn copy_demands(alloc: Global, demands: &[Vec<u64>]) -> Result<Vec<Vec<u64>>, Memory>
+    ensures { IfOk result (λ copies. lists_of copies.items ≡ lists_of demands.now) }
+{
+    let mut copies = Vec::new(alloc);
+    for states in demands {
+        copies.push(Vec::from_slice(alloc, states)?)?;
+    }
+    Ok(copies)
+}
+
 /// The first so many numbers.
 fn numbers(alloc: Global, count: u32) -> Result<Vec<u32>, Memory>
     ensures { IfOk result (λ made. (k : ℕ) → Contains made.items k ↔ (k < count)) }

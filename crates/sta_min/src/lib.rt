@@ -1,20 +1,25 @@
 //! The least deterministic and complete automaton of a language, over any label theory.
 //!
-//! Its promise: the count of its states is the greatest number of trees that contexts tell apart pairwise.
+//! Its promise: the automaton has the language, no deterministic and complete one with it has fewer states, and their
+//! count is the greatest number of trees that contexts tell apart pairwise.
 #![tactic(auto)]
 
 mod demands;
 mod dense;
 mod firsts;
+mod heads;
+mod joined;
 mod kinds;
+mod least;
 mod lists;
-mod minimal;
 mod nodes;
+mod parents;
 mod partition;
 mod probes;
 mod rounds;
 mod steps;
 mod targets;
 mod values;
+mod written;
 
-pub use minimal::count;
+pub use least::{Minimal, classes_of, minimize};

@@ -17,6 +17,7 @@ use label_split::{SplitStop, find, split};
 use lin_form::Form;
 use lin_solve::{Compare, Ints, Relation};
 use sta_core::{Sta, StaRule, accepts};
+use sta_marks::{Marks, mark_nodes};
 use std::alloc::Global;
 
 /// Chains of constructor 1 over a leaf of constructor 0 whose field is true.
@@ -67,6 +68,14 @@ fn accepts_chain(alloc: Global, levels: u32, field: bool) -> Result<bool, Memory
     let sta = chains(alloc)?;
     let tree = chain(alloc, levels, field)?;
     Ok(accepts(&theory, &sta, 0, &tree))
+}
+
+/// The marks of such a chain.
+fn marks_of_chain(alloc: Global, levels: u32, field: bool) -> Result<Marks, Memory> {
+    let theory = Bools::new(1);
+    let sta = chains(alloc)?;
+    let tree = chain(alloc, levels, field)?;
+    mark_nodes(&theory, alloc, &sta, &tree)
 }
 
 /// Two fields as two formulas.

@@ -20,6 +20,17 @@ fn a_deep_tree_is_accepted(rt: HostRuntime) -> Result<(), Fail> {
 }
 
 #[test]
+fn each_node_of_a_chain_is_marked(rt: HostRuntime) -> Result<(), Fail> {
+    let alloc = rt.alloc();
+    let marks = marks_of_chain(alloc, 2, true).ok().ok_or("memory")?;
+    assert!(rt; marks.has(0, 0) && marks.has(1, 0) && marks.has(2, 0));
+    assert!(rt; !marks.has(3, 0) && !marks.has(0, 1) && !marks.has(0, 64));
+    let none = marks_of_chain(alloc, 2, false).ok().ok_or("memory")?;
+    assert!(rt; !none.has(0, 0) && !none.has(1, 0) && !none.has(2, 0));
+    Ok(())
+}
+
+#[test]
 fn two_fields_have_four_rows(rt: HostRuntime) -> Result<(), Fail> {
     let alloc = rt.alloc();
     assert!(rt; matches!(rows_of_two_fields(alloc, 4), Ok(4)));

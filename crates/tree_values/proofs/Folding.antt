@@ -13,7 +13,7 @@ use Rattle.fast_syntax.specs.Slices.{plain_children}
 use Rattle.fast_syntax.proofs.Appending.{drop_at}
 use Rattle.fast_eval.specs.Table.{IsGrown, AreBuilt}
 use Rattle.fast_eval.specs.declared.built.Built.{Built}
-use Rattle.fast_eval.proofs.Keeping.{known_grown}
+use Rattle.fast_eval.proofs.Keeping.{known_grown, trans_known_grown}
 use Rattle.tree_values.specs.declared.trees.Trees as table
 use Rattle.tree_values.specs.declared.sizes.Measured.{Measured}
 use Rattle.tree_values.specs.declared.sizes.Below.{Below}
@@ -102,7 +102,7 @@ module _ (items : List Item) (trees : table.Trees) (old new : Built) (grown : Is
     pub tree_known_grown : (x : X) → IsTreeKnown items trees old x → IsTreeKnown items trees new x
     tree_known_grown (named n) known = known
     tree_known_grown (one op place x) known = known_grown items old new grown x known
-    tree_known_grown (two op place x y) known = tt
+    tree_known_grown (two op place f x) known = (trans_known_grown items old new grown f known.0, tree_known_grown x known.1)
     tree_known_grown (literal name labels xs) known = trees_known_grown xs known
 
     pub trees_known_grown : (xs : Xs) → AreTreesKnown items trees old xs → AreTreesKnown items trees new xs

@@ -10,3 +10,4 @@ pub mod Evaluated
 pub mod Programs
 pub mod Outcomes
 pub mod Sided
+pub mod Choices

@@ -2,20 +2,23 @@
 use Rattle.std.proofs.Common.{◌≡◌, ◌⊎◌, inl, inr, ◌&&◌, ℕ, Bool, true, false, not, List, [], ◌∷◌, Contains, refl, sym, subst, ◌∙◌}
 use Rattle.std.proofs.lemmas.List.Elements.{Contains-append_cases}
 use Rattle.model_grammar.specs.declared.Op1.TheVariants.{Complement, Minimize, Domain, GetWitness}
+use Rattle.model_grammar.specs.declared.Op2.TheVariants.{Intersect, Union, Difference, PreImage, Compose, Restrict, RestrictOut, Apply}
 use Rattle.model_grammar.specs.Syntax.{X, named, one, two, literal, Xs, no_x, and_x, member, TreeItem, tree, AssertItem, assertion, Item}
 use Rattle.model_meaning.specs.Meaning.{IsInLanguage}
 use Rattle.model_meaning.specs.Types.{signature_at}
 use Rattle.model_meaning.specs.Values.{Printed}
-use Rattle.model_run.specs.Built.{are_built_trees, is_built_language, is_built_tree}
+use Rattle.model_run.specs.Built.{are_built_trees, is_built_language, is_built_transformation, is_built_tree}
 use Rattle.model_run.specs.Items.{used_in, used_in_all, claimed, claim_has_classes, judged_claim, OfSomeTreeOf, by_expressions, IsComposable}
 use Rattle.model_run.specs.Outcomes.{IsShownWith}
 use Rattle.model_layers.proofs.Sight.{the_only}
 use Rattle.sta_classes.specs.declared.stop.ClassStop.TheVariants.{Classes, Wide, Memory}
 use Rattle.sta_theory.proofs.Lists.{none_in}
 use Rattle.fast_eval.proofs.Outcomes.{forms_compose}
+use Rattle.fast_eval.proofs.Stepping.{trans_form}
+use Rattle.model_meaning.proofs.Members.{one_of}
 use Rattle.tree_values.specs.declared.members.Membership.{Membership}
 use Rattle.tree_values.specs.declared.stops.ValueStop.{ValueStop}
-use Rattle.tree_values.specs.declared.stops.ValueStop.TheVariants.{Stopped, NoTree, TooLarge}
+use Rattle.tree_values.specs.declared.stops.ValueStop.TheVariants.{Stopped, NoTree, TooLarge, LabelRange, Outputs, NoOutput, SeveralOutputs}
 use Rattle.tree_values.specs.Members.{IsMember, IsMemberStop}
 use Rattle.tree_values.specs.Stops.{IsStopBy, IsValueStop, IsCauseOf}
 use Rattle.tree_values.specs.Trees.{meant}
@@ -33,7 +36,19 @@ mutual
   used_are_forms (one Minimize place x) form e at = absurd (cc)
   used_are_forms (one Domain place x) form e at = absurd (cc)
   used_are_forms (one GetWitness place x) form e at = subst (λ y. is_built_language y ≡ true) (the_only x e at) form
-  used_are_forms (two op place x y) form e at = absurd (cc)
+  used_are_forms (two Apply place f x) form e at =
+      let forms = both (is_built_transformation f) (is_built_tree x) form in
+      elim (one_of f e (used_in x) at) [
+        | inl same ↦ subst (λ y. is_built_language y ≡ true) same (trans_form f forms.0)
+        | inr there ↦ used_are_forms x forms.1 e there
+      ]
+  used_are_forms (two Intersect place x y) form e at = absurd (cc)
+  used_are_forms (two Union place x y) form e at = absurd (cc)
+  used_are_forms (two Difference place x y) form e at = absurd (cc)
+  used_are_forms (two PreImage place x y) form e at = absurd (cc)
+  used_are_forms (two Compose place x y) form e at = absurd (cc)
+  used_are_forms (two Restrict place x y) form e at = absurd (cc)
+  used_are_forms (two RestrictOut place x y) form e at = absurd (cc)
   used_are_forms (literal name labels xs) form e at = all_used_are_forms xs form e at
 
   all_used_are_forms : (xs : Xs) → are_built_trees xs ≡ true → (e : X) → Contains (used_in_all xs) e → is_built_language e ≡ true
@@ -68,6 +83,10 @@ module _ (items : List Item) where
     tree_cause t NoTree h = h
     tree_cause t TooLarge (inl h) = inl (inl h)
     tree_cause t TooLarge (inr h) = inr h
+    tree_cause t (LabelRange n) h = h
+    tree_cause t (Outputs load) h = h
+    tree_cause t (NoOutput v) h = h
+    tree_cause t (SeveralOutputs w) h = h
 
     claim_cause : (a : AssertItem) (s : ValueStop) → IsStopBy items printed limit (claim_has_classes a.claim) (judged_claim items a.claim) (λ P. OfSomeTreeOf items P a.claim) s → IsCauseOf items limit printed (assertion a) s
     claim_cause a (Stopped Classes) h = (refl, by_expressions (assertion a) h.0, h.1)
@@ -76,6 +95,10 @@ module _ (items : List Item) where
     claim_cause a NoTree h = h
     claim_cause a TooLarge (inl h) = inl (inl h)
     claim_cause a TooLarge (inr h) = inr h
+    claim_cause a (LabelRange n) h = h
+    claim_cause a (Outputs load) h = h
+    claim_cause a (NoOutput v) h = h
+    claim_cause a (SeveralOutputs w) h = h
 
     pub member_cause : (a : AssertItem) (x y : X) → a.claim ≡ member x y → (s : ValueStop) → IsMemberStop items printed limit x y s → IsCauseOf items limit printed (assertion a) s
     member_cause a x y is s h =

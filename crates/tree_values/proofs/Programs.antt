@@ -1,5 +1,5 @@
 -- What an item of a well-formed program brings to the evaluation of its trees, once the items before it are done.
-use Rattle.model_run.specs.Built.{are_built_trees, is_built_language, is_built_tree}
+use Rattle.model_run.specs.Built.{are_built_trees, is_built_language, is_built_transformation, is_built_tree}
 use Rattle.std.proofs.Common.{◌≡◌, ◌<◌, ◌++◌, ℕ, suc, ℤ, Bool, true, false, ◌&&◌, not, cond, List, [], ◌∷◌, map, length, get_or, Option, Some, None, find, Contains, refl, sym, ap, subst, ◌∙◌, arith}
 use Rattle.std.specs.Prelude.{◌==◌, is_some, pos, negsuc}
 use Rattle.std.proofs.lemmas.Bool.Decides.{nat_tests}
@@ -9,9 +9,10 @@ use Rattle.fast_fault.specs.declared.place.Pos.{Pos}
 use Rattle.model_tree.specs.Signature.{PlainConstructor}
 use Rattle.model_program.specs.Syntax.{Name, CtorItem, TypeItem}
 use Rattle.model_grammar.specs.declared.Op1.TheVariants.{Complement, Minimize, Domain, GetWitness}
+use Rattle.model_grammar.specs.declared.Op2.TheVariants.{Intersect, Union, Difference, PreImage, Compose, Restrict, RestrictOut, Apply}
 use Rattle.model_grammar.specs.Syntax.{Expr, X, named, one, two, literal, Xs, no_x, and_x, member, Body, sorts, TreeItem, tree, lang, trans, def, AssertItem, assertion, Item}
 use Rattle.model_names.specs.Declared.{same_text, find_type, own_name, declares, find_item}
-use Rattle.model_names.specs.Kinds.{language, a_tree, defined_kind, own_kind, own_type, declared_type, kind_of, type_of}
+use Rattle.model_names.specs.Kinds.{language, transformation, a_tree, defined_kind, own_kind, own_type, declared_type, kind_of, type_of, output_of}
 use Rattle.model_meaning.specs.Types.{rank_of, signature_of, signature_at, no_signature, input_of}
 use Rattle.model_meaning.specs.Meaning.{signature_named}
 use Rattle.model_meaning.specs.Outputs.{number_named}
@@ -20,7 +21,7 @@ use Rattle.model_checks.specs.Failures.{is_empty}
 use Rattle.model_checks.specs.Labels.{labels_failures}
 use Rattle.model_checks.specs.Types.{is_rank}
 use Rattle.model_checks.specs.Rules.{differ, find_ctor, constructor_failures, label_count_failures, type_name_failures, fields_of}
-use Rattle.model_checks.specs.Expressions.{is_known_later, nesting_failures, count_xs, type_called, type_as, needs_be, x_failures, xs_failures, whole_failures}
+use Rattle.model_checks.specs.Expressions.{is_known_later, nesting_failures, count_xs, type_called, type_as, needs_be, wanted_second, x_failures, xs_failures, whole_failures}
 use Rattle.model_checks.specs.Programs.{name_again, body_failures, claim_failures}
 use Rattle.model_checks.specs.Sound.{IsSound, StandsIn, IsSoundType}
 use Rattle.model_checks.proofs.Soundness.{empty_first, empty_second, needed, same_from_test, not_false, is_there, found_passes}
@@ -31,13 +32,14 @@ use Rattle.meaning_laws.proofs.Known.{by_known, has_name}
 use Rattle.meaning_laws.proofs.Valued.{not_other}
 use Rattle.sta_theory.proofs.Lists.{first_in, later_in}
 use Rattle.fast_eval.specs.declared.built.Built.{Built}
-use Rattle.fast_eval.specs.Forms.{IsMadeOn, AreKnown}
-use Rattle.fast_eval.proofs.Stepping.{AreDefined, known_of}
+use Rattle.fast_eval.specs.Forms.{IsMadeOn, IsMadeFrom, AreKnown}
+use Rattle.fast_eval.specs.Defined.{AreDefined}
+use Rattle.fast_eval.proofs.Stepping.{known_of, trans_known_of, made_from_form}
 use Rattle.fast_eval.proofs.Typing.{made_of_form}
 use Rattle.tree_values.specs.declared.trees.Trees.{Trees}
 use Rattle.tree_values.specs.Forms.{IsNodeOf, IsTreeOn, AreTreesOn, IsTreeKnown, AreTreesKnown}
 use Rattle.tree_values.specs.Trees.{tree_at, ArePrinted}
-use Rattle.fast_eval.proofs.TypeNames.{type_there}
+use Rattle.fast_eval.proofs.TypeNames.{type_there, types_there}
 use Rattle.tree_values.proofs.Closed.{closed_labels}
 
 both : (a b : Bool) → (a && b) ≡ true → (a ≡ true) × (b ≡ true)
@@ -170,6 +172,41 @@ module _ (items : List Item) (whole : IsSound items) where
       let same = one_type type own.1.0 (type_of items (one GetWitness place x)) given (not_other items whole before a_tree (Some type) (one GetWitness place x) refl be) in
       (inside, made_of_form items whole before (suc around) None x type form inside (own.0, own.1.1 ∙ ap Some (sym same)))
 
+  sound_of : (type : List ℕ) (t : TypeItem) → find_type items type ≡ Some t → IsSoundType t
+  sound_of type t found = let s = (finds items).type type t found in whole.types s.0 t s.1 s.2
+
+  -- a transformation that is applied to a tree
+  record IsApplication (before : List Item) (around : ℕ) (type : List ℕ) (f x : X) : Type 0 where
+    from : List ℕ
+    made : IsMadeFrom items from type f
+    fine : is_empty (x_failures items before (suc around) None f) ≡ true
+    inside : is_empty (x_failures items before (suc around) (Some from) x) ≡ true
+    be : is_empty (needs_be items before (Some from) a_tree x) ≡ true
+
+  applied_on : (before : List Item) (around : ℕ) (type : List ℕ) (place : Pos) (f x : X) → is_built_transformation f ≡ true → is_empty (x_failures items before around (Some type) (two Apply place f x)) ≡ true
+      → is_empty (needs_be items before (Some type) a_tree (two Apply place f x)) ≡ true → IsApplication before around type f x
+  applied_on before around type place f x form fine be =
+      let wanted = wanted_second items before Apply f in
+      let ff = x_failures items before (suc around) None f in
+      let bf = needs_be items before None transformation f in
+      let fx = x_failures items before (suc around) wanted x in
+      let bx = needs_be items before wanted a_tree x in
+      let inner = empty_second (nesting_failures around place) (ff ++ (bf ++ (fx ++ bx))) fine in
+      let fine_f = empty_first ff (bf ++ (fx ++ bx)) inner in
+      let rest = empty_second ff (bf ++ (fx ++ bx)) inner in
+      let last = empty_second bf (fx ++ bx) rest in
+      let own = kind_needed items before transformation None f (kinded items whole before (suc around) None f fine_f) (empty_first bf (fx ++ bx) rest) in
+      let wanted_is : wanted ≡ Some own.1.0 = through transformation (kind_of items f) (type_of items f) own.0 ∙ own.1.2 in
+      let given : type_of items (two Apply place f x) ≡ Some own.1.1 = through transformation (kind_of items f) (output_of items f) own.0 ∙ own.1.3 in
+      let same = one_type type own.1.1 (type_of items (two Apply place f x)) given (not_other items whole before a_tree (Some type) (two Apply place f x) refl be) in
+      record {
+        from = own.1.0;
+        made = made_from_form items whole f own.1.0 type form (own.0, own.1.2, own.1.3 ∙ ap Some (sym same));
+        fine = fine_f;
+        inside = subst (λ o. is_empty (x_failures items before (suc around) o x) ≡ true) wanted_is (empty_first fx bx last);
+        be = subst (λ o. is_empty (needs_be items before o a_tree x) ≡ true) wanted_is (empty_second fx bx last);
+      }
+
   mutual
     -- an expression of a form that can be evaluated, of which a tree of a declared type is expected
     pub tree_on : (before : List Item) (around : ℕ) (type : List ℕ) (t : TypeItem) → find_type items type ≡ Some t → IsSoundType t → (x : X) → is_built_tree x ≡ true
@@ -179,7 +216,18 @@ module _ (items : List Item) (whole : IsSound items) where
     tree_on before around type t found sound (one Minimize place x) form fine be = absurd (cc)
     tree_on before around type t found sound (one Domain place x) form fine be = absurd (cc)
     tree_on before around type t found sound (one GetWitness place x) form fine be = (found_on before around type place x form fine be).1
-    tree_on before around type t found sound (two op place x y) form fine be = absurd (cc)
+    tree_on before around type t found sound (two Apply place f x) form fine be =
+        let forms = both (is_built_transformation f) (is_built_tree x) form in
+        let a = applied_on before around type place f x forms.0 fine be in
+        let d = (types_there items a.from type f a.made).0 in
+        (a.from, a.made, tree_on before (suc around) a.from d.item d.found (sound_of a.from d.item d.found) x forms.1 a.inside a.be)
+    tree_on before around type t found sound (two Intersect place x y) form fine be = absurd (cc)
+    tree_on before around type t found sound (two Union place x y) form fine be = absurd (cc)
+    tree_on before around type t found sound (two Difference place x y) form fine be = absurd (cc)
+    tree_on before around type t found sound (two PreImage place x y) form fine be = absurd (cc)
+    tree_on before around type t found sound (two Compose place x y) form fine be = absurd (cc)
+    tree_on before around type t found sound (two Restrict place x y) form fine be = absurd (cc)
+    tree_on before around type t found sound (two RestrictOut place x y) form fine be = absurd (cc)
     tree_on before around type t found sound (literal name labels xs) form fine be =
         let called : type_called items before (Some type) ≡ Some t = found in
         let all = subst (λ o. is_empty (constructor_failures o name (count_xs xs) ++ (label_count_failures o name (length labels) ++ (labels_failures (Some []) (fields_of o) labels ++ xs_failures items before around (Some type) xs))) ≡ true) called fine in
@@ -199,12 +247,9 @@ module _ (items : List Item) (whole : IsSound items) where
           trees_on before around type t found sound xs forms.1 (empty_second (needs_be items before (Some type) a_tree x) _ behind),
         )
 
-  sound_of : (type : List ℕ) (t : TypeItem) → find_type items type ≡ Some t → IsSoundType t
-  sound_of type t found = let s = (finds items).type type t found in whole.types s.0 t s.1 s.2
-
   -- ---- names
 
-  module _ (b : Built) (trees : Trees) (before from : List Item) (split : items ≡ before ++ from) (defined : AreDefined items whole b before) (printed : ArePrinted trees before) where
+  module _ (b : Built) (trees : Trees) (before from : List Item) (split : items ≡ before ++ from) (defined : AreDefined b before) (printed : ArePrinted trees before) where
     named_known : (around : ℕ) (type : List ℕ) (n : Name) → is_empty (x_failures items before around (Some type) (named n)) ≡ true → is_empty (needs_be items before (Some type) a_tree (named n)) ≡ true → is_some (tree_at trees n.text) ≡ true
     named_known around type n fine be =
         let f = by_known items whole before n (find_item items n.text) refl fine in
@@ -228,7 +273,17 @@ module _ (items : List Item) (whole : IsSound items) where
       tree_known around type (one GetWitness place x) form fine be =
           let made = found_on before around type place x form fine be in
           known_of items whole b before from split defined (suc around) None type x made.0 made.1
-      tree_known around type (two op place x y) form fine be = absurd (cc)
+      tree_known around type (two Apply place f x) form fine be =
+          let forms = both (is_built_transformation f) (is_built_tree x) form in
+          let a = applied_on before around type place f x forms.0 fine be in
+          (trans_known_of items whole b before from split defined (suc around) None a.from type f a.fine a.made, tree_known (suc around) a.from x forms.1 a.inside a.be)
+      tree_known around type (two Intersect place x y) form fine be = absurd (cc)
+      tree_known around type (two Union place x y) form fine be = absurd (cc)
+      tree_known around type (two Difference place x y) form fine be = absurd (cc)
+      tree_known around type (two PreImage place x y) form fine be = absurd (cc)
+      tree_known around type (two Compose place x y) form fine be = absurd (cc)
+      tree_known around type (two Restrict place x y) form fine be = absurd (cc)
+      tree_known around type (two RestrictOut place x y) form fine be = absurd (cc)
       tree_known around type (literal name labels xs) form fine be =
           let o = type_called items before (Some type) in
           let behind = empty_second (constructor_failures o name (count_xs xs)) _ fine in
@@ -267,7 +322,7 @@ module _ (items : List Item) (whole : IsSound items) where
       let h = tree_type item at t is in
       tree_on at.before 0 t.of.text h.type h.found (sound_of t.of.text h.type h.found) t.value form c.inside c.be
 
-  pub tree_is_known : (item : Item) (at : StandsIn items item) (t : TreeItem) → item.body ≡ tree t → is_built_tree t.value ≡ true → (b : Built) (trees : Trees) → AreDefined items whole b at.before → ArePrinted trees at.before → IsTreeKnown items trees b t.value
+  pub tree_is_known : (item : Item) (at : StandsIn items item) (t : TreeItem) → item.body ≡ tree t → is_built_tree t.value ≡ true → (b : Built) (trees : Trees) → AreDefined b at.before → ArePrinted trees at.before → IsTreeKnown items trees b t.value
   tree_is_known item at t is form b trees defined printed =
       let c = checked_tree item at t is in
       tree_known b trees at.before (item ∷ at.behind) at.is defined printed 0 t.of.text t.value form c.inside c.be
@@ -324,7 +379,7 @@ module _ (items : List Item) (whole : IsSound items) where
       record { type = c.type; right = made; left = tree_on at.before 0 c.type d.item d.found (sound_of c.type d.item d.found) x form_x c.value.inside c.value.be }
 
   pub member_known : (item : Item) (at : StandsIn items item) (a : AssertItem) (x y : X) → item.body ≡ assertion a → a.claim ≡ member x y → is_built_tree x ≡ true → is_built_language y ≡ true
-      → (b : Built) (trees : Trees) → AreDefined items whole b at.before → ArePrinted trees at.before → IsTreeKnown items trees b x × AreKnown items b y
+      → (b : Built) (trees : Trees) → AreDefined b at.before → ArePrinted trees at.before → IsTreeKnown items trees b x × AreKnown items b y
   member_known item at a x y is same form_x form_y b trees defined printed =
       let c = checked_member at.before x y (member_fine item at a x y is same) in
       let made = made_of_form items whole at.before 0 None y c.type form_y c.language_inside c.on in (

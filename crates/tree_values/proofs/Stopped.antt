@@ -1,30 +1,56 @@
 -- What stops the evaluation of a part of a tree expression stops that of the whole.
-use Rattle.std.proofs.Common.{◌≡◌, inl, inr, ◌||◌, ◌<◌, ℕ, zero, suc, Bool, true, false, List, [], ◌∷◌, ◌++◌, length, get_or, Contains, refl, subst, arith}
+use Rattle.std.proofs.Common.{◌≡◌, inl, inr, ◌||◌, ◌<◌, ℕ, zero, suc, Bool, true, false, List, [], ◌∷◌, ◌++◌, length, get_or, Contains, refl, sym, subst, arith}
 use Rattle.std.proofs.lemmas.List.Elements.{Contains-append_left, Contains-append_right}
 use Rattle.fast_fault.specs.declared.place.Pos.{Pos}
 use Rattle.model_tree.specs.Tree.{LabelTree, node_count}
-use Rattle.model_tree.specs.Signature.{PlainSignature}
+use Rattle.model_tree.specs.Scalars.{has_scalars}
+use Rattle.model_tree.specs.Signature.{PlainSignature, HasType}
 use Rattle.model_program.specs.Syntax.{Name}
 use Rattle.model_grammar.specs.declared.Op1.TheVariants.{Complement, Minimize, Domain, GetWitness}
 use Rattle.model_grammar.specs.declared.Op2.TheVariants.{Intersect, Union, Difference, PreImage, Compose, Restrict, RestrictOut, Apply}
 use Rattle.model_grammar.specs.Syntax.{Expr, X, named, one, two, literal, Xs, and_x, Item}
 use Rattle.model_meaning.specs.Meaning.{input_type}
 use Rattle.model_meaning.specs.Values.{Printed, IsValue}
-use Rattle.model_run.specs.Items.{used_in, used_in_all, has_classes, some_has_classes, OfSomeTree, OfSomeTreeIn}
+use Rattle.model_run.specs.Items.{used_in, used_in_all, has_classes, some_has_classes, OfSomeTree, OfSomeTreeIn, IsApplied}
+use Rattle.model_run.specs.Causes.{HasFarOutput, HasLoad, HasNoOutput, HasTwoOutputs}
+use Rattle.model_run.specs.Printable.{IsPrintable}
 use Rattle.model_layers.proofs.Wider.{are_among}
+use Rattle.sta_theory.proofs.Lists.{later_in}
 use Rattle.fast_syntax.specs.declared.items.X as code
 use Rattle.fast_syntax.specs.Plain.{plain_x}
 use Rattle.fast_syntax.specs.Slices.{plain_children}
 use Rattle.lin_solve.specs.declared.chain.Chain.{Chain}
 use Rattle.sta_classes.specs.declared.stop.ClassStop.{ClassStop}
 use Rattle.sta_classes.specs.declared.stop.ClassStop.TheVariants.{Classes, Wide, Memory}
+use Rattle.fast_eval.specs.Found.{IsInLimits}
+use Rattle.sttr_apply.specs.Plain.{load_of}
 use Rattle.fast_eval.specs.Stops.{StopsExpression}
 use Rattle.fast_eval.proofs.Claims.{widened, of_expression}
 use Rattle.tree_values.specs.declared.stops.ValueStop.{ValueStop}
-use Rattle.tree_values.specs.declared.stops.ValueStop.TheVariants.{Stopped, NoTree, TooLarge}
+use Rattle.tree_values.specs.declared.stops.ValueStop.TheVariants.{Stopped, NoTree, TooLarge, LabelRange, Outputs, NoOutput, SeveralOutputs}
 use Rattle.tree_values.specs.Members.{IsMemberStop}
-use Rattle.tree_values.specs.Stops.{FindsNothing, FindsLarge, HasLarge, NeedsClasses, IsStopBy, IsValueStop, IsStopIn}
+use Rattle.tree_values.specs.Stops.{FindsNothing, FindsLarge, HasLarge, AppliesToNone, AppliesToTwo, NeedsClasses, IsStopBy, IsStopTyped, IsValueStop, IsStopIn}
+use Rattle.tree_values.specs.Applied.{IsOutputStop}
+use Rattle.tree_values.specs.Trees.{meant}
 use Rattle.tree_values.specs.Values.{IsFindStop}
+
+-- a tree in limits whose texts can be shown can be shown
+printable : (t : LabelTree) → IsInLimits t → has_scalars t ≡ true → IsPrintable t
+printable t limits scalars = record { kept = limits.kept; scalars = scalars; small = limits.small; shallow = limits.shallow }
+
+-- the trees that are shown of an input have their types
+pub output_typed : (items : List Item) (f : X) (t : LabelTree) → HasType (input_type items f) t → (s : ValueStop) → IsOutputStop items f t s → IsStopTyped items s
+output_typed items f t typed (Stopped s) h = tt
+output_typed items f t typed NoTree h = tt
+output_typed items f t typed TooLarge h = tt
+output_typed items f t typed (LabelRange n) h = tt
+output_typed items f t typed (Outputs load) h = tt
+output_typed items f t typed (NoOutput v) h = subst (λ s. HasType s (meant v.tree)) (sym h.1) (subst (HasType (input_type items f)) (sym h.0) typed)
+output_typed items f t typed (SeveralOutputs w) h = (
+  subst (λ s. HasType s (meant w.input.tree)) (sym h.1) (subst (HasType (input_type items f)) (sym h.0) typed),
+  subst (λ s. HasType s (meant w.first)) (sym h.2) h.4,
+  subst (λ s. HasType s (meant w.second)) (sym h.2) h.5,
+)
 
 left_true : (a b : Bool) → a ≡ true → (a || b) ≡ true
 left_true true b e = refl
@@ -48,6 +74,10 @@ module _ (items : List Item) (printed : List Printed) (most : ℕ) where
   goes_up has has_too used used_too Of Of_too to within up NoTree h = up (FindsNothing items) h
   goes_up has has_too used used_too Of Of_too to within up TooLarge (inl h) = inl (up (FindsLarge items) h)
   goes_up has has_too used used_too Of Of_too to within up TooLarge (inr h) = inr (up (HasLarge items printed) h)
+  goes_up has has_too used used_too Of Of_too to within up (LabelRange n) h = up (IsApplied items printed (HasFarOutput items n)) h
+  goes_up has has_too used used_too Of Of_too to within up (Outputs load) h = up (IsApplied items printed (HasLoad items (load_of load))) h
+  goes_up has has_too used used_too Of Of_too to within up (NoOutput t) h = λ shown. up (AppliesToNone items printed t) (h shown)
+  goes_up has has_too used used_too Of Of_too to within up (SeveralOutputs w) h = λ shown. up (AppliesToTwo items printed w) (h shown)
 
   module _ (signature : PlainSignature) where
     -- ---- of literals
@@ -91,6 +121,49 @@ module _ (items : List Item) (printed : List Printed) (most : ℕ) where
     stop_found place x (Stopped s) h = (always s, h)
     stop_found place x NoTree h = h
     stop_found place x TooLarge h = inl h
+    stop_found place x (LabelRange n) h = absurd h
+    stop_found place x (Outputs load) h = absurd h
+    stop_found place x (NoOutput t) h = absurd h
+    stop_found place x (SeveralOutputs w) h = absurd h
+
+    -- ---- of transformations that are applied
+
+    -- of the tree that one is applied to
+    pub stop_inside : (place : Pos) (f x : X) (s : ValueStop) → IsValueStop items printed most (input_type items f) x s → IsValueStop items printed most signature (two Apply place f x) s
+    stop_inside place f x =
+        goes_up (has_classes x) (has_classes f || has_classes x) (used_in x) (f ∷ used_in x) (λ P. OfSomeTree items P (input_type items f) x) (λ P. OfSomeTree items P signature (two Apply place f x))
+        (right_true (has_classes f) (has_classes x)) (λ e at. later_in f e (used_in x) at) (λ P h. inr h)
+
+    -- of its outputs
+    pub stop_output : (place : Pos) (f x : X) (t : LabelTree) → IsValue items printed (input_type items f) x t → IsInLimits t → (s : ValueStop) → IsOutputStop items f t s → IsValueStop items printed most signature (two Apply place f x) s
+    stop_output place f x t is limits (Stopped s) h = subst (λ c. IsValueStop items printed most signature (two Apply place f x) (Stopped c)) (sym h) (tt, tt)
+    stop_output place f x t is limits NoTree h = absurd h
+    stop_output place f x t is limits TooLarge h = absurd h
+    stop_output place f x t is limits (LabelRange n) h = inl (t, is, h)
+    stop_output place f x t is limits (Outputs load) h = inl (t, is, h)
+    stop_output place f x t is limits (NoOutput v) h = λ shown. inl (
+      t,
+      is,
+      (
+        sym h.0,
+        h.1,
+        subst (HasNoOutput items f) (sym h.0) h.2,
+        printable (meant v.tree) (subst IsInLimits (sym h.0) limits) shown,
+      ),
+    )
+    stop_output place f x t is limits (SeveralOutputs w) h = λ shown. inl (
+      t,
+      is,
+      (
+        sym h.0,
+        h.1,
+        h.2,
+        subst (λ s. HasTwoOutputs items f s (meant w.first) (meant w.second)) (sym h.0) h.3,
+        printable (meant w.input.tree) (subst IsInLimits (sym h.0) limits) shown.0,
+        printable (meant w.first) h.6 shown.1,
+        printable (meant w.second) h.7 shown.2,
+      ),
+    )
 
     -- ---- of large values
 

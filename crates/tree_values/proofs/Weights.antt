@@ -9,7 +9,7 @@ abbrev mutual
   pub weight : X → ℕ
   weight (named n) = 1
   weight (one op place x) = 1
-  weight (two op place x y) = 1
+  weight (two op place x y) = suc (weight y)
   weight (literal name labels xs) = suc (weights xs)
 
   pub weights : Xs → ℕ

@@ -2,4 +2,5 @@ pub mod Trees
 pub mod Forms
 pub mod Stops
 pub mod Values
+pub mod Applied
 pub mod Members

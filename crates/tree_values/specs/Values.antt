@@ -106,6 +106,7 @@ abbrev pub IsFindStop : List Item → X → ℕ → ValueStop → Type 0
 IsFindStop items x most (Stopped s) = IsStopOf items (x ∷ []) most s
 IsFindStop items x most NoTree = (t : LabelTree) → ¬ (IsTreeOf items x t)
 IsFindStop items x most TooLarge = AreAllLarge (IsTreeOf items x)
+IsFindStop items x most stop = ⊥
 
 -- the type with this name
 abbrev pub type_in : Given → List ℕ → PlainSignature

@@ -1,10 +1,11 @@
-//! Values of tree expressions: literals, names of trees that were printed, trees of languages; and whether they are in
-//! languages.
+//! Values of tree expressions: literals, names of trees that were printed, trees of languages, outputs of transformations;
+//! and whether they are in languages.
 //!
 //! Its promise: the tree that is given is a value of the expression, it has the type and can be shown; and a stop has a
 //! cause in the expression.
 #![tactic(auto)]
 
+mod applied;
 mod labels;
 mod literals;
 mod members;
@@ -14,6 +15,6 @@ mod trees;
 mod values;
 
 pub use members::{Membership, member};
-pub use stops::ValueStop;
+pub use stops::{TwoOutputs, TypedTree, ValueStop};
 pub use trees::Trees;
 pub use values::{Given, value};

@@ -10,6 +10,7 @@ ghost use Rattle.fast_eval.specs.Found.{IsInLimits};
 ghost use Rattle.fast_eval.specs.Table.{IsGrown, AreBuilt};
 ghost use Rattle.tree_values.specs.Forms.{IsTreeOn, IsTreeKnown};
 ghost use Rattle.tree_values.specs.Members.{IsMember, IsMemberStop};
+ghost use Rattle.tree_values.specs.Stops.{IsStopTyped};
 ghost use Rattle.tree_values.specs.Trees.{meant, Tells};
 ghost use Rattle.tree_values.specs.Values.{items_in, IsGiven};
 
@@ -46,6 +47,7 @@ pub fn member(
     ensures typed { IfOk result (λ m. HasType (input_type (items_in given.now) (plain_x y.now)) (meant m.tree)) }
     ensures limits { IfOk result (λ m. IsInLimits (meant m.tree)) }
     ensures stop { IfErr result (λ s. (printed : List Printed) → Tells given.now.trees.now printed → IsMemberStop (items_in given.now) printed given.now.limit (plain_x x.now) (plain_x y.now) s) }
+    ensures shown { IfErr result (IsStopTyped (items_in given.now)) }
 {
     let Some(of) = type_of(given.checked, y) else {
         unreachable!()

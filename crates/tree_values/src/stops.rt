@@ -1,16 +1,44 @@
 //! Why there is no value.
 
-use fast_fault::Memory;
+use fast_fault::{Memory, Text};
+use fast_tree::{Label, Tree};
 use lin_solve::Chain;
 use sta_classes::ClassStop;
+use sttr_apply::{ApplyStop, Load};
 
-/// Why an expression has no value that can be shown: the search for a tree of a language stopped, a language that is to
-/// have a tree has none, or there are values but too large ones.
+/// A tree of the type with this name.
+#[derive(Drop)]
+pub struct TypedTree {
+    pub of: Text,
+    pub tree: Tree<Label>,
+}
+
+/// A tree, the name of the type of its outputs, and its first two outputs.
+#[derive(Drop)]
+pub struct TwoOutputs {
+    pub input: TypedTree,
+    pub into: Text,
+    pub first: Tree<Label>,
+    pub second: Tree<Label>,
+}
+
+/// Why an expression has no value that can be shown.
 #[derive(Drop)]
 pub enum ValueStop {
+    /// The search for a tree of a language stopped.
     Stopped(ClassStop<Chain>),
+    /// A language that is to have a tree has none.
     NoTree,
+    /// There are values, but too large ones.
     TooLarge,
+    /// An output has this number, outside the label range.
+    LabelRange(i128),
+    /// There are too many or too large outputs.
+    Outputs(Load),
+    /// The tree that a transformation is applied to has no output.
+    NoOutput(TypedTree),
+    /// It has more than one.
+    SeveralOutputs(TwoOutputs),
 }
 
 impl From<Memory> for ValueStop {
@@ -33,5 +61,20 @@ impl From<ClassStop<Chain>> for ValueStop {
 
     fn from(stop: ClassStop<Chain>) -> ValueStop {
         ValueStop::Stopped(stop)
+    }
+}
+
+impl From<ApplyStop> for ValueStop {
+    ghost use Rattle.std.specs.Prelude.{◌≡◌};
+    ghost use Rattle.tree_values.specs.Applied.{stop_of};
+
+    ghost from_gives = { λ s e. e ≡ stop_of s };
+
+    fn from(stop: ApplyStop) -> ValueStop {
+        match stop {
+            ApplyStop::Range(number) => ValueStop::LabelRange(number),
+            ApplyStop::Load(load) => ValueStop::Outputs(load),
+            ApplyStop::Memory => ValueStop::Stopped(ClassStop::Memory),
+        }
     }
 }

@@ -4,21 +4,25 @@ ghost use Rattle.std.specs.Prelude.{◌≡◌, ◌≤◌, ℕ, List, Some, IfOk,
 ghost use Rattle.fast_syntax.specs.Plain.{plain_x};
 ghost use Rattle.fast_syntax.specs.Slices.{plain_children};
 ghost use Rattle.model_tree.specs.Tree.{LabelTree};
-ghost use Rattle.model_tree.specs.Signature.{HasType};
+ghost use Rattle.model_tree.specs.Signature.{PlainSignature, HasType};
+ghost use Rattle.model_grammar.specs.Syntax as plain;
+ghost use Rattle.model_grammar.specs.declared.Op2.TheVariants.{Apply};
+ghost use Rattle.model_meaning.specs.Meaning.{output_type};
 ghost use Rattle.model_meaning.specs.Values.{Printed, IsValue};
-ghost use Rattle.fast_eval.specs.Forms.{AreKnown, IsMadeOn};
+ghost use Rattle.fast_eval.specs.Forms.{AreKnown, IsMadeOn, IsMadeFrom, IsTransKnown};
 ghost use Rattle.fast_eval.specs.Found.{IsInLimits};
 ghost use Rattle.fast_eval.specs.Table.{IsGrown, AreBuilt};
 ghost use Rattle.tree_values.specs.Forms.{IsTreeOn, AreTreesOn, IsTreeKnown, AreTreesKnown};
-ghost use Rattle.tree_values.specs.Stops.{IsValueStop, IsStopIn};
+ghost use Rattle.tree_values.specs.Stops.{IsValueStop, IsStopIn, IsStopTyped};
 ghost use Rattle.tree_values.specs.Trees.{meant, tree_at, Tells};
 ghost use Rattle.tree_values.specs.Values.{items_in, type_in, IsGiven, IsHeld, HasLeast, IsFindStop, HasValue, HaveValues};
 
+use crate::applied::only_output;
 use crate::literals::literal;
 use crate::sizes::{Below, Measured, copied, joined, left, measure, nothing_below};
 use crate::stops::ValueStop;
 use crate::trees::Trees;
-use fast_eval::{Built, witness};
+use fast_eval::{Built, ends_of, witness};
 use fast_fault::{Memory, Text};
 use fast_syntax::items::X;
 use fast_tree::{Label, Tree};
@@ -92,6 +96,7 @@ fn evaluate(
     ensures grown { IsGrown built.old built.new }
     ensures value { IfOk result (λ v. (printed : List Printed) → Tells given.now.trees.now printed → HasValue (items_in given.now) printed (type_in given.now of.now) (plain_x x.now) room v) }
     ensures stop { IfErr result (λ s. (printed : List Printed) → Tells given.now.trees.now printed → IsValueStop (items_in given.now) printed given.now.limit (type_in given.now of.now) (plain_x x.now) s) }
+    ensures shown { IfErr result (IsStopTyped (items_in given.now)) }
 {
     match x {
         X::Named(name) => Ok(named(alloc, given, room, &name.text)?),
@@ -106,8 +111,36 @@ fn evaluate(
             let tree = literal(alloc, given.checked, of, &name.text, labels, below)?;
             Ok(Some(tree))
         }
-        X::Two(..) => unreachable!(),
+        X::Two(_, _, f, inside) => apply(alloc, given, built, room, f, inside),
     }
+}
+
+/// The only output of a value of the expression, if there is room for it.
+#[cycle(evaluate)]
+fn apply(
+    alloc: Global,
+    given: &Given,
+    built: &mut Built,
+    room: u64,
+    f: &X,
+    x: &X,
+) -> Result<Option<Measured>, ValueStop>
+    requires given { IsGiven given.now }
+    requires built { AreBuilt (items_in given.now) built.old }
+    requires made { (from into : List ℕ) × IsMadeFrom (items_in given.now) from into (plain_x f.now) × IsTreeOn (items_in given.now) from (plain_x x.now) }
+    requires known { IsTransKnown (items_in given.now) built.old (plain_x f.now) }
+    requires also_known { IsTreeKnown (items_in given.now) given.now.trees.now built.old (plain_x x.now) }
+    ensures built { AreBuilt (items_in given.now) built.new }
+    ensures grown { IsGrown built.old built.new }
+    ensures value { IfOk result (λ v. (place : _) (signature : PlainSignature) (printed : List Printed) → Tells given.now.trees.now printed → signature ≡ output_type (items_in given.now) (plain_x f.now) → HasValue (items_in given.now) printed signature (plain.two Apply place (plain_x f.now) (plain_x x.now)) room v) }
+    ensures stop { IfErr result (λ s. (place : _) (signature : PlainSignature) (printed : List Printed) → Tells given.now.trees.now printed → IsValueStop (items_in given.now) printed given.now.limit signature (plain.two Apply place (plain_x f.now) (plain_x x.now)) s) }
+    ensures shown { IfErr result (IsStopTyped (items_in given.now)) }
+{
+    let ends = ends_of(given.checked, f);
+    let Some(value) = evaluate(alloc, given, built, ends.from, 1048576, x)? else {
+        return Err(ValueStop::TooLarge);
+    };
+    only_output(alloc, given, built, room, f, value.tree)
 }
 
 /// Values of the expressions below a node, if there is room for all and the node.
@@ -129,6 +162,7 @@ fn evaluate_all(
     ensures grown { IsGrown built.old built.new }
     ensures values { IfOk result (λ b. (printed : List Printed) → Tells given.now.trees.now printed → HaveValues (items_in given.now) printed (type_in given.now of.now) (plain_children xs.now) room b) }
     ensures stop { IfErr result (λ s. (printed : List Printed) → Tells given.now.trees.now printed → IsStopIn (items_in given.now) printed given.now.limit (type_in given.now of.now) (plain_children xs.now) s) }
+    ensures shown { IfErr result (IsStopTyped (items_in given.now)) }
 {
     let mut below = nothing_below(alloc, room);
     'xs: for x in xs {
@@ -156,6 +190,7 @@ pub fn value(
     ensures typed { IfOk result (λ t. HasType (type_in given.now of.now) (meant t)) }
     ensures limits { IfOk result (λ t. IsInLimits (meant t)) }
     ensures stop { IfErr result (λ s. (printed : List Printed) → Tells given.now.trees.now printed → IsValueStop (items_in given.now) printed given.now.limit (type_in given.now of.now) (plain_x x.now) s) }
+    ensures shown { IfErr result (IsStopTyped (items_in given.now)) }
 {
     match evaluate(alloc, given, built, of, 1048576, x)? {
         Some(found) => Ok(found.tree),

@@ -12,21 +12,18 @@ use Rattle.fast_eval.proofs.assertions.find_in.Goals as goal
 pub returns-in_err-build_names-clause-built : goal.returns-in_err-build_names-clause-built
 returns-in_err-build_names-clause-built c = c.build_names.ensures.built c.requires.built
 
-pub scope_of-requires-clause-built : goal.scope_of-requires-clause-built
-scope_of-requires-clause-built c = c.build_names.ensures.built c.requires.built
-
-pub returns-in_err-scope-clause-built : goal.returns-in_err-scope-clause-built
-returns-in_err-scope-clause-built c = c.build_names.ensures.built c.requires.built
+pub scope_of-scope-requires-clause-built : goal.scope_of-scope-requires-clause-built
+scope_of-scope-requires-clause-built c = c.build_names.ensures.built c.requires.built
 
 pub judge_empty-requires : goal.judge_empty-requires
 judge_empty-requires c =
     let k = c.args.checked.now in
     let b = c.build_names.new.built in
     let x = plain_x c.args.x.now in
-    let s = c.in_ok-scope.scope in
-    let is = c.in_ok-scope.ensures.of in
+    let s = c.scope_of-scope.result in
+    let is = c.scope_of-scope.ensures.of in
     record {
-      scope = c.in_ok-scope.ensures.scope;
+      scope = c.scope_of-scope.ensures.scope;
       made = made_there k b c.args.limit x s is c.requires.made.0 c.requires.made.1 x c.requires.made.1;
       named = named_there k b c.args.limit x s is x (c.in_ok-build_names.ensures {u = tt}).named;
     }
@@ -35,16 +32,16 @@ pub returns-clause-found : goal.returns-clause-found
 returns-clause-found c =
     let k = c.args.checked.now in
     let x = plain_x c.args.x.now in
-    let s = c.in_ok-scope.scope in
-    IfOk-weaker c.judge_empty.result (IsFoundOf (items_in s) (plain.empty x)) (IsFoundOf (items_of k) (plain.empty x)) (found_back k c.build_names.new.built c.args.limit x s c.in_ok-scope.ensures.of (plain.empty x)) c.judge_empty.ensures.found
+    let s = c.scope_of-scope.result in
+    IfOk-weaker c.judge_empty.result (IsFoundOf (items_in s) (plain.empty x)) (IsFoundOf (items_of k) (plain.empty x)) (found_back k c.build_names.new.built c.args.limit x s c.scope_of-scope.ensures.of (plain.empty x)) c.judge_empty.ensures.found
 
 pub returns-clause-stop : goal.returns-clause-stop
 returns-clause-stop c =
     let k = c.args.checked.now in
     let x = plain_x c.args.x.now in
-    let s = c.in_ok-scope.scope in
+    let s = c.scope_of-scope.result in
     IfErr-weaker c.judge_empty.result (IsStopOf (items_in s) (judged_claim (items_in s) (plain.empty x)) s.limit) (IsStopOf (items_of k) (judged_claim (items_of k) (plain.empty x)) c.args.limit)
-    (claim_back k c.build_names.new.built c.args.limit x s c.in_ok-scope.ensures.of (plain.empty x)) c.judge_empty.ensures.stop
+    (claim_back k c.build_names.new.built c.args.limit x s c.scope_of-scope.ensures.of (plain.empty x)) c.judge_empty.ensures.stop
 
 pub returns-clause-built : goal.returns-clause-built
 returns-clause-built c = c.build_names.ensures.built c.requires.built

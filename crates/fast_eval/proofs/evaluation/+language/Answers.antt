@@ -1,4 +1,8 @@
 use Rattle.std.proofs.Common.{ap, sym, subst}
+use Rattle.std.proofs.lemmas.Result.{IfOk-weaker}
+use Rattle.fast_fault.specs.declared.place.Pos.{Pos}
+use Rattle.model_grammar.specs.Syntax.{X, one}
+use Rattle.fast_eval.specs.Built.{IsBuiltOf}
 use Rattle.fast_syntax.specs.Plain.{plain_x}
 use Rattle.fast_eval.specs.Forms.{IsMadeOn}
 use Rattle.fast_eval.specs.Scopes.{items_in, type_in, IsOperandOf}
@@ -65,24 +69,13 @@ returns-in_err-of-in-One-clause-stop t c =
     on_err (StopsExpression items (plain_x c.args.x.now) most) c.from_residual-in_err-of-in-One.result c.in_err-of-in-One.field-0.0 c.from_residual-in_err-of-in-One.ensures.1
     (subst (λ z. StopsExpression items z most c.in_err-of-in-One.field-0.0) (sym (ap plain_x c.in-One.is)) (only_stops items most c.in-One.op c.in-One.field-1 (plain_x c.in-One.inside.value) made.0 c.in_err-of-in-One.field-0.0 stop))
 
-pub returns-in_err-negate-in-One-clause-stop : goal.returns-in_err-negate-in-One-clause-stop
-returns-in_err-negate-in-One-clause-stop t c =
-    let items = items_in c.args.scope.now in
-    let type = type_in c.args.scope.now in
-    let most = c.args.scope.now.limit in
-    let b = c.args.scope.now.built.now in
-    let x = plain_x c.in-One.inside.value in
-    let own = subst (λ v. IsOperandOf items (plain_x v) type b c.in_ok-of-in-One.of) c.deref-in-One.ensures c.in_ok-of-in-One.ensures.built in
-    on_err (StopsExpression items (plain_x c.args.x.now) most) c.from_residual-in_err-negate-in-One.result c.in_err-negate-in-One.field-0.0 c.from_residual-in_err-negate-in-One.ensures.1
-    (subst (λ z. StopsExpression items z most c.in_err-negate-in-One.field-0.0) (sym (ap plain_x c.in-One.is))
-    (c.in_err-negate-in-One.ensures.stop c.in-One.field-1 x (operand_built items x type b c.in_ok-of-in-One.of c.lang_of-lang.result.now own c.lang_of-lang.ensures)))
-
-pub returns-in_ok-negate-in-One-clause-built : goal.returns-in_ok-negate-in-One-clause-built
-returns-in_ok-negate-in-One-clause-built t c =
+pub returns-in_ok-of-in-One-clause-built : goal.returns-in_ok-of-in-One-clause-built
+returns-in_ok-of-in-One-clause-built t c =
     let items = items_in c.args.scope.now in
     let type = type_in c.args.scope.now in
     let b = c.args.scope.now.built.now in
     let x = plain_x c.in-One.inside.value in
     let own = subst (λ v. IsOperandOf items (plain_x v) type b c.in_ok-of-in-One.of) c.deref-in-One.ensures c.in_ok-of-in-One.ensures.built in
-    subst (λ z. IsOperandOf items z type b (Made c.in_ok-negate-in-One.field-0)) (sym (ap plain_x c.in-One.is))
-    (made_operand items _ type b c.in_ok-negate-in-One.field-0 (c.in_ok-negate-in-One.ensures.built c.in-One.field-1 x (operand_built items x type b c.in_ok-of-in-One.of c.lang_of-lang.result.now own c.lang_of-lang.ensures)))
+    let lang = operand_built items x type b c.in_ok-of-in-One.of c.lang_of-lang.result.now own c.lang_of-lang.ensures in
+    IfOk-weaker c.changed.result (λ o. (place : Pos) (y : X) → IsBuiltOf items y type c.lang_of-lang.result.now → IsOperandOf items (one c.in-One.op place y) type b o) (IsOperandOf items (plain_x c.args.x.now) type b)
+    (λ o h. subst (λ z. IsOperandOf items z type b o) (sym (ap plain_x c.in-One.is)) (h c.in-One.field-1 x lang)) c.changed.ensures.built

@@ -1,4 +1,4 @@
-use Rattle.std.proofs.Common.{ℕ, sym, subst}
+use Rattle.std.proofs.Common.{sym, subst}
 use Rattle.std.proofs.lemmas.Result.{IfErr-weaker}
 use Rattle.fast_fault.specs.declared.place.Pos.{Pos}
 use Rattle.sta_classes.specs.Meant.{StopsClasses}
@@ -19,34 +19,34 @@ use Rattle.fast_eval.proofs.evaluation.join.Goals as goal
 pub union-requires-clause-first_fit : goal.union-requires-clause-first_fit
 union-requires-clause-first_fit c =
     let s = c.args.scope.now in
-    atoms_fit (items_in s) (type_in s) c.requires.first.0 c.args.a.now c.requires.first.1 s.theory c.requires.scope.labels
+    atoms_fit (items_in s) (type_in s) c.requires.first.0 c.args.a.now c.requires.first.1 s.theory.now c.requires.scope.labels
 
 pub union-requires-clause-second_fit : goal.union-requires-clause-second_fit
 union-requires-clause-second_fit c =
     let s = c.args.scope.now in
-    atoms_fit (items_in s) (type_in s) c.requires.second.0 c.args.b.now c.requires.second.1 s.theory c.requires.scope.labels
+    atoms_fit (items_in s) (type_in s) c.requires.second.0 c.args.b.now c.requires.second.1 s.theory.now c.requires.scope.labels
 
 pub intersect-requires-clause-first_fit : goal.intersect-requires-clause-first_fit
 intersect-requires-clause-first_fit c =
     let s = c.args.scope.now in
-    atoms_fit (items_in s) (type_in s) c.requires.first.0 c.args.a.now c.requires.first.1 s.theory c.requires.scope.labels
+    atoms_fit (items_in s) (type_in s) c.requires.first.0 c.args.a.now c.requires.first.1 s.theory.now c.requires.scope.labels
 
 pub intersect-requires-clause-second_fit : goal.intersect-requires-clause-second_fit
 intersect-requires-clause-second_fit c =
     let s = c.args.scope.now in
-    atoms_fit (items_in s) (type_in s) c.requires.second.0 c.args.b.now c.requires.second.1 s.theory c.requires.scope.labels
+    atoms_fit (items_in s) (type_in s) c.requires.second.0 c.args.b.now c.requires.second.1 s.theory.now c.requires.scope.labels
 
 pub returns-in_ok-union-in-Union-clause-built : goal.returns-in_ok-union-in-Union-clause-built
 returns-in_ok-union-in-Union-clause-built c = λ place x y first second.
     (let s = c.args.scope.now in
     subst (λ op. IsBuiltOf (items_in s) (two op place x y) (type_in s) c.in_ok-union-in-Union.field-0) (sym c.in-Union.is)
-    (union_built (items_in s) (type_in s) s.theory c.requires.scope.labels place x y c.args.a.now c.args.b.now first second c.in_ok-union-in-Union.field-0 c.in_ok-union-in-Union.ensures.language c.in_ok-union-in-Union.ensures.made))
+    (union_built (items_in s) (type_in s) s.theory.now c.requires.scope.labels place x y c.args.a.now c.args.b.now first second c.in_ok-union-in-Union.field-0 c.in_ok-union-in-Union.ensures.language c.in_ok-union-in-Union.ensures.made))
 
 pub returns-in_ok-intersect-in-Intersect-clause-built : goal.returns-in_ok-intersect-in-Intersect-clause-built
 returns-in_ok-intersect-in-Intersect-clause-built c = λ place x y first second.
     (let s = c.args.scope.now in
     subst (λ op. IsBuiltOf (items_in s) (two op place x y) (type_in s) c.in_ok-intersect-in-Intersect.field-0) (sym c.in-Intersect.is)
-    (intersection_built (items_in s) (type_in s) s.theory c.requires.scope.labels place x y c.args.a.now c.args.b.now first second c.in_ok-intersect-in-Intersect.field-0 c.in_ok-intersect-in-Intersect.ensures.language c.in_ok-intersect-in-Intersect.ensures.made))
+    (intersection_built (items_in s) (type_in s) s.theory.now c.requires.scope.labels place x y c.args.a.now c.args.b.now first second c.in_ok-intersect-in-Intersect.field-0 c.in_ok-intersect-in-Intersect.ensures.language c.in_ok-intersect-in-Intersect.ensures.made))
 
 pub difference-requires : goal.difference-requires
 difference-requires c =
@@ -57,8 +57,8 @@ difference-requires c =
       ranks = same_ranks (items_in s) (type_in s) c.requires.first.0 a c.requires.first.1 c.requires.second.0 b c.requires.second.1;
       first = start_low (items_in s) (type_in s) c.requires.first.0 a c.requires.first.1;
       second = start_low (items_in s) (type_in s) c.requires.second.0 b c.requires.second.1;
-      first_fit = atoms_fit (items_in s) (type_in s) c.requires.first.0 a c.requires.first.1 s.theory c.requires.scope.labels;
-      second_fit = atoms_fit (items_in s) (type_in s) c.requires.second.0 b c.requires.second.1 s.theory c.requires.scope.labels;
+      first_fit = atoms_fit (items_in s) (type_in s) c.requires.first.0 a c.requires.first.1 s.theory.now c.requires.scope.labels;
+      second_fit = atoms_fit (items_in s) (type_in s) c.requires.second.0 b c.requires.second.1 s.theory.now c.requires.scope.labels;
     }
 
 pub returns-in-Difference-clause-built : goal.returns-in-Difference-clause-built
@@ -66,9 +66,9 @@ returns-in-Difference-clause-built c =
     let s = c.args.scope.now in
     let a = c.args.a.now in
     let b = c.args.b.now in
-    if_ok_both c.difference.result (HasDifference (row_meaning s.theory) a b) (IsMadeOfBoth (row_meaning s.theory) (RowFits s.theory) a b)
+    if_ok_both c.difference.result (HasDifference (row_meaning s.theory.now) a b) (IsMadeOfBoth (row_meaning s.theory.now) (RowFits s.theory.now) a b)
     (λ d. (place : Pos) (x y : X) → IsBuiltOf (items_in s) x (type_in s) a → IsBuiltOf (items_in s) y (type_in s) b → IsBuiltOf (items_in s) (two c.args.op place x y) (type_in s) d)
-    (λ d has made place x y first second. subst (λ op. IsBuiltOf (items_in s) (two op place x y) (type_in s) d) (sym c.in-Difference.is) (difference_built (items_in s) (type_in s) s.theory c.requires.scope.labels place x y a b first second d has made))
+    (λ d has made place x y first second. subst (λ op. IsBuiltOf (items_in s) (two op place x y) (type_in s) d) (sym c.in-Difference.is) (difference_built (items_in s) (type_in s) s.theory.now c.requires.scope.labels place x y a b first second d has made))
     c.difference.ensures.language c.difference.ensures.made
 
 pub returns-in-Difference-clause-stop : goal.returns-in-Difference-clause-stop
@@ -76,7 +76,7 @@ returns-in-Difference-clause-stop c =
     let s = c.args.scope.now in
     let a = c.args.a.now in
     let b = c.args.b.now in
-    IfErr-weaker c.difference.result (StopsClasses (row_meaning s.theory) b.sta s.limit)
+    IfErr-weaker c.difference.result (StopsClasses (row_meaning s.theory.now) b.sta s.limit)
     (λ st. (place : Pos) (x y : X) → IsBuiltOf (items_in s) x (type_in s) a → IsBuiltOf (items_in s) y (type_in s) b → StopsExpression (items_in s) (two c.args.op place x y) s.limit st)
-    (λ st stop place x y first second. subst (λ op. StopsExpression (items_in s) (two op place x y) s.limit st) (sym c.in-Difference.is) (second_tells (items_in s) s.limit place x y st (stops_one (items_in s) (type_in s) s.theory c.requires.scope.labels y b second s.limit st stop)))
+    (λ st stop place x y first second. subst (λ op. StopsExpression (items_in s) (two op place x y) s.limit st) (sym c.in-Difference.is) (second_tells (items_in s) s.limit place x y st (stops_one (items_in s) (type_in s) s.theory.now c.requires.scope.labels y b second s.limit st stop)))
     c.difference.ensures.stop

@@ -2,7 +2,8 @@ use Rattle.std.proofs.Common.{ap, arith, sym, subst}
 use Rattle.fast_syntax.specs.Plain.{plain_x}
 use Rattle.fast_build.specs.Items.{items_of}
 use Rattle.fast_eval.specs.Forms.{AreKnown, AreNamed}
-use Rattle.fast_eval.proofs.Keeping.{on_ok, named_grown, known_grown}
+use Rattle.fast_eval.proofs.Keeping.{more_twice, named_grown, known_grown}
+use Rattle.fast_eval.proofs.Places.{on_ok}
 use Rattle.fast_eval.proofs.Sizes.{size_of}
 use Rattle.fast_eval.proofs.names.+build_names.Goals as goal
 
@@ -41,3 +42,6 @@ returns-in_ok-build_names-in-Two-clause-named t c =
     on_ok c.build_names-in-Two-2.result
     (λ named. subst (AreNamed new) (sym (ap plain_x c.in-Two.is)) (named_grown mid new c.build_names-in-Two-2.ensures.grown (plain_x c.in-Two.first.value) first, subst (λ v. AreNamed new (plain_x v)) c.deref-in-Two-2.ensures named))
     c.build_names-in-Two-2.ensures.named
+
+pub returns-in_ok-build_names-in-Two-clause-grown : goal.returns-in_ok-build_names-in-Two-clause-grown
+returns-in_ok-build_names-in-Two-clause-grown t c = more_twice c.args.built.now c.build_names-in-Two.new.built c.build_names-in-Two-2.new.built c.build_names-in-Two.ensures.grown c.build_names-in-Two-2.ensures.grown

@@ -20,7 +20,7 @@ empty-requires c =
     let x = plain_x c.args.x.now in
     let l = c.lang_of.result.now in
     let built = operand_built (items_in s) x (type_in s) s.built.now c.in_ok-a.a l c.in_ok-a.ensures.built c.lang_of.ensures in
-    record { fit = atoms_fit (items_in s) (type_in s) x l built s.theory c.requires.scope.labels }
+    record { fit = atoms_fit (items_in s) (type_in s) x l built s.theory.now c.requires.scope.labels }
 
 pub returns-in_err-a-clause-stop : goal.returns-in_err-a-clause-stop
 returns-in_err-a-clause-stop c =
@@ -35,8 +35,8 @@ returns-clause-found c =
     let x = plain_x c.args.x.now in
     let l = c.lang_of.result.now in
     let built = operand_built (items_in s) x (type_in s) s.built.now c.in_ok-a.a l c.in_ok-a.ensures.built c.lang_of.ensures in
-    IfOk-weaker c.empty.result (IsEmptyAnswer (row_meaning s.theory) l.sta l.state s.limit) (IsFoundOf (items_in s) (plain.empty x))
-    (found_empty (items_in s) (type_in s) s.theory c.requires.scope.labels s.limit x l built c.requires.scope.shallow) c.empty.ensures.found
+    IfOk-weaker c.empty.result (IsEmptyAnswer (row_meaning s.theory.now) l.sta l.state s.limit) (IsFoundOf (items_in s) (plain.empty x))
+    (found_empty (items_in s) (type_in s) s.theory.now c.requires.scope.labels s.limit x l built c.requires.scope.shallow) c.empty.ensures.found
 
 pub returns-clause-stop : goal.returns-clause-stop
 returns-clause-stop c =
@@ -44,5 +44,5 @@ returns-clause-stop c =
     let x = plain_x c.args.x.now in
     let l = c.lang_of.result.now in
     let built = operand_built (items_in s) x (type_in s) s.built.now c.in_ok-a.a l c.in_ok-a.ensures.built c.lang_of.ensures in
-    IfErr-weaker c.empty.result (StopsClasses (row_meaning s.theory) l.sta s.limit) (IsStopOf (items_in s) (judged_claim (items_in s) (plain.empty x)) s.limit)
-    (stopped_empty (items_in s) (type_in s) s.theory c.requires.scope.labels s.limit x l built) c.empty.ensures.stop
+    IfErr-weaker c.empty.result (StopsClasses (row_meaning s.theory.now) l.sta s.limit) (IsStopOf (items_in s) (judged_claim (items_in s) (plain.empty x)) s.limit)
+    (stopped_empty (items_in s) (type_in s) s.theory.now c.requires.scope.labels s.limit x l built) c.empty.ensures.stop

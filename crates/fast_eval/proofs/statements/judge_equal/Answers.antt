@@ -27,8 +27,8 @@ equal-requires c =
       ranks = same_ranks (items_in s) (type_in s) x l first y m second;
       first = start_low (items_in s) (type_in s) x l first;
       second = start_low (items_in s) (type_in s) y m second;
-      first_fit = atoms_fit (items_in s) (type_in s) x l first s.theory c.requires.scope.labels;
-      second_fit = atoms_fit (items_in s) (type_in s) y m second s.theory c.requires.scope.labels;
+      first_fit = atoms_fit (items_in s) (type_in s) x l first s.theory.now c.requires.scope.labels;
+      second_fit = atoms_fit (items_in s) (type_in s) y m second s.theory.now c.requires.scope.labels;
     }
 
 pub returns-in_err-a-clause-stop : goal.returns-in_err-a-clause-stop
@@ -56,8 +56,8 @@ returns-clause-found c =
     let m = c.lang_of-b.result.now in
     let first = operand_built (items_in s) x (type_in s) s.built.now c.in_ok-a.a l c.in_ok-a.ensures.built c.lang_of-a.ensures in
     let second = operand_built (items_in s) y (type_in s) s.built.now c.in_ok-b.b m c.in_ok-b.ensures.built c.lang_of-b.ensures in
-    IfOk-weaker c.equal.result (IsEqualAnswer (row_meaning s.theory) l m s.limit) (IsFoundOf (items_in s) (plain.equal x y))
-    (found_equal (items_in s) (type_in s) s.theory c.requires.scope.labels s.limit x l first y m second c.requires.scope.shallow) c.equal.ensures.found
+    IfOk-weaker c.equal.result (IsEqualAnswer (row_meaning s.theory.now) l m s.limit) (IsFoundOf (items_in s) (plain.equal x y))
+    (found_equal (items_in s) (type_in s) s.theory.now c.requires.scope.labels s.limit x l first y m second c.requires.scope.shallow) c.equal.ensures.found
 
 pub returns-clause-stop : goal.returns-clause-stop
 returns-clause-stop c =
@@ -68,5 +68,5 @@ returns-clause-stop c =
     let m = c.lang_of-b.result.now in
     let first = operand_built (items_in s) x (type_in s) s.built.now c.in_ok-a.a l c.in_ok-a.ensures.built c.lang_of-a.ensures in
     let second = operand_built (items_in s) y (type_in s) s.built.now c.in_ok-b.b m c.in_ok-b.ensures.built c.lang_of-b.ensures in
-    IfErr-weaker c.equal.result (StopsEither (row_meaning s.theory) l m s.limit) (IsStopOf (items_in s) (x ∷ y ∷ []) s.limit)
-    (stopped_equal (items_in s) (type_in s) s.theory c.requires.scope.labels s.limit x l first y m second) c.equal.ensures.stop
+    IfErr-weaker c.equal.result (StopsEither (row_meaning s.theory.now) l m s.limit) (IsStopOf (items_in s) (x ∷ y ∷ []) s.limit)
+    (stopped_equal (items_in s) (type_in s) s.theory.now c.requires.scope.labels s.limit x l first y m second) c.equal.ensures.stop

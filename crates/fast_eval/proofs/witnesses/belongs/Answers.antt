@@ -13,21 +13,18 @@ use Rattle.fast_eval.proofs.witnesses.belongs.Goals as goal
 pub returns-in_err-build_names-clause-built : goal.returns-in_err-build_names-clause-built
 returns-in_err-build_names-clause-built c = c.build_names.ensures.built c.requires.built
 
-pub scope_of-requires-clause-built : goal.scope_of-requires-clause-built
-scope_of-requires-clause-built c = c.build_names.ensures.built c.requires.built
-
-pub returns-in_err-scope-clause-built : goal.returns-in_err-scope-clause-built
-returns-in_err-scope-clause-built c = c.build_names.ensures.built c.requires.built
+pub scope_of-scope-requires-clause-built : goal.scope_of-scope-requires-clause-built
+scope_of-scope-requires-clause-built c = c.build_names.ensures.built c.requires.built
 
 pub is_inside-requires : goal.is_inside-requires
 is_inside-requires c =
     let k = c.args.checked.now in
     let b = c.build_names.new.built in
     let y = plain_x c.args.y.now in
-    let s = c.in_ok-scope.scope in
-    let is = c.in_ok-scope.ensures.of in
+    let s = c.scope_of-scope.result in
+    let is = c.scope_of-scope.ensures.of in
     record {
-      scope = c.in_ok-scope.ensures.scope;
+      scope = c.scope_of-scope.ensures.scope;
       made = made_there k b c.args.limit y s is c.requires.made.0 c.requires.made.1 y c.requires.made.1;
       named = named_there k b c.args.limit y s is y (c.in_ok-build_names.ensures {u = tt}).named;
       typed = typed_in k b c.args.limit y s is y (relabel label_meaning c.args.tree.now) c.requires.typed;
@@ -38,17 +35,17 @@ pub returns-clause-inside : goal.returns-clause-inside
 returns-clause-inside c =
     let k = c.args.checked.now in
     let y = plain_x c.args.y.now in
-    let s = c.in_ok-scope.scope in
+    let s = c.scope_of-scope.result in
     let t = relabel label_meaning c.args.tree.now in
     IfOk-weaker c.is_inside.result (λ inside. (inside ≡ true) ↔ IsInLanguage (items_in s) y t) (λ inside. (inside ≡ true) ↔ IsInLanguage (items_of k) y t)
-    (inside_back k c.build_names.new.built c.args.limit y s c.in_ok-scope.ensures.of y t) c.is_inside.ensures.inside
+    (inside_back k c.build_names.new.built c.args.limit y s c.scope_of-scope.ensures.of y t) c.is_inside.ensures.inside
 
 pub returns-clause-stop : goal.returns-clause-stop
 returns-clause-stop c =
     let k = c.args.checked.now in
     let y = plain_x c.args.y.now in
-    let s = c.in_ok-scope.scope in
-    IfErr-weaker c.is_inside.result (StopsExpression (items_in s) y s.limit) (StopsExpression (items_of k) y c.args.limit) (stop_back k c.build_names.new.built c.args.limit y s c.in_ok-scope.ensures.of) c.is_inside.ensures.stop
+    let s = c.scope_of-scope.result in
+    IfErr-weaker c.is_inside.result (StopsExpression (items_in s) y s.limit) (StopsExpression (items_of k) y c.args.limit) (stop_back k c.build_names.new.built c.args.limit y s c.scope_of-scope.ensures.of) c.is_inside.ensures.stop
 
 pub returns-clause-built : goal.returns-clause-built
 returns-clause-built c = c.build_names.ensures.built c.requires.built

@@ -11,21 +11,18 @@ use Rattle.fast_eval.proofs.witnesses.witness.Goals as goal
 pub returns-in_err-build_names-clause-built : goal.returns-in_err-build_names-clause-built
 returns-in_err-build_names-clause-built c = c.build_names.ensures.built c.requires.built
 
-pub scope_of-requires-clause-built : goal.scope_of-requires-clause-built
-scope_of-requires-clause-built c = c.build_names.ensures.built c.requires.built
-
-pub returns-in_err-scope-clause-built : goal.returns-in_err-scope-clause-built
-returns-in_err-scope-clause-built c = c.build_names.ensures.built c.requires.built
+pub scope_of-scope-requires-clause-built : goal.scope_of-scope-requires-clause-built
+scope_of-scope-requires-clause-built c = c.build_names.ensures.built c.requires.built
 
 pub least-requires : goal.least-requires
 least-requires c =
     let k = c.args.checked.now in
     let b = c.build_names.new.built in
     let x = plain_x c.args.x.now in
-    let s = c.in_ok-scope.scope in
-    let is = c.in_ok-scope.ensures.of in
+    let s = c.scope_of-scope.result in
+    let is = c.scope_of-scope.ensures.of in
     record {
-      scope = c.in_ok-scope.ensures.scope;
+      scope = c.scope_of-scope.ensures.scope;
       made = made_there k b c.args.limit x s is c.requires.made.0 c.requires.made.1 x c.requires.made.1;
       named = named_there k b c.args.limit x s is x (c.in_ok-build_names.ensures {u = tt}).named;
     }
@@ -34,16 +31,16 @@ pub returns-clause-found : goal.returns-clause-found
 returns-clause-found c =
     let k = c.args.checked.now in
     let x = plain_x c.args.x.now in
-    let s = c.in_ok-scope.scope in
-    IfOk-weaker c.least.result (IsWitnessOf (items_in s) x) (IsWitnessOf (items_of k) x) (witness_back k c.build_names.new.built c.args.limit x s c.in_ok-scope.ensures.of x) c.least.ensures.found
+    let s = c.scope_of-scope.result in
+    IfOk-weaker c.least.result (IsWitnessOf (items_in s) x) (IsWitnessOf (items_of k) x) (witness_back k c.build_names.new.built c.args.limit x s c.scope_of-scope.ensures.of x) c.least.ensures.found
 
 pub returns-clause-stop : goal.returns-clause-stop
 returns-clause-stop c =
     let k = c.args.checked.now in
     let x = plain_x c.args.x.now in
-    let s = c.in_ok-scope.scope in
+    let s = c.scope_of-scope.result in
     IfErr-weaker c.least.result (IsStopOf (items_in s) (x ∷ []) s.limit) (IsStopOf (items_of k) (x ∷ []) c.args.limit)
-    (one_back k c.build_names.new.built c.args.limit x s c.in_ok-scope.ensures.of x) c.least.ensures.stop
+    (one_back k c.build_names.new.built c.args.limit x s c.scope_of-scope.ensures.of x) c.least.ensures.stop
 
 pub returns-clause-built : goal.returns-clause-built
 returns-clause-built c = c.build_names.ensures.built c.requires.built

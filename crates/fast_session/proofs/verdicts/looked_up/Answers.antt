@@ -19,4 +19,4 @@ returns-in-Err-clause-stopped c =
     let items = items_in c.args.around.now in
     let limit = c.args.around.now.limit in
     subst (IsStoppedAt items limit (plain_item c.args.item.now) c.args.kept.now) (sym c.unvalued.ensures)
-    (member_stops _ _ _ c.requires.ready _ c.requires.is (plain_x c.in-Member.x) (plain_x c.in-Member.y) (ap plain_claim c.in-Member.is) _ (λ done told. c.in-Err.ensures.stop _ told))
+    (member_stops _ _ _ c.requires.ready _ c.requires.is (plain_x c.in-Member.x) (plain_x c.in-Member.y) (ap plain_claim c.in-Member.is) _ (λ done told. c.in-Err.ensures.stop _ told) c.in-Err.ensures.shown)

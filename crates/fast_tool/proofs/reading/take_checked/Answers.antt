@@ -1,20 +1,18 @@
-use Rattle.std.proofs.Common.{rules, Err, subst}
-use Rattle.fast_fault.specs.declared.code.Code.TheVariants.{TooLong}
+use Rattle.std.proofs.Common.{Err, subst}
 use Rattle.program_check.specs.declared.programs.Checked.{Checked}
-use Rattle.text_reader.specs.declared.texts.ReadStop.{ReadStop}
-use Rattle.text_reader.specs.Answers.{IfRefused}
-use Rattle.model_refusals.specs.Refusals.{start}
 use Rattle.model_run.specs.Texts.{IsRefused}
-use Rattle.fast_tool.proofs.Texts.{longer_refused, given_refused, refused_text}
+use Rattle.text_reader.specs.Answers.{IfRefused}
+use Rattle.fast_tool.specs.Taken.{IsToldOf}
+use Rattle.fast_tool.proofs.Texts.{not_taken, unread, too_long_program}
 use Rattle.fast_tool.proofs.reading.take_checked.Goals as goal
 
-pub returns-in-Err-Longer-clause-report : goal.returns-in-Err-Longer-clause-report
-returns-in-Err-Longer-clause-report g c = refused_text c.args.file.now _ TooLong start _ _ _ (longer_refused _ (search rules)) c.refuse.ensures.ends
+pub returns-in-Err-clause-report : goal.returns-in-Err-clause-report
+returns-in-Err-clause-report g c = not_taken IsRefused too_long_program c.args.file.now (g.T.TextSource.held c.args.texts.now c.args.file.now) c.in-Err.status _ _ c.in-Err.ensures.refused
 
-pub returns-in-Err-Refused-clause-report : goal.returns-in-Err-Refused-clause-report
-returns-in-Err-Refused-clause-report g c =
-    let code = c.in-Err-Refused.refusal.code in
-    let place = c.in-Err-Refused.refusal.place in
-    let told = subst (λ (e : ReadStop). IfRefused {T = Checked} (Err e) (λ r. IsRefused c.deref.result.now r.code r.place)) c.in-Err-Refused.field-0-is c.in-Err-Refused.ensures.refused in
-    let refused = subst (λ b. IsRefused b code place) c.deref.ensures.value told in
-    refused_text c.args.file.now _ code place _ _ _ (given_refused _ c.in-Ok.bytes.items code place c.in-Ok.ensures.given refused) c.refuse-in-Err-Refused.ensures.ends
+pub returns-clause-report : goal.returns-clause-report
+returns-clause-report g c =
+    let stop = c.in-Err-read_checked.stop in
+    let Refuses = IsRefused in
+    let refused = subst (λ b. IfRefused {T = Checked} (Err stop) (λ r. Refuses b r.code r.place)) c.deref.ensures.value c.in-Err-read_checked.ensures.refused in
+    let told = subst (λ k. IsToldOf c.args.file.now stop (g.K.Sink.written k) (g.K.Sink.written c.tell_unread.new.sink) c.tell_unread.result) c.in-Ok.ensures.untouched c.tell_unread.ensures.told in
+    unread Refuses Checked c.args.file.now (g.T.TextSource.held c.args.texts.now c.args.file.now) c.in-Ok.bytes.items stop c.tell_unread.result _ _ c.in-Ok.ensures.given refused told

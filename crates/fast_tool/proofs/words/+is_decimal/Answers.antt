@@ -1,4 +1,4 @@
-use Rattle.std.proofs.Common.{◌≡◌, true, sym, ◌∙◌, arith}
+use Rattle.std.proofs.Common.{arith}
 use Rattle.std.proofs.lemmas.Bool.Decides.{nat_tests}
 use Rattle.fast_tool.proofs.Numerals.{other_digit, one_digit, other_front, none_by_length}
 use Rattle.fast_tool.proofs.words.+is_decimal.Goals as goal

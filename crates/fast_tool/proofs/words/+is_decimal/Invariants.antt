@@ -1,4 +1,3 @@
-use Rattle.std.proofs.Common.{ℕ}
 use Rattle.fast_tool.proofs.words.+is_decimal.Given as goal
 
 abbrev pub decreases-is_decimal : goal.decreases-is_decimal

@@ -1,21 +1,27 @@
-use Rattle.std.proofs.Common.{◌≤◌, List, map, Some, None, sym, ap, subst, ◌∙◌, arith}
-use Rattle.std.proofs.lemmas.Result.{IfOk-weaker}
-use Rattle.model_grammar.specs.Syntax.{one}
-use Rattle.model_meaning.specs.Values.{Printed}
+use Rattle.std.proofs.Common.{◌≡◌, ◌≤◌, List, map, Some, None, sym, ap, subst, ◌∙◌, arith}
+use Rattle.std.proofs.lemmas.Result.{IfOk-weaker, IfErr-weaker}
+use Rattle.fast_fault.specs.declared.place.Pos.{Pos}
+use Rattle.model_tree.specs.Signature.{PlainSignature, HasType}
+use Rattle.model_grammar.specs.declared.Op2.TheVariants.{Apply}
+use Rattle.model_meaning.specs.Meaning.{input_type, output_type}
+use Rattle.model_grammar.specs.Syntax.{one, two}
+use Rattle.model_meaning.specs.Values.{Printed, IsValue}
 use Rattle.fast_syntax.specs.View.{plain_name}
 use Rattle.fast_syntax.specs.Plain.{plain_expr, plain_x}
 use Rattle.fast_syntax.specs.Slices.{plain_children}
 use Rattle.fast_syntax.proofs.Rows.{plain_literal}
-use Rattle.fast_eval.specs.Forms.{IsMadeOn}
-use Rattle.fast_eval.proofs.Keeping.{on_err}
+use Rattle.fast_eval.specs.Forms.{IsMadeOn, IsMadeFrom, IsTransKnown}
+use Rattle.fast_eval.proofs.Keeping.{on_err, more_twice, trans_known_grown}
 use Rattle.tree_values.specs.declared.stops.ValueStop.TheVariants.{TooLarge}
 use Rattle.tree_values.specs.Forms.{IsTreeOn, AreTreesOn, IsTreeKnown, AreTreesKnown}
-use Rattle.tree_values.specs.Stops.{IsValueStop, IsStopIn}
-use Rattle.tree_values.specs.Trees.{Tells}
+use Rattle.tree_values.specs.Stops.{IsValueStop, IsStopIn, IsStopTyped}
+use Rattle.tree_values.specs.Applied.{HasOutput, IsOutputStop}
+use Rattle.tree_values.specs.Trees.{meant, Tells}
 use Rattle.tree_values.specs.Values.{items_in, type_in, IsAbove, HasLeast, HasValue, HaveValues}
-use Rattle.tree_values.proofs.Evaluated.{only_find, named_value, found_value, no_literal, made_literal, deep_literal}
+use Rattle.tree_values.proofs.Choices.{applied_value, input_is, only_apply}
+use Rattle.tree_values.proofs.Evaluated.{value_is, value_typed, value_in_limits, only_find, named_value, found_value, no_literal, made_literal, deep_literal}
 use Rattle.tree_values.proofs.Folding.{on_at, known_at, trees_known_grown, below_bounds, below_room, left_low, value_bounds, so_far_step, so_far_end}
-use Rattle.tree_values.proofs.Stopped.{stop_literal, stop_at}
+use Rattle.tree_values.proofs.Stopped.{stop_literal, stop_at, stop_inside, stop_output, stop_large, output_typed}
 use Rattle.tree_values.proofs.Weights.{weight, weights, weight_at}
 use Rattle.tree_values.proofs.values.+evaluate.Goals as goal
 
@@ -168,7 +174,7 @@ evaluate_all-xs-preserved t c =
     let x = c.x-item.result in
     record {
       built = c.evaluate.ensures.built;
-      grown = λ name had. c.evaluate.ensures.grown name (c.xs.invariant.grown name had);
+      grown = more_twice c.args.built.now c.xs.built c.evaluate.new.built c.xs.invariant.grown c.evaluate.ensures.grown;
       values = λ printed told.
           so_far_step items printed signature xs c.xs.x-index x (plain_children xs) c.args.room c.xs.below c.in_ok-value.value c.in_ok-below.below c.xs-test.true c.x-item.is (c.xs.invariant.values printed told)
           (subst (λ n. HasValue items printed signature (plain_x x) n c.in_ok-value.value) c.left.ensures (c.in_ok-value.ensures.value printed told)) c.in_ok-below.ensures;
@@ -179,3 +185,149 @@ evaluate_all-returns-clause-values t c = λ printed told.
     (let g = c.args.given.now in
     let xs = c.args.xs.now in
     so_far_end (items_in g) printed (type_in g c.args.of.now) xs c.xs.x-index (plain_children xs) c.args.room c.xs.below c.xs-test.false (c.xs.invariant.values printed told))
+
+-- ---- a transformation that is applied
+
+pub evaluate-apply-requires : goal.evaluate-apply-requires
+evaluate-apply-requires t c =
+    let items = items_in c.args.given.now in
+    let of = c.args.of.now in
+    let trees = c.args.given.now.trees.now in
+    let b = c.args.built.now in
+    let is = ap plain_x c.in-Two.is in
+    let f = c.in-Two.f.value in
+    let x = c.in-Two.inside.value in
+    let on = (only_apply items of c.in-Two.field-0 c.in-Two.field-1 (plain_x f) (plain_x x) (subst (IsTreeOn items of) is c.requires.made)).1 in
+    let known = subst (IsTreeKnown items trees b) is c.requires.known in
+    let first = sym c.deref-in-Two.ensures in
+    let second = sym c.deref-in-Two-2.ensures in
+    let whole = ap weight is in
+    let inside = ap (λ v. weight (plain_x v)) c.deref-in-Two-2.ensures in (
+      omega (arith, whole, inside, c.decreases),
+      (
+        c.requires.given,
+        (
+          c.requires.built,
+          (
+            (on.0, of, subst (λ v. IsMadeFrom items on.0 of (plain_x v)) first on.1, subst (λ v. IsTreeOn items on.0 (plain_x v)) second on.2),
+            (subst (λ v. IsTransKnown items b (plain_x v)) first known.0, subst (λ v. IsTreeKnown items trees b (plain_x v)) second known.1),
+          ),
+        ),
+      ),
+    )
+
+pub apply-evaluate-requires : goal.apply-evaluate-requires
+apply-evaluate-requires t c =
+    let items = items_in c.args.given.now in
+    let made = c.requires.made in
+    let ends = c.ends_of-ends.ensures made.0 made.1 made.2 in
+    (omega (arith, c.decreases), (c.requires.given, (c.requires.built, (subst (λ n. IsTreeOn items n (plain_x c.args.x.now)) (sym ends.input) made.3, (c.requires.also_known, omega arith)))))
+
+pub apply-returns-in_err-value-clause-stop : goal.apply-returns-in_err-value-clause-stop
+apply-returns-in_err-value-clause-stop t c =
+    let g = c.args.given.now in
+    let items = items_in g in
+    let f = plain_x c.args.f.now in
+    let x = plain_x c.args.x.now in
+    let made = c.requires.made in
+    let ends = c.ends_of-ends.ensures made.0 made.1 made.2 in
+    let from = c.ends_of-ends.result.from.now in
+    let own = type_in g from in
+    let type_is = input_is items f made.0 made.1 made.2 from ends.input in
+    let s = c.in_err-value.field-0.0 in
+    on_err (λ e. (place : Pos) (signature : PlainSignature) (printed : List Printed) → Tells g.trees.now printed → IsValueStop items printed g.limit signature (two Apply place f x) e) c.from_residual.result s c.from_residual.ensures.1
+    (λ place signature printed told. stop_inside items printed g.limit signature place f x s (subst (λ k. IsValueStop items printed g.limit k x s) type_is (c.in_err-value.ensures.stop printed told)))
+
+pub apply-returns-in_default-clause-stop : goal.apply-returns-in_default-clause-stop
+apply-returns-in_default-clause-stop t c place signature printed told =
+    let g = c.args.given.now in
+    let items = items_in g in
+    let f = plain_x c.args.f.now in
+    let x = plain_x c.args.x.now in
+    let made = c.requires.made in
+    let ends = c.ends_of-ends.ensures made.0 made.1 made.2 in
+    let from = c.ends_of-ends.result.from.now in
+    let own = type_in g from in
+    let type_is = input_is items f made.0 made.1 made.2 from ends.input in
+    let has = subst (λ k. HasValue items printed k x 1048576 None) type_is (subst (HasValue items printed own x 1048576) c.in_default.is (c.in_ok-value.ensures.value printed told)) in
+    stop_inside items printed g.limit signature place f x TooLarge (stop_large items printed g.limit (input_type items f) x has.tree has.is has.held)
+
+pub apply-only_output-requires-clause-known : goal.apply-only_output-requires-clause-known
+apply-only_output-requires-clause-known t c = trans_known_grown (items_in c.args.given.now) c.args.built.now c.evaluate.new.built c.evaluate.ensures.grown (plain_x c.args.f.now) c.requires.known
+
+pub apply-only_output-requires-clause-typed : goal.apply-only_output-requires-clause-typed
+apply-only_output-requires-clause-typed t c =
+    let g = c.args.given.now in
+    let items = items_in g in
+    let f = plain_x c.args.f.now in
+    let x = plain_x c.args.x.now in
+    let made = c.requires.made in
+    let ends = c.ends_of-ends.ensures made.0 made.1 made.2 in
+    let from = c.ends_of-ends.result.from.now in
+    let own = type_in g from in
+    let type_is = input_is items f made.0 made.1 made.2 from ends.input in
+    let given = c.requires.given in
+    let has = subst (HasValue items given.printed own x 1048576) c.in-Some.is (c.in_ok-value.ensures.value given.printed given.told) in
+    subst (λ k. HasType k (meant c.in-Some.value.tree)) type_is (value_typed items given.printed own x c.in-Some.value has)
+
+pub apply-only_output-requires-clause-limits : goal.apply-only_output-requires-clause-limits
+apply-only_output-requires-clause-limits t c =
+    let g = c.args.given.now in
+    let items = items_in g in
+    let x = plain_x c.args.x.now in
+    let own = type_in g c.ends_of-ends.result.from.now in
+    let given = c.requires.given in
+    value_in_limits items given.printed own x c.in-Some.value (subst (HasValue items given.printed own x 1048576) c.in-Some.is (c.in_ok-value.ensures.value given.printed given.told))
+
+pub apply-returns-clause-value : goal.apply-returns-clause-value
+apply-returns-clause-value t c =
+    let g = c.args.given.now in
+    let items = items_in g in
+    let f = plain_x c.args.f.now in
+    let x = plain_x c.args.x.now in
+    let made = c.requires.made in
+    let ends = c.ends_of-ends.ensures made.0 made.1 made.2 in
+    let from = c.ends_of-ends.result.from.now in
+    let own = type_in g from in
+    let type_is = input_is items f made.0 made.1 made.2 from ends.input in
+    let tree = meant c.in-Some.value.tree in
+    IfOk-weaker c.only_output.result (HasOutput items f tree c.args.room)
+    (λ v. (place : Pos) (signature : PlainSignature) (printed : List Printed) → Tells g.trees.now printed → signature ≡ output_type items f → HasValue items printed signature (two Apply place f x) c.args.room v)
+    (λ v has place signature printed told of. applied_value items printed signature place f x tree c.args.room v
+    (subst (λ k. IsValue items printed k x tree) type_is (value_is items printed own x c.in-Some.value (subst (HasValue items printed own x 1048576) c.in-Some.is (c.in_ok-value.ensures.value printed told)))) has of)
+    c.only_output.ensures.output
+
+pub apply-returns-clause-stop : goal.apply-returns-clause-stop
+apply-returns-clause-stop t c =
+    let g = c.args.given.now in
+    let items = items_in g in
+    let f = plain_x c.args.f.now in
+    let x = plain_x c.args.x.now in
+    let made = c.requires.made in
+    let ends = c.ends_of-ends.ensures made.0 made.1 made.2 in
+    let from = c.ends_of-ends.result.from.now in
+    let own = type_in g from in
+    let type_is = input_is items f made.0 made.1 made.2 from ends.input in
+    let tree = meant c.in-Some.value.tree in
+    IfErr-weaker c.only_output.result (IsOutputStop items f tree)
+    (λ s. (place : Pos) (signature : PlainSignature) (printed : List Printed) → Tells g.trees.now printed → IsValueStop items printed g.limit signature (two Apply place f x) s)
+    (λ s stop place signature printed told.
+    (let has = subst (HasValue items printed own x 1048576) c.in-Some.is (c.in_ok-value.ensures.value printed told) in
+    stop_output items printed g.limit signature place f x tree (subst (λ k. IsValue items printed k x tree) type_is (value_is items printed own x c.in-Some.value has)) (value_in_limits items printed own x c.in-Some.value has) s stop))
+    c.only_output.ensures.stop
+
+pub apply-returns-clause-shown : goal.apply-returns-clause-shown
+apply-returns-clause-shown t c =
+    let g = c.args.given.now in
+    let items = items_in g in
+    let f = plain_x c.args.f.now in
+    let x = plain_x c.args.x.now in
+    let made = c.requires.made in
+    let ends = c.ends_of-ends.ensures made.0 made.1 made.2 in
+    let from = c.ends_of-ends.result.from.now in
+    let own = type_in g from in
+    let type_is = input_is items f made.0 made.1 made.2 from ends.input in
+    let given = c.requires.given in
+    let tree = meant c.in-Some.value.tree in
+    let has = subst (HasValue items given.printed own x 1048576) c.in-Some.is (c.in_ok-value.ensures.value given.printed given.told) in
+    IfErr-weaker c.only_output.result (IsOutputStop items f tree) (IsStopTyped items) (λ s stop. output_typed items f tree (subst (λ k. HasType k tree) type_is (value_typed items given.printed own x c.in-Some.value has)) s stop) c.only_output.ensures.stop

@@ -8,6 +8,9 @@ use Rattle.tree_values.proofs.values.+evaluate.Given as goal
 abbrev pub decreases-evaluate : goal.decreases-evaluate
 decreases-evaluate l = 2 * weight (plain_x l.x.now)
 
+abbrev pub decreases-apply : goal.decreases-apply
+decreases-apply l = 2 * weight (plain_x l.x.now) + 1
+
 abbrev pub decreases-evaluate_all : goal.decreases-evaluate_all
 decreases-evaluate_all l = 2 * weights (plain_children l.xs.now) + 1
 

@@ -11,6 +11,6 @@ returns-clause-at c =
       running = refl;
       count = refl;
       low = omega arith;
-      kept = nothing_kept items _ c.new.ensures c.new-2.ensures;
-      told = c.new-2.ensures;
+      kept = nothing_kept items _ c.in_ok-built.ensures c.new-trees.ensures;
+      told = c.new-trees.ensures;
     }

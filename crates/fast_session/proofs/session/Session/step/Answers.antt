@@ -3,7 +3,8 @@ use Rattle.std.specs.Prelude.{is_some}
 use Rattle.fast_syntax.specs.Plain.{plain_item}
 use Rattle.fast_session.specs.Answers.{given}
 use Rattle.fast_session.specs.Sessions.{items_in, IsHalt, IsStep}
-use Rattle.fast_session.proofs.Next.{splits_next, built_next}
+use Rattle.fast_eval.proofs.Labels.{splits_next}
+use Rattle.fast_session.proofs.Next.{built_next}
 use Rattle.fast_session.proofs.Stepping.{item_there, halt_is, at_next, step_is}
 use Rattle.fast_session.proofs.session.Session.step.Goals as goal
 
@@ -50,4 +51,4 @@ returns-in-Err-clause-halt c done at =
     let n = c.args.self.now.next in
     let item = plain_item c.index-items-self.result in
     let w = item_there c.args.self.now.checked c.program.result.now c.as_slice-items.result.now n _ c.index-items-self.result c.program.ensures c.as_slice-items.ensures.value c.if-self-items.false refl c.index-items-self.is in
-    subst (IsHalt c.args.self.now done) (sym c.halted-halt.ensures.halt) (halt_is c.args.self.now done at item w.0 w.1 c.in-Err.stopped (c.in-Err.ensures {u = tt}).stopped)
+    subst (IsHalt c.args.self.now done) (sym c.halt_at-halt.ensures) (halt_is c.args.self.now done at item w.0 w.1 c.in-Err.stopped (c.in-Err.ensures {u = tt}).stopped)

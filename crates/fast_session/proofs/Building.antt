@@ -1,0 +1,168 @@
+-- What a name needs is built, item by item.
+use Rattle.std.proofs.Common.{◌≡◌, ◌⊎◌, inl, inr, ℕ, Bool, true, false, not, ◌&&◌, List, [], ◌∷◌, ◌++◌, Option, Some, None, take, Contains, refl, sym, ap, subst, ◌∙◌, arith}
+use Rattle.std.specs.Prelude.{is_some}
+use Rattle.std.specs.Option.{option_and_then, option_map_or}
+use Rattle.model_tree.specs.Tree.{LabelTree}
+use Rattle.model_program.specs.Syntax.{Name}
+use Rattle.model_grammar.specs.Syntax.{Body, sorts, tree, lang, trans, def, assertion, DefItem, Item}
+use Rattle.model_grammar.specs.Places.{nowhere}
+use Rattle.model_names.specs.Declared.{own_name, declares, find_item}
+use Rattle.model_names.specs.Kinds.{Kind, language, transformation, defined_kind, own_kind}
+use Rattle.model_checks.specs.Failures.{is_empty, fails_if, failure}
+use Rattle.fast_fault.specs.declared.code.Code.TheVariants.{UsedTooEarly, UnknownName}
+use Rattle.model_checks.specs.Expressions.{is_known_later, x_failures}
+use Rattle.model_checks.specs.Sound.{IsSound, StandsIn}
+use Rattle.model_checks.proofs.Soundness.{found_passes}
+use Rattle.model_checks.proofs.SoundWhole.{sound}
+use Rattle.model_meaning.specs.Reached.{definition_of}
+use Rattle.model_meaning.proofs.Members.{one_of, none_of}
+use Rattle.meaning_laws.proofs.Kinded.{IsKinded, kinded}
+use Rattle.meaning_laws.proofs.Known.{has_name}
+use Rattle.model_run.specs.Built.{is_built, is_built_language, is_built_value, is_built_body}
+use Rattle.model_run.specs.Causes.{HasCause, more_classes, too_wide}
+use Rattle.model_run.specs.Report.{named_x}
+use Rattle.model_run.specs.Texts.{IsNameOf}
+use Rattle.lin_solve.specs.declared.chain.Chain.{Chain}
+use Rattle.lin_solve.specs.Shown.{bits_of}
+use Rattle.sta_classes.specs.declared.stop.ClassStop.{ClassStop}
+use Rattle.sta_classes.specs.declared.stop.ClassStop.TheVariants.{Classes, Wide, Memory}
+use Rattle.sta_theory.proofs.Lists.{append_member, first_in}
+use Rattle.std.proofs.lemmas.List.Elements.{Contains-append_right}
+use Rattle.fast_build.specs.Items.{own_lang}
+use Rattle.fast_build.specs.Transformations.{own_trans}
+use Rattle.fast_eval.specs.Forms.{IsMadeOn, IsMadeFrom, IsReadyName}
+use Rattle.sttr_apply.specs.declared.stop.ApplyStop.{ApplyStop}
+use Rattle.sttr_apply.specs.declared.stop.ApplyStop.TheVariants as apply
+use Rattle.fast_eval.specs.Outputs.{IsApplyStop}
+use Rattle.fast_eval.specs.Stops.{StopsExpression}
+use Rattle.fast_eval.specs.Defined.{IsDefined, AreDefinedOf, IsMadeInto, AreKnownInto}
+use Rattle.fast_eval.specs.Table.{HasBuilt, IsGrown}
+use Rattle.fast_eval.specs.declared.built.Built.{Built}
+use Rattle.fast_eval.proofs.Outcomes.{def_cause}
+use Rattle.fast_eval.proofs.Keeping.{built_grown}
+use Rattle.fast_eval.proofs.Keeping.{more_twice as grown_twice}
+use Rattle.fast_eval.proofs.Stepping.{value_form, def_made_into, def_known_into, typed_as, typed_from, found_there}
+use Rattle.fast_session.specs.declared.answers.Halt.{Halt}
+use Rattle.fast_session.specs.declared.answers.Halt.TheVariants as halt
+use Rattle.fast_session.specs.declared.items.Around.{Around}
+use Rattle.fast_session.specs.declared.items.Kept.{Kept}
+use Rattle.fast_session.specs.Answers.{stopped_by, stopped_outputs, halt_at}
+use Rattle.fast_session.specs.Items.{IsBuiltMore}
+use Rattle.fast_session.specs.Kept.{items_in}
+use Rattle.fast_session.specs.Needed.{AreNeeded, IsBuildable, IsHaltAmong, IsHaltNeeded, IsTreeStopped}
+use Rattle.fast_session.proofs.Following.{value_found}
+
+-- ---- the form of a definition
+
+module _ (items : List Item) (item : Item) (built : is_built items item ≡ true) (d : DefItem) (is : item.body ≡ def d) where
+  pub value_built : is_built_value d.into d.value ≡ true
+  value_built = subst (λ b. is_built_body items b ≡ true) is built
+
+  pub form : is_built_language d.value ≡ true
+  form = value_form d.into d.value value_built
+
+-- ---- a definition with one of the names
+
+module _ (a : Around) (names : List (List ℕ)) (item : Item) (k : Kept) (b : IsBuildable a names item k) (d : DefItem) (is : item.body ≡ def d) where
+  whole : IsSound (items_in a)
+  whole = sound (items_in a) b.checked.well_formed
+
+  pub value_is : definition_of (items_in a) d.name.text ≡ Some d.value
+  value_is = value_found (items_in a) whole item b.at d is
+
+  pub value_made : IsMadeInto (items_in a) d.into d.value
+  value_made = def_made_into (items_in a) whole item b.at d is (value_built (items_in a) item b.is_built d is)
+
+  pub value_known : Contains names d.name.text → AreKnownInto (items_in a) k.built d.into d.value
+  value_known there = def_known_into (items_in a) whole item b.at d is k.built (Contains names) b.defined (λ m named_at. b.closed item b.at d (omega arith) is there m named_at) value_made
+
+module _ (items : List Item) (limit : ℕ) (names : List (List ℕ)) (item : Item) (there : Contains items item) (d : DefItem) (is : item.body ≡ def d) (own : Contains names d.name.text) where
+  pub def_halts : (stop : ClassStop Chain) → StopsExpression items d.value limit stop → IsHaltAmong items limit names (halt_at item.place (stopped_by limit stop))
+  def_halts Classes stop = (item, there, refl, d, is, own, subst (λ b. HasCause items limit [] b (more_classes limit)) (sym is) (def_cause items limit [] d Classes stop), tt)
+  def_halts (Wide c) stop = (item, there, refl, d, is, own, subst (λ b. HasCause items limit [] b (too_wide (bits_of c.width))) (sym is) (def_cause items limit [] d (Wide c) stop), tt)
+  def_halts Memory stop = tt
+
+pub stands_there : (items : List Item) (item : Item) → StandsIn items item → Contains items item
+stands_there items item at = subst (λ l. Contains l item) (sym at.is) (Contains-append_right at.before (item ∷ at.behind) item (first_in item at.behind))
+
+-- ---- all of them
+
+some_same : {A : Type 0} {s t : A} → Some s ≡ Some t → s ≡ t
+some_same e = cc
+
+pub none_defined : (P : List ℕ → Type 0) (b : Built) (items : List Item) → AreDefinedOf P b (take 0 items)
+none_defined P b [] item d at = absurd (none_of item at)
+none_defined P b (x ∷ xs) item d at = absurd (none_of item at)
+
+pub one_defined : (P : List ℕ → Type 0) (old new : Built) (before : List Item) (item : Item) → IsGrown old new → AreDefinedOf P old before → ((d : DefItem) → item.body ≡ def d → P d.name.text → IsDefined new d) → AreDefinedOf P new (before ++ item ∷ [])
+one_defined P old new before item grown was own other d at is wanted = elim (append_member before (item ∷ []) other at) [
+  | inl here ↦ built_grown old new grown (defined_kind d.into) d.name.text (was other d here is wanted)
+  | inr there ↦ elim (one_of item other [] there) [ inl same ↦ own d (ap (λ (i : Item). i.body) same ∙ is) wanted | inr none ↦ absurd (none_of other none) ]
+]
+
+pub more_twice : (items : List Item) (old mid new : Kept) → IsBuiltMore items old mid → IsBuiltMore items mid new → IsBuiltMore items old new
+more_twice items old mid new g h = record { built = h.built; grown = grown_twice old.built mid.built new.built g.grown h.grown; trees = h.trees ∙ g.trees }
+
+-- ---- those of a name
+
+module _ (items : List Item) (limit : ℕ) (name : List ℕ) (names : List (List ℕ)) (need : AreNeeded items name names) where
+  pub halt_needed : (h : Halt) → IsHaltAmong items limit names h → IsHaltNeeded items limit name h
+  halt_needed (halt.Refused cause place) (item, there, at, d, is, own, has, typed) = (item, record { there = there; own = d.name; named = ap own_name is; needed = need.needed d.name.text own }, at, has, typed)
+  halt_needed (halt.Ended refusal) h = absurd h
+  halt_needed halt.Memory h = tt
+
+  module _ (b : Built) (defined : AreDefinedOf (Contains names) b items) where
+    known_by_body : (kind : Kind) (item : Item) (body : Body) → find_item items name ≡ Some item → item.body ≡ body → own_kind body ≡ Some kind → IsReadyName kind items b name
+    known_by_body kind item (sorts t) found is e = absurd (cc)
+    known_by_body kind item (tree t) found is e = subst (λ k. IsReadyName k items b name) (some_same e) (inr tt)
+    known_by_body kind item (lang l) found is e =
+        subst (λ k. IsReadyName k items b name) (some_same e) (inl (ap is_some (ap (option_and_then (λ (i : Item). own_lang i.body)) found ∙ ap own_lang is)))
+    known_by_body kind item (trans t) found is e =
+        subst (λ k. IsReadyName k items b name) (some_same e) (inl (ap is_some (ap (option_and_then (λ (i : Item). own_trans i.body)) found ∙ ap own_trans is)))
+    known_by_body kind item (def d) found is e =
+        let own = has_name name (own_name item.body) (found_passes (declares name) items item found) in
+        let same : Some d.name ≡ Some own.0 = sym (ap own_name is) ∙ own.1 in
+        let text : d.name.text ≡ name = ap (λ (n : Name). n.text) (some_same same) ∙ own.2 in
+        subst (λ k. IsReadyName k items b name) (some_same e)
+        (inr (subst (HasBuilt (defined_kind d.into) b) text (defined item d (found_there (declares name) items item found) is (subst (Contains names) (sym text) need.itself))))
+    known_by_body kind item (assertion s) found is e = absurd (cc)
+
+    known_by : (kind : Kind) (o : Option Item) → find_item items name ≡ o → option_and_then (λ (i : Item). own_kind i.body) o ≡ Some kind → IsReadyName kind items b name
+    known_by kind None found e = absurd (cc)
+    known_by kind (Some item) found e = known_by_body kind item item.body found refl e
+
+    pub name_known : (kind : Kind) → IsNameOf items kind name → IsReadyName kind items b name
+    name_known kind e = known_by kind (find_item items name) refl e
+
+-- ---- the name as an expression
+
+module _ (items : List Item) (whole : IsSound items) (name : List ℕ) where
+  nothing_fails : (kind : Kind) (o : Option Item) → find_item items name ≡ o → option_and_then (λ (i : Item). own_kind i.body) o ≡ Some kind → is_empty (x_failures items items 0 None (named_x name)) ≡ true
+  nothing_fails kind None found e = absurd (cc)
+  nothing_fails kind (Some item) found e =
+      subst (λ o. is_empty (option_map_or (λ (i : Item). fails_if (is_known_later i.body && not (is_some o)) UsedTooEarly nowhere) o (failure UnknownName nowhere)) ≡ true) (sym found) (by (is_known_later item.body))
+    where
+      by : (b : Bool) → is_empty (fails_if (b && not true) UsedTooEarly nowhere) ≡ true
+      by true = refl
+      by false = refl
+
+  name_kinded : (kind : Kind) → IsNameOf items kind name → IsKinded items (named_x name)
+  name_kinded kind is = kinded items whole items 0 None (named_x name) (nothing_fails kind (find_item items name) refl is)
+
+  pub name_made : IsNameOf items language name → (type : List ℕ) × IsMadeOn items type (named_x name)
+  name_made is = typed_as items whole (named_x name) (name_kinded language is) is
+
+  pub trans_name_made : IsNameOf items transformation name → (from into : List ℕ) × IsMadeFrom items from into (named_x name)
+  trans_name_made is = typed_from items whole (named_x name) (name_kinded transformation is) is
+
+-- a name tells no trees apart
+pub name_stops : (items : List Item) (name : List ℕ) (limit : ℕ) (s : ClassStop Chain) → StopsExpression items (named_x name) limit s → s ≡ Memory
+name_stops items name limit Classes h = absurd (let no : false ≡ true = h.0 in cc)
+name_stops items name limit (Wide c) h = absurd (let no : false ≡ true = h.0 in cc)
+name_stops items name limit Memory h = refl
+
+-- what stops the search for outputs is a cause of the tree
+pub tree_stopped : (items : List Item) (name : List ℕ) (t : LabelTree) (stop : ApplyStop) → IsApplyStop items (named_x name) t stop → IsTreeStopped items name t (stopped_outputs stop)
+tree_stopped items name t (apply.Range n) cause = (cause, tt)
+tree_stopped items name t (apply.Load load) cause = (cause, tt)
+tree_stopped items name t apply.Memory cause = tt

@@ -1,0 +1,79 @@
+//! Whether trees are in the language of a name.
+
+ghost use Rattle.std.specs.Prelude.{◌≡◌, ◌≤◌, ◌↔◌, true, IfOk};
+ghost use Rattle.std.specs.Str.{chars};
+ghost use Rattle.model_tree.specs.Kept.{is_kept};
+ghost use Rattle.model_tree.specs.Signature.{HasType};
+ghost use Rattle.fast_syntax.specs.Plain.{plain_x};
+ghost use Rattle.model_names.specs.Kinds.{language};
+ghost use Rattle.model_meaning.specs.Meaning.{IsInLanguage, input_type};
+ghost use Rattle.model_run.specs.Report.{named_x};
+ghost use Rattle.model_run.specs.Texts.{IsNameOf};
+ghost use Rattle.program_check.specs.Tells.{IsChecked};
+ghost use Rattle.fast_eval.specs.Forms.{AreKnown};
+ghost use Rattle.fast_eval.specs.Table.{AreBuilt};
+ghost use Rattle.tree_values.specs.Trees.{meant};
+ghost use Rattle.sta_classes.specs.declared.stop.ClassStop.TheVariants as stops;
+ghost use Rattle.fast_session.specs.Items.{IsBuiltMore};
+ghost use Rattle.fast_session.specs.Kept.{items_in};
+
+use crate::items::{Around, Kept};
+use fast_eval::belongs;
+use fast_fault::{Memory, Pos, Text};
+use fast_syntax::Name;
+use fast_syntax::items::X;
+use fast_tree::{Label, Tree};
+use lin_solve::Chain;
+use sta_classes::ClassStop;
+use std::alloc::Global;
+
+/// The expression that is the name alone.
+pub fn named(alloc: Global, name: &str) -> Result<X, Memory>
+    ensures { IfOk result (λ x. plain_x x ≡ named_x (chars name.now)) }
+{
+    let text = Text::of(alloc, name)?;
+    let place = Pos { line: 1, column: 1 };
+    Ok(X::Named(Name { text, place }))
+}
+
+/// Want of memory, which alone stops the search for the language of a name.
+fn memory_of(stop: ClassStop<Chain>) -> Memory
+    requires { stop ≡ stops.Memory }
+{
+    match stop {
+        ClassStop::Memory => Memory,
+        ClassStop::Classes | ClassStop::Wide(_) => unreachable!(),
+    }
+}
+
+/// Whether the tree is in the language of the name, for which all is built that it needs.
+pub fn is_member(
+    alloc: Global,
+    around: &Around,
+    kept: &mut Kept,
+    name: &str,
+    tree: &Tree<Label>,
+) -> Result<bool, Memory>
+    requires checked { IsChecked around.now.checked.now }
+    requires shallow { around.now.limit ≤ 2000 }
+    requires built { AreBuilt (items_in around.now) kept.old.built }
+    requires language { IsNameOf (items_in around.now) language (chars name.now) }
+    requires known { AreKnown (items_in around.now) kept.old.built (named_x (chars name.now)) }
+    requires typed { HasType (input_type (items_in around.now) (named_x (chars name.now))) (meant tree.now) }
+    requires kept { is_kept (meant tree.now) ≡ true }
+    ensures more { IsBuiltMore (items_in around.now) kept.old kept.new }
+    ensures inside { IfOk result (λ inside. (inside ≡ true) ↔ IsInLanguage (items_in around.now) (named_x (chars name.now)) (meant tree.now)) }
+{
+    let x = named(alloc, name)?;
+    match belongs(
+        alloc,
+        around.checked,
+        &mut kept.built,
+        around.limit,
+        &x,
+        tree,
+    ) {
+        Ok(inside) => Ok(inside),
+        Err(stop) => Err(memory_of(stop)),
+    }
+}

@@ -1,0 +1,85 @@
+//! The names that a name needs.
+
+ghost use Rattle.std.specs.Prelude.{◌≡◌, true, [], ◌∷◌, OnOk, IfOk};
+ghost use Rattle.std.specs.List.{list_all};
+ghost use Rattle.std.specs.Option.{option_map};
+ghost use Rattle.fast_syntax.specs.Plain.{plain_x, plain_def, plain_item};
+ghost use Rattle.model_grammar.specs.Syntax as plain;
+ghost use Rattle.model_run.specs.Built.{is_built, is_built_language};
+ghost use Rattle.program_check.specs.Tells.{IsChecked};
+ghost use Rattle.fast_build.specs.Items.{items_of};
+ghost use Rattle.fast_build.specs.Reached.{IsGrown};
+ghost use Rattle.fast_session.specs.Needed.{own_def, names_in, IsFollowed, AreNeeded};
+
+use fast_fault::{Memory, Text};
+use fast_syntax::items::{Body, DefItem, Item, X};
+use indexmap::IndexSet;
+use program_check::Checked;
+use std::alloc::Global;
+
+/// Adds the name, unless it is there.
+fn add_name(alloc: Global, name: &Text, names: &mut IndexSet<Text>) -> Result<(), Memory>
+    ensures { OnOk result (IsGrown names.old.keys names.new.keys (name.now ∷ [])) }
+{
+    if !names.contains(name) {
+        names.insert(name.copy(alloc)?)?;
+    }
+    Ok(())
+}
+
+/// Adds the names in the expression.
+fn add_names(alloc: Global, x: &X, names: &mut IndexSet<Text>) -> Result<(), Memory>
+    requires { is_built_language (plain_x x.now) ≡ true }
+    ensures { OnOk result (IsGrown names.old.keys names.new.keys (names_in (plain_x x.now))) }
+{
+    match x {
+        X::Named(name) => add_name(alloc, &name.text, names),
+        X::One(_, _, inside) => add_names(alloc, inside, names),
+        X::Two(_, _, first, second) => {
+            add_names(alloc, first, names)?;
+            add_names(alloc, second, names)
+        }
+        X::Literal(..) => unreachable!(),
+    }
+}
+
+/// The definition that the item is.
+pub fn own_def(item: &Item) -> Option<&DefItem>
+    ensures { option_map (λ d. plain_def d.now) result ≡ own_def (plain_item item.now).body }
+{
+    match &item.body {
+        Body::Def(own) => Some(own),
+        Body::Sorts(_) | Body::Tree(_) | Body::Lang(_) | Body::Trans(_) | Body::Assert(_) => None,
+    }
+}
+
+/// Adds the names in the item's expression, if it is a definition whose name is there.
+fn follow(alloc: Global, item: &Item, names: &mut IndexSet<Text>) -> Result<(), Memory>
+    requires { (d : plain.DefItem) → (plain_item item.now).body ≡ plain.def d → is_built_language d.value ≡ true }
+    ensures { OnOk result (IsFollowed (plain_item item.now).body names.old.keys names.new.keys) }
+{
+    let Some(own) = own_def(item) else {
+        return Ok(());
+    };
+    if !names.contains(&own.name.text) {
+        return Ok(());
+    }
+    add_names(alloc, &own.value, names)
+}
+
+/// The name, and the names on which it depends as far as definitions lead.
+pub fn names_for(alloc: Global, checked: &Checked, name: &Text) -> Result<IndexSet<Text>, Memory>
+    requires checked { IsChecked checked.now }
+    requires built { list_all (is_built (items_of checked.now)) (items_of checked.now) ≡ true }
+    ensures { IfOk result (λ names. AreNeeded (items_of checked.now) name.now names.keys) }
+{
+    let items = checked.program().items.as_slice();
+    let mut names = IndexSet::new(alloc);
+    add_name(alloc, name, &mut names)?;
+    let mut left = items.len();
+    'items: while left > 0 {
+        left -= 1;
+        follow(alloc, &items[left], &mut names)?;
+    }
+    Ok(names)
+}

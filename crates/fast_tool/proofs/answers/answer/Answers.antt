@@ -1,0 +1,2 @@
+use Rattle.std.proofs.Common.{subst}
+use Rattle.fast_tool.proofs.answers.answer.Goals as goal

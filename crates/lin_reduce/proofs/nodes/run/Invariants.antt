@@ -1,0 +1,7 @@
+use Rattle.std.proofs.Common.{◌<◌, ◌⊎◌}
+use Rattle.math_cooper.specs.System.{IsSolvable}
+use Rattle.lin_reduce.specs.Parts.{AnySolvable}
+use Rattle.lin_reduce.proofs.nodes.run.Given as goal
+
+abbrev pub invariant-loop : goal.invariant-loop
+invariant-loop l = IsSolvable l.count l.system → (0 < l.ends) ⊎ AnySolvable l.count l.pending.items

@@ -1,0 +1,32 @@
+-- A variable as so many times a new one and a rest, and systems of which one has a solution.
+use Rattle.std.specs.Prelude.{◌≡◌, ◌<◌, ◌+ℤ◌, ◌*ℤ◌, pos, ℕ, ℤ, List, length, slice_index_or}
+use Rattle.std.specs.List.{Contains}
+use Rattle.math_cooper.specs.System.{Condition, IsSolvable, Solves}
+use Rattle.lin_reduce.specs.declared.moves.Scale.{Scale}
+use Rattle.lin_reduce.specs.declared.nodes.Node.{Node}
+use Rattle.lin_reduce.specs.declared.nodes.Explored.{Explored}
+use Rattle.lin_reduce.specs.declared.nodes.Explored.TheVariants.{Never, Maybe, Open}
+
+-- the variable of these values is so many times w, and the rest
+abbrev pub IsPart : Scale → List ℤ → ℤ → Type 0
+IsPart s vs w = (s.of < length vs) × (slice_index_or vs s.of (pos 0) ≡ (s.times *ℤ w) +ℤ s.rest)
+
+-- a solution of the system has such a variable
+pub record IsPartSolvable (n : ℕ) (s : Scale) (S : List Condition) : Type 0 where
+  pub values : List ℤ
+  pub own : ℤ
+  pub many : length values ≡ n
+  pub part : IsPart s values own
+  pub solves : Solves values S
+
+-- one of the systems has a solution
+pub record AnySolvable (n : ℕ) (nodes : List Node) : Type 0 where
+  pub node : Node
+  pub among : Contains nodes node
+  pub solvable : IsSolvable n node.system.items
+
+-- what never has a solution has none
+abbrev pub TellsNever : ℕ → List Condition → Explored → Type 0
+TellsNever n S Never = IsSolvable n S → ⊥
+TellsNever n S (Maybe values) = Unit {0}
+TellsNever n S Open = Unit {0}

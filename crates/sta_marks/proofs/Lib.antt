@@ -1,0 +1,4 @@
+pub mod Bits
+pub mod Grouped
+pub mod Tried
+pub mod Passed

@@ -1,0 +1,12 @@
+pub mod Cutting
+pub mod Rows
+pub mod NodesOver
+pub mod Far
+pub mod Merged
+pub mod Used
+pub mod Placed
+pub mod Measured
+pub mod Tabled
+pub mod Gathered
+pub mod Asked
+pub mod Answered

@@ -1,0 +1,7 @@
+use Rattle.std.proofs.Common.{◌≡◌, map, take}
+use Rattle.fast_cut.specs.Cuts.{plain_cut}
+use Rattle.apply_laws.specs.Meant.{meant}
+use Rattle.sttr_apply.proofs.copies.copy_row.Given as goal
+
+abbrev pub invariant-copies : goal.invariant-copies
+invariant-copies g l = map (meant g.T.Theory.label_of) (map plain_cut l.parts.items) ≡ map (meant g.T.Theory.label_of) (map plain_cut (take l.part-index l.part-items))

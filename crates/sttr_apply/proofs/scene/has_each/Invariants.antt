@@ -1,0 +1,7 @@
+use Rattle.std.proofs.Common.{◌≡◌, [], drop, get_or}
+use Rattle.std.specs.List.{list_all}
+use Rattle.model_sta.specs.Sets.{has}
+use Rattle.sttr_apply.proofs.scene.has_each.Given as goal
+
+abbrev pub invariant-states : goal.invariant-states
+invariant-states l = list_all (has (get_or l.marks.rows l.node [])) (drop l.state-index l.states) ≡ list_all (has (get_or l.marks.rows l.node [])) l.states

@@ -1,0 +1,11 @@
+pub mod Calls
+pub mod Cuts
+pub mod Labels
+pub mod Merge
+pub mod Nodes
+pub mod Outputs
+pub mod Plain
+pub mod Products
+pub mod Sizes
+pub mod Solve
+pub mod Tables

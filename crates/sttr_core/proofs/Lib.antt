@@ -1,0 +1,4 @@
+pub mod Parts
+pub mod Uses
+pub mod Linearity
+pub mod Meaning

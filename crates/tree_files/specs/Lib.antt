@@ -1,0 +1,4 @@
+pub mod Types
+pub mod Heads
+pub mod Labels
+pub mod Placed

@@ -1,0 +1,61 @@
+-- Transformations that are applied to values.
+use Rattle.std.specs.Prelude.{◌≡◌, ℕ, true, List, [], ◌∷◌, Option, Some}
+use Rattle.model_tree.specs.Tree.{LabelTree}
+use Rattle.model_tree.specs.Kept.{is_kept}
+use Rattle.model_tree.specs.Signature.{HasType}
+use Rattle.model_grammar.specs.Syntax.{X, Item}
+use Rattle.model_meaning.specs.Meaning.{input_type, output_type, signature_named}
+use Rattle.model_meaning.specs.Values.{IsOnlyOutput}
+use Rattle.model_run.specs.Causes.{HasFarOutput, HasLoad, HasNoOutput, HasTwoOutputs}
+use Rattle.fast_eval.specs.Found.{IsInLimits}
+use Rattle.sttr_apply.specs.Plain.{load_of}
+use Rattle.fast_eval.specs.Outputs.{AreOutputsOf}
+use Rattle.tree_values.specs.declared.sizes.Measured.{Measured}
+use Rattle.tree_values.specs.Stops.{type_of_tree}
+use Rattle.sta_classes.specs.declared.stop.ClassStop.TheVariants as classes
+use Rattle.sttr_apply.specs.declared.stop.ApplyStop.{ApplyStop}
+use Rattle.sttr_apply.specs.declared.stop.ApplyStop.TheVariants as apply
+use Rattle.tree_values.specs.declared.applied.Choice.{Choice}
+use Rattle.tree_values.specs.declared.applied.Choice.TheVariants.{Nothing, Only, Two}
+use Rattle.tree_values.specs.declared.stops.ValueStop.{ValueStop}
+use Rattle.tree_values.specs.declared.stops.ValueStop.TheVariants.{Stopped, NoTree, TooLarge, LabelRange, Outputs, NoOutput, SeveralOutputs}
+use Rattle.tree_values.specs.Trees.{meant}
+use Rattle.tree_values.specs.Values.{IsHeld}
+
+-- why there is no list of outputs is why there is no value
+abbrev pub stop_of : ApplyStop → ValueStop
+stop_of (apply.Range n) = LabelRange n
+stop_of (apply.Load load) = Outputs load
+stop_of apply.Memory = Stopped classes.Memory
+
+-- the only one of the trees, where there is room for it; that there is none; or the first two
+abbrev pub IsChoice : ℕ → List LabelTree → Choice → Type 0
+IsChoice room us Nothing = us ≡ []
+IsChoice room us (Only v) = (u : LabelTree) × (us ≡ u ∷ []) × IsHeld room u v
+IsChoice room us (Two t u) = (rest : List LabelTree) × (us ≡ meant t ∷ meant u ∷ rest)
+
+-- the outputs for the tree, and the choice among them
+pub record IsChosen (items : List Item) (f : X) (t : LabelTree) (room : ℕ) (c : Choice) : Type 0 where
+  pub trees : List LabelTree
+  pub are : AreOutputsOf items f t trees
+  pub choice : IsChoice room trees c
+
+-- the only output, which is held where there is room for it
+pub record HasOutput (items : List Item) (f : X) (t : LabelTree) (room : ℕ) (v : Option Measured) : Type 0 where
+  pub tree : LabelTree
+  pub is : IsOnlyOutput items f t tree
+  pub typed : HasType (output_type items f) tree
+  pub kept : is_kept tree ≡ true
+  pub held : IsHeld room tree v
+
+-- why there is none
+abbrev pub IsOutputStop : List Item → X → LabelTree → ValueStop → Type 0
+IsOutputStop items f t (Stopped s) = s ≡ classes.Memory
+IsOutputStop items f t NoTree = ⊥
+IsOutputStop items f t TooLarge = ⊥
+IsOutputStop items f t (LabelRange n) = HasFarOutput items n f t
+IsOutputStop items f t (Outputs load) = HasLoad items (load_of load) f t
+IsOutputStop items f t (NoOutput v) = (meant v.tree ≡ t) × (type_of_tree items v ≡ input_type items f) × HasNoOutput items f t
+IsOutputStop items f t (SeveralOutputs two) =
+    (meant two.input.tree ≡ t) × (type_of_tree items two.input ≡ input_type items f) × (signature_named items (Some two.into) ≡ output_type items f) × HasTwoOutputs items f t (meant two.first) (meant two.second)
+    × HasType (output_type items f) (meant two.first) × HasType (output_type items f) (meant two.second) × IsInLimits (meant two.first) × IsInLimits (meant two.second)
