@@ -1,11 +1,12 @@
-//! Values that may meet a system of conditions on whole numbers, found where equations and conditions that a sum is a
-//! multiple are solved first.
+//! Answers whether some values meet a system of conditions on whole numbers, where equations and conditions that a sum
+//! is a multiple are solved first.
 //!
-//! Each of them is brought to one variable by Euclid's steps on its coefficients, which change variables everywhere, and
-//! that variable is put; so conditions by several numbers become one. No promise is made of the values: who takes them
-//! tries them.
+//! The promise is that of `explore`: where it says never, no values meet the system. It splits variables by their
+//! remainders.
 //!
-//! `explore` splits variables by their remainders first. Its promise: where it says never, no values meet the system.
+//! Each equation and each condition on multiples is brought to one variable by Euclid's steps on its coefficients, which
+//! change variables everywhere, and that variable is put; so conditions by several numbers become one. The values that
+//! come out of it are guesses without a promise: who takes them tries them.
 #![tactic(auto)]
 
 mod class;
@@ -19,4 +20,3 @@ mod residues;
 mod search;
 
 pub use nodes::{Explored, explore};
-pub use search::sketch;

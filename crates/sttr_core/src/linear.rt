@@ -39,7 +39,8 @@ fn first_copying<A, M>(rules: &[SttrRule<A, M>]) -> Option<u64>
     None
 }
 
-/// The first rule that uses a child twice, by its state and then by its place. Takes no memory.
+/// The first rule that uses a child twice, by its state and then by its place. Takes no memory. Each term is gone over once
+/// for each number up to the greatest of a child in it, which is below the rank of the rule's constructor.
 pub fn not_linear<A, M>(sttr: &Sttr<A, M>) -> Option<RuleNo>
     ensures { MatchOption result (AreLinear sttr.now) (λ no. IsFirstCopying sttr.now no.state no.rule) }
 {
