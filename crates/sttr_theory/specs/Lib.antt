@@ -1,0 +1,13 @@
+pub mod Lists
+pub mod Covers
+pub mod Guards
+pub mod Triples
+pub mod Built
+pub mod Ways
+pub mod Plain
+pub mod Alike
+pub mod Copies
+pub mod Results
+pub mod Laws
+pub mod Build
+pub mod Needed
