@@ -51,7 +51,7 @@ measure() {
 }
 
 printf '%-18s %8s %8s %12s %12s %10s\n' '' K nodes milliseconds nanoseconds kilobytes
-for count in 1000 2000 4000 8000 16000 32000 64000; do
+for count in 1000 2000 4000 8000 16000 32000 64000 110000; do
   document "$count" >"$folder/trees"
   measure checked "$count" "$program" accepts "$folder/program" none "$folder/trees"
   measure clean "$count" "$program" apply "$folder/program" clean "$folder/trees"
