@@ -1,0 +1,10 @@
+pub mod Sets
+pub mod Fits
+pub mod Sources
+pub mod Plain
+pub mod Runs
+pub mod Drafts
+pub mod Picks
+pub mod Found
+pub mod Leaves
+pub mod Finished
