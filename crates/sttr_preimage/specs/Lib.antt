@@ -1,0 +1,10 @@
+pub mod Results
+pub mod Sets
+pub mod Names
+pub mod Rules
+pub mod Tidy
+pub mod Images
+pub mod Called
+pub mod Outs
+pub mod Kept
+pub mod Apart
