@@ -89,10 +89,10 @@ module _ (items : List Item) (well : is_well_formed items ≡ true) (n : Name) (
 
   -- ---- the types
 
-  input_is : signature_named items (Some from) ≡ input_of items n.text
+  pub input_is : signature_named items (Some from) ≡ input_of items n.text
   input_is = ap (signature_named items) (sym goes.1) ∙ input_type_of_name items n
 
-  output_is : signature_named items (Some into) ≡ output_of items n.text
+  pub output_is : signature_named items (Some into) ≡ output_of items n.text
   output_is = ap (signature_named items) (sym goes.2) ∙ output_type_of_name items n
 
   typed : (u : LabelTree) → IsTyped items from u → HasType (input_of items n.text) u
@@ -197,14 +197,14 @@ module _ (items : List Item) (well : is_well_formed items ≡ true) (n : Name) (
   no_element : {X : Type 0} (xs : List X) (x : X) → xs ≡ [] → Contains xs x → ⊥
   no_element xs x e (k, low, at) = omega (arith, low, ap length e)
 
-  lang_type : (other : List ℕ) (r : Rule) → Reaches items n.text other → Contains (rules_of items other) r → type_of items (named (name_of other)) ≡ Some from
+  pub lang_type : (other : List ℕ) (r : Rule) → Reaches items n.text other → Contains (rules_of items other) r → type_of items (named (name_of other)) ≡ Some from
   lang_type other r reach at = elim (reached_by_trans items (sound items well) n.text t.from.text t.into.text other own reach) [
     | inl l ↦ (let e = found_lang items well other t.from.text l in
         type_named items (name_of other) l.own e ∙ (ap (λ text. option_map (λ (x : TypeItem). x.name.text) (find_type items text)) l.on ∙ (sym (type_from items n.text t found) ∙ goes.1)))
     | inr f ↦ absurd (no_element (rules_of items other) r (rules_there items (sound items well) other f.item f.found ∙ ap own_rules f.is) at)
   ]
 
-  trans_goes : (other : List ℕ) (r : OutRule) → Reaches items n.text other → Contains (out_rules_of items other) r → IsFrom items (named (name_of other)) from into
+  pub trans_goes : (other : List ℕ) (r : OutRule) → Reaches items n.text other → Contains (out_rules_of items other) r → IsFrom items (named (name_of other)) from into
   trans_goes other r reach at = elim (reached_by_trans items (sound items well) n.text t.from.text t.into.text other own reach) [
     | inl l ↦ absurd (no_element (out_rules_of items other) r (outs_there items (sound items well) other l.item l.found ∙ ap own_out_rules l.is) at)
     | inr f ↦ (let e = found_trans items other t.from.text t.into.text f in (

@@ -39,13 +39,13 @@ use Rattle.record_label.specs.declared.maps.RowMap.{RowMap}
 use Rattle.record_label.specs.Maps.{EntriesFit, sort_by}
 use Rattle.record_label.specs.PlainMaps.{plain_entry}
 use Rattle.fast_build.specs.Items.{find_lang}
-use Rattle.fast_build.specs.Numbers.{has_ctor, number_in, numbers_for_each}
+use Rattle.fast_build.specs.Numbers.{has_ctor, number_in, numbers_for, numbers_for_each}
 use Rattle.fast_build.specs.Stands.{GuardStands}
 use Rattle.fast_build.specs.Reached.{AreReached, AreClosed, demanded_by, demanded_in}
 use Rattle.fast_build.specs.Called.{AreCallsClosed, AreLooked}
 use Rattle.fast_build.specs.Transformations.{find_trans}
 use Rattle.fast_build.specs.Rules.{IsGuardFor, IsRuleFor, AreRulesFor, AreStatesFor}
-use Rattle.fast_build.specs.Terms.{row_make, IsMapFor}
+use Rattle.fast_build.specs.Terms.{row_make, IsMapFor, LabelsStand}
 use Rattle.fast_build.specs.OutRules.{IsOutRuleFor, AreOutRulesFor, AreOutStatesFor, OutRuleStands}
 use Rattle.fast_build.specs.Automaton.{IsGuardReached, IsLanguageBeside}
 use Rattle.fast_build.specs.Transducer.{IsOutGuardReached, IsMapReached, IsTransformationBeside, IsTransducerOf}
@@ -284,6 +284,16 @@ module _ (items : List Item) (well : is_well_formed items ≡ true) (name : List
         let many : length meant.rules ≡ length names = length-map rules (map (meaning_of row_holds row_make)) ∙ out_many in
         subst (λ m. k < m) (sym many) (subst (λ i. i < length names) (sym number) (numbered_below names n among))
 
+    rule_arity : (x : PlainOut (PlainRule RowAtom) RowMap) → Held x → (x.rule.constructor < length (ranks_of s)) × (length x.rule.demands ≡ get_or (ranks_of s) x.rule.constructor 0)
+    rule_arity x h = (
+      rw length-map h.is.rule.numbered.below,
+      ap length h.is.rule.demands ∙ length-map h.rule.rule.vars (λ v. numbers_for (number_in looked) h.rule.rule.given v.text) ∙ vars_many s h.rule.rule x.rule.constructor h.rank h.is.rule.numbered,
+    )
+
+    arities : All (λ xs. All (λ (x : PlainOut (PlainRule RowAtom) RowMap). (x.rule.constructor < length (ranks_of s)) × (length x.rule.demands ≡ get_or (ranks_of s) x.rule.constructor 0)) xs) rules
+    arities =
+        each_place (λ (x : PlainOut (PlainRule RowAtom) RowMap). (x.rule.constructor < length (ranks_of s)) × (length x.rule.demands ≡ get_or (ranks_of s) x.rule.constructor 0)) rules (λ k x low at. rule_arity x (held k x at))
+
     out_fits : (q : ℕ) (r : machines.OutRule Label) → Contains (out_rules meant q) r → OutRuleFits meant (ranks_of s) r
     out_fits q r at =
         let (x, there, is) = rule_held row_holds row_make device q r at in
@@ -344,6 +354,7 @@ module _ (items : List Item) (well : is_well_formed items ≡ true) (name : List
           there = h.there;
           labels = i.labels;
           stand = i.stand;
+          labelled = subst (λ (j : PlainSignature). LabelsStand j.fields (output_of items name) i.labels) (sym begins) (subst (λ j. LabelsStand s.fields j i.labels) (sym ends) i.labelled);
           is = subst (λ j. IsMapFor j (output_of items name) i.labels m) (sym begins) (subst (λ j. IsMapFor s j i.labels m) (sym ends) i.is);
         }
 
@@ -366,6 +377,7 @@ module _ (items : List Item) (well : is_well_formed items ≡ true) (name : List
       ranks = sym (ap ranks_of begins);
       looks = subst (λ i. AreStatesFor i (number_in looked) look_rules (map (rules_of items) looked)) (sym begins) looks_by_name;
       rules = subst (λ i. AreOutStatesFor i (output_of items name) (number_in looked) (number_in names) rules (map (out_rules_of items) names)) (sym begins) (subst (λ i. AreOutStatesFor s i (number_in looked) (number_in names) rules (map (out_rules_of items) names)) (sym ends) outs_by_name);
+      arities = arities;
       means = λ k low u w typed. means k low u w (subst (λ i. HasType i u) begins typed);
       look_means = λ k low u typed. look_means k low u (subst (λ i. HasType i u) begins typed);
       applies = subst (λ i. (k : ℕ) → k < length names → Pairwise (λ r w. (u : LabelTree) → HasType i u → (rule_applies meant.looks u r.rule ≡ true) ↔ Applies items i w.rule u) (out_rules meant k) (out_rules_of items (get_or names k []))) (sym begins) applies;

@@ -24,7 +24,7 @@ use Rattle.record_label.specs.PlainMaps.{plain_entry}
 use Rattle.fast_build.specs.Numbers.{number_in}
 use Rattle.fast_build.specs.Rules.{IsGuardFor, AreStatesFor}
 use Rattle.fast_build.specs.Automaton.{IsGuardReached, IsLanguageBeside}
-use Rattle.fast_build.specs.Terms.{row_make, IsMapFor}
+use Rattle.fast_build.specs.Terms.{row_make, IsMapFor, LabelsStand}
 use Rattle.fast_build.specs.OutRules.{AreOutStatesFor}
 
 -- the guard of a rule of a transformation that the transformation reaches
@@ -40,6 +40,7 @@ pub record IsMapReached (items : List Item) (name : List ℕ) (m : RowMap) : Typ
   pub there : Contains (out_rules_of items other) rule
   pub labels : List Expr
   pub stand : AreLabelsIn rule.out labels
+  pub labelled : LabelsStand (input_of items name).fields (output_of items name) labels
   pub is : IsMapFor (input_of items name) (output_of items name) labels m
 
 -- the name is that of a transformation between the types of another name
@@ -64,6 +65,8 @@ pub record IsTransducerOf (items : List Item) (name : List ℕ) (names : List (L
   pub ranks : d.looks.ranks ≡ ranks_of (input_of items name)
   pub looks : AreStatesFor (input_of items name) (number_in looked) d.looks.rules (map (rules_of items) looked)
   pub rules : AreOutStatesFor (input_of items name) (output_of items name) (number_in looked) (number_in names) d.rules (map (out_rules_of items) names)
+  -- each rule has a constructor of the type, and demands for each of its children
+  pub arities : All (λ rules. All (λ r. (r.rule.constructor < length d.looks.ranks) × (length r.rule.demands ≡ get_or d.looks.ranks r.rule.constructor 0)) rules) d.rules
   pub means : (k : ℕ) → k < length names → (t u : LabelTree) → HasType (input_of items name) t → IsRelated items (named (name_of (get_or names k []))) t u ↔ Gives (transducer_of row_holds row_make d) (run k) t u
   -- a state of the lookahead accepts the trees of the language of its name; a rule of a state applies to those to which the written one at its place does
   pub look_means : (k : ℕ) → k < length looked → (t : LabelTree) → HasType (input_of items name) t → IsInLanguage items (named (name_of (get_or looked k []))) t ↔ is_accepted (transducer_of row_holds row_make d).looks t k ≡ true

@@ -1,5 +1,5 @@
 -- What a transducer gives on a tree, said of the expression that it was built for.
-use Rattle.std.proofs.Common.{◌≡◌, ◌↔◌, ◌≤◌, ◌<◌, ◌+◌, ◌⊎◌, inl, inr, ⊎_elim, ℕ, suc, Bool, true, false, ◌&&◌, List, [], ◌∷◌, map, length, Contains, get_or, Some, Result, Ok, Err, IfOk, IfErr, refl, sym, ap, ap₂, subst, ◌∙◌, arith}
+use Rattle.std.proofs.Common.{◌≡◌, ◌≤◌, ◌<◌, ◌+◌, inl, inr, ⊎_elim, ℕ, suc, Bool, true, false, ◌&&◌, List, [], ◌∷◌, map, length, Contains, get_or, Some, Result, Ok, Err, IfOk, IfErr, refl, sym, ap, ap₂, subst, ◌∙◌, arith}
 use Rattle.std.specs.Prelude.{ℤ}
 use Rattle.std.specs.List.{All, sum_by}
 use Rattle.std.proofs.lemmas.List.Elements.{All-nil, All-cons, All-weaker, All-contains}
@@ -15,7 +15,6 @@ use Rattle.model_tree.specs.Tree.{Tree, node, Trees, no_trees, tree, relabel, re
 use Rattle.model_tree.specs.TreeOrder.{tree_cmp, trees_cmp}
 use Rattle.model_tree.specs.Range.{IsLabelNumber}
 use Rattle.model_tree.specs.Kept.{is_kept_field, is_kept_label, is_kept, are_kept}
-use Rattle.indexmap.specs.IndexMap.{IndexMap}
 use Rattle.model_tree.specs.Signature.{Sort, HasType, sorts_of}
 use Rattle.model_sta.specs.EachTwo.{AreDifferent}
 use Rattle.model_sta.specs.EachTwo as plain
@@ -48,24 +47,15 @@ use Rattle.model_grammar.specs.Syntax.{X, Item}
 use Rattle.model_meaning.specs.Meaning.{IsRelated, input_type, output_type, signature_named}
 use Rattle.model_layers.specs.Carries.{IsTyped}
 use Rattle.model_layers.proofs.Loads.{loads_go_up}
-use Rattle.fast_build.specs.declared.transducer.BuiltTrans.{BuiltTrans}
+use Rattle.sttr_core.specs.declared.sttr.Trans.{Trans}
+use Rattle.record_label.specs.declared.maps.RowMap.{RowMap}
 use Rattle.fast_eval.specs.Built.{trans_of, IsTransBuiltOf}
 use Rattle.fast_eval.specs.Found.{IsInLimits}
 use Rattle.label_core.specs.Meaning.{KeepsValue}
 use Rattle.record_label.specs.Meaning.{row_meaning}
-use Rattle.record_label.specs.Rows.{RowFits}
-use Rattle.record_label.specs.Maps.{EntriesFit}
-use Rattle.record_label.specs.PlainMaps.{plain_entry}
-use Rattle.sttr_core.specs.Fits.{LabelsFit}
-use Rattle.fast_eval.specs.declared.built.Built.{Built}
-use Rattle.fast_eval.specs.declared.table.Table.{Table}
-use Rattle.fast_eval.specs.declared.scopes.Ends.{Ends}
-use Rattle.fast_eval.specs.Scopes.{AreEnds, IsTransThere}
+use Rattle.record_label.specs.Rows.{RowAtom}
 use Rattle.fast_eval.proofs.Witnessed.{keeps_typed}
-use Rattle.fast_eval.specs.Forms.{IsMadeFrom}
-use Rattle.fast_eval.specs.Table.{labels_of, AreLabels}
-use Rattle.fast_eval.proofs.TypeNames.{types_there, signature_there}
-use Rattle.fast_eval.specs.Outputs.{cut_tree, AreOutputsOf, IsApplyStop}
+use Rattle.fast_eval.specs.Outputs.{cut_tree, by_outputs, AreOutputsOf, StopsOutputs}
 
 -- ---- the order of values is that of what they mean
 
@@ -181,7 +171,7 @@ module _ (R : LabelTree → LabelTree → Type 0) (t : LabelTree) (light : (load
 
 -- ---- of the expression
 
-module _ (items : List Item) (x : X) (from into : List ℕ) (d : BuiltTrans) (built : IsTransBuiltOf items x from into d) where
+module _ (items : List Item) (x : X) (from into : List ℕ) (d : Trans RowAtom RowMap) (built : IsTransBuiltOf items x from into d) where
   abbrev GivesFrom : LabelTree → LabelTree → Type 0
   GivesFrom = Gives (trans_of d).sttr (run (trans_of d).start)
 
@@ -213,33 +203,13 @@ module _ (items : List Item) (x : X) (from into : List ℕ) (d : BuiltTrans) (bu
         small = at_most (sum_by node_count (map cut_tree cs)) 1048576 (λ more. own.light loads.nodes (map cut_tree cs, given, apart, more));
       }
 
-  pub refused : (t : LabelTree) → HasType (input_type items x) t → (s : ApplyStop) → IsRefused (trans_of d).sttr (trans_of d).start t s → IsApplyStop items x t s
-  refused t typed (stop.Range n) (u, given, far) = (u, related t typed u given, far_number u n far)
-  refused t typed (stop.Load load) (r, s, leads, much) =
+  pub refused : (most : ℕ) (t : LabelTree) → HasType (input_type items x) t → (s : ApplyStop) → IsRefused (trans_of d).sttr (trans_of d).start t s → StopsOutputs items x most t (by_outputs s)
+  refused most t typed (stop.Range n) (u, given, far) = (u, related t typed u given, far_number u n far)
+  refused most t typed (stop.Load load) (r, s, leads, much) =
       loads_go_up items x from into (trans_of d) (load_of load) t built.carries (of_type t typed) (leads_too_much (trans_of d).sttr (trans_of d).start t r s (load_of load) leads much)
-  refused t typed stop.Memory none = tt
+  refused most t typed stop.Memory none = tt
 
--- ---- the labels of the input type
-
-pub from_labels : {S : Type 0} (items : List Item) (x : X) (from into : List ℕ) → IsMadeFrom items from into x → (labels : IndexMap (List ℕ) (List Sort) S) → AreLabels items labels → labels_of labels from ≡ Some (sorts_of (signature_named items (Some from)))
-from_labels items x from into made labels are =
-    let (d, other) = types_there items from into x made in
-    are from d.item d.found ∙ ap (λ s. Some (sorts_of s)) (sym (signature_there items from d))
-
--- the transducer at the place
-pub built_at : (items : List Item) (x : X) (from into : List ℕ) (b : Built) (place : ℕ) (t : Table BuiltTrans) (own : BuiltTrans) → t ≡ b.transformations → own ≡ get_or t.values.items place own → IsTransThere items b x from into place → IsTransBuiltOf items x from into own
-built_at items x from into b place t own same at there = subst (IsTransBuiltOf items x from into) (sym (at ∙ ap (λ (u : Table BuiltTrans). get_or u.values.items place own) same)) (there.built own)
-
--- the labels that were found are those of the input type
-pub theory_is : {S : Type 0} (items : List Item) (x : X) (from into : List ℕ) → IsMadeFrom items from into x → (labels : IndexMap (List ℕ) (List Sort) S) → AreLabels items labels → (ends : Ends) → AreEnds from into ends → (sorts : List Sort) → Some sorts ≡ labels_of labels ends.from.now
-    → sorts ≡ sorts_of (signature_named items (Some from))
-theory_is items x from into made labels are ends is sorts found =
-    let same : Some sorts ≡ Some (sorts_of (signature_named items (Some from))) = found ∙ (ap (labels_of labels) is.input ∙ from_labels items x from into made labels are) in cc
-
-module _ (items : List Item) (x : X) (from into : List ℕ) (d : BuiltTrans) (built : IsTransBuiltOf items x from into d) (sorts : List Sort) (is : sorts ≡ sorts_of (signature_named items (Some from))) where
-  pub labels_fit : LabelsFit (RowFits sorts) (λ m. EntriesFit sorts (map plain_entry m.entries.items)) d.trans.sttr
-  labels_fit = subst (λ s. LabelsFit (RowFits s) (λ m. EntriesFit s (map plain_entry m.entries.items)) d.trans.sttr) (sym is) built.labels
-
+module _ (items : List Item) (x : X) (from into : List ℕ) (d : Trans RowAtom RowMap) (built : IsTransBuiltOf items x from into d) (sorts : List Sort) (is : sorts ≡ sorts_of (signature_named items (Some from))) where
   pub labels_kept : (t : Tree Label) → HasType (input_type items x) (relabel label_meaning t) → is_kept (relabel label_meaning t) ≡ true → EveryLabel (KeepsValue (row_meaning sorts)) t
   labels_kept t typed kept = subst (λ s. EveryLabel (KeepsValue (row_meaning s)) t) (sym is) (keeps_typed (signature_named items (Some from)) t (of_type items x from into d built (relabel label_meaning t) typed) kept)
 

@@ -22,3 +22,8 @@ pub mod Defined
 pub mod Witnessed
 pub mod TransBuilt
 pub mod Applying
+pub mod TransWritten
+pub mod TransStands
+pub mod Put
+pub mod Imaged
+pub mod Breaking

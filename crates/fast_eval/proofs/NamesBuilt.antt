@@ -14,9 +14,8 @@ use Rattle.model_meaning.specs.Meaning.{signature_named}
 use Rattle.model_meaning.specs.Reached.{Reaches, itself, definition_of, Opens}
 use Rattle.model_meaning.proofs.Named.{input_type_of_name}
 use Rattle.model_form.proofs.Equals.{same_laws}
-use Rattle.model_chain.specs.Literals as plain
 use Rattle.model_guard.specs.Guards.{is_guard}
-use Rattle.model_run.specs.Seen.{IsTest, of_language, IsCompare, compare_of_guard, IsSameCompare}
+use Rattle.model_run.specs.Seen.{IsTest, of_language, compare_of_guard}
 use Rattle.model_layers.specs.Compared.{AreCompared}
 use Rattle.model_layers.proofs.Compared.{compares_go_up}
 use Rattle.model_layers.proofs.CarryTrans.{definitions_carry}
@@ -41,25 +40,46 @@ use Rattle.fast_build.specs.Automaton.{IsGuardReached, IsAutomatonOf}
 use Rattle.fast_build.specs.Carried.{IsBuiltFor}
 use Rattle.fast_build.proofs.Stands.{AllStand}
 use Rattle.fast_build.proofs.Standing.{type_named}
-use Rattle.fast_eval.specs.Built.{compares_in, IsBuiltOf}
+use Rattle.fast_eval.specs.Built.{compares_in, IsCompared, IsBuiltOf}
 use Rattle.fast_eval.proofs.Written.{written}
 
 -- ---- what holds of each guard, and of each atom
 
 module _ {A : Type 0} where
-  guards_listed : (P : Formula A → Type 0) (rules : List (List (PlainRule A))) → All (λ rs. All (λ r. P r.guard) rs) rules → All P (all_guards rules)
+  pub guards_listed : (P : Formula A → Type 0) (rules : List (List (PlainRule A))) → All (λ rs. All (λ r. P r.guard) rs) rules → All P (all_guards rules)
   guards_listed P [] each = All-nil P
   guards_listed P (rs ∷ rules) each =
       All-append P (map (λ r. r.guard) rs) (all_guards rules) (All-map P (λ r. r.guard) rs (each 0 rs (omega arith))) (guards_listed P rules (All-tail (λ those. All (λ r. P r.guard) those) rs rules each))
 
-  atoms_listed : (P : A → Type 0) (gs : List (Formula A)) → All (λ g. All P (atoms_in g)) gs → All P (atoms_of_all gs)
+  pub atoms_listed : (P : A → Type 0) (gs : List (Formula A)) → All (λ g. All P (atoms_in g)) gs → All P (atoms_of_all gs)
   atoms_listed P [] each = All-nil P
   atoms_listed P (g ∷ gs) each = All-append P (atoms_in g) (atoms_of_all gs) (each 0 g (omega arith)) (atoms_listed P gs (All-tail (λ f. All P (atoms_in f)) g gs each))
 
-lefts_listed : {P Q : Type 0} (S : PairAtom P Q → Type 0) (atoms : List (PairAtom P Q)) → All S atoms → All (λ p. S (Left p)) (lefts atoms)
+pub lefts_listed : {P Q : Type 0} (S : PairAtom P Q → Type 0) (atoms : List (PairAtom P Q)) → All S atoms → All (λ p. S (Left p)) (lefts atoms)
 lefts_listed S [] each = All-nil (λ p. S (Left p))
 lefts_listed S (Left p ∷ atoms) each = All-cons (λ q. S (Left q)) p (lefts atoms) (All-head S (Left p) atoms each) (lefts_listed S atoms (All-tail S (Left p) atoms each))
 lefts_listed S (Right q ∷ atoms) each = lefts_listed S atoms (All-tail S (Right q) atoms each)
+
+-- ---- what is written in the rules of a name
+
+module _ (items : List Item) (n : Name) (type : List ℕ) where
+  abbrev pub own_fields : List PlainField
+  own_fields = (signature_named items (Some type)).fields
+
+  -- an atom of a comparison that the name has
+  abbrev pub IsWritten : RowAtom → Type 0
+  IsWritten (Left c) = IsCompared items (named n) type (plain_compare c)
+  IsWritten (Right a) = Unit {0}
+
+  atom_written : (e : Expr) → IsTest items n type e → is_guard own_fields e ≡ true → (a : RowAtom) → Contains (written_in own_fields e) a → IsWritten a
+  atom_written e test guard (Left c) at =
+      let d = plain_compare c in
+      (d, compare_of_guard n type e d test (written own_fields e guard c at), (refl, same_laws.refl d.left, same_laws.refl d.right))
+  atom_written e test guard (Right a) at = tt
+
+  pub guard_written : (f : Formula RowAtom) (guard : Option Expr) → ((e : Expr) → guard ≡ Some e → IsTest items n type e) → IsGuardFor own_fields guard f → All IsWritten (atoms_in f)
+  guard_written f None tests own = subst (λ g. All IsWritten (atoms_in g)) (sym own) (All-nil IsWritten)
+  guard_written f (Some e) tests own = λ k d low. atom_written e (tests e refl) own.0 (get_or (atoms_in f) k d) (all_atoms (Contains (written_in own_fields e)) f own.1.atoms k d low)
 
 -- ---- by rules
 
@@ -67,40 +87,22 @@ module _ (items : List Item) (n : Name) (type : List ℕ) (l : Lang RowAtom) (on
   signature_is : signature_named items (Some type) ≡ input_of items n.text
   signature_is = ap (signature_named items) (sym on) ∙ input_type_of_name items n
 
-  abbrev fields : List PlainField
-  fields = (signature_named items (Some type)).fields
-
-  -- an atom of a comparison that the name has
-  abbrev IsWritten : RowAtom → Type 0
-  IsWritten (Left c) = (d : plain.Compare) × IsCompare items (named n) type d × IsSameCompare d (plain_compare c)
-  IsWritten (Right a) = Unit {0}
-
   on_type : (other : List ℕ) → Reaches items n.text other → type_of items (named (name_of other)) ≡ Some type
   on_type other reached =
       let at = is.all other reached in
       let beside = is.languages at.0 other at.1 in
       subst (λ name. type_of items (named (name_of name)) ≡ Some type) at.2 (beside.type ∙ on)
 
-  atom_written : (e : Expr) → IsTest items n type e → is_guard fields e ≡ true → (a : RowAtom) → Contains (written_in fields e) a → IsWritten a
-  atom_written e test guard (Left c) at =
-      let d = plain_compare c in
-      (d, compare_of_guard n type e d test (written fields e guard c at), (refl, same_laws.refl d.left, same_laws.refl d.right))
-  atom_written e test guard (Right a) at = tt
-
-  guard_written : (f : Formula RowAtom) (guard : Option Expr) → ((e : Expr) → guard ≡ Some e → IsTest items n type e) → IsGuardFor fields guard f → All IsWritten (atoms_in f)
-  guard_written f None tests own = subst (λ g. All IsWritten (atoms_in g)) (sym own) (All-nil IsWritten)
-  guard_written f (Some e) tests own = λ k d low. atom_written e (tests e refl) own.0 (get_or (atoms_in f) k d) (all_atoms (Contains (written_in fields e)) f own.1.atoms k d low)
-
-  reached_written : (f : Formula RowAtom) → IsGuardReached items n.text f → All IsWritten (atoms_in f)
+  reached_written : (f : Formula RowAtom) → IsGuardReached items n.text f → All (IsWritten items n type) (atoms_in f)
   reached_written f (other, reached, r, at, own) =
-      guard_written f r.guard (λ e same. of_language n (name_of other) type r e reached (on_type other reached) at same) (subst (λ s. IsGuardFor s.fields r.guard f) (sym signature_is) own)
+      guard_written items n type f r.guard (λ e same. of_language n (name_of other) type r e reached (on_type other reached) at same) (subst (λ s. IsGuardFor s.fields r.guard f) (sym signature_is) own)
 
-  all_written : All IsWritten (atoms_of_all (all_guards l.sta.rules))
-  all_written = atoms_listed IsWritten (all_guards l.sta.rules) (guards_listed (λ g. All IsWritten (atoms_in g)) l.sta.rules (λ k d low i e below. reached_written _ (is.guards k d low i e below)))
+  all_written : All (IsWritten items n type) (atoms_of_all (all_guards l.sta.rules))
+  all_written = atoms_listed (IsWritten items n type) (all_guards l.sta.rules) (guards_listed (λ g. All (IsWritten items n type) (atoms_in g)) l.sta.rules (λ k d low i e below. reached_written _ (is.guards k d low i e below)))
 
   compared : AreCompared items (named n) type (compares_in l.sta)
   compared =
-      All-map (λ c. (d : plain.Compare) × IsCompare items (named n) type d × IsSameCompare d c) plain_compare (lefts (atoms_of_all (all_guards l.sta.rules))) (lefts_listed IsWritten (atoms_of_all (all_guards l.sta.rules)) all_written)
+      All-map (IsCompared items (named n) type) plain_compare (lefts (atoms_of_all (all_guards l.sta.rules))) (lefts_listed (IsWritten items n type) (atoms_of_all (all_guards l.sta.rules)) all_written)
 
   pub built_by_rules : IsBuiltFor items n type l.sta l.state → IsBuiltOf items (named n) type l
   built_by_rules own = record {

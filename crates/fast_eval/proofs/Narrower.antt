@@ -1,8 +1,10 @@
 -- What operations promise over the trees of one type is so over fewer trees.
-use Rattle.std.proofs.Common.{◌⊎◌, inl, inr, List}
+use Rattle.std.proofs.Common.{◌⊎◌, inl, inr, List, []}
 use Rattle.model_tree.specs.Tree.{Tree}
 use Rattle.model_sta.specs.Automaton.{Rule}
-use Rattle.model_sta.specs.Operations.{Auto, Has, InOne, Alike, OfState, OfClasses, IsMadeOf, OfBoth, OfBothOrClasses, IsUnion, IsIntersection, IsDifference, IsComplement, IsMinimal}
+use Rattle.model_sttr.specs.Transducer.{run, Sttr, Trans, Gives}
+use Rattle.model_sttr.specs.Operations.{HasSource, AlikePairs, OfTransState, OfSources, OfOutputs, IsTransMadeOf, IsDomain, IsPreImage, IsRestriction, IsOutRestriction}
+use Rattle.model_sta.specs.Operations.{HasAll, Auto, Has, InOne, Alike, OfState, OfClasses, IsMadeOf, OfBoth, OfBothOrClasses, IsUnion, IsIntersection, IsDifference, IsComplement, IsMinimal}
 
 module _ {L : Type 0} (Typed Fewer : Tree L → Type 0) (within : (t : Tree L) → Fewer t → Typed t) where
   alike : (P Q : Tree L → Type 0) → Alike Typed P Q → Alike Fewer P Q
@@ -44,3 +46,52 @@ module _ {L : Type 0} (Typed Fewer : Tree L → Type 0) (within : (t : Tree L) �
 
   pub complement : (a c : Auto L) → IsComplement Typed a c → IsComplement Fewer a c
   complement a c = made (OfBothOrClasses Typed a a) (OfBothOrClasses Fewer a a) c (λ t. ¬ (Has a.rules a.start t)) (or_classes a a)
+
+  -- ---- transducers
+
+  alike_pairs : (R S : Tree L → Tree L → Type 0) → AlikePairs Typed R S → AlikePairs Fewer R S
+  alike_pairs R S same t u h = same t u (within t h)
+
+  of_trans_state : (f : Sttr L) (R : Tree L → Tree L → Type 0) → OfTransState Typed f R → OfTransState Fewer f R
+  of_trans_state f R (q, low, same) = (q, low, alike_pairs R (Gives f (run q)) same)
+
+  of_sources : (f : Sttr L) (rules : List (List (Rule L))) (P : Tree L → Type 0) → OfSources Typed f rules P → OfSources Fewer f rules P
+  of_sources f rules P o = record { head = o.head; is_head = o.is_head; all = o.all; are = o.are; same = alike P (HasSource f rules o.head o.all) o.same }
+
+  of_outputs : (f : Sttr L) (rules : List (List (Rule L))) (R : Tree L → Tree L → Type 0) → OfOutputs Typed f rules R → OfOutputs Fewer f rules R
+  of_outputs f rules R o = record { head = o.head; is_head = o.is_head; all = o.all; are = o.are; same = alike_pairs R (λ t u. Gives f o.head t u × HasAll rules o.all u) o.same }
+
+  look_or_source : (f : Sttr L) (rules : List (List (Rule L))) (P : Tree L → Type 0) → OfState Typed f.looks P ⊎ OfSources Typed f rules P → OfState Fewer f.looks P ⊎ OfSources Fewer f rules P
+  look_or_source f rules P (inl look) = inl (of_state f.looks P look)
+  look_or_source f rules P (inr source) = inr (of_sources f rules P source)
+
+  look_or_state : (f : Sttr L) (rules : List (List (Rule L))) (P : Tree L → Type 0) → OfState Typed f.looks P ⊎ OfState Typed rules P → OfState Fewer f.looks P ⊎ OfState Fewer rules P
+  look_or_state f rules P (inl look) = inl (of_state f.looks P look)
+  look_or_state f rules P (inr own) = inr (of_state rules P own)
+
+  pub domain : (f : Trans L) (c : Auto L) → IsDomain Typed f c → IsDomain Fewer f c
+  domain f c = made (λ P. OfState Typed f.sttr.looks P ⊎ OfSources Typed f.sttr [] P) (λ P. OfState Fewer f.sttr.looks P ⊎ OfSources Fewer f.sttr [] P) c (λ t. (u : Tree L) × Gives f.sttr (run f.start) t u) (look_or_source f.sttr [])
+
+  pub pre_image : (f : Trans L) (a c : Auto L) → IsPreImage Typed f a c → IsPreImage Fewer f a c
+  pre_image f a c =
+      made (λ P. OfState Typed f.sttr.looks P ⊎ OfSources Typed f.sttr a.rules P) (λ P. OfState Fewer f.sttr.looks P ⊎ OfSources Fewer f.sttr a.rules P) c (λ t. (u : Tree L) × Gives f.sttr (run f.start) t u × Has a.rules a.start u) (look_or_source f.sttr a.rules)
+
+  trans_made : (Q QF : (Tree L → Type 0) → Type 0) (R RF : (Tree L → Tree L → Type 0) → Type 0) (S : Type 0) (c : Trans L) (P : Tree L → Tree L → Type 0) → ((V : Tree L → Type 0) → Q V → QF V) → ((V : Tree L → Tree L → Type 0) → R V → RF V)
+      → IsTransMadeOf Typed Q R S c P → IsTransMadeOf Fewer QF RF S c P
+  trans_made Q QF R RF S c P to also is = record {
+    in_range = is.in_range;
+    means = alike_pairs (Gives c.sttr (run c.start)) P is.means;
+    each_state = λ q low. elim (is.each_state q low) [ inl start ↦ inl start | inr other ↦ inr (also (Gives c.sttr (run q)) other) ];
+    each_look = λ q low. to (Has c.sttr.looks q) (is.each_look q low);
+    gives_same = is.gives_same;
+  }
+
+  pub restriction : (f : Trans L) (a : Auto L) (c : Trans L) → IsRestriction Typed f a c → IsRestriction Fewer f a c
+  restriction f a c is =
+      trans_made (λ P. OfState Typed f.sttr.looks P ⊎ OfState Typed a.rules P) (λ P. OfState Fewer f.sttr.looks P ⊎ OfState Fewer a.rules P) (OfTransState Typed f.sttr) (OfTransState Fewer f.sttr) _ c
+      (λ t u. Gives f.sttr (run f.start) t u × Has a.rules a.start t) (look_or_state f.sttr a.rules) (of_trans_state f.sttr) is
+
+  pub out_restriction : (f : Trans L) (a : Auto L) (c : Trans L) → IsOutRestriction Typed f a c → IsOutRestriction Fewer f a c
+  out_restriction f a c is =
+      trans_made (λ P. OfState Typed f.sttr.looks P ⊎ OfSources Typed f.sttr a.rules P) (λ P. OfState Fewer f.sttr.looks P ⊎ OfSources Fewer f.sttr a.rules P) (OfOutputs Typed f.sttr a.rules) (OfOutputs Fewer f.sttr a.rules) _ c
+      (λ t u. Gives f.sttr (run f.start) t u × Has a.rules a.start u) (look_or_source f.sttr a.rules) (of_outputs f.sttr a.rules) is

@@ -8,8 +8,12 @@ use Rattle.sta_core.specs.Sta.{AtomsFit, rule_meaning}
 use Rattle.sta_core.specs.declared.Lang.{Lang}
 use Rattle.sta_min.specs.declared.least.Minimal.{Minimal}
 use Rattle.record_label.specs.Rows.{RowAtom, row_holds, RowFits}
-use Rattle.fast_eval.specs.Built.{IsBuiltOf}
-use Rattle.fast_eval.specs.Scopes.{lang_of, IsOperandOf}
+use Rattle.fast_eval.specs.Built.{IsBuiltOf, IsTransBuiltOf}
+use Rattle.fast_eval.specs.Scopes.{lang_of, IsOperandOf, trans_in, IsTransOperandOf}
+use Rattle.fast_eval.specs.declared.evaluation.TransOperand.{TransOperand}
+use Rattle.fast_eval.specs.declared.evaluation.TransOperand.TheVariants as trans
+use Rattle.sttr_core.specs.declared.sttr.Trans.{Trans}
+use Rattle.record_label.specs.declared.maps.RowMap.{RowMap}
 use Rattle.fast_eval.specs.declared.built.Built.{Built}
 use Rattle.fast_eval.specs.declared.evaluation.Operand.{Operand}
 use Rattle.fast_eval.specs.declared.evaluation.Operand.TheVariants.{Made, Least}
@@ -37,3 +41,10 @@ made_operand items e type b l built = record { low = tt; built = λ d. built }
 
 pub least_operand : (items : List Item) (e : X) (type : List ℕ) (b : Built) (m : Minimal RowAtom) → IsBuiltOf items e type m.lang → IsOperandOf items e type b (Least m)
 least_operand items e type b m built = record { low = tt; built = λ d. built }
+
+-- the same of a transducer
+pub trans_operand_built : (items : List Item) (e : X) (from into : List ℕ) (b : Built) (o : TransOperand) (f : Trans RowAtom RowMap) → IsTransOperandOf items e from into b o → f ≡ trans_in b o f → IsTransBuiltOf items e from into f
+trans_operand_built items e from into b o f is same = subst (IsTransBuiltOf items e from into) (sym same) (is.built f)
+
+pub made_trans_operand : (items : List Item) (e : X) (from into : List ℕ) (b : Built) (f : Trans RowAtom RowMap) → IsTransBuiltOf items e from into f → IsTransOperandOf items e from into b (trans.Made f)
+made_trans_operand items e from into b f built = record { low = tt; built = λ d. built }

@@ -3,17 +3,20 @@ use Rattle.std.proofs.Common.{◌≡◌, ◌⊎◌, inl, inr, ℕ, Bool, true, f
 use Rattle.std.specs.Prelude.{is_some}
 use Rattle.std.specs.Option.{option_and_then}
 use Rattle.model_program.specs.Syntax.{Name}
-use Rattle.model_grammar.specs.Syntax.{X, named, one, two, literal, equal, empty, Body, sorts, tree, lang, trans, DefItem, def, AssertItem, assertion, Item}
+use Rattle.model_grammar.specs.declared.Op1.TheVariants.{Complement, Minimize, Domain, GetWitness}
+use Rattle.model_grammar.specs.declared.Op2.TheVariants.{Intersect, Union, Difference, PreImage, Compose, Restrict, RestrictOut, Apply}
+use Rattle.model_grammar.specs.Syntax.{X, named, one, two, literal, equal, empty, type_check, Body, sorts, tree, lang, trans, DefItem, def, AssertItem, assertion, Item}
 use Rattle.model_names.specs.Declared.{own_name, declares, find_item}
-use Rattle.model_names.specs.Kinds.{Kind, same_kind, language, transformation, a_tree, defined_kind, declared_type, own_kind, kind_of, type_of}
+use Rattle.model_names.specs.Kinds.{Kind, same_kind, language, transformation, a_tree, defined_kind, declared_type, own_kind, kind_of, type_of, output_of}
 use Rattle.model_meaning.specs.Reached.{IsNamedIn}
-use Rattle.model_checks.specs.Failures.{is_empty}
+use Rattle.fast_fault.specs.declared.code.Code.TheVariants.{WrongKind}
+use Rattle.model_checks.specs.Failures.{is_empty, fails_if}
 use Rattle.model_checks.specs.Rules.{differ}
-use Rattle.model_checks.specs.Expressions.{is_known_later, expected_as, needs_be, type_as, x_failures, whole_failures}
-use Rattle.model_checks.specs.Programs.{body_failures, claim_failures}
+use Rattle.model_checks.specs.Expressions.{is_known_later, expected_as, place_of_x, needs_be, type_as, output_as, x_failures, whole_failures}
+use Rattle.model_checks.specs.Programs.{is_tree, body_failures, claim_failures}
 use Rattle.model_checks.specs.Sound.{IsSound, StandsIn}
-use Rattle.model_checks.proofs.Soundness.{empty_first, empty_second, not_false, is_there, found_passes}
-use Rattle.model_run.specs.Built.{is_built_language, is_built_transformation, is_built_value}
+use Rattle.model_checks.proofs.Soundness.{empty_first, empty_second, not_false, passed, is_there, found_passes}
+use Rattle.model_run.specs.Built.{is_built_expression}
 use Rattle.model_run.specs.Parts.{IsOn, IsFrom}
 use Rattle.meaning_laws.proofs.Kinded.{IsTypedAs, IsKinded, kinded, kind_needed, named_kind, through, from_declared, into_declared}
 use Rattle.meaning_laws.proofs.Known.{IsKnown, has_name, names_known, found_of}
@@ -24,8 +27,9 @@ use Rattle.fast_build.specs.Transformations.{own_trans}
 use Rattle.fast_eval.specs.declared.built.Built.{Built}
 use Rattle.fast_eval.specs.Defined.{AreDefined, AreDefinedOf, IsMadeInto, AreKnownInto}
 use Rattle.fast_eval.specs.Table.{HasBuilt}
-use Rattle.fast_eval.specs.Forms.{AreKnown, IsMadeOn, IsMadeFrom, IsReadyName, IsTransKnown}
-use Rattle.fast_eval.proofs.Typing.{made_of_form}
+use Rattle.fast_eval.specs.Forms.{AreReady, AreKnown, IsMadeOn, IsMadeFrom, IsMadeAt, IsReadyName, IsTransKnown, IsKnownAt}
+use Rattle.fast_eval.proofs.Claims.{made_on, made_from}
+use Rattle.fast_eval.proofs.Typing.{made_of_form, made_from_form}
 
 -- what is found in a front is what is found
 find_in_front : {A : Type 0} (p : A → Bool) (xs ys : List A) (x : A) → find p xs ≡ Some x → find p (xs ++ ys) ≡ Some x
@@ -47,26 +51,8 @@ found_there p (z ∷ xs) x e = by (p z) e (found_there p xs x)
 some_same : {A : Type 0} {s t : A} → Some s ≡ Some t → s ≡ t
 some_same e = cc
 
--- a transformation that is built has the form of a language that is built
-pub trans_form : (x : X) → is_built_transformation x ≡ true → is_built_language x ≡ true
-trans_form (named m) form = refl
-trans_form (one op place x) form = absurd (cc)
-trans_form (two op place x y) form = absurd (cc)
-trans_form (literal name labels xs) form = absurd (cc)
-
-pub value_form : (into : Option Name) (x : X) → is_built_value into x ≡ true → is_built_language x ≡ true
-value_form None x form = form
-value_form (Some n) x form = trans_form x form
-
 module _ (items : List Item) (whole : IsSound items) where
   -- ---- types
-
-  pub def_made : (item : Item) (at : StandsIn items item) (d : DefItem) → item.body ≡ def d → d.into ≡ None → is_built_language d.value ≡ true → IsMadeOn items d.from.text d.value
-  def_made item at d is alone form =
-      let c = checked items whole item at d is in
-      let has = value_has items whole item at d is in
-      made_of_form items whole at.before 0 (expected_as (defined_kind d.into) (declared_type items d.from)) d.value d.from.text form c.inside
-      (has.0 ∙ ap (λ o. Some (defined_kind o)) alone, has.1 ∙ from_declared items whole item at d is)
 
   claim_fine : (item : Item) (at : StandsIn items item) (a : AssertItem) → item.body ≡ assertion a → is_empty (claim_failures items at.before a.claim) ≡ true
   claim_fine item at a is = subst (λ b. is_empty (body_failures items at.before b) ≡ true) is (whole.each item at)
@@ -93,11 +79,18 @@ module _ (items : List Item) (whole : IsSound items) where
   empty_inside : (before : List Item) (x : X) → is_empty (claim_failures items before (empty x)) ≡ true → is_empty (x_failures items before 0 None x) ≡ true
   empty_inside before x e = empty_first (x_failures items before 0 None x) _ e
 
-  pub empty_made : (before : List Item) (x : X) → is_empty (claim_failures items before (empty x)) ≡ true → kind_of items x ≡ Some language → is_built_language x ≡ true → (type : List ℕ) × IsMadeOn items type x
-  empty_made before x e kind form =
+  -- a language or a transformation
+  pub empty_made : (before : List Item) (x : X) → is_empty (claim_failures items before (empty x)) ≡ true → is_built_expression x ≡ true → (type : List ℕ) × IsMadeAt items type x
+  empty_made before x e form =
       let inside = empty_inside before x e in
-      let (type, on) = typed_as x (kinded items whole before 0 None x inside) kind in
-      (type, made_of_form items whole before 0 None x type form inside on)
+      let k = kinded items whole before 0 None x inside in
+      by (kind_of items x) k refl inside
+    where
+      by : (kind : Option Kind) → IsKinded items x → kind_of items x ≡ kind → is_empty (x_failures items before 0 None x) ≡ true → (type : List ℕ) × IsMadeAt items type x
+      by (Some language) k is inside = let (type, on) = typed_as x k is in (type, inl (made_of_form items whole before 0 None x type form inside on))
+      by (Some transformation) k is inside = let (from, into, goes) = typed_from x k is in (from, inr (into, made_from_form items whole before 0 None x from into form inside goes))
+      by (Some a_tree) k is inside = let no : true ≡ false = sym (ap is_tree is) ∙ passed (is_tree (kind_of items x)) WrongKind (place_of_x x) (empty_second (x_failures items before 0 None x) (fails_if (is_tree (kind_of items x)) WrongKind (place_of_x x)) e) in absurd (cc)
+      by None k is inside = let no : Some k.kind ≡ None = sym k.is ∙ is in absurd (cc)
 
   -- the two languages of a statement are on one type
   pub record AreMadeOnOne (x y : X) : Type 0 where
@@ -105,7 +98,7 @@ module _ (items : List Item) (whole : IsSound items) where
     pub first : IsMadeOn items type x
     pub second : IsMadeOn items type y
 
-  pub equal_made : (before : List Item) (x y : X) → is_empty (claim_failures items before (equal x y)) ≡ true → is_built_language x ≡ true → is_built_language y ≡ true → AreMadeOnOne x y
+  pub equal_made : (before : List Item) (x y : X) → is_empty (claim_failures items before (equal x y)) ≡ true → is_built_expression x ≡ true → is_built_expression y ≡ true → AreMadeOnOne x y
   equal_made before x y e form_x form_y =
       let wx = whole_failures items before None language x in
       let wanted = type_as items before language x in
@@ -123,6 +116,57 @@ module _ (items : List Item) (whole : IsSound items) where
         type = own_x.1.0;
         first = made_of_form items whole before 0 None x own_x.1.0 form_x in_x (own_x.0, own_x.1.1);
         second = made_of_form items whole before 0 None y own_x.1.0 form_y in_y (own_y.0, same ∙ own_x.1.1);
+      }
+
+  -- a whole expression, and what it is
+  record IsWhole (before : List Item) (wanted : Option (List ℕ)) (kind : Kind) (x : X) : Type 0 where
+    inside : is_empty (x_failures items before 0 (expected_as kind wanted) x) ≡ true
+    own : (kind_of items x ≡ Some kind) × IsTypedAs items kind x
+    told : differ wanted (type_of items x) ≡ false
+
+  is_whole : (before : List Item) (wanted : Option (List ℕ)) (kind : Kind) (x : X) → is_empty (whole_failures items before wanted kind x) ≡ true → IsWhole before wanted kind x
+  is_whole before wanted kind x e =
+      let fx = x_failures items before 0 (expected_as kind wanted) x in
+      let bx = needs_be items before wanted kind x in
+      let inside = empty_first fx bx e in
+      let own = kind_needed items before kind wanted x (kinded items whole before 0 (expected_as kind wanted) x inside) (empty_second fx bx e) in
+      record { inside = inside; own = own; told = not_other items whole before kind wanted x own.0 (empty_second fx bx e) }
+
+  -- the expressions of a type check
+  pub record AreMadeToCheck (before : List Item) (x f y : X) : Type 0 where
+    pub type : List ℕ
+    pub into : List ℕ
+    pub first : IsMadeOn items type x
+    pub goes : IsMadeFrom items type into f
+    pub second : IsMadeOn items into y
+    pub first_fine : is_empty (x_failures items before 0 None x) ≡ true
+    pub fine : is_empty (x_failures items before 0 None f) ≡ true
+    pub second_fine : is_empty (x_failures items before 0 None y) ≡ true
+
+  pub check_made : (before : List Item) (x f y : X) → is_empty (claim_failures items before (type_check x f y)) ≡ true → is_built_expression x ≡ true → is_built_expression f ≡ true → is_built_expression y ≡ true → AreMadeToCheck before x f y
+  check_made before x f y e form_x form_f form_y =
+      let wx = whole_failures items before None language x in
+      let wf = whole_failures items before (type_as items before language x) transformation f in
+      let wy = whole_failures items before (output_as items before transformation f) language y in
+      let rest = empty_second wx (wf ++ wy) e in
+      let one = is_whole before None language x (empty_first wx (wf ++ wy) e) in
+      let two = is_whole before (type_as items before language x) transformation f (empty_first wf wy rest) in
+      let three = is_whole before (output_as items before transformation f) language y (empty_second wf wy rest) in
+      let type = one.own.1.0 in
+      let into = two.own.1.1 in
+      let wanted_f : type_as items before language x ≡ Some type = through language (kind_of items x) (type_of items x) one.own.0 ∙ one.own.1.1 in
+      let wanted_y : output_as items before transformation f ≡ Some into = through transformation (kind_of items f) (output_of items f) two.own.0 ∙ two.own.1.3 in
+      let type_f = same_types items (type_as items before language x) (type_of items f) type two.own.1.0 wanted_f two.own.1.2 two.told ∙ wanted_f in
+      let type_y = same_types items (output_as items before transformation f) (type_of items y) into three.own.1.0 wanted_y three.own.1.1 three.told ∙ wanted_y in
+      record {
+        type = type;
+        into = into;
+        first = made_of_form items whole before 0 None x type form_x one.inside (one.own.0, one.own.1.1);
+        goes = made_from_form items whole before 0 None f type into form_f two.inside (two.own.0, type_f, two.own.1.3);
+        second = made_of_form items whole before 0 None y into form_y three.inside (three.own.0, type_y);
+        first_fine = one.inside;
+        fine = two.inside;
+        second_fine = three.inside;
       }
 
   -- ---- names
@@ -156,22 +200,51 @@ module _ (items : List Item) (whole : IsSound items) where
         let f = found_of items whole before n.text known.1 in
         ready_by_body n.text known.0 k f.item f.item.body f.found refl f.early (sym (named_kind items n f.item f.found) ∙ kind) other
 
-    names_ready : (type : List ℕ) (x : X) → IsMadeOn items type x → ((m : List ℕ) → IsNamedIn x m → P m × IsKnown items whole before m) → AreKnown items b x
-    names_ready type (named n) made known = name_ready n language made.0 refl (known n.text refl)
-    names_ready type (one op place x) made known = names_ready type x made.1 known
-    names_ready type (two op place x y) made known = (names_ready type x made.1 (λ m at. known m (inl at)), names_ready type y made.2 (λ m at. known m (inr at)))
-    names_ready type (literal name labels xs) made known = absurd made
+    abbrev AreWanted : X → Type 0
+    AreWanted x = (m : List ℕ) → IsNamedIn x m → P m × IsKnown items whole before m
 
-    -- where the definitions with some names have languages, the names in an expression of such names are known
+    abbrev firsts : (x y : X) → ((m : List ℕ) → IsNamedIn x m ⊎ IsNamedIn y m → P m × IsKnown items whole before m) → AreWanted x
+    firsts x y known m at = known m (inl at)
+
+    abbrev seconds : (x y : X) → ((m : List ℕ) → IsNamedIn x m ⊎ IsNamedIn y m → P m × IsKnown items whole before m) → AreWanted y
+    seconds x y known m at = known m (inr at)
+
+    mutual
+      names_ready : (type : List ℕ) (x : X) → IsMadeOn items type x → AreWanted x → AreKnown items b x
+      names_ready type (named n) made known = name_ready n language made.0 refl (known n.text refl)
+      names_ready type (one Complement place x) made known = names_ready type x made known
+      names_ready type (one Minimize place x) made known = names_ready type x made known
+      names_ready type (one Domain place f) made known = trans_names_ready type made.0 f made.1 known
+      names_ready type (one GetWitness place x) made known = absurd made
+      names_ready type (two Intersect place x y) made known = (names_ready type x made.0 (firsts x y known), names_ready type y made.1 (seconds x y known))
+      names_ready type (two Union place x y) made known = (names_ready type x made.0 (firsts x y known), names_ready type y made.1 (seconds x y known))
+      names_ready type (two Difference place x y) made known = (names_ready type x made.0 (firsts x y known), names_ready type y made.1 (seconds x y known))
+      names_ready type (two PreImage place f y) made known = (trans_names_ready type made.0 f made.1 (firsts f y known), names_ready made.0 y made.2 (seconds f y known))
+      names_ready type (two Compose place x y) made known = absurd made
+      names_ready type (two Restrict place x y) made known = absurd made
+      names_ready type (two RestrictOut place x y) made known = absurd made
+      names_ready type (two Apply place x y) made known = absurd made
+      names_ready type (literal name labels xs) made known = absurd made
+
+      trans_names_ready : (from into : List ℕ) (x : X) → IsMadeFrom items from into x → AreWanted x → IsTransKnown items b x
+      trans_names_ready from into (named n) made known = name_ready n transformation made.0 refl (known n.text refl)
+      trans_names_ready from into (one op place x) made known = absurd made
+      trans_names_ready from into (two Restrict place f y) made known = (trans_names_ready from into f made.0 (firsts f y known), names_ready from y made.1 (seconds f y known))
+      trans_names_ready from into (two RestrictOut place f y) made known = (trans_names_ready from into f made.0 (firsts f y known), names_ready into y made.1 (seconds f y known))
+      trans_names_ready from into (two Intersect place x y) made known = absurd made
+      trans_names_ready from into (two Union place x y) made known = absurd made
+      trans_names_ready from into (two Difference place x y) made known = absurd made
+      trans_names_ready from into (two PreImage place x y) made known = absurd made
+      trans_names_ready from into (two Compose place x y) made known = absurd made
+      trans_names_ready from into (two Apply place x y) made known = absurd made
+      trans_names_ready from into (literal name labels xs) made known = absurd made
+
+    -- where the definitions with some names have languages and transformations, the names in an expression of such names are known
     pub known_where : (around : ℕ) (expected : Option (List ℕ)) (type : List ℕ) (x : X) → is_empty (x_failures items before around expected x) ≡ true → IsMadeOn items type x → ((m : List ℕ) → IsNamedIn x m → P m) → AreKnown items b x
     known_where around expected type x fine made wanted = names_ready type x made (λ m at. (wanted m at, names_known items whole before around expected x fine m at))
 
-    -- the same of a transformation
     pub trans_known_where : (around : ℕ) (expected : Option (List ℕ)) (from into : List ℕ) (x : X) → is_empty (x_failures items before around expected x) ≡ true → IsMadeFrom items from into x → ((m : List ℕ) → IsNamedIn x m → P m) → IsTransKnown items b x
-    trans_known_where around expected from into (named n) fine made wanted = name_ready n transformation made.0 refl (wanted n.text refl, names_known items whole before around expected (named n) fine n.text refl)
-    trans_known_where around expected from into (one op place x) fine made wanted = tt
-    trans_known_where around expected from into (two op place x y) fine made wanted = tt
-    trans_known_where around expected from into (literal name labels xs) fine made wanted = tt
+    trans_known_where around expected from into x fine made wanted = trans_names_ready from into x made (λ m at. (wanted m at, names_known items whole before around expected x fine m at))
 
   pub known_of : (b : Built) (before from : List Item) → items ≡ before ++ from → AreDefined b before → (around : ℕ) (expected : Option (List ℕ)) (type : List ℕ) (x : X) → is_empty (x_failures items before around expected x) ≡ true → IsMadeOn items type x → AreKnown items b x
   known_of b before from split defined around expected type x fine made =
@@ -182,26 +255,38 @@ module _ (items : List Item) (whole : IsSound items) where
   trans_known_of b before from split defined around expected type into x fine made =
       trans_known_where b before from split (λ m. Unit {0}) (λ item d at is wanted. defined item d at is) around expected type into x fine made (λ m at. tt)
 
+  -- of an expression of either kind
+  pub known_at : (b : Built) (before from : List Item) → items ≡ before ++ from → AreDefined b before → (type : List ℕ) (x : X) → is_empty (x_failures items before 0 None x) ≡ true → IsMadeAt items type x → IsKnownAt items b x
+  known_at b before from split defined type x fine (inl made) kind is =
+      subst (λ k. AreReady k items b x) (some_same (sym (made_on items type x made).0 ∙ is)) (known_of b before from split defined 0 None type x fine made)
+  known_at b before from split defined type x fine (inr (into, made)) kind is =
+      subst (λ k. AreReady k items b x) (some_same (sym (made_from items type into x made).0 ∙ is)) (trans_known_of b before from split defined 0 None type into x fine made)
+
   -- ---- values of definitions
 
-  pub made_from_form : (x : X) (from into : List ℕ) → is_built_transformation x ≡ true → IsFrom items x from into → IsMadeFrom items from into x
-  made_from_form (named n) from into form on = on
-  made_from_form (one op place x) from into form on = absurd (cc)
-  made_from_form (two op place x y) from into form on = absurd (cc)
-  made_from_form (literal name labels xs) from into form on = absurd (cc)
-
   module _ (item : Item) (at : StandsIn items item) (d : DefItem) (is : item.body ≡ def d) where
-    def_made_from : (n : Name) → d.into ≡ Some n → is_built_transformation d.value ≡ true → IsMadeFrom items d.from.text n.text d.value
+    abbrev wanted : Option (List ℕ)
+    wanted = expected_as (defined_kind d.into) (declared_type items d.from)
+
+    begins : type_of items d.value ≡ Some d.from.text
+    begins = (value_has items whole item at d is).1 ∙ from_declared items whole item at d is
+
+    def_made_from : (n : Name) → d.into ≡ Some n → is_built_expression d.value ≡ true → IsMadeFrom items d.from.text n.text d.value
     def_made_from n e form =
         let has = value_has items whole item at d is in
         let output = ap (option_and_then (declared_type items)) e ∙ into_declared items whole item at d n is e in
-        made_from_form d.value d.from.text n.text form (has.0 ∙ ap (λ o. Some (defined_kind o)) e, has.1 ∙ from_declared items whole item at d is, has.2 ∙ output)
+        made_from_form items whole at.before 0 wanted d.value d.from.text n.text form (checked items whole item at d is).inside (has.0 ∙ ap (λ o. Some (defined_kind o)) e, begins, has.2 ∙ output)
 
-    def_made_as : (into : Option Name) → d.into ≡ into → is_built_value into d.value ≡ true → IsMadeInto items into d.value
-    def_made_as None e form = (d.from.text, def_made item at d is e form)
+    def_made : d.into ≡ None → is_built_expression d.value ≡ true → IsMadeOn items d.from.text d.value
+    def_made e form =
+        let has = value_has items whole item at d is in
+        made_of_form items whole at.before 0 wanted d.value d.from.text form (checked items whole item at d is).inside (has.0 ∙ ap (λ o. Some (defined_kind o)) e, begins)
+
+    def_made_as : (into : Option Name) → d.into ≡ into → is_built_expression d.value ≡ true → IsMadeInto items into d.value
+    def_made_as None e form = (d.from.text, def_made e form)
     def_made_as (Some n) e form = (d.from.text, n.text, def_made_from n e form)
 
-    pub def_made_into : is_built_value d.into d.value ≡ true → IsMadeInto items d.into d.value
+    pub def_made_into : is_built_expression d.value ≡ true → IsMadeInto items d.into d.value
     def_made_into = def_made_as d.into refl
 
     module _ (b : Built) (P : List ℕ → Type 0) (defined : AreDefinedOf P b at.before) (named_in : (m : List ℕ) → IsNamedIn d.value m → P m) where

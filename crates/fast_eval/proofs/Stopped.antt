@@ -47,7 +47,7 @@ use Rattle.record_label.specs.Meaning.{row_meaning}
 use Rattle.record_label.specs.Rows.{RowAtom, row_holds, KeepsSorts}
 use Rattle.record_label.proofs.ChainFacts.{compares_over}
 use Rattle.fast_eval.specs.Built.{compares_of, compares_in, IsBuiltOf}
-use Rattle.fast_eval.specs.Stops.{IsStopOf}
+use Rattle.fast_eval.specs.Stops.{IsStopOf, by_classes}
 use Rattle.fast_eval.proofs.Compares.{one_of, compares_joined}
 use Rattle.fast_eval.proofs.Typed.{fits_if_kept, type_from_fits}
 
@@ -130,7 +130,7 @@ module _ (items : List Item) (type : List ℕ) (sorts : List Sort) (is : sorts �
     abbrev rules : List (List (Rule Label))
     rules = automaton_of row_holds a.sta
 
-    pub stops_one : (most : ℕ) (s : ClassStop Chain) → StopsClasses (row_meaning sorts) a.sta most s → IsStopOf items (x ∷ []) most s
+    pub stops_one : (most : ℕ) (s : ClassStop Chain) → StopsClasses (row_meaning sorts) a.sta most s → IsStopOf items (x ∷ []) most (by_classes s)
     stops_one most Classes stop = (trees_go_up items type most).of_one x rules first.carries.each_state (typed_trees x a first (AreTold rules) most (more_told a.sta.ranks (KeepsSorts sorts) rules most stop))
     stops_one most (Wide c) stop =
         (widths_go_up items type (bits_of c.width)).of_one x (compares_in a.sta) rules first.compared first.seen
@@ -147,7 +147,7 @@ module _ (items : List Item) (type : List ℕ) (sorts : List Sort) (is : sorts �
         | inr there ↦ guards_agree l m b.sta.rules agree.1 f there
       ]
 
-      pub stops_two : (most : ℕ) (s : ClassStop Chain) → StopsEither (row_meaning sorts) a b most s → IsStopOf items (x ∷ y ∷ []) most s
+      pub stops_two : (most : ℕ) (s : ClassStop Chain) → StopsEither (row_meaning sorts) a b most s → IsStopOf items (x ∷ y ∷ []) most (by_classes s)
       stops_two most Classes stop = (trees_go_up items type most).of_two x y rules others first.carries.each_state second.carries.each_state (typed_trees x a first (AreToldByEither rules others) most stop)
       stops_two most (Wide c) stop =
           (widths_go_up items type (bits_of c.width)).of_two x y (compares_in a.sta) (compares_in b.sta) rules others first.compared second.compared first.seen second.seen

@@ -1,10 +1,15 @@
 -- The names of the types of expressions.
-use Rattle.std.proofs.Common.{◌≡◌, ◌≤◌, ℕ, List, Option, Some, None, length, refl, sym, ap, ap₂, subst, ◌∙◌}
+use Rattle.std.proofs.Common.{◌≡◌, inl, inr, ◌≤◌, ℕ, List, Option, Some, None, length, refl, sym, ap, ap₂, subst, ◌∙◌}
 use Rattle.std.specs.Option.{option_map, option_map_or, option_and_then}
 use Rattle.std.proofs.lemmas.List.{length-map}
 use Rattle.indexmap.specs.IndexMap.{IndexMap}
 use Rattle.model_tree.specs.Signature.{Sort, PlainSignature, sorts_of}
 use Rattle.model_program.specs.Syntax.{Name, TypeItem}
+use Rattle.fast_fault.specs.declared.place.Pos.{Pos}
+use Rattle.model_grammar.specs.declared.Op1.{Op1}
+use Rattle.model_grammar.specs.declared.Op1.TheVariants.{Complement, Minimize, Domain, GetWitness}
+use Rattle.model_grammar.specs.declared.Op2.{Op2}
+use Rattle.model_grammar.specs.declared.Op2.TheVariants.{Intersect, Union, Difference, PreImage, Compose, Restrict, RestrictOut, Apply}
 use Rattle.model_grammar.specs.Syntax.{X, named, one, two, literal, Body, sorts, tree, lang, trans, def, assertion, Item}
 use Rattle.model_names.specs.Declared.{same_text, types_of, find_type, find_item}
 use Rattle.model_names.specs.Kinds.{language, transformation, defined_kind, declared_type, own_kind, own_type, own_output}
@@ -15,7 +20,7 @@ use Rattle.model_checks.proofs.Soundness.{same_from_test, found_passes}
 use Rattle.model_checks.proofs.SoundWhole.{finds}
 use Rattle.model_run.specs.Parts.{IsOn, IsFrom}
 use Rattle.program_check.specs.Tells.{Told, stands_for}
-use Rattle.fast_eval.specs.Forms.{IsMadeOn, IsMadeFrom}
+use Rattle.fast_eval.specs.Forms.{IsMadeOn, IsMadeFrom, IsMadeAt, inputs_in, outputs_in}
 use Rattle.fast_eval.specs.Table.{labels_of, AreLabels}
 
 -- a type that is declared has the name that is looked up
@@ -57,13 +62,6 @@ module _ (items : List Item) (type : List ℕ) where
 
   pub name_stands : (n : Name) → IsOn items (named n) type → option_and_then (λ item. stands_for item.body) (find_item items n.text) ≡ Some (language, (type, None))
   name_stands n on = (by_item (find_item items n.text) on.0 on.1).0
-
-  -- the type of an expression is declared
-  pub type_there : (x : X) → IsMadeOn items type x → IsDeclared items type
-  type_there (named n) made = (by_item (find_item items n.text) made.0 made.1).1
-  type_there (one op place x) made = type_there x made.1
-  type_there (two op place x y) made = type_there x made.1
-  type_there (literal name labels xs) made = absurd made
 
   pub signature_there : (d : IsDeclared items type) → signature_named items (Some type) ≡ signature_of d.item
   signature_there d = ap (λ o. option_map_or signature_of o no_signature) d.found
@@ -107,12 +105,78 @@ module _ (items : List Item) (from into : List ℕ) where
   pub trans_stands : (n : Name) → IsFrom items (named n) from into → AreDeclared (option_and_then (λ item. stands_for item.body) (find_item items n.text))
   trans_stands n on = trans_by_item (find_item items n.text) on.0 on.1 on.2
 
-  -- the types of an expression are declared
-  pub types_there : (x : X) → IsMadeFrom items from into x → IsDeclared items from × IsDeclared items into
-  types_there (named n) made = let d = trans_stands n made in (d.input, d.output)
-  types_there (one op place x) made = absurd made
-  types_there (two op place x y) made = absurd made
-  types_there (literal name labels xs) made = absurd made
+-- the types of an expression are declared
+mutual
+  pub type_there : (items : List Item) (type : List ℕ) (x : X) → IsMadeOn items type x → IsDeclared items type
+  type_there items type (named n) made = (by_item items type (find_item items n.text) made.0 made.1).1
+  type_there items type (one Complement place x) made = type_there items type x made
+  type_there items type (one Minimize place x) made = type_there items type x made
+  type_there items type (one Domain place f) made = (types_there items type made.0 f made.1).0
+  type_there items type (one GetWitness place x) made = absurd made
+  type_there items type (two Intersect place x y) made = type_there items type x made.0
+  type_there items type (two Union place x y) made = type_there items type x made.0
+  type_there items type (two Difference place x y) made = type_there items type x made.0
+  type_there items type (two PreImage place f y) made = (types_there items type made.0 f made.1).0
+  type_there items type (two Compose place x y) made = absurd made
+  type_there items type (two Restrict place x y) made = absurd made
+  type_there items type (two RestrictOut place x y) made = absurd made
+  type_there items type (two Apply place x y) made = absurd made
+  type_there items type (literal name labels xs) made = absurd made
+
+  pub types_there : (items : List Item) (from into : List ℕ) (x : X) → IsMadeFrom items from into x → IsDeclared items from × IsDeclared items into
+  types_there items from into (named n) made = let d = trans_stands items from into n made in (d.input, d.output)
+  types_there items from into (one op place x) made = absurd made
+  types_there items from into (two Restrict place f y) made = types_there items from into f made.0
+  types_there items from into (two RestrictOut place f y) made = types_there items from into f made.0
+  types_there items from into (two Intersect place x y) made = absurd made
+  types_there items from into (two Union place x y) made = absurd made
+  types_there items from into (two Difference place x y) made = absurd made
+  types_there items from into (two PreImage place x y) made = absurd made
+  types_there items from into (two Compose place x y) made = absurd made
+  types_there items from into (two Apply place x y) made = absurd made
+  types_there items from into (literal name labels xs) made = absurd made
+
+pub type_at : (items : List Item) (type : List ℕ) (x : X) → IsMadeAt items type x → IsDeclared items type
+type_at items type x (inl made) = type_there items type x made
+type_at items type x (inr (into, made)) = (types_there items type into x made).0
+
+-- the first operand of an operation is at the same type
+pub at_only : (items : List Item) (type : List ℕ) (op : Op1) (place : Pos) (x : X) → IsMadeAt items type (one op place x) → IsMadeAt items type x
+at_only items type Complement place x (inl made) = inl made
+at_only items type Minimize place x (inl made) = inl made
+at_only items type Domain place x (inl made) = inr made
+at_only items type GetWitness place x (inl made) = absurd made
+at_only items type op place x (inr (into, made)) = absurd made
+
+pub at_first : (items : List Item) (type : List ℕ) (op : Op2) (place : Pos) (x y : X) → IsMadeAt items type (two op place x y) → IsMadeAt items type x
+at_first items type Intersect place x y (inl made) = inl made.0
+at_first items type Union place x y (inl made) = inl made.0
+at_first items type Difference place x y (inl made) = inl made.0
+at_first items type PreImage place x y (inl made) = inr (made.0, made.1)
+at_first items type Compose place x y (inl made) = absurd made
+at_first items type Restrict place x y (inl made) = absurd made
+at_first items type RestrictOut place x y (inl made) = absurd made
+at_first items type Apply place x y (inl made) = absurd made
+at_first items type Intersect place x y (inr (into, made)) = absurd made
+at_first items type Union place x y (inr (into, made)) = absurd made
+at_first items type Difference place x y (inr (into, made)) = absurd made
+at_first items type PreImage place x y (inr (into, made)) = absurd made
+at_first items type Compose place x y (inr (into, made)) = absurd made
+at_first items type Restrict place x y (inr (into, made)) = inr (into, made.0)
+at_first items type RestrictOut place x y (inr (into, made)) = inr (into, made.0)
+at_first items type Apply place x y (inr (into, made)) = absurd made
+
+-- what is told of a name is its type
+pub name_at : (items : List Item) (type : List ℕ) (n : Name) → IsMadeAt items type (named n) → inputs_in (option_and_then (λ item. stands_for item.body) (find_item items n.text)) ≡ Some type
+name_at items type n (inl on) = ap inputs_in (name_stands items type n on)
+name_at items type n (inr (into, goes)) = ap inputs_in (trans_stands items type into n goes).stands
+
+-- and that of its outputs
+pub name_outputs : (items : List Item) (from into : List ℕ) (n : Name) → IsMadeFrom items from into (named n) → outputs_in (option_and_then (λ item. stands_for item.body) (find_item items n.text)) ≡ Some into
+name_outputs items from into n goes = ap outputs_in (trans_stands items from into n goes).stands
+
+pub name_no_outputs : (items : List Item) (type : List ℕ) (n : Name) → IsMadeOn items type (named n) → outputs_in (option_and_then (λ item. stands_for item.body) (find_item items n.text)) ≡ None
+name_no_outputs items type n on = ap outputs_in (name_stands items type n on)
 
 -- a type that is told of has few fields
 pub few_of : (items : List Item) (of : List ℕ) → IsSound items → (s : PlainSignature) → Some s ≡ option_map signature_of (find_type items of) → length s.fields ≤ 8
@@ -123,25 +187,15 @@ few_of items of whole s e = by (find_type items of) refl e
     by (Some t) found is = let same : s ≡ signature_of t = cc in subst (λ (k : PlainSignature). length k.fields ≤ 8) (sym same) (few_fields items of whole (record { item = t; found = found }))
 
 -- what is so of the type of an expression
-module _ (items : List Item) (x : X) (of : List ℕ) (is : (type : List ℕ) → IsMadeOn items type x → Some of ≡ Some type) (made : (type : List ℕ) × IsMadeOn items type x) where
+module _ (items : List Item) (x : X) (of : List ℕ) (is : (type : List ℕ) → IsMadeAt items type x → Some of ≡ Some type) (made : (type : List ℕ) × IsMadeAt items type x) where
   same_of : (s t : List ℕ) → Some s ≡ Some t → s ≡ t
   same_of s t e = cc
 
-  pub made_on_of : IsMadeOn items of x
-  made_on_of = subst (λ t. IsMadeOn items t x) (sym (same_of of made.0 (is made.0 made.1))) made.1
+  made_at_of : IsMadeAt items of x
+  made_at_of = subst (λ t. IsMadeAt items t x) (sym (same_of of made.0 (is made.0 made.1))) made.1
 
-  pub of_is : (type : List ℕ) → IsMadeOn items type x → of ≡ type
+  pub of_is : (type : List ℕ) → IsMadeAt items type x → of ≡ type
   of_is type also = same_of of type (is type also)
 
   pub told_labels : {S : Type 0} (labels : IndexMap (List ℕ) (List Sort) S) → AreLabels items labels → labels_of labels of ≡ Some (sorts_of (signature_named items (Some of)))
-  told_labels labels are = let d = type_there items of x made_on_of in are of d.item d.found ∙ ap (λ s. Some (sorts_of s)) (sym (signature_there items of d))
-
--- what is told of a name by its types
-pub input_told : (t u : Told) → Some t ≡ Some u → t.1.0 ≡ u.1.0
-input_told t u e = let same : t ≡ u = cc in ap (λ (k : Told). k.1.0) same
-
-pub output_told : (t u : Told) (b into : List ℕ) → Some t ≡ Some u → t.1.1 ≡ Some b → u.1.1 ≡ Some into → b ≡ into
-output_told t u b into e first second =
-    let same : t ≡ u = cc in
-    let outputs : Some b ≡ Some into = sym first ∙ (ap (λ (k : Told). k.1.1) same ∙ second) in
-    cc
+  told_labels labels are = let d = type_at items of x made_at_of in are of d.item d.found ∙ ap (λ s. Some (sorts_of s)) (sym (signature_there items of d))

@@ -1,4 +1,4 @@
--- The operands of an expression of a well-formed program are languages on its type, and its names are known.
+-- The operands of an expression of a well-formed program are of the kinds and types that its operations take.
 use Rattle.std.proofs.Common.{◌≡◌, ℕ, suc, Bool, true, false, ◌&&◌, List, ◌++◌, Option, Some, None, refl, sym, subst, ◌∙◌}
 use Rattle.fast_fault.specs.declared.place.Pos.{Pos}
 use Rattle.model_grammar.specs.declared.Op1.{Op1}
@@ -6,31 +6,33 @@ use Rattle.model_grammar.specs.declared.Op1.TheVariants.{Complement, Minimize, D
 use Rattle.model_grammar.specs.declared.Op2.{Op2}
 use Rattle.model_grammar.specs.declared.Op2.TheVariants.{Intersect, Union, Difference, PreImage, Compose, Restrict, RestrictOut, Apply}
 use Rattle.model_grammar.specs.Syntax.{X, named, one, two, literal, Item}
-use Rattle.model_names.specs.Kinds.{language, taken_first, taken_second, if_kind, kind_of, type_of}
+use Rattle.model_names.specs.Kinds.{Kind, language, transformation, taken_by_one, taken_first, taken_second, if_kind, kind_of, type_of, output_of}
 use Rattle.model_checks.specs.Failures.{is_empty}
 use Rattle.model_checks.specs.Rules.{differ}
 use Rattle.model_checks.specs.Expressions.{nesting_failures, expected_as, wanted_second, needs_be, x_failures}
 use Rattle.model_checks.specs.Sound.{IsSound}
 use Rattle.model_checks.proofs.Soundness.{empty_first, empty_second}
-use Rattle.model_run.specs.Built.{is_built_language, is_built_one, is_built_two}
-use Rattle.model_run.specs.Parts.{IsOn}
+use Rattle.model_run.specs.Built.{is_built_expression, is_built_one, is_built_two}
+use Rattle.model_run.specs.Parts.{IsOn, IsFrom}
 use Rattle.meaning_laws.proofs.Kinded.{IsTypedAs, kinded, kind_needed, through}
 use Rattle.meaning_laws.proofs.Valued.{same_types, not_other}
-use Rattle.fast_eval.specs.Forms.{IsMadeOn}
+use Rattle.fast_eval.specs.Forms.{IsMadeOn, IsMadeFrom}
+
+and_parts : (a b : Bool) → (a && b) ≡ true → (a ≡ true) × (b ≡ true)
+and_parts true b e = (refl, e)
+and_parts false b e = absurd (cc)
 
 module _ (items : List Item) (whole : IsSound items) where
-  -- nothing fails in the operands, and they are languages on one type
+  -- nothing fails in the operands, and they are of the kinds that are taken and of the types that are wanted
   record AreSides (before : List Item) (around : ℕ) (op : Op2) (x y : X) : Type 0 where
     first_fine : is_empty (x_failures items before (suc around) None x) ≡ true
     second_fine : is_empty (x_failures items before (suc around) (expected_as (taken_second op) (wanted_second items before op x)) y) ≡ true
-    first_kind : kind_of items x ≡ Some language
-    second_kind : kind_of items y ≡ Some language
-    same : type_of items y ≡ type_of items x
+    first : (kind_of items x ≡ Some (taken_first op)) × IsTypedAs items (taken_first op) x
+    second : (kind_of items y ≡ Some (taken_second op)) × IsTypedAs items (taken_second op) y
+    told : differ (wanted_second items before op x) (type_of items y) ≡ false
 
-  -- of an operation on two languages whose second operand is to have the type of the first
-  sides_of : (before : List Item) (around : ℕ) (expected : Option (List ℕ)) (op : Op2) (place : Pos) (x y : X) → taken_first op ≡ language → taken_second op ≡ language
-      → wanted_second items before op x ≡ if_kind language (kind_of items x) (type_of items x) → is_empty (x_failures items before around expected (two op place x y)) ≡ true → AreSides before around op x y
-  sides_of before around expected op place x y first second wanted e =
+  sides : (before : List Item) (around : ℕ) (expected : Option (List ℕ)) (op : Op2) (place : Pos) (x y : X) → is_empty (x_failures items before around expected (two op place x y)) ≡ true → AreSides before around op x y
+  sides before around expected op place x y e =
       let fx = x_failures items before (suc around) None x in
       let bx = needs_be items before None (taken_first op) x in
       let fy = x_failures items before (suc around) (expected_as (taken_second op) (wanted_second items before op x)) y in
@@ -40,85 +42,125 @@ module _ (items : List Item) (whole : IsSound items) where
       let last = empty_second bx (fy ++ by) rest in
       let one = empty_first fx (bx ++ (fy ++ by)) inner in
       let other = empty_first fy by last in
-      let own_x = subst (λ k. (kind_of items x ≡ Some k) × IsTypedAs items k x) first (kind_needed items before (taken_first op) None x (kinded items whole before (suc around) None x one) (empty_first bx (fy ++ by) rest)) in
-      let made_y = kind_needed items before (taken_second op) (wanted_second items before op x) y (kinded items whole before (suc around) (expected_as (taken_second op) (wanted_second items before op x)) y other) (empty_second fy by last) in
-      let own_y = subst (λ k. (kind_of items y ≡ Some k) × IsTypedAs items k y) second made_y in
-      let told = not_other items whole before (taken_second op) (wanted_second items before op x) y made_y.0 (empty_second fy by last) in
-      let type_x = through language (kind_of items x) (type_of items x) own_x.0 in
+      let own = kind_needed items before (taken_second op) (wanted_second items before op x) y (kinded items whole before (suc around) (expected_as (taken_second op) (wanted_second items before op x)) y other) (empty_second fy by last) in
       record {
         first_fine = one;
         second_fine = other;
-        first_kind = own_x.0;
-        second_kind = own_y.0;
-        same = same_types items (type_of items x) (type_of items y) own_x.1.0 own_y.1.0 own_x.1.1 own_y.1.1 (subst (λ w. differ w (type_of items y) ≡ false) (wanted ∙ type_x) told);
+        first = kind_needed items before (taken_first op) None x (kinded items whole before (suc around) None x one) (empty_first bx (fy ++ by) rest);
+        second = own;
+        told = not_other items whole before (taken_second op) (wanted_second items before op x) y own.0 (empty_second fy by last);
       }
 
-  sides : (before : List Item) (around : ℕ) (expected : Option (List ℕ)) (op : Op2) (place : Pos) (x y : X) → is_built_two op ≡ true → is_empty (x_failures items before around expected (two op place x y)) ≡ true → AreSides before around op x y
-  sides before around expected Intersect place x y is e = sides_of before around expected Intersect place x y refl refl refl e
-  sides before around expected Union place x y is e = sides_of before around expected Union place x y refl refl refl e
-  sides before around expected Difference place x y is e = sides_of before around expected Difference place x y refl refl refl e
-  sides before around expected PreImage place x y is e = absurd (cc)
-  sides before around expected Compose place x y is e = absurd (cc)
-  sides before around expected Restrict place x y is e = absurd (cc)
-  sides before around expected RestrictOut place x y is e = absurd (cc)
-  sides before around expected Apply place x y is e = absurd (cc)
+  -- the second operand has the type that is wanted
+  of_wanted : (before : List Item) (op : Op2) (x y : X) (type own : List ℕ) → wanted_second items before op x ≡ Some type → type_of items y ≡ Some own → differ (wanted_second items before op x) (type_of items y) ≡ false → type_of items y ≡ Some type
+  of_wanted before op x y type own wanted is told = same_types items (wanted_second items before op x) (type_of items y) type own wanted is told ∙ wanted
 
-  -- the type of such an operation is that of its first operand
-  first_type : (op : Op2) (place : Pos) (x y : X) (type : List ℕ) → is_built_two op ≡ true → kind_of items x ≡ Some language → type_of items (two op place x y) ≡ Some type → type_of items x ≡ Some type
-  first_type Intersect place x y type is kind e = sym (through language (kind_of items x) (type_of items x) kind) ∙ e
-  first_type Union place x y type is kind e = sym (through language (kind_of items x) (type_of items x) kind) ∙ e
-  first_type Difference place x y type is kind e = sym (through language (kind_of items x) (type_of items x) kind) ∙ e
-  first_type PreImage place x y type is kind e = absurd (cc)
-  first_type Compose place x y type is kind e = absurd (cc)
-  first_type Restrict place x y type is kind e = absurd (cc)
-  first_type RestrictOut place x y type is kind e = absurd (cc)
-  first_type Apply place x y type is kind e = absurd (cc)
-
-  -- the operand of an operation on a language
-  record IsOnly (before : List Item) (around : ℕ) (x : X) : Type 0 where
+  -- the operand of an operation on one
+  record IsOnly (before : List Item) (around : ℕ) (op : Op1) (x : X) : Type 0 where
     fine : is_empty (x_failures items before (suc around) None x) ≡ true
-    kind : kind_of items x ≡ Some language
+    own : (kind_of items x ≡ Some (taken_by_one op)) × IsTypedAs items (taken_by_one op) x
 
-  only : (before : List Item) (around : ℕ) (expected : Option (List ℕ)) (op : Op1) (place : Pos) (x : X) → is_built_one op ≡ true → is_empty (x_failures items before around expected (one op place x)) ≡ true → IsOnly before around x
-  only before around expected Complement place x is e =
+  only : (before : List Item) (around : ℕ) (expected : Option (List ℕ)) (op : Op1) (place : Pos) (x : X) → is_empty (x_failures items before around expected (one op place x)) ≡ true → IsOnly before around op x
+  only before around expected op place x e =
       let fx = x_failures items before (suc around) None x in
-      let bx = needs_be items before None language x in
+      let bx = needs_be items before None (taken_by_one op) x in
       let inner = empty_second (nesting_failures around place) (fx ++ bx) e in
       let fine = empty_first fx bx inner in
-      record { fine = fine; kind = (kind_needed items before language None x (kinded items whole before (suc around) None x fine) (empty_second fx bx inner)).0 }
-  only before around expected Minimize place x is e =
-      let fx = x_failures items before (suc around) None x in
-      let bx = needs_be items before None language x in
-      let inner = empty_second (nesting_failures around place) (fx ++ bx) e in
-      let fine = empty_first fx bx inner in
-      record { fine = fine; kind = (kind_needed items before language None x (kinded items whole before (suc around) None x fine) (empty_second fx bx inner)).0 }
-  only before around expected Domain place x is e = absurd (cc)
-  only before around expected GetWitness place x is e = absurd (cc)
+      record { fine = fine; own = kind_needed items before (taken_by_one op) None x (kinded items whole before (suc around) None x fine) (empty_second fx bx inner) }
 
-  only_type : (op : Op1) (place : Pos) (x : X) (type : List ℕ) → is_built_one op ≡ true → kind_of items x ≡ Some language → type_of items (one op place x) ≡ Some type → type_of items x ≡ Some type
-  only_type Complement place x type is kind e = sym (through language (kind_of items x) (type_of items x) kind) ∙ e
-  only_type Minimize place x type is kind e = sym (through language (kind_of items x) (type_of items x) kind) ∙ e
-  only_type Domain place x type is kind e = absurd (cc)
-  only_type GetWitness place x type is kind e = absurd (cc)
+  -- what is said of an operation is said of its first operand
+  said : (kind : Kind) (x : X) (o : Option (List ℕ)) (type : List ℕ) → kind_of items x ≡ Some kind → if_kind kind (kind_of items x) o ≡ Some type → o ≡ Some type
+  said kind x o type is e = sym (through kind (kind_of items x) o is) ∙ e
 
-  and_parts : (a b : Bool) → (a && b) ≡ true → (a ≡ true) × (b ≡ true)
-  and_parts true b e = (refl, e)
-  and_parts false b e = absurd (cc)
+  said_back : (kind : Kind) (x : X) (o : Option (List ℕ)) (type : List ℕ) → kind_of items x ≡ Some kind → o ≡ Some type → if_kind kind (kind_of items x) o ≡ Some type
+  said_back kind x o type is e = through kind (kind_of items x) o is ∙ e
 
-  -- an expression of a form that can be evaluated is made of languages on its type
-  pub made_of_form : (before : List Item) (around : ℕ) (expected : Option (List ℕ)) (x : X) (type : List ℕ) → is_built_language x ≡ true → is_empty (x_failures items before around expected x) ≡ true → IsOn items x type → IsMadeOn items type x
-  made_of_form before around expected (named n) type form e on = on
-  made_of_form before around expected (one op place x) type form e on =
-      let parts = and_parts (is_built_one op) (is_built_language x) form in
-      let o = only before around expected op place x parts.0 e in
-      (parts.0, made_of_form before (suc around) None x type parts.1 o.fine (o.kind, only_type op place x type parts.0 o.kind on.1))
-  made_of_form before around expected (literal name labels xs) type form e on = absurd (cc)
-  made_of_form before around expected (two op place x y) type form e on =
-      let outer = and_parts (is_built_two op) (is_built_language x && is_built_language y) form in
-      let inner = and_parts (is_built_language x) (is_built_language y) outer.1 in
-      let s = sides before around expected op place x y outer.0 e in
-      let first = first_type op place x y type outer.0 s.first_kind on.1 in (
-        outer.0,
-        made_of_form before (suc around) None x type inner.0 s.first_fine (s.first_kind, first),
-        made_of_form before (suc around) (expected_as (taken_second op) (wanted_second items before op x)) y type inner.1 s.second_fine (s.second_kind, s.same ∙ first),
-      )
+  form_one : (op : Op1) (place : Pos) (x : X) → is_built_expression (one op place x) ≡ true → is_built_expression x ≡ true
+  form_one op place x form = (and_parts (is_built_one op) (is_built_expression x) form).1
+
+  forms_two : (op : Op2) (place : Pos) (x y : X) → is_built_expression (two op place x y) ≡ true → (is_built_expression x ≡ true) × (is_built_expression y ≡ true)
+  forms_two op place x y form = and_parts (is_built_expression x) (is_built_expression y) (and_parts (is_built_two op) (is_built_expression x && is_built_expression y) form).1
+
+  -- two languages on the type of the first
+  both_on : (before : List Item) (around : ℕ) (op : Op2) (x y : X) (type : List ℕ) → taken_first op ≡ language → taken_second op ≡ language → wanted_second items before op x ≡ if_kind language (kind_of items x) (type_of items x)
+      → AreSides before around op x y → if_kind language (kind_of items x) (type_of items x) ≡ Some type → IsOn items x type × IsOn items y type
+  both_on before around op x y type first second wanted s on =
+      let own_x = subst (λ k. (kind_of items x ≡ Some k) × IsTypedAs items k x) first s.first in
+      let own_y = subst (λ k. (kind_of items y ≡ Some k) × IsTypedAs items k y) second s.second in
+      ((own_x.0, said language x (type_of items x) type own_x.0 on), (own_y.0, of_wanted before op x y type own_y.1.0 (wanted ∙ on) own_y.1.1 s.told))
+
+  mutual
+    -- an expression of a form that can be evaluated is made of languages and transformations, where it is a language
+    pub made_of_form : (before : List Item) (around : ℕ) (expected : Option (List ℕ)) (x : X) (type : List ℕ) → is_built_expression x ≡ true → is_empty (x_failures items before around expected x) ≡ true → IsOn items x type → IsMadeOn items type x
+    made_of_form before around expected (named n) type form e on = on
+    made_of_form before around expected (literal name labels xs) type form e on = absurd (cc)
+    made_of_form before around expected (one Complement place x) type form e on =
+        let o = only before around expected Complement place x e in
+        made_of_form before (suc around) None x type (form_one Complement place x form) o.fine (o.own.0, said language x (type_of items x) type o.own.0 on.1)
+    made_of_form before around expected (one Minimize place x) type form e on =
+        let o = only before around expected Minimize place x e in
+        made_of_form before (suc around) None x type (form_one Minimize place x form) o.fine (o.own.0, said language x (type_of items x) type o.own.0 on.1)
+    made_of_form before around expected (one Domain place f) type form e on =
+        let o = only before around expected Domain place f e in
+        let (from, into, begins, ends) = o.own.1 in
+        (into, made_from_form before (suc around) None f type into (form_one Domain place f form) o.fine (o.own.0, said transformation f (type_of items f) type o.own.0 on.1, ends))
+    made_of_form before around expected (one GetWitness place x) type form e on = absurd (cc)
+    made_of_form before around expected (two Intersect place x y) type form e on =
+        let forms = forms_two Intersect place x y form in
+        let s = sides before around expected Intersect place x y e in
+        let both = both_on before around Intersect x y type refl refl refl s on.1 in
+        (made_of_form before (suc around) None x type forms.0 s.first_fine both.0, made_of_form before (suc around) (expected_as language (wanted_second items before Intersect x)) y type forms.1 s.second_fine both.1)
+    made_of_form before around expected (two Union place x y) type form e on =
+        let forms = forms_two Union place x y form in
+        let s = sides before around expected Union place x y e in
+        let both = both_on before around Union x y type refl refl refl s on.1 in
+        (made_of_form before (suc around) None x type forms.0 s.first_fine both.0, made_of_form before (suc around) (expected_as language (wanted_second items before Union x)) y type forms.1 s.second_fine both.1)
+    made_of_form before around expected (two Difference place x y) type form e on =
+        let forms = forms_two Difference place x y form in
+        let s = sides before around expected Difference place x y e in
+        let both = both_on before around Difference x y type refl refl refl s on.1 in
+        (made_of_form before (suc around) None x type forms.0 s.first_fine both.0, made_of_form before (suc around) (expected_as language (wanted_second items before Difference x)) y type forms.1 s.second_fine both.1)
+    made_of_form before around expected (two PreImage place f y) type form e on =
+        let forms = forms_two PreImage place f y form in
+        let s = sides before around expected PreImage place f y e in
+        let (from, into, begins, ends) = s.first.1 in
+        let type_y = of_wanted before PreImage f y into s.second.1.0 (said_back transformation f (output_of items f) into s.first.0 ends) s.second.1.1 s.told in (
+          into,
+          made_from_form before (suc around) None f type into forms.0 s.first_fine (s.first.0, said transformation f (type_of items f) type s.first.0 on.1, ends),
+          made_of_form before (suc around) (expected_as language (wanted_second items before PreImage f)) y into forms.1 s.second_fine (s.second.0, type_y),
+        )
+    made_of_form before around expected (two Compose place x y) type form e on = let no : Some transformation ≡ Some language = on.0 in absurd (cc)
+    made_of_form before around expected (two Restrict place x y) type form e on = let no : Some transformation ≡ Some language = on.0 in absurd (cc)
+    made_of_form before around expected (two RestrictOut place x y) type form e on = let no : Some transformation ≡ Some language = on.0 in absurd (cc)
+    made_of_form before around expected (two Apply place x y) type form e on = absurd (cc)
+
+    -- the same where it is a transformation
+    pub made_from_form : (before : List Item) (around : ℕ) (expected : Option (List ℕ)) (x : X) (from into : List ℕ) → is_built_expression x ≡ true → is_empty (x_failures items before around expected x) ≡ true → IsFrom items x from into → IsMadeFrom items from into x
+    made_from_form before around expected (named n) from into form e goes = goes
+    made_from_form before around expected (literal name labels xs) from into form e goes = absurd (cc)
+    made_from_form before around expected (one Complement place x) from into form e goes = let no : Some language ≡ Some transformation = goes.0 in absurd (cc)
+    made_from_form before around expected (one Minimize place x) from into form e goes = let no : Some language ≡ Some transformation = goes.0 in absurd (cc)
+    made_from_form before around expected (one Domain place x) from into form e goes = let no : Some language ≡ Some transformation = goes.0 in absurd (cc)
+    made_from_form before around expected (one GetWitness place x) from into form e goes = absurd (cc)
+    made_from_form before around expected (two Intersect place x y) from into form e goes = let no : Some language ≡ Some transformation = goes.0 in absurd (cc)
+    made_from_form before around expected (two Union place x y) from into form e goes = let no : Some language ≡ Some transformation = goes.0 in absurd (cc)
+    made_from_form before around expected (two Difference place x y) from into form e goes = let no : Some language ≡ Some transformation = goes.0 in absurd (cc)
+    made_from_form before around expected (two PreImage place x y) from into form e goes = let no : Some language ≡ Some transformation = goes.0 in absurd (cc)
+    made_from_form before around expected (two Compose place x y) from into form e goes = absurd (cc)
+    made_from_form before around expected (two Restrict place f y) from into form e goes =
+        let forms = forms_two Restrict place f y form in
+        let s = sides before around expected Restrict place f y e in
+        let begins = said transformation f (type_of items f) from s.first.0 goes.1 in
+        let type_y = of_wanted before Restrict f y from s.second.1.0 goes.1 s.second.1.1 s.told in (
+          made_from_form before (suc around) None f from into forms.0 s.first_fine (s.first.0, begins, said transformation f (output_of items f) into s.first.0 goes.2),
+          made_of_form before (suc around) (expected_as language (wanted_second items before Restrict f)) y from forms.1 s.second_fine (s.second.0, type_y),
+        )
+    made_from_form before around expected (two RestrictOut place f y) from into form e goes =
+        let forms = forms_two RestrictOut place f y form in
+        let s = sides before around expected RestrictOut place f y e in
+        let begins = said transformation f (type_of items f) from s.first.0 goes.1 in
+        let type_y = of_wanted before RestrictOut f y into s.second.1.0 goes.2 s.second.1.1 s.told in (
+          made_from_form before (suc around) None f from into forms.0 s.first_fine (s.first.0, begins, said transformation f (output_of items f) into s.first.0 goes.2),
+          made_of_form before (suc around) (expected_as language (wanted_second items before RestrictOut f)) y into forms.1 s.second_fine (s.second.0, type_y),
+        )
+    made_from_form before around expected (two Apply place x y) from into form e goes = absurd (cc)

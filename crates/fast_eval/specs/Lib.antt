@@ -9,3 +9,4 @@ pub mod Scopes
 pub mod Witnesses
 pub mod Defined
 pub mod Outputs
+pub mod Broken

@@ -12,7 +12,11 @@ use Rattle.fast_cut.specs.Cuts.{plain_cut}
 use Rattle.fast_cut.specs.declared.Cut.{Cut}
 use Rattle.sttr_apply.specs.Plain.{load_of}
 use Rattle.sttr_apply.specs.declared.stop.ApplyStop.{ApplyStop}
-use Rattle.sttr_apply.specs.declared.stop.ApplyStop.TheVariants as stops
+use Rattle.sttr_apply.specs.declared.stop.ApplyStop.TheVariants as apply
+use Rattle.fast_eval.specs.declared.stops.EvalStop.TheVariants.{Memory}
+use Rattle.fast_eval.specs.declared.stops.OutputStop.{OutputStop}
+use Rattle.fast_eval.specs.declared.stops.OutputStop.TheVariants as stops
+use Rattle.fast_eval.specs.Stops.{StopsExpression}
 use Rattle.model_grammar.specs.Syntax.{X, Item}
 use Rattle.model_meaning.specs.Meaning.{IsRelated, output_type}
 use Rattle.model_run.specs.Causes.{HasFarOutput, HasLoad}
@@ -34,8 +38,13 @@ pub record AreOutputsOf (items : List Item) (x : X) (t : LabelTree) (us : List L
   pub few : length us ≤ 4096
   pub small : sum_by node_count us ≤ 1048576
 
--- why there is no list of outputs
-abbrev pub IsApplyStop : List Item → X → LabelTree → ApplyStop → Type 0
-IsApplyStop items x t (stops.Range n) = HasFarOutput items n x t
-IsApplyStop items x t (stops.Load load) = HasLoad items (load_of load) x t
-IsApplyStop items x t stops.Memory = Unit {0}
+-- why there is no list of outputs: the evaluation of the expression stops, an output has a far number, or outputs are too much
+abbrev pub StopsOutputs : List Item → X → ℕ → LabelTree → OutputStop → Type 0
+StopsOutputs items x most t (stops.Stopped s) = StopsExpression items x most s
+StopsOutputs items x most t (stops.Range n) = HasFarOutput items n x t
+StopsOutputs items x most t (stops.Load load) = HasLoad items (load_of load) x t
+
+abbrev pub by_outputs : ApplyStop → OutputStop
+by_outputs (apply.Range n) = stops.Range n
+by_outputs (apply.Load load) = stops.Load load
+by_outputs apply.Memory = stops.Stopped Memory

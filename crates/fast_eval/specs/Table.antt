@@ -10,7 +10,8 @@ use Rattle.model_names.specs.Kinds.{Kind, language, transformation, a_tree, type
 use Rattle.model_meaning.specs.Types.{signature_of}
 use Rattle.model_run.specs.Parts.{IsFrom}
 use Rattle.sta_core.specs.declared.Lang.{Lang}
-use Rattle.fast_build.specs.declared.transducer.BuiltTrans.{BuiltTrans}
+use Rattle.sttr_core.specs.declared.sttr.Trans.{Trans}
+use Rattle.record_label.specs.declared.maps.RowMap.{RowMap}
 use Rattle.record_label.specs.Rows.{RowAtom}
 use Rattle.fast_eval.specs.declared.built.Built.{Built}
 use Rattle.fast_eval.specs.Built.{IsBuiltOf, IsTransBuiltOf}
@@ -36,7 +37,7 @@ abbrev pub IsBuiltNamed : List Item → List ℕ → Lang RowAtom → Type 0
 IsBuiltNamed items name l = (n : Name) (type : List ℕ) → n.text ≡ name → type_of items (named n) ≡ Some type → IsBuiltOf items (named n) type l
 
 -- the same of a transformation
-abbrev pub IsTransBuiltNamed : List Item → List ℕ → BuiltTrans → Type 0
+abbrev pub IsTransBuiltNamed : List Item → List ℕ → Trans RowAtom RowMap → Type 0
 IsTransBuiltNamed items name f = (n : Name) (from into : List ℕ) → n.text ≡ name → IsFrom items (named n) from into → IsTransBuiltOf items (named n) from into f
 
 -- there is a language at the place, which was built for the name

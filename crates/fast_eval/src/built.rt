@@ -10,21 +10,21 @@ ghost use Rattle.fast_build.specs.Items.{items_of};
 ghost use Rattle.fast_eval.specs.Table.{labels_of, AddsLabels, HasBuilt, IsNamed, IsGrown, IsBuiltNamed, IsTransBuiltNamed, IsLanguageAt, IsTransAt, AreLabels, AreBuilt};
 
 use crate::table::Table;
-use fast_build::BuiltTrans;
 use fast_fault::{Memory, Text};
 use fast_syntax::items::Body;
 use indexmap::IndexMap;
 use program_check::Checked;
-use record_label::{RowAtom, RowLabels};
+use record_label::{RowAtom, RowLabels, RowMap};
 use sta_core::Lang;
 use std::alloc::Global;
+use sttr_core::Trans;
 
 /// The automata of languages and the transducers of transformations that were built for names. Beside them the labels of
 /// each type of the program, made once.
 #[derive(Drop)]
 pub struct Built {
     languages: Table<Lang<RowAtom>>,
-    transformations: Table<BuiltTrans>,
+    transformations: Table<Trans<RowAtom, RowMap>>,
     labels: IndexMap<Text, RowLabels>,
 }
 
@@ -113,7 +113,7 @@ impl Built {
     }
 
     /// The transformations that were built.
-    pub fn transformations(&self) -> &Table<BuiltTrans>
+    pub fn transformations(&self) -> &Table<Trans<RowAtom, RowMap>>
         ensures { result.now ≡ self.now.transformations }
     {
         &self.transformations
@@ -138,7 +138,7 @@ impl Built {
         &mut self,
         alloc: Global,
         name: &Text,
-        trans: BuiltTrans,
+        trans: Trans<RowAtom, RowMap>,
     ) -> Result<(), Memory>
         ensures built { (items : List Item) → AreBuilt items self.old → IsTransBuiltNamed items name.now trans → AreBuilt items self.new }
         ensures grown { IsGrown self.old self.new }

@@ -12,6 +12,7 @@ ghost use Rattle.model_tree.specs.Kept.{is_kept};
 ghost use Rattle.fast_tree.specs.Entries.{label_meaning};
 ghost use Rattle.fast_syntax.specs.Plain.{plain_x};
 ghost use Rattle.model_meaning.specs.Meaning.{IsInLanguage, input_type};
+ghost use Rattle.model_names.specs.Kinds as kinds;
 ghost use Rattle.program_check.specs.Tells.{IsChecked};
 ghost use Rattle.fast_build.specs.Items.{items_of};
 ghost use Rattle.fast_eval.specs.Forms.{AreKnown, AreNamed, IsMadeOn};
@@ -22,30 +23,29 @@ ghost use Rattle.fast_eval.specs.Witnesses.{IsWitnessOf};
 
 use crate::built::Built;
 use crate::evaluation::{Scope, lang_of, language};
-use crate::names::build_names;
+use crate::names::{Taken, build_names};
 use crate::scopes::scope_of;
+use crate::stops::EvalStop;
 use fast_fault::Memory;
 use fast_syntax::items::X;
 use fast_tree::{Label, Tree};
-use lin_solve::Chain;
 use program_check::Checked;
 use record_label::{RowAtom, RowLabels};
-use sta_classes::ClassStop;
 use sta_core::Lang;
 use sta_marks::mark_nodes;
 use sta_ops::{Found, empty};
 use std::alloc::Global;
 
 /// A least tree of the language of an expression, each of whose names has a language.
-fn least(alloc: Global, scope: &Scope, x: &X) -> Result<Found<Label>, ClassStop<Chain>>
+fn least(alloc: Global, scope: &Scope, x: &X) -> Result<Found<Label>, EvalStop>
     requires scope { IsScope scope.now }
     requires made { IsMadeOn (items_in scope.now) (type_in scope.now) (plain_x x.now) }
-    requires named { AreNamed scope.now.built.now (plain_x x.now) }
+    requires named { AreNamed kinds.language scope.now.built.now (plain_x x.now) }
     ensures found { IfOk result (IsWitnessOf (items_in scope.now) (plain_x x.now)) }
     ensures stop { IfErr result (IsStopOf (items_in scope.now) (plain_x x.now ∷ []) scope.now.limit) }
 {
     let a = language(alloc, scope, x)?;
-    empty(scope.theory, alloc, lang_of(scope.built, &a), scope.limit)
+    Ok(empty(scope.theory, alloc, lang_of(scope.built, &a), scope.limit)?)
 }
 
 /// A least tree of the language of an expression; or that there is none, or only trees that are too large.
@@ -55,7 +55,7 @@ pub fn witness(
     built: &mut Built,
     limit: u32,
     x: &X,
-) -> Result<Found<Label>, ClassStop<Chain>>
+) -> Result<Found<Label>, EvalStop>
     requires checked { IsChecked checked.now }
     requires built { AreBuilt (items_of checked.now) built.old }
     requires made { (type : List ℕ) × IsMadeOn (items_of checked.now) type (plain_x x.now) }
@@ -66,7 +66,7 @@ pub fn witness(
     ensures found { IfOk result (IsWitnessOf (items_of checked.now) (plain_x x.now)) }
     ensures stop { IfErr result (IsStopOf (items_of checked.now) (plain_x x.now ∷ []) limit) }
 {
-    build_names(alloc, checked, built, x)?;
+    build_names(alloc, checked, built, Taken::Language, x)?;
     let scope = scope_of(checked, built, limit, x);
     least(alloc, &scope, x)
 }
@@ -87,15 +87,10 @@ fn has_tree(
 }
 
 /// Whether a tree is in the language of an expression, each of whose names has a language.
-fn is_inside(
-    alloc: Global,
-    scope: &Scope,
-    y: &X,
-    tree: &Tree<Label>,
-) -> Result<bool, ClassStop<Chain>>
+fn is_inside(alloc: Global, scope: &Scope, y: &X, tree: &Tree<Label>) -> Result<bool, EvalStop>
     requires scope { IsScope scope.now }
     requires made { IsMadeOn (items_in scope.now) (type_in scope.now) (plain_x y.now) }
-    requires named { AreNamed scope.now.built.now (plain_x y.now) }
+    requires named { AreNamed kinds.language scope.now.built.now (plain_x y.now) }
     requires typed { HasType (input_type (items_in scope.now) (plain_x y.now)) (relabel label_meaning tree.now) }
     requires kept { is_kept (relabel label_meaning tree.now) ≡ true }
     ensures inside { IfOk result (λ inside. (inside ≡ true) ↔ IsInLanguage (items_in scope.now) (plain_x y.now) (relabel label_meaning tree.now)) }
@@ -114,7 +109,7 @@ pub fn belongs(
     limit: u32,
     y: &X,
     tree: &Tree<Label>,
-) -> Result<bool, ClassStop<Chain>>
+) -> Result<bool, EvalStop>
     requires checked { IsChecked checked.now }
     requires built { AreBuilt (items_of checked.now) built.old }
     requires made { (type : List ℕ) × IsMadeOn (items_of checked.now) type (plain_x y.now) }
@@ -127,7 +122,7 @@ pub fn belongs(
     ensures inside { IfOk result (λ inside. (inside ≡ true) ↔ IsInLanguage (items_of checked.now) (plain_x y.now) (relabel label_meaning tree.now)) }
     ensures stop { IfErr result (StopsExpression (items_of checked.now) (plain_x y.now) limit) }
 {
-    build_names(alloc, checked, built, y)?;
+    build_names(alloc, checked, built, Taken::Language, y)?;
     let scope = scope_of(checked, built, limit, y);
     is_inside(alloc, &scope, y, tree)
 }

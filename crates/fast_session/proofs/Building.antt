@@ -18,22 +18,21 @@ use Rattle.model_meaning.specs.Reached.{definition_of}
 use Rattle.model_meaning.proofs.Members.{one_of, none_of}
 use Rattle.meaning_laws.proofs.Kinded.{IsKinded, kinded}
 use Rattle.meaning_laws.proofs.Known.{has_name}
-use Rattle.model_run.specs.Built.{is_built, is_built_language, is_built_value, is_built_body}
-use Rattle.model_run.specs.Causes.{HasCause, more_classes, too_wide}
+use Rattle.model_run.specs.Built.{is_built, is_built_expression, is_built_body}
+use Rattle.model_run.specs.Causes.{HasCause, more_classes, too_wide, form_number}
 use Rattle.model_run.specs.Report.{named_x}
 use Rattle.model_run.specs.Texts.{IsNameOf}
-use Rattle.lin_solve.specs.declared.chain.Chain.{Chain}
 use Rattle.lin_solve.specs.Shown.{bits_of}
-use Rattle.sta_classes.specs.declared.stop.ClassStop.{ClassStop}
-use Rattle.sta_classes.specs.declared.stop.ClassStop.TheVariants.{Classes, Wide, Memory}
+use Rattle.fast_eval.specs.declared.stops.EvalStop.{EvalStop}
+use Rattle.fast_eval.specs.declared.stops.EvalStop.TheVariants.{Classes, Wide, Range, Memory}
 use Rattle.sta_theory.proofs.Lists.{append_member, first_in}
 use Rattle.std.proofs.lemmas.List.Elements.{Contains-append_right}
 use Rattle.fast_build.specs.Items.{own_lang}
 use Rattle.fast_build.specs.Transformations.{own_trans}
 use Rattle.fast_eval.specs.Forms.{IsMadeOn, IsMadeFrom, IsReadyName}
-use Rattle.sttr_apply.specs.declared.stop.ApplyStop.{ApplyStop}
-use Rattle.sttr_apply.specs.declared.stop.ApplyStop.TheVariants as apply
-use Rattle.fast_eval.specs.Outputs.{IsApplyStop}
+use Rattle.fast_eval.specs.declared.stops.OutputStop.{OutputStop}
+use Rattle.fast_eval.specs.declared.stops.OutputStop.TheVariants as outputs
+use Rattle.fast_eval.specs.Outputs.{StopsOutputs}
 use Rattle.fast_eval.specs.Stops.{StopsExpression}
 use Rattle.fast_eval.specs.Defined.{IsDefined, AreDefinedOf, IsMadeInto, AreKnownInto}
 use Rattle.fast_eval.specs.Table.{HasBuilt, IsGrown}
@@ -41,7 +40,7 @@ use Rattle.fast_eval.specs.declared.built.Built.{Built}
 use Rattle.fast_eval.proofs.Outcomes.{def_cause}
 use Rattle.fast_eval.proofs.Keeping.{built_grown}
 use Rattle.fast_eval.proofs.Keeping.{more_twice as grown_twice}
-use Rattle.fast_eval.proofs.Stepping.{value_form, def_made_into, def_known_into, typed_as, typed_from, found_there}
+use Rattle.fast_eval.proofs.Stepping.{def_made_into, def_known_into, typed_as, typed_from, found_there}
 use Rattle.fast_session.specs.declared.answers.Halt.{Halt}
 use Rattle.fast_session.specs.declared.answers.Halt.TheVariants as halt
 use Rattle.fast_session.specs.declared.items.Around.{Around}
@@ -54,12 +53,9 @@ use Rattle.fast_session.proofs.Following.{value_found}
 
 -- ---- the form of a definition
 
-module _ (items : List Item) (item : Item) (built : is_built items item ≡ true) (d : DefItem) (is : item.body ≡ def d) where
-  pub value_built : is_built_value d.into d.value ≡ true
-  value_built = subst (λ b. is_built_body items b ≡ true) is built
-
-  pub form : is_built_language d.value ≡ true
-  form = value_form d.into d.value value_built
+module _ (items : List Item) (item : Item) (built : is_built item ≡ true) (d : DefItem) (is : item.body ≡ def d) where
+  pub form : is_built_expression d.value ≡ true
+  form = subst (λ b. is_built_body b ≡ true) is built
 
 -- ---- a definition with one of the names
 
@@ -71,15 +67,16 @@ module _ (a : Around) (names : List (List ℕ)) (item : Item) (k : Kept) (b : Is
   value_is = value_found (items_in a) whole item b.at d is
 
   pub value_made : IsMadeInto (items_in a) d.into d.value
-  value_made = def_made_into (items_in a) whole item b.at d is (value_built (items_in a) item b.is_built d is)
+  value_made = def_made_into (items_in a) whole item b.at d is (form (items_in a) item b.is_built d is)
 
   pub value_known : Contains names d.name.text → AreKnownInto (items_in a) k.built d.into d.value
   value_known there = def_known_into (items_in a) whole item b.at d is k.built (Contains names) b.defined (λ m named_at. b.closed item b.at d (omega arith) is there m named_at) value_made
 
 module _ (items : List Item) (limit : ℕ) (names : List (List ℕ)) (item : Item) (there : Contains items item) (d : DefItem) (is : item.body ≡ def d) (own : Contains names d.name.text) where
-  pub def_halts : (stop : ClassStop Chain) → StopsExpression items d.value limit stop → IsHaltAmong items limit names (halt_at item.place (stopped_by limit stop))
+  pub def_halts : (stop : EvalStop) → StopsExpression items d.value limit stop → IsHaltAmong items limit names (halt_at item.place (stopped_by limit stop))
   def_halts Classes stop = (item, there, refl, d, is, own, subst (λ b. HasCause items limit [] b (more_classes limit)) (sym is) (def_cause items limit [] d Classes stop), tt)
   def_halts (Wide c) stop = (item, there, refl, d, is, own, subst (λ b. HasCause items limit [] b (too_wide (bits_of c.width))) (sym is) (def_cause items limit [] d (Wide c) stop), tt)
+  def_halts (Range n) stop = (item, there, refl, d, is, own, subst (λ b. HasCause items limit [] b (form_number n)) (sym is) (def_cause items limit [] d (Range n) stop), tt)
   def_halts Memory stop = tt
 
 pub stands_there : (items : List Item) (item : Item) → StandsIn items item → Contains items item
@@ -156,13 +153,14 @@ module _ (items : List Item) (whole : IsSound items) (name : List ℕ) where
   trans_name_made is = typed_from items whole (named_x name) (name_kinded transformation is) is
 
 -- a name tells no trees apart
-pub name_stops : (items : List Item) (name : List ℕ) (limit : ℕ) (s : ClassStop Chain) → StopsExpression items (named_x name) limit s → s ≡ Memory
+pub name_stops : (items : List Item) (name : List ℕ) (limit : ℕ) (s : EvalStop) → StopsExpression items (named_x name) limit s → s ≡ Memory
 name_stops items name limit Classes h = absurd (let no : false ≡ true = h.0 in cc)
 name_stops items name limit (Wide c) h = absurd (let no : false ≡ true = h.0 in cc)
+name_stops items name limit (Range n) h = absurd (let no : false ≡ true = h.0 in cc)
 name_stops items name limit Memory h = refl
 
 -- what stops the search for outputs is a cause of the tree
-pub tree_stopped : (items : List Item) (name : List ℕ) (t : LabelTree) (stop : ApplyStop) → IsApplyStop items (named_x name) t stop → IsTreeStopped items name t (stopped_outputs stop)
-tree_stopped items name t (apply.Range n) cause = (cause, tt)
-tree_stopped items name t (apply.Load load) cause = (cause, tt)
-tree_stopped items name t apply.Memory cause = tt
+pub tree_stopped : (items : List Item) (name : List ℕ) (limit : ℕ) (t : LabelTree) (stop : OutputStop) → StopsOutputs items (named_x name) limit t stop → IsTreeStopped items name t (stopped_outputs limit stop)
+tree_stopped items name limit t (outputs.Stopped s) cause = subst (λ z. IsTreeStopped items name t (stopped_by limit z)) (sym (name_stops items name limit s cause)) tt
+tree_stopped items name limit t (outputs.Range n) cause = (cause, tt)
+tree_stopped items name limit t (outputs.Load load) cause = (cause, tt)

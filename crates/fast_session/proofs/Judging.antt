@@ -1,5 +1,5 @@
 -- Verdicts on statements, and why there is none.
-use Rattle.std.proofs.Common.{◌≡◌, inl, inr, ℕ, Bool, true, false, not, List, [], ◌∷◌, Some, None, Contains, refl, sym, ap, subst, ◌∙◌}
+use Rattle.std.proofs.Common.{◌≡◌, inl, inr, ℕ, Bool, true, false, not, ◌&&◌, List, [], ◌∷◌, Some, None, Contains, refl, sym, ap, subst, ◌∙◌}
 use Rattle.model_tree.specs.Tree.{Tree, LabelTree, relabel}
 use Rattle.model_tree.specs.Scalars.{has_scalars}
 use Rattle.model_tree.specs.Signature.{HasType}
@@ -7,21 +7,21 @@ use Rattle.fast_tree.specs.Entries.{label_meaning}
 use Rattle.fast_tree.specs.declared.label.Label.{Label}
 use Rattle.model_grammar.specs.Syntax.{X, Claim, equal, member, empty, type_check, AssertItem, assertion, def, tree, DefItem, Item}
 use Rattle.model_meaning.specs.Meaning.{input_type, signature_named}
+use Rattle.model_names.specs.Kinds.{type_of}
 use Rattle.model_meaning.specs.Values.{Printed}
 use Rattle.model_meaning.specs.Truth.{IsTrue, Shows}
 use Rattle.model_meaning.proofs.Members.{one_of, none_of}
-use Rattle.model_run.specs.Built.{is_language, is_built_language, is_built_claim}
+use Rattle.model_run.specs.Built.{is_built_expression, is_built_claim}
 use Rattle.model_run.specs.Causes.{AreAllLarge, HasCause, too_large}
 use Rattle.model_run.specs.Items.{claimed, expressions_in, judged_claim, claim_has_classes, IsComposable}
 use Rattle.model_run.specs.Outcomes.{Outcome, true_verdict, tree_verdict, claim_type, trees_in, IsShownWith, IsVerdict, IsOutcomeOf}
 use Rattle.model_run.specs.Printable.{IsPrintable}
-use Rattle.lin_solve.specs.declared.chain.Chain.{Chain}
-use Rattle.sta_classes.specs.declared.stop.ClassStop.{ClassStop}
-use Rattle.sta_classes.specs.declared.stop.ClassStop.TheVariants.{Classes, Wide, Memory}
+use Rattle.fast_eval.specs.declared.stops.EvalStop.{EvalStop}
+use Rattle.fast_eval.specs.declared.stops.EvalStop.TheVariants.{Classes, Wide, Range, Memory}
 use Rattle.fast_build.proofs.Elements.{first_true, second_true}
 use Rattle.fast_eval.specs.Found.{IsInLimits}
-use Rattle.fast_eval.specs.Forms.{IsMadeOn}
-use Rattle.fast_eval.proofs.Claims.{made_on}
+use Rattle.fast_eval.specs.Forms.{IsMadeAt}
+use Rattle.fast_eval.proofs.Claims.{made_on, made_from}
 use Rattle.fast_eval.specs.Stops.{IsStopOf, IsCauseFor}
 use Rattle.fast_eval.specs.Stops.{StopsExpression}
 use Rattle.fast_eval.proofs.Outcomes.{forms_compose, def_cause, claim_cause, large_cause}
@@ -43,14 +43,15 @@ pub shown_if : (t : LabelTree) → IsInLimits t → has_scalars t ≡ true → I
 shown_if t limits scalars = record { kept = limits.kept; scalars = scalars; small = limits.small; shallow = limits.shallow }
 
 -- what stops the search for classes is a cause
-pub stopped_cause : (items : List Item) (limit : ℕ) (item : Item) (old : Kept) (s : ClassStop Chain)
+pub stopped_cause : (items : List Item) (limit : ℕ) (item : Item) (old : Kept) (s : EvalStop)
     → ((done : List Outcome) → Tells old.trees (trees_in done) → IsCauseFor items limit (trees_in done) item.body s) → IsStoppedAt items limit item old (stopped_by limit s)
 stopped_cause items limit item old Classes cause = (λ done told shown. cause done told, tt)
 stopped_cause items limit item old (Wide c) cause = (λ done told shown. cause done told, tt)
+stopped_cause items limit item old (Range n) cause = (λ done told shown. cause done told, tt)
 stopped_cause items limit item old Memory cause = tt
 
 -- a definition whose language isn't built has the cause
-pub def_stops : (items : List Item) (limit : ℕ) (item : Item) (old : Kept) (d : DefItem) → item.body ≡ def d → (stop : ClassStop Chain) → StopsExpression items d.value limit stop → IsStoppedAt items limit item old (stopped_by limit stop)
+pub def_stops : (items : List Item) (limit : ℕ) (item : Item) (old : Kept) (d : DefItem) → item.body ≡ def d → (stop : EvalStop) → StopsExpression items d.value limit stop → IsStoppedAt items limit item old (stopped_by limit stop)
 def_stops items limit item old d is stop cause = stopped_cause items limit item old stop (λ done told. subst (λ b. IsCauseFor items limit (trees_in done) b stop) (sym is) (def_cause items limit (trees_in done) d stop cause))
 
 -- the type of whose trees a statement speaks is that of its expression
@@ -60,10 +61,15 @@ claim_type_is items (member x y) = refl
 claim_type_is items (empty x) = refl
 claim_type_is items (type_check x f y) = refl
 
+-- the type of a language, or of the inputs of a transformation
+type_made : (items : List Item) (type : List ℕ) (x : X) → IsMadeAt items type x → type_of items x ≡ Some type
+type_made items type x (inl made) = (made_on items type x made).1
+type_made items type x (inr (into, made)) = (made_from items type into x made).1
+
 -- the verdict with the type of this name
-pub named_verdict : (items : List Item) (s : AssertItem) (type of : List ℕ) → IsMadeOn items type (spoken_of s.claim) → Some of ≡ Some type → (n : ℕ) (v : Verdict) → verdict_on n v.passes (signature_named items (Some of)) v.shown ≡ verdict_outcome items n s v
+pub named_verdict : (items : List Item) (s : AssertItem) (type of : List ℕ) → IsMadeAt items type (spoken_of s.claim) → Some of ≡ Some type → (n : ℕ) (v : Verdict) → verdict_on n v.passes (signature_named items (Some of)) v.shown ≡ verdict_outcome items n s v
 named_verdict items s type of made is n v =
-    ap (λ t. verdict_on n v.passes t v.shown) (ap (signature_named items) (is ∙ sym (made_on items type (spoken_of s.claim) made).1) ∙ sym (claim_type_is items s.claim))
+    ap (λ t. verdict_on n v.passes t v.shown) (ap (signature_named items) (is ∙ sym (type_made items type (spoken_of s.claim) made)) ∙ sym (claim_type_is items s.claim))
 
 module _ (items : List Item) (limit : ℕ) where
   -- ---- statements of languages
@@ -109,7 +115,7 @@ module _ (items : List Item) (limit : ℕ) where
   has_if (type_check x f y) of = refl
 
   module _ (item : Item) (old : Kept) (s : AssertItem) (is : item.body ≡ assertion s) where
-    pub judged_stops : is_member s.claim ≡ false → (stop : ClassStop Chain) → IsStopOf items (judged_claim items s.claim) limit stop → IsStoppedAt items limit item old (stopped_by limit stop)
+    pub judged_stops : is_member s.claim ≡ false → (stop : EvalStop) → IsStopOf items (judged_claim items s.claim) limit stop → IsStoppedAt items limit item old (stopped_by limit stop)
     judged_stops of stop cause = stopped_cause items limit item old stop (λ done told. subst (λ b. IsCauseFor items limit (trees_in done) b stop) (sym is) (claim_cause items limit (trees_in done) s stop (has_if s.claim of) cause))
 
     pub judged_large : AreAllLarge (Shows items s.claim) → IsStoppedAt items limit item old (By TreeSize)
@@ -134,14 +140,22 @@ module _ (a : Around) (item : Item) (old new : Kept) (s : AssertItem) (is : item
       }
 
 -- nothing is composed in statements of languages
-claim_composes : (items : List Item) (claim : Claim) → is_member claim ≡ false → is_built_claim items claim ≡ true → (e : X) → Contains (claimed claim) e → is_built_language e ≡ true
+claim_composes : (items : List Item) (claim : Claim) → is_member claim ≡ false → is_built_claim claim ≡ true → (e : X) → Contains (claimed claim) e → is_built_expression e ≡ true
 claim_composes items (equal x y) of built e at = elim (one_of x e (y ∷ []) at) [
-  | inl same ↦ subst (λ z. is_built_language z ≡ true) same (first_true (is_built_language x) (is_built_language y) built)
-  | inr other ↦ elim (one_of y e [] other) [ inl same ↦ subst (λ z. is_built_language z ≡ true) same (second_true (is_built_language x) (is_built_language y) built) | inr none ↦ absurd (none_of e none) ]
+  | inl same ↦ subst (λ z. is_built_expression z ≡ true) same (first_true (is_built_expression x) (is_built_expression y) built)
+  | inr other ↦ elim (one_of y e [] other) [ inl same ↦ subst (λ z. is_built_expression z ≡ true) same (second_true (is_built_expression x) (is_built_expression y) built) | inr none ↦ absurd (none_of e none) ]
 ]
 claim_composes items (member x y) of built e at = absurd (cc)
-claim_composes items (empty x) of built e at = elim (one_of x e [] at) [ inl same ↦ subst (λ z. is_built_language z ≡ true) same (second_true (is_language _) (is_built_language x) built) | inr none ↦ absurd (none_of e none) ]
-claim_composes items (type_check x f y) of built e at = absurd (cc)
+claim_composes items (empty x) of built e at = elim (one_of x e [] at) [ inl same ↦ subst (λ z. is_built_expression z ≡ true) same built | inr none ↦ absurd (none_of e none) ]
+claim_composes items (type_check x f y) of built e at =
+    let rest = second_true (is_built_expression x) (is_built_expression f && is_built_expression y) built in
+    elim (one_of x e (f ∷ y ∷ []) at) [
+      | inl same ↦ subst (λ z. is_built_expression z ≡ true) same (first_true (is_built_expression x) (is_built_expression f && is_built_expression y) built)
+      | inr other ↦ elim (one_of f e (y ∷ []) other) [
+        | inl same ↦ subst (λ z. is_built_expression z ≡ true) same (first_true (is_built_expression f) (is_built_expression y) rest)
+        | inr last ↦ elim (one_of y e [] last) [ inl same ↦ subst (λ z. is_built_expression z ≡ true) same (second_true (is_built_expression f) (is_built_expression y) rest) | inr none ↦ absurd (none_of e none) ]
+      ]
+    ]
 
-pub assertion_composes : (items : List Item) (item : Item) (s : AssertItem) → item.body ≡ assertion s → is_member s.claim ≡ false → is_built_claim items s.claim ≡ true → IsComposable items item.body
+pub assertion_composes : (items : List Item) (item : Item) (s : AssertItem) → item.body ≡ assertion s → is_member s.claim ≡ false → is_built_claim s.claim ≡ true → IsComposable items item.body
 assertion_composes items item s is of built = forms_compose items item.body (λ e at. claim_composes items s.claim of built e (subst (λ b. Contains (expressions_in b) e) is at))

@@ -1,14 +1,14 @@
 -- Verdicts on statements that a tree is in a language.
-use Rattle.std.proofs.Common.{◌≡◌, ℕ, true, false, not, ◌&&◌, List, Some, refl, sym, ap, subst}
+use Rattle.std.proofs.Common.{◌≡◌, inl, ℕ, true, false, not, ◌&&◌, List, Some, refl, sym, ap, subst}
 use Rattle.model_tree.specs.Signature.{HasType}
 use Rattle.model_grammar.specs.Syntax.{X, Claim, equal, member, empty, type_check, AssertItem, assertion, Item}
 use Rattle.model_meaning.specs.Meaning.{input_type}
-use Rattle.model_run.specs.Built.{is_built_language, is_built_tree, is_built_claim}
+use Rattle.model_run.specs.Built.{is_built_expression, is_built_tree, is_built_claim}
 use Rattle.model_run.specs.Items.{IsComposable}
 use Rattle.model_run.specs.Outcomes.{Outcome, tree_verdict, claim_type, trees_in, IsShownWith, IsVerdict}
 use Rattle.fast_build.proofs.Elements.{first_true, second_true}
 use Rattle.fast_eval.specs.Found.{IsInLimits}
-use Rattle.fast_eval.specs.Forms.{AreKnown, IsMadeOn}
+use Rattle.fast_eval.specs.Forms.{AreKnown, IsMadeOn, IsMadeAt}
 use Rattle.tree_values.specs.declared.members.Membership.{Membership}
 use Rattle.tree_values.specs.declared.stops.ValueStop.{ValueStop}
 use Rattle.tree_values.specs.Forms.{IsTreeOn, IsTreeKnown}
@@ -28,14 +28,14 @@ use Rattle.fast_session.proofs.Printing.{stopped_value_cause}
 use Rattle.fast_session.proofs.Ready.{whole, claim_built, IsClaimReady, assertion_ready}
 
 module _ (a : Around) (item : Item) (old : Kept) (ready : IsReady a item old) (s : AssertItem) (is : item.body ≡ assertion s) (x y : X) (same : s.claim ≡ member x y) where
-  built_member : (is_built_tree x && is_built_language y) ≡ true
-  built_member = subst (λ c. is_built_claim (items_in a) c ≡ true) same (claim_built a item old ready s is)
+  built_member : (is_built_tree x && is_built_expression y) ≡ true
+  built_member = subst (λ c. is_built_claim c ≡ true) same (claim_built a item old ready s is)
 
   form_x : is_built_tree x ≡ true
-  form_x = first_true (is_built_tree x) (is_built_language y) built_member
+  form_x = first_true (is_built_tree x) (is_built_expression y) built_member
 
-  form_y : is_built_language y ≡ true
-  form_y = second_true (is_built_tree x) (is_built_language y) built_member
+  form_y : is_built_expression y ≡ true
+  form_y = second_true (is_built_tree x) (is_built_expression y) built_member
 
   sides : AreSides (items_in a) (whole a item old ready) x y
   sides = member_made (items_in a) (whole a item old ready) item ready.at s x y is same form_x form_y
@@ -70,14 +70,14 @@ module _ (a : Around) (item : Item) (old : Kept) (ready : IsReady a item old) (s
 -- ---- statements of both kinds
 
 module _ (a : Around) (item : Item) (old : Kept) (ready : IsReady a item old) (s : AssertItem) (is : item.body ≡ assertion s) where
-  spoken_by : (claim : Claim) → s.claim ≡ claim → (is_member claim ≡ false → IsClaimReady a item old ready claim) → (type : List ℕ) × IsMadeOn (items_in a) type (spoken_of claim)
-  spoken_by (equal x y) same ready_of = let r = ready_of refl in (r.type, r.on.0)
-  spoken_by (member x y) same ready_of = let m = member_on a item old ready s is x y same in (m.0, m.1)
+  spoken_by : (claim : Claim) → s.claim ≡ claim → (is_member claim ≡ false → IsClaimReady a item old ready claim) → (type : List ℕ) × IsMadeAt (items_in a) type (spoken_of claim)
+  spoken_by (equal x y) same ready_of = let r = ready_of refl in (r.type, inl r.on.0)
+  spoken_by (member x y) same ready_of = let m = member_on a item old ready s is x y same in (m.0, inl m.1)
   spoken_by (empty x) same ready_of = let r = ready_of refl in (r.type, r.on)
-  spoken_by (type_check x f y) same ready_of = let r = ready_of refl in absurd r.on
+  spoken_by (type_check x f y) same ready_of = let r = ready_of refl in (r.type, inl r.on.1)
 
   -- the expression with the type of whose trees the statement speaks
-  pub spoken_made : (type : List ℕ) × IsMadeOn (items_in a) type (spoken_of s.claim)
+  pub spoken_made : (type : List ℕ) × IsMadeAt (items_in a) type (spoken_of s.claim)
   spoken_made = spoken_by s.claim refl (assertion_ready a item old ready s is)
 
   composed_by : (claim : Claim) → s.claim ≡ claim → (is_member claim ≡ false → IsComposable (items_in a) item.body) → IsComposable (items_in a) item.body

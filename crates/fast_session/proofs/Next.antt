@@ -13,8 +13,8 @@ use Rattle.fast_session.specs.declared.items.Kept.{Kept}
 use Rattle.fast_session.specs.Kept.{IsKept}
 
 module _ (items : List Item) (n : ℕ) (item : Item) (low : n < length items) (is : item ≡ get_or items n item) where
-  pub built_next : list_all (is_built items) items ≡ true → is_built items item ≡ true
-  built_next all = all_contained (is_built items) items n item all is low
+  pub built_next : list_all is_built items ≡ true → is_built item ≡ true
+  built_next all = all_contained is_built items n item all is low
 
 none_unbuilt : (p : Item → Bool) (items : List Item) → option_map (λ (item : Item). item.place) (find (λ item. not (p item)) items) ≡ None → list_all p items ≡ true
 none_unbuilt p [] e = refl
@@ -25,8 +25,8 @@ none_unbuilt p (x ∷ xs) e = by (p x) refl e (none_unbuilt p xs)
     by false is h later = let no : Some x.place ≡ None = rw is at h in absurd (cc)
 
 -- where no item isn't built, each is
-pub all_built : (items : List Item) → unbuilt_at items ≡ None → list_all (is_built items) items ≡ true
-all_built items e = none_unbuilt (is_built items) items e
+pub all_built : (items : List Item) → unbuilt_at items ≡ None → list_all is_built items ≡ true
+all_built items e = none_unbuilt is_built items e
 
 -- at the start nothing is kept
 pub nothing_kept : (items : List Item) (k : Kept) → AreBuilt items k.built → ((name : List ℕ) → tree_at k.trees name ≡ None) → IsKept items [] k

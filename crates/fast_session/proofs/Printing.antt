@@ -14,7 +14,7 @@ use Rattle.model_run.specs.Outcomes.{Outcome, tree_line, trees_in, IsOutcomeOf}
 use Rattle.fast_build.proofs.Naming.{same_itself}
 use Rattle.fast_eval.specs.Found.{IsInLimits}
 use Rattle.fast_eval.specs.Table.{AreBuilt, IsGrown}
-use Rattle.sta_classes.specs.declared.stop.ClassStop.TheVariants.{Classes, Wide, Memory}
+use Rattle.fast_eval.specs.declared.stops.EvalStop.TheVariants.{Classes, Wide, Range, Memory}
 use Rattle.tree_values.specs.declared.stops.ValueStop.{ValueStop}
 use Rattle.tree_values.specs.declared.stops.ValueStop.TheVariants.{Stopped, NoTree, TooLarge, LabelRange, Outputs, NoOutput, SeveralOutputs}
 use Rattle.tree_values.specs.declared.trees.Trees.{Trees}
@@ -42,6 +42,7 @@ pub stopped_value_cause : (items : List Item) (limit : ℕ) (item : Item) (old :
     → ((done : List Outcome) → Tells old.trees (trees_in done) → IsCauseOf items limit (trees_in done) item.body s) → IsStopTyped items s → IsStoppedAt items limit item old (stopped_value limit s)
 stopped_value_cause items limit item old (Stopped Classes) cause typed = (λ done told shown. cause done told, tt)
 stopped_value_cause items limit item old (Stopped (Wide c)) cause typed = (λ done told shown. cause done told, tt)
+stopped_value_cause items limit item old (Stopped (Range n)) cause typed = (λ done told shown. cause done told, tt)
 stopped_value_cause items limit item old (Stopped Memory) cause typed = tt
 stopped_value_cause items limit item old NoTree cause typed = (λ done told shown. cause done told, tt)
 stopped_value_cause items limit item old TooLarge cause typed = (λ done told shown. cause done told, tt)
@@ -59,7 +60,7 @@ module _ (a : Around) (item : Item) (old : Kept) (ready : IsReady a item old) (t
   type = signature_named (items_in a) (Some t.of.text)
 
   tree_form : is_built_tree t.value ≡ true
-  tree_form = subst (λ b. is_built_body (items_in a) b ≡ true) is ready.is_built
+  tree_form = subst (λ b. is_built_body b ≡ true) is ready.is_built
 
   pub value_made : IsTreeOn (items_in a) t.of.text t.value
   value_made = tree_made (items_in a) (whole a item old ready) item ready.at t is tree_form

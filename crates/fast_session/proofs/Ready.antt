@@ -11,11 +11,11 @@ use Rattle.model_checks.specs.Sound.{IsSound}
 use Rattle.model_checks.proofs.Soundness.{empty_first, empty_second}
 use Rattle.model_checks.proofs.SoundWhole.{sound}
 use Rattle.model_meaning.specs.Reached.{own_value, definition_of}
-use Rattle.model_run.specs.Built.{is_language, is_built_language, is_built_value, is_built_claim, is_built_body}
+use Rattle.model_run.specs.Built.{is_built_expression, is_built_claim, is_built_body}
 use Rattle.fast_build.proofs.Elements.{first_true, second_true}
 use Rattle.fast_eval.specs.Forms.{IsMadeOn, AreKnown, IsClaimOn, IsClaimKnown}
 use Rattle.fast_eval.specs.Defined.{IsMadeInto, AreKnownInto}
-use Rattle.fast_eval.proofs.Stepping.{value_form, def_made_into, def_known_into, empty_made, equal_made, known_of}
+use Rattle.fast_eval.proofs.Stepping.{def_made_into, def_known_into, empty_made, equal_made, check_made, known_of, known_at, trans_known_of}
 use Rattle.fast_session.specs.declared.items.Around.{Around}
 use Rattle.fast_session.specs.declared.items.Kept.{Kept}
 use Rattle.fast_session.specs.Kept.{items_in, IsReady}
@@ -35,35 +35,26 @@ module _ (a : Around) (item : Item) (k : Kept) (ready : IsReady a item k) where
   -- ---- definitions
 
   module _ (d : DefItem) (is : item.body ≡ def d) where
-    value_built : is_built_value d.into d.value ≡ true
-    value_built = subst (λ b. is_built_body (items_in a) b ≡ true) is ready.is_built
-
-    pub def_form : is_built_language d.value ≡ true
-    def_form = value_form d.into d.value value_built
+    pub def_form : is_built_expression d.value ≡ true
+    def_form = subst (λ b. is_built_body b ≡ true) is ready.is_built
 
     pub def_is : definition_of (items_in a) d.name.text ≡ Some d.value
     def_is = ap (option_and_then (λ (i : Item). own_value i.body)) (whole.found_item item d.name ready.at (ap own_name is)) ∙ ap own_value is
 
     pub def_made : IsMadeInto (items_in a) d.into d.value
-    def_made = def_made_into (items_in a) whole item ready.at d is value_built
+    def_made = def_made_into (items_in a) whole item ready.at d is def_form
 
     pub def_known : AreKnownInto (items_in a) k.built d.into d.value
     def_known = def_known_into (items_in a) whole item ready.at d is k.built (λ m. Unit {0}) (λ other e at body wanted. ready.kept.defined other e at body) (λ m at. tt) def_made
 
   -- ---- statements
 
-  kind_language : (o : Option Kind) → is_language o ≡ true → o ≡ Some language
-  kind_language None e = absurd (cc)
-  kind_language (Some language) e = refl
-  kind_language (Some transformation) e = absurd (cc)
-  kind_language (Some a_tree) e = absurd (cc)
-
   module _ (s : AssertItem) (is : item.body ≡ assertion s) where
     pub claim_fine : is_empty (claim_failures (items_in a) before s.claim) ≡ true
     claim_fine = subst (λ b. is_empty (body_failures (items_in a) before b) ≡ true) is (whole.each item ready.at)
 
-    pub claim_built : is_built_claim (items_in a) s.claim ≡ true
-    claim_built = subst (λ b. is_built_body (items_in a) b ≡ true) is ready.is_built
+    pub claim_built : is_built_claim s.claim ≡ true
+    claim_built = subst (λ b. is_built_body b ≡ true) is ready.is_built
 
   -- its expressions are of languages on one type, and their names are known
   pub record IsClaimReady (claim : Claim) : Type 0 where
@@ -71,10 +62,10 @@ module _ (a : Around) (item : Item) (k : Kept) (ready : IsReady a item k) where
     pub on : IsClaimOn (items_in a) type claim
     pub known : IsClaimKnown (items_in a) k.built claim
 
-  claim_ready : (claim : Claim) → is_member claim ≡ false → is_empty (claim_failures (items_in a) before claim) ≡ true → is_built_claim (items_in a) claim ≡ true → IsClaimReady claim
+  claim_ready : (claim : Claim) → is_member claim ≡ false → is_empty (claim_failures (items_in a) before claim) ≡ true → is_built_claim claim ≡ true → IsClaimReady claim
   claim_ready (equal x y) of fine built =
-      let form_x = first_true (is_built_language x) (is_built_language y) built in
-      let form_y = second_true (is_built_language x) (is_built_language y) built in
+      let form_x = first_true (is_built_expression x) (is_built_expression y) built in
+      let form_y = second_true (is_built_expression x) (is_built_expression y) built in
       let wanted = type_as (items_in a) before language x in
       let fx = x_failures (items_in a) before 0 None x in
       let bx = needs_be (items_in a) before None language x in
@@ -88,14 +79,24 @@ module _ (a : Around) (item : Item) (k : Kept) (ready : IsReady a item k) where
       }
   claim_ready (member x y) of fine built = absurd (cc)
   claim_ready (empty x) of fine built =
-      let kind = kind_language (kind_of (items_in a) x) (first_true (is_language (kind_of (items_in a) x)) (is_built_language x) built) in
-      let m = empty_made (items_in a) whole before x fine kind (second_true (is_language (kind_of (items_in a) x)) (is_built_language x) built) in
+      let m = empty_made (items_in a) whole before x fine built in
       record {
         type = m.0;
         on = m.1;
-        known = known 0 None m.0 x (empty_first (x_failures (items_in a) before 0 None x) _ fine) m.1;
+        known = known_at (items_in a) whole k.built before (item ∷ ready.at.behind) ready.at.is ready.kept.defined m.0 x (empty_first (x_failures (items_in a) before 0 None x) _ fine) m.1;
       }
-  claim_ready (type_check x f y) of fine built = absurd (cc)
+  claim_ready (type_check x f y) of fine built =
+      let rest = second_true (is_built_expression x) (is_built_expression f && is_built_expression y) built in
+      let m = check_made (items_in a) whole before x f y fine (first_true (is_built_expression x) (is_built_expression f && is_built_expression y) built) (first_true (is_built_expression f) (is_built_expression y) rest) (second_true (is_built_expression f) (is_built_expression y) rest) in
+      record {
+        type = m.type;
+        on = (m.into, m.first, m.goes, m.second);
+        known = (
+          known 0 None m.type x m.first_fine m.first,
+          trans_known_of (items_in a) whole k.built before (item ∷ ready.at.behind) ready.at.is ready.kept.defined 0 None m.type m.into f m.fine m.goes,
+          known 0 None m.into y m.second_fine m.second,
+        );
+      }
 
   pub assertion_ready : (s : AssertItem) → item.body ≡ assertion s → is_member s.claim ≡ false → IsClaimReady s.claim
   assertion_ready s is of = claim_ready s.claim of (claim_fine s is) (claim_built s is)

@@ -6,7 +6,7 @@ use Rattle.fast_tree.specs.declared.label.Label.{Label}
 use Rattle.model_grammar.specs.Syntax.{X, sorts, tree, lang, trans, def, DefItem, TreeItem, Item}
 use Rattle.model_meaning.specs.Values.{Printed}
 use Rattle.model_meaning.proofs.Members.{one_of, none_of}
-use Rattle.model_run.specs.Built.{is_built_language}
+use Rattle.model_run.specs.Built.{is_built_expression}
 use Rattle.model_run.specs.Items.{expressions_in}
 use Rattle.model_run.specs.Outcomes.{Outcome, silent, trees_in, IsOutcomeOf}
 use Rattle.fast_eval.specs.Counted.{IsCounted, outcome_of}
@@ -80,8 +80,8 @@ module _ (a : Around) (item : Item) (old new : Kept) (ready : IsReady a item old
   own_def : (e : DefItem) → item.body ≡ def e → d ≡ e
   own_def e other = let same : def d ≡ def e = sym is ∙ other in cc
 
-  form_of : (e : X) → Contains (d.value ∷ []) e → is_built_language e ≡ true
-  form_of e at = elim (one_of d.value e [] at) [ inl same ↦ subst (λ x. is_built_language x ≡ true) same (def_form a item old ready d is) | inr none ↦ absurd (none_of e none) ]
+  form_of : (e : X) → Contains (d.value ∷ []) e → is_built_expression e ≡ true
+  form_of e at = elim (one_of d.value e [] at) [ inl same ↦ subst (λ x. is_built_expression x ≡ true) same (def_form a item old ready d is) | inr none ↦ absurd (none_of e none) ]
 
   pub done_def : IsBuiltMore (items_in a) old new → IsDefined new.built d → (count : Option ℕ) → IsCounted (items_in a) d.value count → IsDone (items_in a) item old new (outcome_of d.name.text count)
   done_def more named count counted = record {

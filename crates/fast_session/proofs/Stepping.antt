@@ -41,7 +41,7 @@ module _ (old : Session) (done : List Outcome) (at : IsAt old done) (item : Item
     at_next o did = record {
       over = record {
         checked = subst IsChecked (sym same) at.over.checked;
-        built = subst (λ c. list_all (is_built (items_of c)) (items_of c) ≡ true) (sym same) at.over.built;
+        built = subst (λ c. list_all is_built (items_of c) ≡ true) (sym same) at.over.built;
         shallow = subst (λ n. n ≤ 2000) (sym limited) at.over.shallow;
       };
       running = running;

@@ -10,21 +10,20 @@ use Rattle.fast_tree.specs.Entries.{label_meaning}
 use Rattle.fast_tree.specs.declared.label.Label.{Label}
 use Rattle.model_grammar.specs.Syntax.{Item}
 use Rattle.model_meaning.specs.Meaning.{signature_named}
-use Rattle.model_run.specs.Causes.{Stop, more_classes, too_wide, label_number, too_much, empty_language, no_output, two_outputs, too_large}
+use Rattle.model_run.specs.Causes.{Stop, more_classes, too_wide, form_number, label_number, too_much, empty_language, no_output, two_outputs, too_large}
 use Rattle.model_run.specs.Outcomes.{Outcome, silent, tree_line, minimal_line, true_verdict, tree_verdict}
-use Rattle.lin_solve.specs.declared.chain.Chain.{Chain}
 use Rattle.lin_solve.specs.Shown.{bits_of}
-use Rattle.sta_classes.specs.declared.stop.ClassStop.{ClassStop}
-use Rattle.sta_classes.specs.declared.stop.ClassStop.TheVariants as classes
-use Rattle.sttr_apply.specs.declared.stop.ApplyStop.{ApplyStop}
-use Rattle.sttr_apply.specs.declared.stop.ApplyStop.TheVariants as apply
+use Rattle.fast_eval.specs.declared.stops.EvalStop.{EvalStop}
+use Rattle.fast_eval.specs.declared.stops.EvalStop.TheVariants as evaluation
+use Rattle.fast_eval.specs.declared.stops.OutputStop.{OutputStop}
+use Rattle.fast_eval.specs.declared.stops.OutputStop.TheVariants as outputs
 use Rattle.sttr_apply.specs.Plain.{load_of}
 use Rattle.tree_values.specs.declared.stops.ValueStop.{ValueStop}
 use Rattle.tree_values.specs.declared.stops.ValueStop.TheVariants as values
 use Rattle.tree_values.specs.Stops.{type_of_tree, AreShown}
 use Rattle.tree_values.specs.Trees.{meant}
 use Rattle.fast_session.specs.declared.answers.Cause.{Cause}
-use Rattle.fast_session.specs.declared.answers.Cause.TheVariants.{Classes, Width, LabelRange, Outputs, EmptyLanguage, NoOutput, SeveralOutputs, TreeSize}
+use Rattle.fast_session.specs.declared.answers.Cause.TheVariants.{Classes, Width, FormRange, LabelRange, Outputs, EmptyLanguage, NoOutput, SeveralOutputs, TreeSize}
 use Rattle.fast_session.specs.declared.answers.Stopped.{Stopped}
 use Rattle.fast_session.specs.declared.answers.Stopped.TheVariants as stopped
 use Rattle.fast_session.specs.declared.answers.Line.{Line}
@@ -41,6 +40,7 @@ use Rattle.fast_session.specs.declared.answers.Ending.TheVariants as ending
 abbrev pub code_of : Cause → Code
 code_of (Classes limit) = codes.Classes
 code_of (Width bits) = codes.Width
+code_of (FormRange n) = codes.FormRange
 code_of (LabelRange n) = codes.LabelRange
 code_of (Outputs load) = codes.Outputs
 code_of EmptyLanguage = codes.EmptyLanguage
@@ -52,6 +52,7 @@ module _ (items : List Item) where
   abbrev pub plain_cause : Cause → Stop
   plain_cause (Classes limit) = more_classes limit
   plain_cause (Width bits) = too_wide bits
+  plain_cause (FormRange n) = form_number n
   plain_cause (LabelRange n) = label_number n
   plain_cause (Outputs load) = too_much (load_of load)
   plain_cause EmptyLanguage = empty_language
@@ -72,17 +73,18 @@ CanBeShown (NoOutput t) = has_scalars (meant t.tree) ≡ true
 CanBeShown (SeveralOutputs two) = AreShown two
 CanBeShown cause = Unit {0}
 
--- what stops an item where the search for classes stops, and where a tree expression has no value that can be shown
-abbrev pub stopped_by : ℕ → ClassStop Chain → Stopped
-stopped_by limit classes.Classes = stopped.By (Classes limit)
-stopped_by limit (classes.Wide c) = stopped.By (Width (bits_of c.width))
-stopped_by limit classes.Memory = stopped.Memory
+-- what stops an item where the evaluation of expressions stops, and where a tree expression has no value that can be shown
+abbrev pub stopped_by : ℕ → EvalStop → Stopped
+stopped_by limit evaluation.Classes = stopped.By (Classes limit)
+stopped_by limit (evaluation.Wide c) = stopped.By (Width (bits_of c.width))
+stopped_by limit (evaluation.Range n) = stopped.By (FormRange n)
+stopped_by limit evaluation.Memory = stopped.Memory
 
 -- where there is no list of outputs
-abbrev pub stopped_outputs : ApplyStop → Stopped
-stopped_outputs (apply.Range n) = stopped.By (LabelRange n)
-stopped_outputs (apply.Load load) = stopped.By (Outputs load)
-stopped_outputs apply.Memory = stopped.Memory
+abbrev pub stopped_outputs : ℕ → OutputStop → Stopped
+stopped_outputs limit (outputs.Stopped s) = stopped_by limit s
+stopped_outputs limit (outputs.Range n) = stopped.By (LabelRange n)
+stopped_outputs limit (outputs.Load load) = stopped.By (Outputs load)
 
 abbrev pub stopped_value : ℕ → ValueStop → Stopped
 stopped_value limit (values.Stopped s) = stopped_by limit s

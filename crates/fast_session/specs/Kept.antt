@@ -27,7 +27,7 @@ pub record IsKept (items done : List Item) (k : Kept) : Type 0 where
 pub record IsReady (a : Around) (item : Item) (k : Kept) : Type 0 where
   pub checked : IsChecked a.checked.now
   pub at : StandsIn (items_in a) item
-  pub is_built : is_built (items_in a) item ≡ true
+  pub is_built : is_built item ≡ true
   pub kept : IsKept (items_in a) at.before k
   pub outcomes : List Outcome
   pub told : Tells k.trees (trees_in outcomes)

@@ -56,7 +56,7 @@ pub record AreNeeded (items : List Item) (name : List ℕ) (names : List (List �
 pub record IsBuildable (a : Around) (names : List (List ℕ)) (item : Item) (k : Kept) : Type 0 where
   pub checked : IsChecked a.checked.now
   pub at : StandsIn (items_in a) item
-  pub is_built : is_built (items_in a) item ≡ true
+  pub is_built : is_built item ≡ true
   pub built : AreBuilt (items_in a) k.built
   pub closed : AreClosedFrom (items_in a) 0 names
   pub defined : AreDefinedOf (Contains names) k.built at.before

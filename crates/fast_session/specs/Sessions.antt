@@ -27,7 +27,7 @@ items_in s = items_of s.checked
 -- what is so of each session of a program that is built
 pub record IsOver (s : Session) : Type 0 where
   pub checked : IsChecked s.checked
-  pub built : list_all (is_built (items_in s)) (items_in s) ≡ true
+  pub built : list_all is_built (items_in s) ≡ true
   pub shallow : s.limit ≤ 2000
 
 -- it hasn't ended, and its items that are done had these outcomes, the last one first

@@ -49,6 +49,8 @@ pub enum Cause {
     Classes(u32),
     /// A number has no place in so many bits.
     Width(u32),
+    /// A form has this number, outside its range.
+    FormRange(i128),
     /// An output has this number, outside the label range.
     LabelRange(i128),
     /// There are too many or too large outputs.
@@ -71,6 +73,7 @@ impl Cause {
         match self {
             Cause::Classes(_) => Code::Classes,
             Cause::Width(_) => Code::Width,
+            Cause::FormRange(_) => Code::FormRange,
             Cause::LabelRange(_) => Code::LabelRange,
             Cause::Outputs(_) => Code::Outputs,
             Cause::EmptyLanguage => Code::EmptyLanguage,

@@ -13,18 +13,16 @@ ghost use Rattle.program_check.specs.Tells.{IsChecked};
 ghost use Rattle.fast_eval.specs.Forms.{AreKnown};
 ghost use Rattle.fast_eval.specs.Table.{AreBuilt};
 ghost use Rattle.tree_values.specs.Trees.{meant};
-ghost use Rattle.sta_classes.specs.declared.stop.ClassStop.TheVariants as stops;
+ghost use Rattle.fast_eval.specs.declared.stops.EvalStop.TheVariants as stops;
 ghost use Rattle.fast_session.specs.Items.{IsBuiltMore};
 ghost use Rattle.fast_session.specs.Kept.{items_in};
 
 use crate::items::{Around, Kept};
-use fast_eval::belongs;
+use fast_eval::{EvalStop, belongs};
 use fast_fault::{Memory, Pos, Text};
 use fast_syntax::Name;
 use fast_syntax::items::X;
 use fast_tree::{Label, Tree};
-use lin_solve::Chain;
-use sta_classes::ClassStop;
 use std::alloc::Global;
 
 /// The expression that is the name alone.
@@ -36,13 +34,13 @@ pub fn named(alloc: Global, name: &str) -> Result<X, Memory>
     Ok(X::Named(Name { text, place }))
 }
 
-/// Want of memory, which alone stops the search for the language of a name.
-fn memory_of(stop: ClassStop<Chain>) -> Memory
+/// Want of memory, which alone stops the evaluation of a name.
+fn memory_of(stop: EvalStop) -> Memory
     requires { stop ≡ stops.Memory }
 {
     match stop {
-        ClassStop::Memory => Memory,
-        ClassStop::Classes | ClassStop::Wide(_) => unreachable!(),
+        EvalStop::Memory => Memory,
+        EvalStop::Classes | EvalStop::Wide(_) | EvalStop::Range(_) => unreachable!(),
     }
 }
 

@@ -5,7 +5,7 @@ ghost use Rattle.std.specs.List.{list_all};
 ghost use Rattle.std.specs.Option.{option_map};
 ghost use Rattle.fast_syntax.specs.Plain.{plain_x, plain_def, plain_item};
 ghost use Rattle.model_grammar.specs.Syntax as plain;
-ghost use Rattle.model_run.specs.Built.{is_built, is_built_language};
+ghost use Rattle.model_run.specs.Built.{is_built, is_built_expression};
 ghost use Rattle.program_check.specs.Tells.{IsChecked};
 ghost use Rattle.fast_build.specs.Items.{items_of};
 ghost use Rattle.fast_build.specs.Reached.{IsGrown};
@@ -29,7 +29,7 @@ fn add_name(alloc: Global, name: &Text, names: &mut IndexSet<Text>) -> Result<()
 
 /// Adds the names in the expression.
 fn add_names(alloc: Global, x: &X, names: &mut IndexSet<Text>) -> Result<(), Memory>
-    requires { is_built_language (plain_x x.now) ≡ true }
+    requires { is_built_expression (plain_x x.now) ≡ true }
     ensures { OnOk result (IsGrown names.old.keys names.new.keys (names_in (plain_x x.now))) }
 {
     match x {
@@ -55,7 +55,7 @@ pub fn own_def(item: &Item) -> Option<&DefItem>
 
 /// Adds the names in the item's expression, if it is a definition whose name is there.
 fn follow(alloc: Global, item: &Item, names: &mut IndexSet<Text>) -> Result<(), Memory>
-    requires { (d : plain.DefItem) → (plain_item item.now).body ≡ plain.def d → is_built_language d.value ≡ true }
+    requires { (d : plain.DefItem) → (plain_item item.now).body ≡ plain.def d → is_built_expression d.value ≡ true }
     ensures { OnOk result (IsFollowed (plain_item item.now).body names.old.keys names.new.keys) }
 {
     let Some(own) = own_def(item) else {
@@ -70,7 +70,7 @@ fn follow(alloc: Global, item: &Item, names: &mut IndexSet<Text>) -> Result<(), 
 /// The name, and the names on which it depends as far as definitions lead.
 pub fn names_for(alloc: Global, checked: &Checked, name: &Text) -> Result<IndexSet<Text>, Memory>
     requires checked { IsChecked checked.now }
-    requires built { list_all (is_built (items_of checked.now)) (items_of checked.now) ≡ true }
+    requires built { list_all is_built (items_of checked.now) ≡ true }
     ensures { IfOk result (λ names. AreNeeded (items_of checked.now) name.now names.keys) }
 {
     let items = checked.program().items.as_slice();

@@ -1,6 +1,6 @@
 //! Outputs of the transformation of a name.
 
-ghost use Rattle.std.specs.Prelude.{◌≡◌, IfOk, IfErr, map, true};
+ghost use Rattle.std.specs.Prelude.{◌≡◌, ◌≤◌, IfOk, IfErr, map, true};
 ghost use Rattle.std.specs.Str.{chars};
 ghost use Rattle.model_tree.specs.Kept.{is_kept};
 ghost use Rattle.model_tree.specs.Signature.{HasType};
@@ -35,6 +35,7 @@ pub fn outputs_of<'t>(
     tree: &'t Tree<Label>,
 ) -> Result<Vec<Cut<'t, Label>>, Stopped>
     requires checked { IsChecked around.now.checked.now }
+    requires shallow { around.now.limit ≤ 2000 }
     requires built { AreBuilt (items_in around.now) kept.old.built }
     requires named { IsNameOf (items_in around.now) transformation (chars name.now) }
     requires known { IsReadyName transformation (items_in around.now) kept.old.built (chars name.now) }
@@ -45,8 +46,15 @@ pub fn outputs_of<'t>(
     ensures stopped { IfErr result (IsTreeStopped (items_in around.now) (chars name.now) (meant tree.now)) }
 {
     let x = named(alloc, name)?;
-    match outputs(alloc, around.checked, &mut kept.built, &x, tree) {
+    match outputs(
+        alloc,
+        around.checked,
+        &mut kept.built,
+        around.limit,
+        &x,
+        tree,
+    ) {
         Ok(cuts) => Ok(cuts),
-        Err(stop) => Err(unlisted(stop)),
+        Err(stop) => Err(unlisted(around.limit, stop)),
     }
 }

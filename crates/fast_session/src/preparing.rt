@@ -59,7 +59,7 @@ fn build_each(
     names: &IndexSet<Text>,
 ) -> Result<(), Halt>
     requires checked { IsChecked around.now.checked.now }
-    requires is_built { list_all (is_built (items_in around.now)) (items_in around.now) ≡ true }
+    requires is_built { list_all is_built (items_in around.now) ≡ true }
     requires shallow { around.now.limit ≤ 2000 }
     requires built { AreBuilt (items_in around.now) kept.old.built }
     requires closed { AreClosedFrom (items_in around.now) 0 names.now.keys }
@@ -77,7 +77,7 @@ fn build_each(
 /// Builds what the name needs.
 pub fn prepare(alloc: Global, around: &Around, kept: &mut Kept, name: &str) -> Result<(), Halt>
     requires checked { IsChecked around.now.checked.now }
-    requires is_built { list_all (is_built (items_in around.now)) (items_in around.now) ≡ true }
+    requires is_built { list_all is_built (items_in around.now) ≡ true }
     requires shallow { around.now.limit ≤ 2000 }
     requires built { AreBuilt (items_in around.now) kept.old.built }
     ensures more { IsBuiltMore (items_in around.now) kept.old kept.new }

@@ -4,30 +4,29 @@ ghost use Rattle.std.specs.Prelude.{◌≡◌};
 ghost use Rattle.fast_session.specs.Answers.{stopped_by, stopped_outputs, stopped_value};
 
 use crate::answers::{Cause, Stopped};
-use lin_solve::Chain;
-use sta_classes::ClassStop;
-use sttr_apply::ApplyStop;
+use fast_eval::{EvalStop, OutputStop};
 use tree_values::ValueStop;
 
-/// Where the search for classes stops.
-pub fn stopped(limit: u32, stop: ClassStop<Chain>) -> Stopped
+/// Where the evaluation of expressions stops.
+pub fn stopped(limit: u32, stop: EvalStop) -> Stopped
     ensures { result ≡ stopped_by limit stop }
 {
     match stop {
-        ClassStop::Classes => Stopped::By(Cause::Classes(limit)),
-        ClassStop::Wide(chain) => Stopped::By(Cause::Width(chain.width.bits())),
-        ClassStop::Memory => Stopped::Memory,
+        EvalStop::Classes => Stopped::By(Cause::Classes(limit)),
+        EvalStop::Wide(chain) => Stopped::By(Cause::Width(chain.width.bits())),
+        EvalStop::Range(number) => Stopped::By(Cause::FormRange(number)),
+        EvalStop::Memory => Stopped::Memory,
     }
 }
 
 /// Where there is no list of outputs.
-pub fn unlisted(stop: ApplyStop) -> Stopped
-    ensures { result ≡ stopped_outputs stop }
+pub fn unlisted(limit: u32, stop: OutputStop) -> Stopped
+    ensures { result ≡ stopped_outputs limit stop }
 {
     match stop {
-        ApplyStop::Range(number) => Stopped::By(Cause::LabelRange(number)),
-        ApplyStop::Load(load) => Stopped::By(Cause::Outputs(load)),
-        ApplyStop::Memory => Stopped::Memory,
+        OutputStop::Stopped(stop) => stopped(limit, stop),
+        OutputStop::Range(number) => Stopped::By(Cause::LabelRange(number)),
+        OutputStop::Load(load) => Stopped::By(Cause::Outputs(load)),
     }
 }
 

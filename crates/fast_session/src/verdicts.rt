@@ -4,7 +4,7 @@ ghost use Rattle.std.specs.Prelude.{◌≡◌, ℕ, List, true, false, IfOk, IfE
 ghost use Rattle.fast_syntax.specs.Plain.{plain_x, plain_claim, plain_assert, plain_item};
 ghost use Rattle.model_grammar.specs.Syntax as plain;
 ghost use Rattle.program_check.specs.Tells.{IsChecked};
-ghost use Rattle.fast_eval.specs.Forms.{IsMadeOn};
+ghost use Rattle.fast_eval.specs.Forms.{IsMadeAt};
 ghost use Rattle.fast_session.specs.Answers.{line_outcome};
 ghost use Rattle.fast_session.specs.Kept.{items_in, IsReady};
 ghost use Rattle.fast_session.specs.Items.{is_member, spoken_of, verdict_outcome, IsBuiltMore, IsDone, IsStoppedAt, IsVerdictOn};
@@ -27,7 +27,7 @@ pub struct Verdict {
     pub shown: Option<Tree<Label>>,
 }
 
-/// The verdict on a statement of languages.
+/// The verdict on a statement of languages and transformations.
 fn judged(
     alloc: Global,
     around: &Around,
@@ -143,7 +143,7 @@ fn line_of(
     verdict: Verdict,
 ) -> Result<Line, Memory>
     requires checked { IsChecked around.now.checked.now }
-    requires made { (type : List ℕ) × IsMadeOn (items_in around.now) type (spoken_of (plain_claim own.now.claim)) }
+    requires made { (type : List ℕ) × IsMadeAt (items_in around.now) type (spoken_of (plain_claim own.now.claim)) }
     ensures { IfOk result (λ l. line_outcome (items_in around.now) l ≡ verdict_outcome (items_in around.now) line (plain_assert own.now) verdict) }
 {
     let Some(of) = type_of(around.checked, spoken_of(&own.claim)) else {

@@ -24,6 +24,8 @@ mod apply_tests;
 #[cfg(test)]
 mod definition_tests;
 #[cfg(test)]
+mod image_tests;
+#[cfg(test)]
 mod size_tests;
 #[cfg(test)]
 mod tests;

@@ -168,6 +168,7 @@ fn shown_for(alloc: Global, checked: &Checked, cause: &Cause) -> Result<Vec<u8>,
     match cause {
         Cause::Classes(limit) => Ok(format!(in alloc; " {limit}")?.into_bytes()),
         Cause::Width(bits) => Ok(format!(in alloc; " {bits}")?.into_bytes()),
+        Cause::FormRange(number) => Ok(format!(in alloc; " {number}")?.into_bytes()),
         Cause::LabelRange(number) => Ok(format!(in alloc; " {number}")?.into_bytes()),
         Cause::Outputs(load) => Ok(Vec::from_slice(alloc, load_shown(*load).as_bytes())?),
         Cause::NoOutput(input) => shown_none(alloc, checked, input),

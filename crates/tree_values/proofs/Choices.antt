@@ -7,7 +7,7 @@ use Rattle.model_tree.specs.Signature.{PlainSignature, HasType}
 use Rattle.model_grammar.specs.declared.Op2.{Op2}
 use Rattle.model_grammar.specs.declared.Op2.TheVariants.{Intersect, Union, Difference, PreImage, Compose, Restrict, RestrictOut, Apply}
 use Rattle.fast_eval.specs.Forms.{IsMadeFrom}
-use Rattle.fast_eval.proofs.TransBuilt.{made_from}
+use Rattle.fast_eval.proofs.Claims.{made_from}
 use Rattle.tree_values.specs.Forms.{IsTreeOn}
 use Rattle.model_grammar.specs.Syntax.{X, two, Item}
 use Rattle.model_meaning.specs.Meaning.{IsRelated, input_type, output_type, signature_named}
@@ -19,10 +19,9 @@ use Rattle.std.specs.declared.cmp.Ordering.TheVariants.{Less}
 use Rattle.model_sta.specs.EachTwo.{EachTwo}
 use Rattle.model_run.specs.Order.{label_tree_cmp}
 use Rattle.fast_eval.specs.Found.{IsInLimits}
-use Rattle.sta_classes.specs.declared.stop.ClassStop.TheVariants as classes
-use Rattle.sttr_apply.specs.declared.stop.ApplyStop.{ApplyStop}
-use Rattle.sttr_apply.specs.declared.stop.ApplyStop.TheVariants as apply
-use Rattle.fast_eval.specs.Outputs.{AreOutputsOf, IsApplyStop}
+use Rattle.fast_eval.specs.declared.stops.OutputStop.{OutputStop}
+use Rattle.fast_eval.specs.declared.stops.OutputStop.TheVariants as outputs
+use Rattle.fast_eval.specs.Outputs.{AreOutputsOf, StopsOutputs}
 use Rattle.tree_values.specs.declared.sizes.Measured.{Measured}
 use Rattle.tree_values.specs.declared.applied.Choice.{Choice}
 use Rattle.tree_values.specs.declared.applied.Choice.TheVariants as choice
@@ -34,12 +33,12 @@ use Rattle.tree_values.specs.Stops.{type_of_tree}
 use Rattle.tree_values.specs.Trees.{meant}
 use Rattle.tree_values.specs.Values.{IsHeld, HasValue}
 
-module _ (items : List Item) (f : X) (t : LabelTree) where
+module _ (items : List Item) (most : ℕ) (f : X) (t : LabelTree) where
   -- why there is no list of outputs
-  pub unlisted : (s : ApplyStop) → IsApplyStop items f t s → IsOutputStop items f t (stop_of s)
-  unlisted (apply.Range n) h = h
-  unlisted (apply.Load load) h = h
-  unlisted apply.Memory h = refl
+  pub unlisted : (s : OutputStop) → StopsOutputs items f most t s → IsOutputStop items most f t (stop_of s)
+  unlisted (outputs.Stopped s) h = h
+  unlisted (outputs.Range n) h = h
+  unlisted (outputs.Load load) h = h
 
   module _ (us : List LabelTree) (are : AreOutputsOf items f t us) where
     none_given : us ≡ [] → HasNoOutput items f t
@@ -90,10 +89,10 @@ module _ (items : List Item) (f : X) (t : LabelTree) where
         let (u, alone, held) = subst (IsChoice room chosen.trees) is chosen.choice in
         one_given chosen.trees chosen.are u room v alone held
 
-    pub chosen_none : (v : TypedTree) → c ≡ choice.Nothing → meant v.tree ≡ t → type_of_tree items v ≡ input_type items f → IsOutputStop items f t (stops.NoOutput v)
+    pub chosen_none : (v : TypedTree) → c ≡ choice.Nothing → meant v.tree ≡ t → type_of_tree items v ≡ input_type items f → IsOutputStop items most f t (stops.NoOutput v)
     chosen_none v is same of = (same, of, none_given chosen.trees chosen.are (subst (IsChoice room chosen.trees) is chosen.choice))
 
-    pub chosen_two : (w : TwoOutputs) → c ≡ choice.Two w.first w.second → meant w.input.tree ≡ t → type_of_tree items w.input ≡ input_type items f → signature_named items (Some w.into) ≡ output_type items f → IsOutputStop items f t (stops.SeveralOutputs w)
+    pub chosen_two : (w : TwoOutputs) → c ≡ choice.Two w.first w.second → meant w.input.tree ≡ t → type_of_tree items w.input ≡ input_type items f → signature_named items (Some w.into) ≡ output_type items f → IsOutputStop items most f t (stops.SeveralOutputs w)
     chosen_two w is same of into =
         let (rest, are) = subst (IsChoice room chosen.trees) is chosen.choice in
         let both = two_given chosen.trees chosen.are (meant w.first) (meant w.second) rest are in

@@ -7,14 +7,13 @@ use Rattle.model_grammar.specs.Syntax.{X, named, one, two, literal, Xs, no_x, an
 use Rattle.model_meaning.specs.Meaning.{IsInLanguage}
 use Rattle.model_meaning.specs.Types.{signature_at}
 use Rattle.model_meaning.specs.Values.{Printed}
-use Rattle.model_run.specs.Built.{are_built_trees, is_built_language, is_built_transformation, is_built_tree}
+use Rattle.model_run.specs.Built.{are_built_trees, is_built_expression, is_built_tree}
 use Rattle.model_run.specs.Items.{used_in, used_in_all, claimed, claim_has_classes, judged_claim, OfSomeTreeOf, by_expressions, IsComposable}
 use Rattle.model_run.specs.Outcomes.{IsShownWith}
 use Rattle.model_layers.proofs.Sight.{the_only}
-use Rattle.sta_classes.specs.declared.stop.ClassStop.TheVariants.{Classes, Wide, Memory}
+use Rattle.fast_eval.specs.declared.stops.EvalStop.TheVariants.{Classes, Wide, Range, Memory}
 use Rattle.sta_theory.proofs.Lists.{none_in}
 use Rattle.fast_eval.proofs.Outcomes.{forms_compose}
-use Rattle.fast_eval.proofs.Stepping.{trans_form}
 use Rattle.model_meaning.proofs.Members.{one_of}
 use Rattle.tree_values.specs.declared.members.Membership.{Membership}
 use Rattle.tree_values.specs.declared.stops.ValueStop.{ValueStop}
@@ -30,16 +29,16 @@ both true b e = (refl, e)
 both false b e = absurd (cc)
 
 mutual
-  used_are_forms : (x : X) → is_built_tree x ≡ true → (e : X) → Contains (used_in x) e → is_built_language e ≡ true
+  used_are_forms : (x : X) → is_built_tree x ≡ true → (e : X) → Contains (used_in x) e → is_built_expression e ≡ true
   used_are_forms (named n) form e at = absurd (none_in e at)
   used_are_forms (one Complement place x) form e at = absurd (cc)
   used_are_forms (one Minimize place x) form e at = absurd (cc)
   used_are_forms (one Domain place x) form e at = absurd (cc)
-  used_are_forms (one GetWitness place x) form e at = subst (λ y. is_built_language y ≡ true) (the_only x e at) form
+  used_are_forms (one GetWitness place x) form e at = subst (λ y. is_built_expression y ≡ true) (the_only x e at) form
   used_are_forms (two Apply place f x) form e at =
-      let forms = both (is_built_transformation f) (is_built_tree x) form in
+      let forms = both (is_built_expression f) (is_built_tree x) form in
       elim (one_of f e (used_in x) at) [
-        | inl same ↦ subst (λ y. is_built_language y ≡ true) same (trans_form f forms.0)
+        | inl same ↦ subst (λ y. is_built_expression y ≡ true) same forms.0
         | inr there ↦ used_are_forms x forms.1 e there
       ]
   used_are_forms (two Intersect place x y) form e at = absurd (cc)
@@ -51,7 +50,7 @@ mutual
   used_are_forms (two RestrictOut place x y) form e at = absurd (cc)
   used_are_forms (literal name labels xs) form e at = all_used_are_forms xs form e at
 
-  all_used_are_forms : (xs : Xs) → are_built_trees xs ≡ true → (e : X) → Contains (used_in_all xs) e → is_built_language e ≡ true
+  all_used_are_forms : (xs : Xs) → are_built_trees xs ≡ true → (e : X) → Contains (used_in_all xs) e → is_built_expression e ≡ true
   all_used_are_forms no_x form e at = absurd (none_in e at)
   all_used_are_forms (and_x x xs) form e at =
       let forms = both (is_built_tree x) (are_built_trees xs) form in
@@ -64,14 +63,14 @@ module _ (items : List Item) where
   pub tree_composes : (t : TreeItem) → is_built_tree t.value ≡ true → IsComposable items (tree t)
   tree_composes t form = forms_compose items (tree t) (used_are_forms t.value form)
 
-  member_forms : (x y : X) → is_built_tree x ≡ true → is_built_language y ≡ true → (e : X) → Contains (claimed (member x y)) e → is_built_language e ≡ true
+  member_forms : (x y : X) → is_built_tree x ≡ true → is_built_expression y ≡ true → (e : X) → Contains (claimed (member x y)) e → is_built_expression e ≡ true
   member_forms x y form_x form_y e at = elim (Contains-append_cases (used_in x) (y ∷ []) e at) [
     | inl here ↦ used_are_forms x form_x e here
-    | inr there ↦ subst (λ z. is_built_language z ≡ true) (the_only y e there) form_y
+    | inr there ↦ subst (λ z. is_built_expression z ≡ true) (the_only y e there) form_y
   ]
 
-  pub member_composes : (a : AssertItem) (x y : X) → a.claim ≡ member x y → is_built_tree x ≡ true → is_built_language y ≡ true → IsComposable items (assertion a)
-  member_composes a x y is form_x form_y = forms_compose items (assertion a) (subst (λ c. (e : X) → Contains (claimed c) e → is_built_language e ≡ true) (sym is) (member_forms x y form_x form_y))
+  pub member_composes : (a : AssertItem) (x y : X) → a.claim ≡ member x y → is_built_tree x ≡ true → is_built_expression y ≡ true → IsComposable items (assertion a)
+  member_composes a x y is form_x form_y = forms_compose items (assertion a) (subst (λ c. (e : X) → Contains (claimed c) e → is_built_expression e ≡ true) (sym is) (member_forms x y form_x form_y))
 
   module _ (limit : ℕ) (printed : List Printed) where
     -- ---- causes
@@ -79,6 +78,7 @@ module _ (items : List Item) where
     pub tree_cause : (t : TreeItem) (s : ValueStop) → IsValueStop items printed limit (signature_at items t.of) t.value s → IsCauseOf items limit printed (tree t) s
     tree_cause t (Stopped Classes) h = (refl, by_expressions (tree t) h.0, h.1)
     tree_cause t (Stopped (Wide c)) h = (by_expressions (tree t) h.0, h.1)
+    tree_cause t (Stopped (Range n)) h = (h.1.0, h.1.1, h.1.2.0, h.1.2.1, h.1.2.2)
     tree_cause t (Stopped Memory) h = tt
     tree_cause t NoTree h = h
     tree_cause t TooLarge (inl h) = inl (inl h)
@@ -91,6 +91,7 @@ module _ (items : List Item) where
     claim_cause : (a : AssertItem) (s : ValueStop) → IsStopBy items printed limit (claim_has_classes a.claim) (judged_claim items a.claim) (λ P. OfSomeTreeOf items P a.claim) s → IsCauseOf items limit printed (assertion a) s
     claim_cause a (Stopped Classes) h = (refl, by_expressions (assertion a) h.0, h.1)
     claim_cause a (Stopped (Wide c)) h = (by_expressions (assertion a) h.0, h.1)
+    claim_cause a (Stopped (Range n)) h = (h.1.0, h.1.1, h.1.2.0, h.1.2.1, h.1.2.2)
     claim_cause a (Stopped Memory) h = tt
     claim_cause a NoTree h = h
     claim_cause a TooLarge (inl h) = inl (inl h)

@@ -1,5 +1,5 @@
 -- What an item of a well-formed program brings to the evaluation of its trees, once the items before it are done.
-use Rattle.model_run.specs.Built.{are_built_trees, is_built_language, is_built_transformation, is_built_tree}
+use Rattle.model_run.specs.Built.{are_built_trees, is_built_expression, is_built_tree}
 use Rattle.std.proofs.Common.{◌≡◌, ◌<◌, ◌++◌, ℕ, suc, ℤ, Bool, true, false, ◌&&◌, not, cond, List, [], ◌∷◌, map, length, get_or, Option, Some, None, find, Contains, refl, sym, ap, subst, ◌∙◌, arith}
 use Rattle.std.specs.Prelude.{◌==◌, is_some, pos, negsuc}
 use Rattle.std.proofs.lemmas.Bool.Decides.{nat_tests}
@@ -34,8 +34,8 @@ use Rattle.sta_theory.proofs.Lists.{first_in, later_in}
 use Rattle.fast_eval.specs.declared.built.Built.{Built}
 use Rattle.fast_eval.specs.Forms.{IsMadeOn, IsMadeFrom, AreKnown}
 use Rattle.fast_eval.specs.Defined.{AreDefined}
-use Rattle.fast_eval.proofs.Stepping.{known_of, trans_known_of, made_from_form}
-use Rattle.fast_eval.proofs.Typing.{made_of_form}
+use Rattle.fast_eval.proofs.Stepping.{known_of, trans_known_of}
+use Rattle.fast_eval.proofs.Typing.{made_of_form, made_from_form}
 use Rattle.tree_values.specs.declared.trees.Trees.{Trees}
 use Rattle.tree_values.specs.Forms.{IsNodeOf, IsTreeOn, AreTreesOn, IsTreeKnown, AreTreesKnown}
 use Rattle.tree_values.specs.Trees.{tree_at, ArePrinted}
@@ -162,7 +162,7 @@ module _ (items : List Item) (whole : IsSound items) where
       let same = one_type type is.0.of.text (type_of items (named n)) type_is (not_other items whole before a_tree (Some type) (named n) own.0 be) in
       sym (ap (λ s. signature_named items (Some s)) same ∙ (ap (signature_named items) (sym type_is) ∙ input_type_of_name items n))
 
-  found_on : (before : List Item) (around : ℕ) (type : List ℕ) (place : Pos) (x : X) → is_built_language x ≡ true → is_empty (x_failures items before around (Some type) (one GetWitness place x)) ≡ true → is_empty (needs_be items before (Some type) a_tree (one GetWitness place x)) ≡ true
+  found_on : (before : List Item) (around : ℕ) (type : List ℕ) (place : Pos) (x : X) → is_built_expression x ≡ true → is_empty (x_failures items before around (Some type) (one GetWitness place x)) ≡ true → is_empty (needs_be items before (Some type) a_tree (one GetWitness place x)) ≡ true
       → (is_empty (x_failures items before (suc around) None x) ≡ true) × IsMadeOn items type x
   found_on before around type place x form fine be =
       let inner = empty_second (nesting_failures around place) (x_failures items before (suc around) None x ++ needs_be items before None language x) fine in
@@ -183,7 +183,7 @@ module _ (items : List Item) (whole : IsSound items) where
     inside : is_empty (x_failures items before (suc around) (Some from) x) ≡ true
     be : is_empty (needs_be items before (Some from) a_tree x) ≡ true
 
-  applied_on : (before : List Item) (around : ℕ) (type : List ℕ) (place : Pos) (f x : X) → is_built_transformation f ≡ true → is_empty (x_failures items before around (Some type) (two Apply place f x)) ≡ true
+  applied_on : (before : List Item) (around : ℕ) (type : List ℕ) (place : Pos) (f x : X) → is_built_expression f ≡ true → is_empty (x_failures items before around (Some type) (two Apply place f x)) ≡ true
       → is_empty (needs_be items before (Some type) a_tree (two Apply place f x)) ≡ true → IsApplication before around type f x
   applied_on before around type place f x form fine be =
       let wanted = wanted_second items before Apply f in
@@ -201,7 +201,7 @@ module _ (items : List Item) (whole : IsSound items) where
       let same = one_type type own.1.1 (type_of items (two Apply place f x)) given (not_other items whole before a_tree (Some type) (two Apply place f x) refl be) in
       record {
         from = own.1.0;
-        made = made_from_form items whole f own.1.0 type form (own.0, own.1.2, own.1.3 ∙ ap Some (sym same));
+        made = made_from_form items whole before (suc around) None f own.1.0 type form fine_f (own.0, own.1.2, own.1.3 ∙ ap Some (sym same));
         fine = fine_f;
         inside = subst (λ o. is_empty (x_failures items before (suc around) o x) ≡ true) wanted_is (empty_first fx bx last);
         be = subst (λ o. is_empty (needs_be items before o a_tree x) ≡ true) wanted_is (empty_second fx bx last);
@@ -217,7 +217,7 @@ module _ (items : List Item) (whole : IsSound items) where
     tree_on before around type t found sound (one Domain place x) form fine be = absurd (cc)
     tree_on before around type t found sound (one GetWitness place x) form fine be = (found_on before around type place x form fine be).1
     tree_on before around type t found sound (two Apply place f x) form fine be =
-        let forms = both (is_built_transformation f) (is_built_tree x) form in
+        let forms = both (is_built_expression f) (is_built_tree x) form in
         let a = applied_on before around type place f x forms.0 fine be in
         let d = (types_there items a.from type f a.made).0 in
         (a.from, a.made, tree_on before (suc around) a.from d.item d.found (sound_of a.from d.item d.found) x forms.1 a.inside a.be)
@@ -274,7 +274,7 @@ module _ (items : List Item) (whole : IsSound items) where
           let made = found_on before around type place x form fine be in
           known_of items whole b before from split defined (suc around) None type x made.0 made.1
       tree_known around type (two Apply place f x) form fine be =
-          let forms = both (is_built_transformation f) (is_built_tree x) form in
+          let forms = both (is_built_expression f) (is_built_tree x) form in
           let a = applied_on before around type place f x forms.0 fine be in
           (trans_known_of items whole b before from split defined (suc around) None a.from type f a.fine a.made, tree_known (suc around) a.from x forms.1 a.inside a.be)
       tree_known around type (two Intersect place x y) form fine be = absurd (cc)
@@ -371,14 +371,14 @@ module _ (items : List Item) (whole : IsSound items) where
   member_fine : (item : Item) (at : StandsIn items item) (a : AssertItem) (x y : X) → item.body ≡ assertion a → a.claim ≡ member x y → is_empty (claim_failures items at.before (member x y)) ≡ true
   member_fine item at a x y is same = subst (λ c. is_empty (claim_failures items at.before c) ≡ true) same (subst (λ b. is_empty (body_failures items at.before b) ≡ true) is (whole.each item at))
 
-  pub member_made : (item : Item) (at : StandsIn items item) (a : AssertItem) (x y : X) → item.body ≡ assertion a → a.claim ≡ member x y → is_built_tree x ≡ true → is_built_language y ≡ true → AreSides x y
+  pub member_made : (item : Item) (at : StandsIn items item) (a : AssertItem) (x y : X) → item.body ≡ assertion a → a.claim ≡ member x y → is_built_tree x ≡ true → is_built_expression y ≡ true → AreSides x y
   member_made item at a x y is same form_x form_y =
       let c = checked_member at.before x y (member_fine item at a x y is same) in
       let made = made_of_form items whole at.before 0 None y c.type form_y c.language_inside c.on in
       let d = type_there items c.type y made in
       record { type = c.type; right = made; left = tree_on at.before 0 c.type d.item d.found (sound_of c.type d.item d.found) x form_x c.value.inside c.value.be }
 
-  pub member_known : (item : Item) (at : StandsIn items item) (a : AssertItem) (x y : X) → item.body ≡ assertion a → a.claim ≡ member x y → is_built_tree x ≡ true → is_built_language y ≡ true
+  pub member_known : (item : Item) (at : StandsIn items item) (a : AssertItem) (x y : X) → item.body ≡ assertion a → a.claim ≡ member x y → is_built_tree x ≡ true → is_built_expression y ≡ true
       → (b : Built) (trees : Trees) → AreDefined b at.before → ArePrinted trees at.before → IsTreeKnown items trees b x × AreKnown items b y
   member_known item at a x y is same form_x form_y b trees defined printed =
       let c = checked_member at.before x y (member_fine item at a x y is same) in

@@ -19,9 +19,8 @@ use Rattle.sta_theory.proofs.Lists.{later_in}
 use Rattle.fast_syntax.specs.declared.items.X as code
 use Rattle.fast_syntax.specs.Plain.{plain_x}
 use Rattle.fast_syntax.specs.Slices.{plain_children}
-use Rattle.lin_solve.specs.declared.chain.Chain.{Chain}
-use Rattle.sta_classes.specs.declared.stop.ClassStop.{ClassStop}
-use Rattle.sta_classes.specs.declared.stop.ClassStop.TheVariants.{Classes, Wide, Memory}
+use Rattle.fast_eval.specs.declared.stops.EvalStop.{EvalStop}
+use Rattle.fast_eval.specs.declared.stops.EvalStop.TheVariants.{Classes, Wide, Range, Memory}
 use Rattle.fast_eval.specs.Found.{IsInLimits}
 use Rattle.sttr_apply.specs.Plain.{load_of}
 use Rattle.fast_eval.specs.Stops.{StopsExpression}
@@ -39,14 +38,14 @@ printable : (t : LabelTree) → IsInLimits t → has_scalars t ≡ true → IsPr
 printable t limits scalars = record { kept = limits.kept; scalars = scalars; small = limits.small; shallow = limits.shallow }
 
 -- the trees that are shown of an input have their types
-pub output_typed : (items : List Item) (f : X) (t : LabelTree) → HasType (input_type items f) t → (s : ValueStop) → IsOutputStop items f t s → IsStopTyped items s
-output_typed items f t typed (Stopped s) h = tt
-output_typed items f t typed NoTree h = tt
-output_typed items f t typed TooLarge h = tt
-output_typed items f t typed (LabelRange n) h = tt
-output_typed items f t typed (Outputs load) h = tt
-output_typed items f t typed (NoOutput v) h = subst (λ s. HasType s (meant v.tree)) (sym h.1) (subst (HasType (input_type items f)) (sym h.0) typed)
-output_typed items f t typed (SeveralOutputs w) h = (
+pub output_typed : (items : List Item) (most : ℕ) (f : X) (t : LabelTree) → HasType (input_type items f) t → (s : ValueStop) → IsOutputStop items most f t s → IsStopTyped items s
+output_typed items most f t typed (Stopped s) h = tt
+output_typed items most f t typed NoTree h = tt
+output_typed items most f t typed TooLarge h = tt
+output_typed items most f t typed (LabelRange n) h = tt
+output_typed items most f t typed (Outputs load) h = tt
+output_typed items most f t typed (NoOutput v) h = subst (λ s. HasType s (meant v.tree)) (sym h.1) (subst (HasType (input_type items f)) (sym h.0) typed)
+output_typed items most f t typed (SeveralOutputs w) h = (
   subst (λ s. HasType s (meant w.input.tree)) (sym h.1) (subst (HasType (input_type items f)) (sym h.0) typed),
   subst (λ s. HasType s (meant w.first)) (sym h.2) h.4,
   subst (λ s. HasType s (meant w.second)) (sym h.2) h.5,
@@ -60,12 +59,20 @@ right_true : (a b : Bool) → b ≡ true → (a || b) ≡ true
 right_true true b e = refl
 right_true false b e = e
 
-needs : (has has_too : Bool) → (has ≡ true → has_too ≡ true) → (s : ClassStop Chain) → NeedsClasses has s → NeedsClasses has_too s
+needs : (has has_too : Bool) → (has ≡ true → has_too ≡ true) → (s : EvalStop) → NeedsClasses has s → NeedsClasses has_too s
 needs has has_too to Classes h = to h
 needs has has_too to (Wide c) h = to h
+needs has has_too to (Range n) h = tt
 needs has has_too to Memory h = tt
 
 module _ (items : List Item) (printed : List Printed) (most : ℕ) where
+  -- an expression with an operation that tells trees apart
+  told : (y : X) (s : EvalStop) → StopsExpression items y most s → NeedsClasses (has_classes y) s
+  told y Classes h = h.0
+  told y (Wide c) h = h.0
+  told y (Range n) h = tt
+  told y Memory h = tt
+
   -- what is used or holds of a part is used or holds of the whole
   goes_up : (has has_too : Bool) (used used_too : List X) (Of Of_too : (PlainSignature → X → Type 0) → Type 0)
       → (has ≡ true → has_too ≡ true) → ((e : X) → Contains used e → Contains used_too e) → ((P : PlainSignature → X → Type 0) → Of P → Of_too P)
@@ -112,9 +119,10 @@ module _ (items : List Item) (printed : List Printed) (most : ℕ) where
 
     -- ---- of trees that are found
 
-    always : (s : ClassStop Chain) → NeedsClasses true s
+    always : (s : EvalStop) → NeedsClasses true s
     always Classes = refl
     always (Wide c) = refl
+    always (Range n) = tt
     always Memory = tt
 
     pub stop_found : (place : Pos) (x : X) (s : ValueStop) → IsFindStop items x most s → IsValueStop items printed most signature (one GetWitness place x) s
@@ -135,8 +143,11 @@ module _ (items : List Item) (printed : List Printed) (most : ℕ) where
         (right_true (has_classes f) (has_classes x)) (λ e at. later_in f e (used_in x) at) (λ P h. inr h)
 
     -- of its outputs
-    pub stop_output : (place : Pos) (f x : X) (t : LabelTree) → IsValue items printed (input_type items f) x t → IsInLimits t → (s : ValueStop) → IsOutputStop items f t s → IsValueStop items printed most signature (two Apply place f x) s
-    stop_output place f x t is limits (Stopped s) h = subst (λ c. IsValueStop items printed most signature (two Apply place f x) (Stopped c)) (sym h) (tt, tt)
+    pub stop_output : (place : Pos) (f x : X) (t : LabelTree) → IsValue items printed (input_type items f) x t → IsInLimits t → (s : ValueStop) → IsOutputStop items most f t s → IsValueStop items printed most signature (two Apply place f x) s
+    stop_output place f x t is limits (Stopped s) h = (
+      needs (has_classes f) (has_classes f || has_classes x) (left_true (has_classes f) (has_classes x)) s (told f s h),
+      widened items most (f ∷ []) (f ∷ used_in x) (λ e at. (e, Contains-append_left (f ∷ []) (used_in x) e at, (are_among items).same e)) s (of_expression items most f s h),
+    )
     stop_output place f x t is limits NoTree h = absurd h
     stop_output place f x t is limits TooLarge h = absurd h
     stop_output place f x t is limits (LabelRange n) h = inl (t, is, h)
@@ -193,12 +204,7 @@ module _ (items : List Item) (printed : List Printed) (most : ℕ) where
       goes_up (has_classes x) (has_classes x || has_classes y) (used_in x) (used_in x ++ y ∷ []) (λ P. OfSomeTree items P (input_type items y) x) (λ P. OfSomeTree items P (input_type items y) x)
       (left_true (has_classes x) (has_classes y)) (Contains-append_left (used_in x) (y ∷ [])) (λ P h. h)
 
-  told : (y : X) (s : ClassStop Chain) → StopsExpression items y most s → NeedsClasses (has_classes y) s
-  told y Classes h = h.0
-  told y (Wide c) h = h.0
-  told y Memory h = tt
-
-  pub stop_language : (x y : X) (s : ClassStop Chain) → StopsExpression items y most s → IsMemberStop items printed most x y (Stopped s)
+  pub stop_language : (x y : X) (s : EvalStop) → StopsExpression items y most s → IsMemberStop items printed most x y (Stopped s)
   stop_language x y s h = (
     needs (has_classes y) (has_classes x || has_classes y) (right_true (has_classes x) (has_classes y)) s (told y s h),
     widened items most (y ∷ []) (used_in x ++ y ∷ []) (λ e at. (e, Contains-append_right (used_in x) (y ∷ []) e at, (are_among items).same e)) s (of_expression items most y s h),

@@ -12,9 +12,9 @@ use Rattle.sttr_apply.specs.Plain.{load_of}
 use Rattle.fast_eval.specs.Outputs.{AreOutputsOf}
 use Rattle.tree_values.specs.declared.sizes.Measured.{Measured}
 use Rattle.tree_values.specs.Stops.{type_of_tree}
-use Rattle.sta_classes.specs.declared.stop.ClassStop.TheVariants as classes
-use Rattle.sttr_apply.specs.declared.stop.ApplyStop.{ApplyStop}
-use Rattle.sttr_apply.specs.declared.stop.ApplyStop.TheVariants as apply
+use Rattle.fast_eval.specs.Stops.{StopsExpression}
+use Rattle.fast_eval.specs.declared.stops.OutputStop.{OutputStop}
+use Rattle.fast_eval.specs.declared.stops.OutputStop.TheVariants as outputs
 use Rattle.tree_values.specs.declared.applied.Choice.{Choice}
 use Rattle.tree_values.specs.declared.applied.Choice.TheVariants.{Nothing, Only, Two}
 use Rattle.tree_values.specs.declared.stops.ValueStop.{ValueStop}
@@ -23,10 +23,10 @@ use Rattle.tree_values.specs.Trees.{meant}
 use Rattle.tree_values.specs.Values.{IsHeld}
 
 -- why there is no list of outputs is why there is no value
-abbrev pub stop_of : ApplyStop → ValueStop
-stop_of (apply.Range n) = LabelRange n
-stop_of (apply.Load load) = Outputs load
-stop_of apply.Memory = Stopped classes.Memory
+abbrev pub stop_of : OutputStop → ValueStop
+stop_of (outputs.Stopped s) = Stopped s
+stop_of (outputs.Range n) = LabelRange n
+stop_of (outputs.Load load) = Outputs load
 
 -- the only one of the trees, where there is room for it; that there is none; or the first two
 abbrev pub IsChoice : ℕ → List LabelTree → Choice → Type 0
@@ -49,13 +49,13 @@ pub record HasOutput (items : List Item) (f : X) (t : LabelTree) (room : ℕ) (v
   pub held : IsHeld room tree v
 
 -- why there is none
-abbrev pub IsOutputStop : List Item → X → LabelTree → ValueStop → Type 0
-IsOutputStop items f t (Stopped s) = s ≡ classes.Memory
-IsOutputStop items f t NoTree = ⊥
-IsOutputStop items f t TooLarge = ⊥
-IsOutputStop items f t (LabelRange n) = HasFarOutput items n f t
-IsOutputStop items f t (Outputs load) = HasLoad items (load_of load) f t
-IsOutputStop items f t (NoOutput v) = (meant v.tree ≡ t) × (type_of_tree items v ≡ input_type items f) × HasNoOutput items f t
-IsOutputStop items f t (SeveralOutputs two) =
+abbrev pub IsOutputStop : List Item → ℕ → X → LabelTree → ValueStop → Type 0
+IsOutputStop items most f t (Stopped s) = StopsExpression items f most s
+IsOutputStop items most f t NoTree = ⊥
+IsOutputStop items most f t TooLarge = ⊥
+IsOutputStop items most f t (LabelRange n) = HasFarOutput items n f t
+IsOutputStop items most f t (Outputs load) = HasLoad items (load_of load) f t
+IsOutputStop items most f t (NoOutput v) = (meant v.tree ≡ t) × (type_of_tree items v ≡ input_type items f) × HasNoOutput items f t
+IsOutputStop items most f t (SeveralOutputs two) =
     (meant two.input.tree ≡ t) × (type_of_tree items two.input ≡ input_type items f) × (signature_named items (Some two.into) ≡ output_type items f) × HasTwoOutputs items f t (meant two.first) (meant two.second)
     × HasType (output_type items f) (meant two.first) × HasType (output_type items f) (meant two.second) × IsInLimits (meant two.first) × IsInLimits (meant two.second)

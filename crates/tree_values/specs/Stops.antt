@@ -9,9 +9,8 @@ use Rattle.model_meaning.specs.Values.{Printed, IsValue}
 use Rattle.model_run.specs.Items.{used_in, used_in_all, has_classes, some_has_classes, OfSomeTree, OfSomeTreeIn, Finds, IsApplied}
 use Rattle.model_run.specs.Causes.{AreAllLarge, IsLarge, HasFarOutput, HasLoad, HasNoOutput, HasTwoOutputs, HasCause, label_number, too_much, no_output, two_outputs, empty_language, too_large}
 use Rattle.model_run.specs.Printable.{IsPrintable}
-use Rattle.lin_solve.specs.declared.chain.Chain.{Chain}
-use Rattle.sta_classes.specs.declared.stop.ClassStop.{ClassStop}
-use Rattle.sta_classes.specs.declared.stop.ClassStop.TheVariants.{Classes, Wide, Memory}
+use Rattle.fast_eval.specs.declared.stops.EvalStop.{EvalStop}
+use Rattle.fast_eval.specs.declared.stops.EvalStop.TheVariants.{Classes, Wide, Range, Memory}
 use Rattle.sttr_apply.specs.Plain.{load_of}
 use Rattle.fast_eval.specs.Stops.{IsStopOf, IsCauseFor}
 use Rattle.tree_values.specs.declared.stops.ValueStop.{ValueStop}
@@ -58,9 +57,10 @@ IsStopTyped items (SeveralOutputs two) =
 IsStopTyped items stop = Unit {0}
 
 -- where it has to do with classes, some operation tells trees apart
-abbrev pub NeedsClasses : Bool → ClassStop Chain → Type 0
+abbrev pub NeedsClasses : Bool → EvalStop → Type 0
 NeedsClasses has Classes = has ≡ true
 NeedsClasses has (Wide c) = has ≡ true
+NeedsClasses has (Range n) = Unit {0}
 NeedsClasses has Memory = Unit {0}
 
 -- The cause of a stop, where these expressions are used and OfSome tells what holds of some tree expression.

@@ -64,9 +64,9 @@ fn chosen(
     ensures built { AreBuilt (items_in given.now) built.new }
     ensures grown { IsGrown built.old built.new }
     ensures choice { IfOk result (IsChosen (items_in given.now) (plain_x f.now) (meant tree.now) room) }
-    ensures stop { IfErr result (IsOutputStop (items_in given.now) (plain_x f.now) (meant tree.now)) }
+    ensures stop { IfErr result (IsOutputStop (items_in given.now) given.now.limit (plain_x f.now) (meant tree.now)) }
 {
-    let cuts = outputs(alloc, given.checked, built, f, tree)?;
+    let cuts = outputs(alloc, given.checked, built, given.limit, f, tree)?;
     Ok(choose(alloc, room, &cuts)?)
 }
 
@@ -88,7 +88,7 @@ pub(crate) fn only_output(
     ensures built { AreBuilt (items_in given.now) built.new }
     ensures grown { IsGrown built.old built.new }
     ensures output { IfOk result (HasOutput (items_in given.now) (plain_x f.now) (meant tree) room) }
-    ensures stop { IfErr result (IsOutputStop (items_in given.now) (plain_x f.now) (meant tree)) }
+    ensures stop { IfErr result (IsOutputStop (items_in given.now) given.now.limit (plain_x f.now) (meant tree)) }
 {
     let ends = ends_of(given.checked, f);
     match chosen(alloc, given, built, room, f, &tree)? {

@@ -1,10 +1,9 @@
 //! Why there is no value.
 
+use fast_eval::{EvalStop, OutputStop};
 use fast_fault::{Memory, Text};
 use fast_tree::{Label, Tree};
-use lin_solve::Chain;
-use sta_classes::ClassStop;
-use sttr_apply::{ApplyStop, Load};
+use sttr_apply::Load;
 
 /// A tree of the type with this name.
 #[derive(Drop)]
@@ -25,8 +24,8 @@ pub struct TwoOutputs {
 /// Why an expression has no value that can be shown.
 #[derive(Drop)]
 pub enum ValueStop {
-    /// The search for a tree of a language stopped.
-    Stopped(ClassStop<Chain>),
+    /// The evaluation of a language or a transformation stopped.
+    Stopped(EvalStop),
     /// A language that is to have a tree has none.
     NoTree,
     /// There are values, but too large ones.
@@ -43,38 +42,38 @@ pub enum ValueStop {
 
 impl From<Memory> for ValueStop {
     ghost use Rattle.std.specs.Prelude.{◌≡◌};
-    ghost use Rattle.sta_classes.specs.declared.stop.ClassStop.TheVariants as classes;
+    ghost use Rattle.fast_eval.specs.declared.stops.EvalStop.TheVariants as evaluation;
     ghost use Rattle.tree_values.specs.declared.stops.ValueStop.TheVariants as stops;
 
-    ghost from_gives = { λ _ e. e ≡ stops.Stopped classes.Memory };
+    ghost from_gives = { λ _ e. e ≡ stops.Stopped evaluation.Memory };
 
     fn from(_want: Memory) -> ValueStop {
-        ValueStop::Stopped(ClassStop::Memory)
+        ValueStop::Stopped(EvalStop::Memory)
     }
 }
 
-impl From<ClassStop<Chain>> for ValueStop {
+impl From<EvalStop> for ValueStop {
     ghost use Rattle.std.specs.Prelude.{◌≡◌};
     ghost use Rattle.tree_values.specs.declared.stops.ValueStop.TheVariants as stops;
 
     ghost from_gives = { λ s e. e ≡ stops.Stopped s };
 
-    fn from(stop: ClassStop<Chain>) -> ValueStop {
+    fn from(stop: EvalStop) -> ValueStop {
         ValueStop::Stopped(stop)
     }
 }
 
-impl From<ApplyStop> for ValueStop {
+impl From<OutputStop> for ValueStop {
     ghost use Rattle.std.specs.Prelude.{◌≡◌};
     ghost use Rattle.tree_values.specs.Applied.{stop_of};
 
     ghost from_gives = { λ s e. e ≡ stop_of s };
 
-    fn from(stop: ApplyStop) -> ValueStop {
+    fn from(stop: OutputStop) -> ValueStop {
         match stop {
-            ApplyStop::Range(number) => ValueStop::LabelRange(number),
-            ApplyStop::Load(load) => ValueStop::Outputs(load),
-            ApplyStop::Memory => ValueStop::Stopped(ClassStop::Memory),
+            OutputStop::Stopped(stop) => ValueStop::Stopped(stop),
+            OutputStop::Range(number) => ValueStop::LabelRange(number),
+            OutputStop::Load(load) => ValueStop::Outputs(load),
         }
     }
 }

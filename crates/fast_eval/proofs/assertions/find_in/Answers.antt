@@ -1,8 +1,10 @@
+use Rattle.std.proofs.Common.{inl}
 use Rattle.std.proofs.lemmas.Result.{IfOk-weaker, IfErr-weaker}
 use Rattle.fast_syntax.specs.Plain.{plain_x}
 use Rattle.model_grammar.specs.Syntax as plain
 use Rattle.model_run.specs.Items.{judged_claim}
 use Rattle.fast_build.specs.Items.{items_of}
+use Rattle.model_names.specs.Kinds.{language}
 use Rattle.fast_eval.specs.Found.{IsFoundOf}
 use Rattle.fast_eval.specs.Scopes.{items_in}
 use Rattle.fast_eval.specs.Stops.{IsStopOf}
@@ -12,8 +14,10 @@ use Rattle.fast_eval.proofs.assertions.find_in.Goals as goal
 pub returns-in_err-build_names-clause-built : goal.returns-in_err-build_names-clause-built
 returns-in_err-build_names-clause-built c = c.build_names.ensures.built c.requires.built
 
-pub scope_of-scope-requires-clause-built : goal.scope_of-scope-requires-clause-built
-scope_of-scope-requires-clause-built c = c.build_names.ensures.built c.requires.built
+pub scope_of-scope-requires : goal.scope_of-scope-requires
+scope_of-scope-requires c =
+    let (type, made) = c.requires.made in
+    record { checked = c.requires.checked; built = c.build_names.ensures.built c.requires.built; shallow = c.requires.shallow; made = (type, inl made) }
 
 pub judge_empty-requires : goal.judge_empty-requires
 judge_empty-requires c =
@@ -24,8 +28,8 @@ judge_empty-requires c =
     let is = c.scope_of-scope.ensures.of in
     record {
       scope = c.scope_of-scope.ensures.scope;
-      made = made_there k b c.args.limit x s is c.requires.made.0 c.requires.made.1 x c.requires.made.1;
-      named = named_there k b c.args.limit x s is x (c.in_ok-build_names.ensures {u = tt}).named;
+      made = made_there k b c.args.limit x s is c.requires.made.0 (inl c.requires.made.1) x c.requires.made.1;
+      named = named_there k b c.args.limit x s is language x (c.in_ok-build_names.ensures {u = tt}).named;
     }
 
 pub returns-clause-found : goal.returns-clause-found

@@ -1,7 +1,8 @@
-use Rattle.std.proofs.Common.{ℕ, List}
+use Rattle.std.proofs.Common.{inl, ℕ, List}
 use Rattle.std.proofs.lemmas.Result.{IfOk-weaker, IfErr-weaker}
 use Rattle.fast_syntax.specs.Plain.{plain_x}
 use Rattle.fast_build.specs.Items.{items_of}
+use Rattle.model_names.specs.Kinds.{language}
 use Rattle.fast_eval.specs.Counted.{IsCounted}
 use Rattle.fast_eval.specs.Forms.{IsMadeOn}
 use Rattle.fast_eval.specs.Scopes.{items_in, type_in, count_of, IsOperandOf}
@@ -18,8 +19,8 @@ language-requires c =
     let is = c.scope_of-scope.ensures.of in
     record {
       scope = c.scope_of-scope.ensures.scope;
-      made = made_there k b c.args.limit x s is c.requires.made.0 c.requires.made.1 x c.requires.made.1;
-      named = named_there k b c.args.limit x s is x c.requires.named;
+      made = made_there k b c.args.limit x s is c.requires.made.0 (inl c.requires.made.1) x c.requires.made.1;
+      named = named_there k b c.args.limit x s is language x c.requires.named;
     }
 
 pub returns-clause-built : goal.returns-clause-built

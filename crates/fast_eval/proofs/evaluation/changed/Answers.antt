@@ -4,7 +4,7 @@ use Rattle.model_grammar.specs.Syntax.{X, one}
 use Rattle.fast_eval.specs.Built.{IsBuiltOf}
 use Rattle.fast_eval.specs.Counted.{IsCounted}
 use Rattle.fast_eval.specs.Scopes.{items_in, type_in}
-use Rattle.fast_eval.specs.Stops.{StopsExpression}
+use Rattle.fast_eval.specs.Stops.{StopsExpression, by_classes}
 use Rattle.fast_eval.proofs.Claims.{only_tells}
 use Rattle.fast_eval.proofs.Keeping.{on_err}
 use Rattle.fast_eval.proofs.Operations.{complement_built, minimal_built, minimal_counted}
@@ -33,16 +33,16 @@ returns-in_err-complement-in-Complement-clause-stop c =
     let s = c.args.scope.now in
     let a = c.args.a.now in
     let e = c.in_err-complement-in-Complement.field-0.0 in
-    on_err (λ st. (place : Pos) (x : X) → IsBuiltOf (items_in s) x (type_in s) a → StopsExpression (items_in s) (one c.args.op place x) s.limit st) c.from_residual.result e c.from_residual.ensures.1
-    (λ place x built. only_tells (items_in s) s.limit c.args.op place x c.requires.op e (stops_one (items_in s) (type_in s) s.theory.now c.requires.scope.labels x a built s.limit e c.in_err-complement-in-Complement.ensures.stop))
+    on_err (λ st. (place : Pos) (x : X) → IsBuiltOf (items_in s) x (type_in s) a → StopsExpression (items_in s) (one c.args.op place x) s.limit st) c.from_residual.result (by_classes e) c.from_residual.ensures.1
+    (λ place x built. only_tells (items_in s) s.limit c.args.op place x c.requires.op (by_classes e) (stops_one (items_in s) (type_in s) s.theory.now c.requires.scope.labels x a built s.limit e c.in_err-complement-in-Complement.ensures.stop))
 
 pub returns-in_err-minimize-in-Minimize-clause-stop : goal.returns-in_err-minimize-in-Minimize-clause-stop
 returns-in_err-minimize-in-Minimize-clause-stop c =
     let s = c.args.scope.now in
     let a = c.args.a.now in
     let e = c.in_err-minimize-in-Minimize.field-0.0 in
-    on_err (λ st. (place : Pos) (x : X) → IsBuiltOf (items_in s) x (type_in s) a → StopsExpression (items_in s) (one c.args.op place x) s.limit st) c.from_residual-in_err-minimize-in-Minimize.result e c.from_residual-in_err-minimize-in-Minimize.ensures.1
-    (λ place x built. only_tells (items_in s) s.limit c.args.op place x c.requires.op e (stops_one (items_in s) (type_in s) s.theory.now c.requires.scope.labels x a built s.limit e c.in_err-minimize-in-Minimize.ensures.stop))
+    on_err (λ st. (place : Pos) (x : X) → IsBuiltOf (items_in s) x (type_in s) a → StopsExpression (items_in s) (one c.args.op place x) s.limit st) c.from_residual-in_err-minimize-in-Minimize.result (by_classes e) c.from_residual-in_err-minimize-in-Minimize.ensures.1
+    (λ place x built. only_tells (items_in s) s.limit c.args.op place x c.requires.op (by_classes e) (stops_one (items_in s) (type_in s) s.theory.now c.requires.scope.labels x a built s.limit e c.in_err-minimize-in-Minimize.ensures.stop))
 
 pub returns-in_ok-complement-in-Complement-clause-built : goal.returns-in_ok-complement-in-Complement-clause-built
 returns-in_ok-complement-in-Complement-clause-built c = λ place x built.

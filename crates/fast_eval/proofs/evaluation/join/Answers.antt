@@ -1,16 +1,11 @@
 use Rattle.std.proofs.Common.{sym, subst}
-use Rattle.std.proofs.lemmas.Result.{IfErr-weaker}
 use Rattle.fast_fault.specs.declared.place.Pos.{Pos}
-use Rattle.sta_classes.specs.Meant.{StopsClasses}
-use Rattle.sta_ops.specs.Languages.{HasDifference, IsMadeOfBoth}
-use Rattle.record_label.specs.Meaning.{row_meaning}
-use Rattle.record_label.specs.Rows.{RowFits}
 use Rattle.model_grammar.specs.Syntax.{X, two}
 use Rattle.fast_eval.specs.Built.{IsBuiltOf}
 use Rattle.fast_eval.specs.Scopes.{items_in, type_in}
-use Rattle.fast_eval.specs.Stops.{StopsExpression}
+use Rattle.fast_eval.specs.Stops.{StopsExpression, by_classes}
 use Rattle.fast_eval.proofs.Claims.{second_tells}
-use Rattle.fast_eval.proofs.Keeping.{if_ok_both}
+use Rattle.fast_eval.proofs.Keeping.{on_err}
 use Rattle.fast_eval.proofs.Operations.{union_built, intersection_built, difference_built}
 use Rattle.fast_eval.proofs.Ready.{start_low, atoms_fit, same_ranks}
 use Rattle.fast_eval.proofs.Stopped.{stops_one}
@@ -61,22 +56,18 @@ difference-requires c =
       second_fit = atoms_fit (items_in s) (type_in s) c.requires.second.0 b c.requires.second.1 s.theory.now c.requires.scope.labels;
     }
 
-pub returns-in-Difference-clause-built : goal.returns-in-Difference-clause-built
-returns-in-Difference-clause-built c =
-    let s = c.args.scope.now in
-    let a = c.args.a.now in
-    let b = c.args.b.now in
-    if_ok_both c.difference.result (HasDifference (row_meaning s.theory.now) a b) (IsMadeOfBoth (row_meaning s.theory.now) (RowFits s.theory.now) a b)
-    (λ d. (place : Pos) (x y : X) → IsBuiltOf (items_in s) x (type_in s) a → IsBuiltOf (items_in s) y (type_in s) b → IsBuiltOf (items_in s) (two c.args.op place x y) (type_in s) d)
-    (λ d has made place x y first second. subst (λ op. IsBuiltOf (items_in s) (two op place x y) (type_in s) d) (sym c.in-Difference.is) (difference_built (items_in s) (type_in s) s.theory.now c.requires.scope.labels place x y a b first second d has made))
-    c.difference.ensures.language c.difference.ensures.made
+pub returns-in_ok-difference-in-Difference-clause-built : goal.returns-in_ok-difference-in-Difference-clause-built
+returns-in_ok-difference-in-Difference-clause-built c = λ place x y first second.
+    (let s = c.args.scope.now in
+    subst (λ op. IsBuiltOf (items_in s) (two op place x y) (type_in s) c.in_ok-difference-in-Difference.field-0) (sym c.in-Difference.is)
+    (difference_built (items_in s) (type_in s) s.theory.now c.requires.scope.labels place x y c.args.a.now c.args.b.now first second c.in_ok-difference-in-Difference.field-0 c.in_ok-difference-in-Difference.ensures.language c.in_ok-difference-in-Difference.ensures.made))
 
-pub returns-in-Difference-clause-stop : goal.returns-in-Difference-clause-stop
-returns-in-Difference-clause-stop c =
+pub returns-in_err-difference-in-Difference-clause-stop : goal.returns-in_err-difference-in-Difference-clause-stop
+returns-in_err-difference-in-Difference-clause-stop c =
     let s = c.args.scope.now in
     let a = c.args.a.now in
     let b = c.args.b.now in
-    IfErr-weaker c.difference.result (StopsClasses (row_meaning s.theory.now) b.sta s.limit)
-    (λ st. (place : Pos) (x y : X) → IsBuiltOf (items_in s) x (type_in s) a → IsBuiltOf (items_in s) y (type_in s) b → StopsExpression (items_in s) (two c.args.op place x y) s.limit st)
-    (λ st stop place x y first second. subst (λ op. StopsExpression (items_in s) (two op place x y) s.limit st) (sym c.in-Difference.is) (second_tells (items_in s) s.limit place x y st (stops_one (items_in s) (type_in s) s.theory.now c.requires.scope.labels y b second s.limit st stop)))
-    c.difference.ensures.stop
+    let e = c.in_err-difference-in-Difference.field-0.0 in
+    on_err (λ st. (place : Pos) (x y : X) → IsBuiltOf (items_in s) x (type_in s) a → IsBuiltOf (items_in s) y (type_in s) b → StopsExpression (items_in s) (two c.args.op place x y) s.limit st) c.from_residual-in_err-difference-in-Difference.result (by_classes e) c.from_residual-in_err-difference-in-Difference.ensures.1
+    (λ place x y first second. subst (λ op. StopsExpression (items_in s) (two op place x y) s.limit (by_classes e)) (sym c.in-Difference.is)
+    (second_tells (items_in s) s.limit place x y (by_classes e) (stops_one (items_in s) (type_in s) s.theory.now c.requires.scope.labels y b second s.limit e c.in_err-difference-in-Difference.ensures.stop)))

@@ -1,5 +1,5 @@
 use Rattle.fast_build.specs.Items.{items_of}
-use Rattle.fast_eval.proofs.Keeping.{built_for_name, none_more}
+use Rattle.fast_eval.proofs.Keeping.{built_for_name}
 use Rattle.fast_eval.proofs.names.build_name.Goals as goal
 
 pub returns-clause-built : goal.returns-clause-built

@@ -1,13 +1,7 @@
-use Rattle.std.proofs.lemmas.Result.{IfOk-weaker, IfErr-weaker}
 use Rattle.std.proofs.Common.{[], ◌∷◌}
 use Rattle.fast_syntax.specs.Plain.{plain_x}
-use Rattle.model_grammar.specs.Syntax as plain
-use Rattle.sta_ops.specs.Empty.{IsEqualAnswer}
-use Rattle.sta_ops.specs.Empty.{StopsEither}
-use Rattle.record_label.specs.Meaning.{row_meaning}
-use Rattle.fast_eval.specs.Found.{IsFoundOf}
 use Rattle.fast_eval.specs.Scopes.{items_in, type_in}
-use Rattle.fast_eval.specs.Stops.{IsStopOf}
+use Rattle.fast_eval.specs.Stops.{IsStopOf, by_classes}
 use Rattle.fast_eval.proofs.Claims.{first_side_stops, second_side_stops}
 use Rattle.fast_eval.proofs.Judged.{found_equal, stopped_equal}
 use Rattle.fast_eval.proofs.Keeping.{on_err}
@@ -56,11 +50,10 @@ returns-clause-found c =
     let m = c.lang_of-b.result.now in
     let first = operand_built (items_in s) x (type_in s) s.built.now c.in_ok-a.a l c.in_ok-a.ensures.built c.lang_of-a.ensures in
     let second = operand_built (items_in s) y (type_in s) s.built.now c.in_ok-b.b m c.in_ok-b.ensures.built c.lang_of-b.ensures in
-    IfOk-weaker c.equal.result (IsEqualAnswer (row_meaning s.theory.now) l m s.limit) (IsFoundOf (items_in s) (plain.equal x y))
-    (found_equal (items_in s) (type_in s) s.theory.now c.requires.scope.labels s.limit x l first y m second c.requires.scope.shallow) c.equal.ensures.found
+    found_equal (items_in s) (type_in s) s.theory.now c.requires.scope.labels s.limit x l first y m second c.requires.scope.shallow c.in_ok-equal.field-0 c.in_ok-equal.ensures.found
 
-pub returns-clause-stop : goal.returns-clause-stop
-returns-clause-stop c =
+pub returns-in_err-equal-clause-stop : goal.returns-in_err-equal-clause-stop
+returns-in_err-equal-clause-stop c =
     let s = c.args.scope.now in
     let x = plain_x c.args.x.now in
     let y = plain_x c.args.y.now in
@@ -68,5 +61,6 @@ returns-clause-stop c =
     let m = c.lang_of-b.result.now in
     let first = operand_built (items_in s) x (type_in s) s.built.now c.in_ok-a.a l c.in_ok-a.ensures.built c.lang_of-a.ensures in
     let second = operand_built (items_in s) y (type_in s) s.built.now c.in_ok-b.b m c.in_ok-b.ensures.built c.lang_of-b.ensures in
-    IfErr-weaker c.equal.result (StopsEither (row_meaning s.theory.now) l m s.limit) (IsStopOf (items_in s) (x ∷ y ∷ []) s.limit)
-    (stopped_equal (items_in s) (type_in s) s.theory.now c.requires.scope.labels s.limit x l first y m second) c.equal.ensures.stop
+    let e = c.in_err-equal.field-0.0 in
+    on_err (IsStopOf (items_in s) (x ∷ y ∷ []) s.limit) c.from_residual-in_err-equal.result (by_classes e) c.from_residual-in_err-equal.ensures.1
+    (stopped_equal (items_in s) (type_in s) s.theory.now c.requires.scope.labels s.limit x l first y m second e c.in_err-equal.ensures.stop)

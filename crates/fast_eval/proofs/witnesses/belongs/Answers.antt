@@ -1,10 +1,11 @@
-use Rattle.std.proofs.Common.{◌≡◌, ◌↔◌, true}
+use Rattle.std.proofs.Common.{inl, ◌≡◌, ◌↔◌, true}
 use Rattle.std.proofs.lemmas.Result.{IfOk-weaker, IfErr-weaker}
 use Rattle.model_tree.specs.Tree.{relabel}
 use Rattle.fast_tree.specs.Entries.{label_meaning}
 use Rattle.fast_syntax.specs.Plain.{plain_x}
 use Rattle.model_meaning.specs.Meaning.{IsInLanguage}
 use Rattle.fast_build.specs.Items.{items_of}
+use Rattle.model_names.specs.Kinds.{language}
 use Rattle.fast_eval.specs.Scopes.{items_in}
 use Rattle.fast_eval.specs.Stops.{StopsExpression}
 use Rattle.fast_eval.proofs.Scoped.{made_there, named_there, typed_in, inside_back, stop_back}
@@ -25,8 +26,8 @@ is_inside-requires c =
     let is = c.scope_of-scope.ensures.of in
     record {
       scope = c.scope_of-scope.ensures.scope;
-      made = made_there k b c.args.limit y s is c.requires.made.0 c.requires.made.1 y c.requires.made.1;
-      named = named_there k b c.args.limit y s is y (c.in_ok-build_names.ensures {u = tt}).named;
+      made = made_there k b c.args.limit y s is c.requires.made.0 (inl c.requires.made.1) y c.requires.made.1;
+      named = named_there k b c.args.limit y s is language y (c.in_ok-build_names.ensures {u = tt}).named;
       typed = typed_in k b c.args.limit y s is y (relabel label_meaning c.args.tree.now) c.requires.typed;
       kept = c.requires.kept;
     }

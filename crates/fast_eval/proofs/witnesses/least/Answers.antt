@@ -1,12 +1,7 @@
 use Rattle.std.proofs.Common.{[], ◌∷◌}
-use Rattle.std.proofs.lemmas.Result.{IfOk-weaker, IfErr-weaker}
 use Rattle.fast_syntax.specs.Plain.{plain_x}
-use Rattle.sta_classes.specs.Meant.{StopsClasses}
-use Rattle.sta_ops.specs.Empty.{IsEmptyAnswer}
-use Rattle.record_label.specs.Meaning.{row_meaning}
 use Rattle.fast_eval.specs.Scopes.{items_in, type_in}
-use Rattle.fast_eval.specs.Stops.{IsStopOf}
-use Rattle.fast_eval.specs.Witnesses.{IsWitnessOf}
+use Rattle.fast_eval.specs.Stops.{IsStopOf, by_classes}
 use Rattle.fast_eval.proofs.Claims.{of_expression}
 use Rattle.fast_eval.proofs.Keeping.{on_err}
 use Rattle.fast_eval.proofs.Ready.{operand_built, atoms_fit}
@@ -35,14 +30,14 @@ returns-clause-found c =
     let x = plain_x c.args.x.now in
     let l = c.lang_of.result.now in
     let built = operand_built (items_in s) x (type_in s) s.built.now c.in_ok-a.a l c.in_ok-a.ensures.built c.lang_of.ensures in
-    IfOk-weaker c.empty.result (IsEmptyAnswer (row_meaning s.theory.now) l.sta l.state s.limit) (IsWitnessOf (items_in s) x)
-    (found_witness (items_in s) (type_in s) s.theory.now c.requires.scope.labels x l built s.limit c.requires.scope.shallow) c.empty.ensures.found
+    found_witness (items_in s) (type_in s) s.theory.now c.requires.scope.labels x l built s.limit c.requires.scope.shallow c.in_ok-empty.field-0 c.in_ok-empty.ensures.found
 
-pub returns-clause-stop : goal.returns-clause-stop
-returns-clause-stop c =
+pub returns-in_err-empty-clause-stop : goal.returns-in_err-empty-clause-stop
+returns-in_err-empty-clause-stop c =
     let s = c.args.scope.now in
     let x = plain_x c.args.x.now in
     let l = c.lang_of.result.now in
     let built = operand_built (items_in s) x (type_in s) s.built.now c.in_ok-a.a l c.in_ok-a.ensures.built c.lang_of.ensures in
-    IfErr-weaker c.empty.result (StopsClasses (row_meaning s.theory.now) l.sta s.limit) (IsStopOf (items_in s) (x ∷ []) s.limit)
-    (stops_one (items_in s) (type_in s) s.theory.now c.requires.scope.labels x l built s.limit) c.empty.ensures.stop
+    let e = c.in_err-empty.field-0.0 in
+    on_err (IsStopOf (items_in s) (x ∷ []) s.limit) c.from_residual-in_err-empty.result (by_classes e) c.from_residual-in_err-empty.ensures.1
+    (stops_one (items_in s) (type_in s) s.theory.now c.requires.scope.labels x l built s.limit e c.in_err-empty.ensures.stop)

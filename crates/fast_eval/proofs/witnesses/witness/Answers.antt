@@ -1,7 +1,8 @@
-use Rattle.std.proofs.Common.{[], ◌∷◌}
+use Rattle.std.proofs.Common.{inl, [], ◌∷◌}
 use Rattle.std.proofs.lemmas.Result.{IfOk-weaker, IfErr-weaker}
 use Rattle.fast_syntax.specs.Plain.{plain_x}
 use Rattle.fast_build.specs.Items.{items_of}
+use Rattle.model_names.specs.Kinds.{language}
 use Rattle.fast_eval.specs.Scopes.{items_in}
 use Rattle.fast_eval.specs.Stops.{IsStopOf}
 use Rattle.fast_eval.specs.Witnesses.{IsWitnessOf}
@@ -23,8 +24,8 @@ least-requires c =
     let is = c.scope_of-scope.ensures.of in
     record {
       scope = c.scope_of-scope.ensures.scope;
-      made = made_there k b c.args.limit x s is c.requires.made.0 c.requires.made.1 x c.requires.made.1;
-      named = named_there k b c.args.limit x s is x (c.in_ok-build_names.ensures {u = tt}).named;
+      made = made_there k b c.args.limit x s is c.requires.made.0 (inl c.requires.made.1) x c.requires.made.1;
+      named = named_there k b c.args.limit x s is language x (c.in_ok-build_names.ensures {u = tt}).named;
     }
 
 pub returns-clause-found : goal.returns-clause-found

@@ -4,7 +4,7 @@ use Rattle.model_tree.specs.Signature.{HasType}
 use Rattle.model_checks.proofs.SoundWhole.{sound}
 use Rattle.model_meaning.specs.Meaning.{input_type}
 use Rattle.fast_eval.specs.Forms.{IsMadeFrom, IsTransKnown}
-use Rattle.fast_eval.specs.Outputs.{cut_tree, AreOutputsOf, IsApplyStop}
+use Rattle.fast_eval.specs.Outputs.{cut_tree, AreOutputsOf, StopsOutputs}
 use Rattle.tree_values.specs.Trees.{meant}
 use Rattle.fast_session.specs.Kept.{items_in}
 use Rattle.fast_session.specs.Needed.{IsTreeStopped}
@@ -29,3 +29,12 @@ outputs-requires-clause-typed c = subst (λ y. HasType (input_type (items_in c.a
 
 pub returns-in-Ok-clause-outputs : goal.returns-in-Ok-clause-outputs
 returns-in-Ok-clause-outputs c = subst (λ y. AreOutputsOf (items_in c.args.around.now) y (meant c.args.tree.now) (map cut_tree c.in-Ok.cuts.items)) c.in_ok-x.ensures c.in-Ok.ensures.outputs
+
+pub returns-clause-stopped : goal.returns-clause-stopped
+returns-clause-stopped c =
+    let items = items_in c.args.around.now in
+    let name = chars c.args.name.now in
+    let limit = c.args.around.now.limit in
+    let t = meant c.args.tree.now in
+    subst (IsTreeStopped items name t) (sym c.unlisted.ensures)
+    (tree_stopped items name limit t c.in-Err.stop (subst (λ y. StopsOutputs items y limit t c.in-Err.stop) c.in_ok-x.ensures c.in-Err.ensures.stop))

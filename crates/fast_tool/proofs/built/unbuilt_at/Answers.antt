@@ -12,4 +12,4 @@ items-preserved c =
     let is = c.deref-item-items.ensures.value ∙ ap (λ (p : Program). p.items.items) c.program.ensures in
     let at = subst (λ (ys : List Item). c.item-item.result ≡ get_or ys c.items.item-index c.item-item.result) is c.item-item.is in
     let below = subst (λ (ys : List Item). c.items.item-index < length ys) is c.items-test.true in
-    c.items.invariant ∙ passed_over plain_item (is_built (items_of c.args.checked.now)) c.args.checked.now.program.items.items c.items.item-index c.item-item.result below at (sym c.if-not-is_built.ensures)
+    c.items.invariant ∙ passed_over plain_item is_built c.args.checked.now.program.items.items c.items.item-index c.item-item.result below at (sym c.if-not-is_built.ensures)

@@ -9,4 +9,4 @@ use Rattle.fast_tool.proofs.built.unbuilt_at.Given as goal
 
 abbrev pub invariant-items : goal.invariant-items
 invariant-items l =
-    unbuilt_at (items_of l.checked) ≡ option_map (λ (item : Item). item.place) (find (λ item. not (is_built (items_of l.checked) item)) (map plain_item (drop l.item-index l.checked.program.items.items)))
+    unbuilt_at (items_of l.checked) ≡ option_map (λ (item : Item). item.place) (find (λ item. not (is_built item)) (map plain_item (drop l.item-index l.checked.program.items.items)))

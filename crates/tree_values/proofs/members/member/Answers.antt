@@ -1,4 +1,4 @@
-use Rattle.std.proofs.Common.{◌≡◌, List, Some, None, sym, subst}
+use Rattle.std.proofs.Common.{◌≡◌, inl, List, Some, None, sym, subst}
 use Rattle.model_tree.specs.Signature.{HasType}
 use Rattle.model_meaning.specs.Values.{Printed}
 use Rattle.fast_syntax.specs.Plain.{plain_x}
@@ -13,12 +13,12 @@ use Rattle.tree_values.proofs.Stopped.{stop_language}
 use Rattle.tree_values.proofs.members.member.Goals as goal
 
 pub unreachable-requires : goal.unreachable-requires
-unreachable-requires c = let no : None ≡ Some c.requires.made.0 = c.in_default.ensures c.requires.made.0 c.requires.made.1 in absurd (cc)
+unreachable-requires c = let no : None ≡ Some c.requires.made.0 = c.in_default.ensures c.requires.made.0 (inl c.requires.made.1) in absurd (cc)
 
 pub value-requires-clause-made : goal.value-requires-clause-made
 value-requires-clause-made c =
     let items = items_in c.args.given.now in
-    subst (λ s. IsTreeOn items s (plain_x c.args.x.now)) (type_is c.in-Some.of.now c.requires.made.0 (c.in-Some.ensures c.requires.made.0 c.requires.made.1)) c.requires.made.2
+    subst (λ s. IsTreeOn items s (plain_x c.args.x.now)) (type_is c.in-Some.of.now c.requires.made.0 (c.in-Some.ensures c.requires.made.0 (inl c.requires.made.1))) c.requires.made.2
 
 pub belongs-requires-clause-known : goal.belongs-requires-clause-known
 belongs-requires-clause-known c = known_grown (items_in c.args.given.now) c.args.built.now c.value.new.built c.value.ensures.grown (plain_x c.args.y.now) c.requires.also_known
@@ -26,7 +26,7 @@ belongs-requires-clause-known c = known_grown (items_in c.args.given.now) c.args
 pub belongs-requires-clause-typed : goal.belongs-requires-clause-typed
 belongs-requires-clause-typed c =
     let items = items_in c.args.given.now in
-    subst (λ s. HasType s (meant c.in_ok-tree.tree)) (sym (input_is items c.in-Some.of.now c.requires.made.0 (plain_x c.args.y.now) c.requires.made.1 (c.in-Some.ensures c.requires.made.0 c.requires.made.1))) (c.in_ok-tree.ensures {u = tt}).typed
+    subst (λ s. HasType s (meant c.in_ok-tree.tree)) (sym (input_is items c.in-Some.of.now c.requires.made.0 (plain_x c.args.y.now) c.requires.made.1 (c.in-Some.ensures c.requires.made.0 (inl c.requires.made.1)))) (c.in_ok-tree.ensures {u = tt}).typed
 
 pub returns-in_err-tree-clause-stop : goal.returns-in_err-tree-clause-stop
 returns-in_err-tree-clause-stop c =
@@ -35,7 +35,7 @@ returns-in_err-tree-clause-stop c =
     let y = plain_x c.args.y.now in
     let s = c.in_err-tree.field-0.0 in
     on_err (λ e. (printed : List Printed) → Tells g.trees.now printed → IsMemberStop (items_in g) printed g.limit x y e) c.from_residual.result s c.from_residual.ensures.1
-    (λ printed told. left_stops (items_in g) c.in-Some.of.now c.requires.made.0 y c.requires.made.1 (c.in-Some.ensures c.requires.made.0 c.requires.made.1) printed g.limit x s (c.in_err-tree.ensures.stop printed told))
+    (λ printed told. left_stops (items_in g) c.in-Some.of.now c.requires.made.0 y c.requires.made.1 (c.in-Some.ensures c.requires.made.0 (inl c.requires.made.1)) printed g.limit x s (c.in_err-tree.ensures.stop printed told))
 
 pub returns-in_err-inside-clause-stop : goal.returns-in_err-inside-clause-stop
 returns-in_err-inside-clause-stop c =
@@ -49,10 +49,10 @@ returns-in_err-inside-clause-stop c =
 pub returns-clause-member : goal.returns-clause-member
 returns-clause-member c = λ printed told.
     (let g = c.args.given.now in
-    is_member (items_in g) c.in-Some.of.now c.requires.made.0 (plain_x c.args.y.now) c.requires.made.1 (c.in-Some.ensures c.requires.made.0 c.requires.made.1) printed (plain_x c.args.x.now)
+    is_member (items_in g) c.in-Some.of.now c.requires.made.0 (plain_x c.args.y.now) c.requires.made.1 (c.in-Some.ensures c.requires.made.0 (inl c.requires.made.1)) printed (plain_x c.args.x.now)
     (record { tree = c.in_ok-tree.tree; inside = c.in_ok-inside.inside }) (c.in_ok-tree.ensures.value printed told) c.in_ok-inside.ensures.inside)
 
 pub returns-clause-typed : goal.returns-clause-typed
 returns-clause-typed c =
     let items = items_in c.args.given.now in
-    subst (λ s. HasType s (meant c.in_ok-tree.tree)) (sym (input_is items c.in-Some.of.now c.requires.made.0 (plain_x c.args.y.now) c.requires.made.1 (c.in-Some.ensures c.requires.made.0 c.requires.made.1))) (c.in_ok-tree.ensures {u = tt}).typed
+    subst (λ s. HasType s (meant c.in_ok-tree.tree)) (sym (input_is items c.in-Some.of.now c.requires.made.0 (plain_x c.args.y.now) c.requires.made.1 (c.in-Some.ensures c.requires.made.0 (inl c.requires.made.1)))) (c.in_ok-tree.ensures {u = tt}).typed

@@ -1,4 +1,4 @@
-use Rattle.std.proofs.Common.{◌≡◌, ◌≤◌, List, map, Some, None, sym, ap, subst, ◌∙◌, arith}
+use Rattle.std.proofs.Common.{◌≡◌, ◌≤◌, List, map, Some, None, refl, sym, ap, ap₂, subst, ◌∙◌, arith}
 use Rattle.std.proofs.lemmas.Result.{IfOk-weaker, IfErr-weaker}
 use Rattle.fast_fault.specs.declared.place.Pos.{Pos}
 use Rattle.model_tree.specs.Signature.{PlainSignature, HasType}
@@ -18,7 +18,7 @@ use Rattle.tree_values.specs.Stops.{IsValueStop, IsStopIn, IsStopTyped}
 use Rattle.tree_values.specs.Applied.{HasOutput, IsOutputStop}
 use Rattle.tree_values.specs.Trees.{meant, Tells}
 use Rattle.tree_values.specs.Values.{items_in, type_in, IsAbove, HasLeast, HasValue, HaveValues}
-use Rattle.tree_values.proofs.Choices.{applied_value, input_is, only_apply}
+use Rattle.tree_values.proofs.Choices.{applied_value, input_is, output_is, only_apply}
 use Rattle.tree_values.proofs.Evaluated.{value_is, value_typed, value_in_limits, only_find, named_value, found_value, no_literal, made_literal, deep_literal}
 use Rattle.tree_values.proofs.Folding.{on_at, known_at, trees_known_grown, below_bounds, below_room, left_low, value_bounds, so_far_step, so_far_end}
 use Rattle.tree_values.proofs.Stopped.{stop_literal, stop_at, stop_inside, stop_output, stop_large, output_typed}
@@ -188,6 +188,26 @@ evaluate_all-returns-clause-values t c = λ printed told.
 
 -- ---- a transformation that is applied
 
+pub evaluate-returns-in-Two-clause-value : goal.evaluate-returns-in-Two-clause-value
+evaluate-returns-in-Two-clause-value t c =
+    let g = c.args.given.now in
+    let items = items_in g in
+    let of = c.args.of.now in
+    let room = c.args.room in
+    let is = ap plain_x c.in-Two.is in
+    let place = c.in-Two.field-1 in
+    let f = plain_x c.deref-in-Two.result.now in
+    let x = plain_x c.deref-in-Two-2.result.now in
+    let on = only_apply items of c.in-Two.field-0 place (plain_x c.in-Two.f.value) (plain_x c.in-Two.inside.value) (subst (IsTreeOn items of) is c.requires.made) in
+    let made = subst (λ v. IsMadeFrom items on.1.0 of (plain_x v)) (sym c.deref-in-Two.ensures) on.1.1 in
+    let at : two Apply place f x ≡ plain_x c.args.x.now =
+    ap₂ (λ v w. two Apply place (plain_x v) (plain_x w)) c.deref-in-Two.ensures c.deref-in-Two-2.ensures ∙ (ap (λ op. two op place (plain_x c.in-Two.f.value) (plain_x c.in-Two.inside.value)) (sym on.0) ∙ sym is) in
+    IfOk-weaker c.apply.result
+    (λ v. (place : Pos) (signature : PlainSignature) (printed : List Printed) → Tells g.trees.now printed → signature ≡ output_type items f → HasValue items printed signature (two Apply place f x) room v)
+    (λ v. (printed : List Printed) → Tells g.trees.now printed → HasValue items printed (type_in g of) (plain_x c.args.x.now) room v)
+    (λ v has printed told. subst (λ z. HasValue items printed (type_in g of) z room v) at (has place (type_in g of) printed told (output_is items f on.1.0 of made of refl)))
+    c.apply.ensures.value
+
 pub evaluate-apply-requires : goal.evaluate-apply-requires
 evaluate-apply-requires t c =
     let items = items_in c.args.given.now in
@@ -309,7 +329,7 @@ apply-returns-clause-stop t c =
     let own = type_in g from in
     let type_is = input_is items f made.0 made.1 made.2 from ends.input in
     let tree = meant c.in-Some.value.tree in
-    IfErr-weaker c.only_output.result (IsOutputStop items f tree)
+    IfErr-weaker c.only_output.result (IsOutputStop items g.limit f tree)
     (λ s. (place : Pos) (signature : PlainSignature) (printed : List Printed) → Tells g.trees.now printed → IsValueStop items printed g.limit signature (two Apply place f x) s)
     (λ s stop place signature printed told.
     (let has = subst (HasValue items printed own x 1048576) c.in-Some.is (c.in_ok-value.ensures.value printed told) in
@@ -330,4 +350,4 @@ apply-returns-clause-shown t c =
     let given = c.requires.given in
     let tree = meant c.in-Some.value.tree in
     let has = subst (HasValue items given.printed own x 1048576) c.in-Some.is (c.in_ok-value.ensures.value given.printed given.told) in
-    IfErr-weaker c.only_output.result (IsOutputStop items f tree) (IsStopTyped items) (λ s stop. output_typed items f tree (subst (λ k. HasType k tree) type_is (value_typed items given.printed own x c.in-Some.value has)) s stop) c.only_output.ensures.stop
+    IfErr-weaker c.only_output.result (IsOutputStop items g.limit f tree) (IsStopTyped items) (λ s stop. output_typed items g.limit f tree (subst (λ k. HasType k tree) type_is (value_typed items given.printed own x c.in-Some.value has)) s stop) c.only_output.ensures.stop

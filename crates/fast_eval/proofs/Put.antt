@@ -1,0 +1,348 @@
+-- The comparisons and the maps of what is made of a transformation and a language are those of the expression.
+use Rattle.std.proofs.Common.{◌≡◌, ◌⊎◌, inl, inr, ℕ, zero, suc, Bool, true, false, cond, ◌&&◌, List, [], ◌∷◌, map, slice_index_or, get_or, Some, All, Contains, refl, sym, ap, subst, ◌∙◌, arith}
+use Rattle.std.specs.Prelude.{ℤ}
+use Rattle.std.specs.Str.{bytes_eq}
+use Rattle.std.specs.Cmp.Lexicographic.{pointwise}
+use Rattle.std.proofs.lemmas.List.Elements.{All-nil, All-cons, All-head, All-map, All-weaker, All-contains}
+use Rattle.model_tree.specs.Formula.{Formula, yes, no, EveryAtom}
+use Rattle.model_program.specs.Syntax.{Name}
+use Rattle.model_grammar.specs.Syntax.{X, named, Item}
+use Rattle.model_names.specs.Kinds.{output_of}
+use Rattle.model_meaning.specs.Reached.{Opens}
+use Rattle.model_form.specs.Form.{Form}
+use Rattle.model_chain.specs.Literals as plain
+use Rattle.model_run.specs.Parts.{operands, LooksBack}
+use Rattle.model_run.specs.Seen.{LabelList, list_forms, IsLabelList, IsSameCompare, compare_opened, list_opened}
+use Rattle.model_layers.specs.Compared.{put_forms, TransducerForms, IsPutOf, AreSameForms, AreComparedTrans, AreCompared, IsOneOf, HasOutside}
+use Rattle.model_layers.proofs.Compared.{compares_go_up, numbers_go_up}
+use Rattle.form_laws.proofs.Putting.{same_itself, same_further}
+use Rattle.label_core.specs.Formula.{atoms_in, plain_formula}
+use Rattle.label_core.specs.Pair.{lefts}
+use Rattle.label_core.specs.SameFormula.{same_formula}
+use Rattle.label_core.specs.SameLaws.{same_every}
+use Rattle.label_core.specs.declared.pair.PairAtom.TheVariants.{Left, Right}
+use Rattle.label_split.proofs.SameAtoms.{every_atom, all_atoms}
+use Rattle.flat_label.specs.declared.texts.TextSide.{TextSide}
+use Rattle.flat_label.specs.declared.texts.TextSide.TheVariants as side
+use Rattle.lin_solve.specs.declared.compare.Compare.{Compare}
+use Rattle.lin_solve.specs.Plain.{plain_compare, plain_relation}
+use Rattle.lin_solve.proofs.Alike.{parts_of_equal}
+use Rattle.sta_core.specs.Machine.{Machine, PlainRule}
+use Rattle.sta_core.specs.Sta.{AtomsFit}
+use Rattle.sta_classes.specs.Guards.{all_guards, atoms_of_all}
+use Rattle.sta_theory.proofs.Lists.{first_in, later_in, in_left, in_right, in_map}
+use Rattle.sttr_core.specs.Machine.{OutMachine}
+use Rattle.sttr_core.specs.Fits.{EveryMap, MapsAre}
+use Rattle.sttr_run.specs.Sources.{HasAtom, HasMap, GivesChild}
+use Rattle.sttr_preimage.specs.Results.{IsOldAtom, IsAskedAtom, IsImageAtom, IsOldMap, AtomsAre, IsImageStop}
+use Rattle.sttr_run.specs.declared.running.RunStop.TheVariants as run
+use Rattle.record_label.specs.Derived.{same_atoms, same_compares}
+use Rattle.record_label.specs.contracts.maps.RowEntryPartialEq.TheImpl as entry
+use Rattle.record_label.specs.declared.maps.RowEntry.{RowEntry}
+use Rattle.record_label.specs.declared.maps.RowEntry.TheVariants.{Number, Truth, Text}
+use Rattle.record_label.specs.declared.maps.RowMap.{RowMap}
+use Rattle.record_label.specs.Maps.{forms_of, formulas_in, are_one, put_side, put_atom, put_compare, IsOutsidePut}
+use Rattle.record_label.specs.PlainMaps.{plain_entry}
+use Rattle.record_label.specs.Rows.{RowAtom}
+use Rattle.fast_eval.specs.Built.{compares_in, entries_of, HasTest, IsCompared, AreListed, AreTransCompared}
+use Rattle.fast_build.proofs.Paired.{each_all}
+use Rattle.fast_eval.proofs.NamesBuilt.{guards_listed, atoms_listed, lefts_listed}
+
+-- ---- comparisons that are the same
+
+same_parts : (a b : Compare) → same_compares a b ≡ true → IsSameCompare (plain_compare a) (plain_compare b)
+same_parts a b e = let parts = parts_of_equal a b e in (ap (λ r. plain_relation r) parts.1, parts.0, parts.2)
+
+further : (c d e : plain.Compare) → IsSameCompare c d → IsSameCompare d e → IsSameCompare c e
+further c d e first second = (first.0 ∙ second.0, same_further c.left d.left e.left first.1 second.1, same_further c.right d.right e.right first.2 second.2)
+
+-- an atom that equals a comparison is one
+module _ (P : Compare → Type 0) where
+  by_equal : (a : RowAtom) (c : Compare) → same_atoms a (Left c) ≡ true → ((k : Compare) → a ≡ Left k → IsSameCompare (plain_compare k) (plain_compare c) → P c) → P c
+  by_equal (Left k) c e f = f k refl (same_parts k c e)
+  by_equal (Right q) c e f = absurd (let no : false ≡ true = e in cc)
+
+-- ---- atoms in guards
+
+one_alone : {X : Type 0} (a b : X) → Contains (a ∷ []) b → a ≡ b
+one_alone a b (zero, low, is) = is
+one_alone a b (suc k, low, is) = absurd (omega (arith, low))
+
+none : {X : Type 0} (x : X) → Contains [] x → ⊥
+none x (k, low, is) = omega (arith, low)
+
+place_of : {X : Type 0} (x : X) (xs : List X) (y : X) → Contains (x ∷ xs) y → (x ≡ y) ⊎ Contains xs y
+place_of x xs y (zero, low, is) = inl is
+place_of x xs y (suc k, low, is) = inr (k, omega (arith, low), is)
+
+in_guards : (rules : List (List (PlainRule RowAtom))) (those : List (PlainRule RowAtom)) → Contains rules those → (r : PlainRule RowAtom) → Contains those r → Contains (all_guards rules) r.guard
+in_guards [] those at r there = absurd (none those at)
+in_guards (rs ∷ rules) those at r there = elim (place_of rs rules those at) [
+  | inl same ↦ in_left (map (λ p. p.guard) rs) (all_guards rules) r.guard (in_map (λ p. p.guard) rs r (subst (λ l. Contains l r) (sym same) there))
+  | inr later ↦ in_right (map (λ p. p.guard) rs) (all_guards rules) r.guard (in_guards rules those later r there)
+]
+
+in_atoms : (gs : List (Formula RowAtom)) (g : Formula RowAtom) → Contains gs g → (a : RowAtom) → Contains (atoms_in g) a → Contains (atoms_of_all gs) a
+in_atoms [] g at a there = absurd (none g at)
+in_atoms (f ∷ gs) g at a there = elim (place_of f gs g at) [
+  | inl same ↦ in_left (atoms_in f) (atoms_of_all gs) a (subst (λ h. Contains (atoms_in h) a) (sym same) there)
+  | inr later ↦ in_right (atoms_in f) (atoms_of_all gs) a (in_atoms gs g later a there)
+]
+
+abbrev of_numbers : Compare → RowAtom
+of_numbers k = Left k
+
+same_numbers : (p k : Compare) → of_numbers p ≡ of_numbers k → p ≡ k
+same_numbers p k e = cc
+
+in_lefts : (atoms : List RowAtom) (k : Compare) → Contains atoms (Left k) → Contains (lefts atoms) k
+in_lefts [] k at = absurd (none (Left k) at)
+in_lefts (Left p ∷ atoms) k at = elim (place_of (Left p) atoms (Left k) at) [
+  | inl same ↦ subst (λ q. Contains (p ∷ lefts atoms) q) (same_numbers p k same) (first_in p (lefts atoms))
+  | inr later ↦ later_in p k (lefts atoms) (in_lefts atoms k later)
+]
+in_lefts (Right q ∷ atoms) k at = elim (place_of (Right q) atoms (Left k) at) [
+  | inl same ↦ absurd (let no : Right q ≡ Left k = same in cc)
+  | inr later ↦ in_lefts atoms k later
+]
+
+-- the comparison of an atom in a guard is among those of the automaton
+compare_in : (m : Machine RowAtom) (k : Compare) → HasAtom m.rules (Left k) → Contains (compares_in m) (plain_compare k)
+compare_in m k (those, at, r, there, own) =
+    in_map plain_compare (lefts (atoms_of_all (all_guards m.rules))) k (in_lefts (atoms_of_all (all_guards m.rules)) k (in_atoms (all_guards m.rules) r.guard (in_guards m.rules those at r there) (Left k) own))
+
+-- ---- from operands to the whole expression
+
+module _ (items : List Item) where
+  -- of an operand
+  pub one_compared : (e x : X) (type : List ℕ) → Contains (operands e) x → (k c : plain.Compare) → IsCompared items x type k → IsSameCompare k c → IsCompared items e type c
+  one_compared e x type at k c own same =
+      All-head (IsCompared items e type) c []
+      ((compares_go_up items).of_operands e x x type (k ∷ []) [] (c ∷ []) at at (All-cons (IsCompared items x type) k [] own (All-nil (IsCompared items x type))) (All-nil (IsCompared items x type))
+      (All-cons (λ d. IsOneOf (k ∷ []) d ⊎ IsOneOf [] d) c [] (inl (k, first_in k [], same)) (All-nil (λ d. IsOneOf (k ∷ []) d ⊎ IsOneOf [] d))))
+
+  -- the forms of a label list of an expression
+  abbrev AreFormsOf : X → List ℕ → List ℕ → List Form → Type 0
+  AreFormsOf e from into ms = (l : LabelList) × IsLabelList items e from into l × AreSameForms (list_forms l) ms
+
+  -- one map alone
+  abbrev one_map : List Form → TransducerForms
+  one_map ms = record { compares = []; maps = ms ∷ [] }
+
+  module _ (e f : X) (from into : List ℕ) (d : OutMachine RowAtom RowMap) (own : AreTransCompared items f from into d) where
+    one_listed : (m : RowMap) → HasMap d m → AreComparedTrans items f from into (one_map (forms_of (entries_of m)))
+    one_listed m has = record {
+      compares = All-nil (IsCompared items f from);
+      maps = All-cons (AreFormsOf f from into) (forms_of (entries_of m)) [] (own.maps m has) (All-nil (AreFormsOf f from into));
+    }
+
+    -- ---- atoms that are as before
+
+    module _ (at : Contains (operands e) f) where
+      test_compared : (a : RowAtom) → HasTest d a → (c : Compare) → same_atoms a (Left c) ≡ true → IsCompared items e from (plain_compare c)
+      test_compared a has c same =
+          by_equal (λ c. IsCompared items e from (plain_compare c)) a c same
+          (λ k is alike. one_compared e f from at (plain_compare k) (plain_compare c) (own.compares k (subst (HasTest d) is has)) alike)
+
+      pub old_compared : (asked : List (List (PlainRule RowAtom))) (c : Compare) → IsOldAtom same_atoms d asked (Left c) → IsCompared items e from (plain_compare c)
+      old_compared asked c (a, has, same) = test_compared a (inl has) c same
+
+    -- ---- atoms that are asked of a language
+
+    module _ (y : X) (type : List ℕ) (b : Machine RowAtom) (other : AreCompared items y type (compares_in b)) where
+      asked_one : (k : Compare) → HasAtom b.rules (Left k) → IsCompared items y type (plain_compare k)
+      asked_one k has = All-contains (IsCompared items y type) (compares_in b) (plain_compare k) other (compare_in b k has)
+
+      -- as they are
+      pub asked_compared : Contains (operands e) y → (c : Compare) → IsAskedAtom same_atoms d b.rules (Left c) → IsCompared items e type (plain_compare c)
+      asked_compared at c (a, has, same) =
+          by_equal (λ c. IsCompared items e type (plain_compare c)) a c same
+          (λ k is alike. one_compared e y type at (plain_compare k) (plain_compare c) (asked_one k (subst (HasAtom b.rules) is has)) alike)
+
+-- ---- what is put
+
+-- an atom of a formula at a place is one of these formulas
+formula_at : (fs : List (Formula RowAtom)) (k : ℕ) (d : RowAtom) → Contains (atoms_in (slice_index_or fs k no)) d → (f : Formula RowAtom) × Contains fs f × Contains (atoms_in f) d
+formula_at [] k d at = absurd (none d at)
+formula_at (f ∷ fs) zero d at = (f, first_in f fs, at)
+formula_at (f ∷ fs) (suc k) d at = let (g, there, own) = formula_at fs k d at in (g, later_in f g fs there, own)
+
+-- no atom of an equality of texts is a comparison
+abbrev decided : Bool → Formula RowAtom
+decided b = cond b yes no
+
+decided_none : (b : Bool) (d : RowAtom) → Contains (atoms_in (decided b)) d → ⊥
+decided_none true d at = none d at
+decided_none false d at = none d at
+
+is_right : (d : RowAtom) (c : Compare) (q : _) → Right q ≡ d → same_atoms d (Left c) ≡ true → ⊥
+is_right d c q is same = let e : same_atoms (Right q) (Left c) ≡ true = subst (λ z. same_atoms z (Left c) ≡ true) (sym is) same in let no : false ≡ true = e in cc
+
+no_compare : (s t : TextSide) (d : RowAtom) (c : Compare) → Contains (atoms_in (are_one s t)) d → same_atoms d (Left c) ≡ true → ⊥
+no_compare (side.Constant s) (side.Constant t) d c at same = decided_none (bytes_eq s t) d at
+no_compare (side.Constant s) (side.Field k) d c at same = is_right d c _ (one_alone _ d at) same
+no_compare (side.Field k) t d c at same = is_right d c _ (one_alone _ d at) same
+
+abbrev pub row_is_put : RowMap → RowAtom → RowAtom → Type 0
+row_is_put m a = Contains (atoms_in (put_atom (entries_of m) a))
+
+abbrev pub row_outside : RowMap → RowAtom → ℤ → Type 0
+row_outside m = IsOutsidePut (entries_of m)
+
+module _ (items : List Item) (e f y : X) (from into : List ℕ) (back : LooksBack e f y) (at_f : Contains (operands e) f) (at_y : Contains (operands e) y) (out : output_of items f ≡ Some into)
+    (d : OutMachine RowAtom RowMap) (own : AreTransCompared items f from into d) (b : Machine RowAtom) (other : AreCompared items y into (compares_in b)) where
+  -- a comparison that is asked of labels that a map makes
+  put_one : (m : RowMap) → HasMap d m → (k c : plain.Compare) → IsCompared items y into k → IsSameCompare (put_forms (forms_of (entries_of m)) k) c → IsCompared items e from c
+  put_one m has k c asked same =
+      let ms = forms_of (entries_of m) in
+      All-head (IsCompared items e from) c []
+      ((compares_go_up items).put e f y from into (one_map items ms) (k ∷ []) (c ∷ []) back at_f at_y out (one_listed items e f from into d own m has) (All-cons (IsCompared items y into) k [] asked (All-nil (IsCompared items y into)))
+      (All-cons (IsPutOf (from ≡ into) (one_map items ms) (k ∷ [])) c [] (inr (inl (ms, first_in ms [], k, first_in k [], same))) (All-nil (IsPutOf (from ≡ into) (one_map items ms) (k ∷ [])))))
+
+  put_compared : (m : RowMap) → HasMap d m → (a : RowAtom) → HasAtom b.rules a → (p : RowAtom) → row_is_put m a p → (c : Compare) → same_atoms p (Left c) ≡ true → IsCompared items e from (plain_compare c)
+  put_compared m has (Left k) asked p at c same =
+      by_equal (λ c. IsCompared items e from (plain_compare c)) (Left (put_compare (forms_of (entries_of m)) k)) c (subst (λ z. same_atoms z (Left c) ≡ true) (sym (one_alone (Left (put_compare (forms_of (entries_of m)) k)) p at)) same)
+      (λ j is alike. put_one m has (plain_compare k) (plain_compare c) (asked_one items e f from into d own y into b other k asked) (let made : plain_compare j ≡ put_forms (forms_of (entries_of m)) (plain_compare k) = ap plain_compare (sym (same_numbers (put_compare (forms_of (entries_of m)) k) j is)) in subst (λ z. IsSameCompare z (plain_compare c)) made alike))
+  put_compared m has (Right (Left t)) asked p at c same =
+      let (g, there, in_g) = formula_at (formulas_in (entries_of m)) t.field p at in
+      test_compared items e f from into d own at_f p (inr (m, has, g, there, in_g)) c same
+  put_compared m has (Right (Right t)) asked p at c same = absurd (no_compare (put_side (entries_of m) t.left) (put_side (entries_of m) t.right) p c at same)
+
+  pub image_compared : (GivesChild d → from ≡ into) → (c : Compare) → IsImageAtom same_atoms d b.rules row_is_put (Left c) → IsCompared items e from (plain_compare c)
+  image_compared one c (inl old) = old_compared items e f from into d own at_f b.rules c old
+  image_compared one c (inr (inl (m, has, a, asked, p, put, same))) = put_compared m has a asked p put c same
+  image_compared one c (inr (inr (gives, asked))) = subst (λ t. IsCompared items e t (plain_compare c)) (sym (one gives)) (asked_compared items e f from into d own y into b other at_y c asked)
+
+  -- a number that stops a put
+  put_outside : (m : RowMap) → HasMap d m → (a : RowAtom) → HasAtom b.rules a → (n : ℤ) → row_outside m a n → HasOutside items e n
+  put_outside m has (Left k) asked n outside =
+      let ms = forms_of (entries_of m) in
+      (numbers_go_up items).put e f y from into (one_map items ms) (plain_compare k ∷ []) back out (one_listed items e f from into d own m has)
+      (All-cons (IsCompared items y into) (plain_compare k) [] (asked_one items e f from into d own y into b other k asked) (All-nil (IsCompared items y into))) ms (first_in ms []) (plain_compare k) (first_in (plain_compare k) []) n outside
+  put_outside m has (Right q) asked n outside = absurd outside
+
+  pub image_outside : (n : ℤ) → IsImageStop row_outside d b.rules (run.Range n) → HasOutside items e n
+  image_outside n (m, has, a, asked, outside) = put_outside m has a asked n outside
+
+-- ---- results
+
+-- the comparisons of an automaton
+pub machine_compared : (items : List Item) (e : X) (type : List ℕ) (m : Machine RowAtom) (P : RowAtom → Type 0) → ((c : Compare) → P (Left c) → IsCompared items e type (plain_compare c)) → AtomsFit P m → AreCompared items e type (compares_in m)
+machine_compared items e type m P to fits =
+    All-map (IsCompared items e type) plain_compare (lefts (atoms_of_all (all_guards m.rules)))
+    (All-weaker (λ c. P (Left c)) (λ c. IsCompared items e type (plain_compare c)) to (lefts (atoms_of_all (all_guards m.rules)))
+    (lefts_listed P (atoms_of_all (all_guards m.rules)) (atoms_listed P (all_guards m.rules) (guards_listed (λ g. All P (atoms_in g)) m.rules (λ k d low i x below. all_atoms P (get_or (get_or m.rules k d) i x).guard (fits k d low i x below))))))
+
+abbrev same_entries : RowEntry → RowEntry → Bool
+same_entries = entry.eq-value.it
+
+both_true : (a b : Bool) → (a && b) ≡ true → (a ≡ true) × (b ≡ true)
+both_true true b e = (refl, e)
+both_true false b e = cc
+
+-- equal maps have equal forms
+equal_forms : (xs ys : List RowEntry) → pointwise same_entries xs ys ≡ true → AreSameForms (forms_of (map plain_entry xs)) (forms_of (map plain_entry ys))
+equal_forms [] [] e = tt
+equal_forms [] (y ∷ ys) e = absurd (cc)
+equal_forms (x ∷ xs) [] e = absurd (cc)
+equal_forms (x ∷ xs) (y ∷ ys) e = let both = both_true (same_entries x y) (pointwise same_entries xs ys) e in by x y both.0 (equal_forms xs ys both.1)
+  where
+    by : (x y : RowEntry) → same_entries x y ≡ true → AreSameForms (forms_of (map plain_entry xs)) (forms_of (map plain_entry ys)) → AreSameForms (forms_of (map plain_entry (x ∷ xs))) (forms_of (map plain_entry (y ∷ ys)))
+    by (Number f) (Number g) same rest = (same, rest)
+    by (Number f) (Truth g) same rest = absurd (let no : false ≡ true = same in cc)
+    by (Number f) (Text t) same rest = absurd (let no : false ≡ true = same in cc)
+    by (Truth f) (Number g) same rest = absurd (let no : false ≡ true = same in cc)
+    by (Truth f) (Truth g) same rest = rest
+    by (Truth f) (Text t) same rest = absurd (let no : false ≡ true = same in cc)
+    by (Text s) (Number g) same rest = absurd (let no : false ≡ true = same in cc)
+    by (Text s) (Truth g) same rest = absurd (let no : false ≡ true = same in cc)
+    by (Text s) (Text t) same rest = rest
+
+-- and each formula of the second has an equal one in the first
+abbrev HasEqual : List RowEntry → Formula RowAtom → Type 0
+HasEqual xs f = (g : Formula RowAtom) × Contains (formulas_in (map plain_entry xs)) g × (same_formula same_atoms g f ≡ true)
+
+equal_formulas : (xs ys : List RowEntry) → pointwise same_entries xs ys ≡ true → (f : Formula RowAtom) → Contains (formulas_in (map plain_entry ys)) f → HasEqual xs f
+equal_formulas [] [] e f at = absurd (none f at)
+equal_formulas [] (y ∷ ys) e f at = absurd (cc)
+equal_formulas (x ∷ xs) [] e f at = absurd (none f at)
+equal_formulas (x ∷ xs) (y ∷ ys) e f at = let both = both_true (same_entries x y) (pointwise same_entries xs ys) e in by x y both.0 (equal_formulas xs ys both.1 f) at
+  where
+    by : (x y : RowEntry) → same_entries x y ≡ true → (Contains (formulas_in (map plain_entry ys)) f → HasEqual xs f) → Contains (formulas_in (map plain_entry (y ∷ ys))) f → HasEqual (x ∷ xs) f
+    by (Number g) (Number h) same rest at = rest at
+    by (Number g) (Truth h) same rest at = absurd (let no : false ≡ true = same in cc)
+    by (Number g) (Text t) same rest at = absurd (let no : false ≡ true = same in cc)
+    by (Truth g) (Number h) same rest at = absurd (let no : false ≡ true = same in cc)
+    by (Truth g) (Truth h) same rest at = elim (place_of (plain_formula h) (formulas_in (map plain_entry ys)) f at) [
+      | inl is ↦ (plain_formula g, first_in (plain_formula g) (formulas_in (map plain_entry xs)), subst (λ z. same_formula same_atoms (plain_formula g) z ≡ true) is same)
+      | inr later ↦ (let (k, there, alike) = rest later in (k, later_in (plain_formula g) k (formulas_in (map plain_entry xs)) there, alike))
+    ]
+    by (Truth g) (Text t) same rest at = absurd (let no : false ≡ true = same in cc)
+    by (Text s) (Number h) same rest at = absurd (let no : false ≡ true = same in cc)
+    by (Text s) (Truth h) same rest at = absurd (let no : false ≡ true = same in cc)
+    by (Text s) (Text t) same rest at = rest at
+
+-- equal maps are so entry by entry
+abbrev pub IsByEntries : (RowMap → RowMap → Bool) → Type 0
+IsByEntries map_eq = (m n : RowMap) → map_eq m n ≡ true → pointwise same_entries m.entries.items n.entries.items ≡ true
+
+module _ (items : List Item) (e f : X) (from into : List ℕ) (at : Contains (operands e) f) (d : OutMachine RowAtom RowMap) (own : AreTransCompared items f from into d) (map_eq : RowMap → RowMap → Bool) (by_entries : IsByEntries map_eq)
+    (c : OutMachine RowAtom RowMap) (old : MapsAre (IsOldMap map_eq d) c) where
+  -- an atom of a comparison of the expression
+  abbrev IsFine : RowAtom → Type 0
+  IsFine (Left k) = IsCompared items e from (plain_compare k)
+  IsFine (Right q) = Unit {0}
+
+  fine_equal : (a b : RowAtom) → same_atoms a b ≡ true → IsFine a → IsFine b
+  fine_equal (Left k) (Left j) same (g, is, alike) = (g, is, further g (plain_compare k) (plain_compare j) alike (same_parts k j same))
+  fine_equal (Left k) (Right q) same fine = tt
+  fine_equal (Right p) (Left j) same fine = absurd (let no : false ≡ true = same in cc)
+  fine_equal (Right p) (Right q) same fine = tt
+
+  old_map : (n : RowMap) → HasMap c n → IsOldMap map_eq d n
+  old_map n (those, there, r, among, makes) =
+      let rules = All-contains (λ rs. All (λ p. EveryMap (IsOldMap map_eq d) p.term) rs) c.rules those old there in
+      All-contains (λ p. EveryMap (IsOldMap map_eq d) p.term) those r rules among n makes
+
+  fine_in : (m : RowMap) → HasMap d m → (g : Formula RowAtom) → Contains (formulas_in (entries_of m)) g → (a : RowAtom) → Contains (atoms_in g) a → IsFine a
+  fine_in m has g there (Left k) in_g = let c = plain_compare k in one_compared items e f from at c c (own.compares k (inr (m, has, g, there, in_g))) (refl, same_itself c.left, same_itself c.right)
+  fine_in m has g there (Right q) in_g = tt
+
+  -- a formula of a map of the result
+  formula_fine : (n : RowMap) → HasMap c n → (g : Formula RowAtom) → Contains (formulas_in (entries_of n)) g → (a : RowAtom) → Contains (atoms_in g) a → IsFine a
+  formula_fine n has g there a in_g =
+      let (m, has_m, same) = old_map n has in
+      let (h, in_m, alike) = equal_formulas m.entries.items n.entries.items (by_entries m n same) g there in
+      let fine_h : EveryAtom IsFine h = every_atom IsFine h (each_all IsFine (atoms_in h) (λ b. fine_in m has_m h in_m b)) in
+      All-contains IsFine (atoms_in g) a (all_atoms IsFine g (same_every same_atoms IsFine fine_equal h g alike fine_h)) in_g
+
+  map_listed : (n : RowMap) → HasMap c n → AreListed items e from into n
+  map_listed n has =
+      let (m, has_m, same) = old_map n has in
+      let ms = forms_of (entries_of m) in
+      let ns = forms_of (entries_of n) in
+      let IsOld : List Form → Type 0 = λ ks. (gs : List Form) × Contains (ms ∷ []) gs × AreSameForms gs ks in
+      All-head (AreFormsOf items e from into) ns []
+      ((compares_go_up items).kept e f from into (one_map items ms) (ns ∷ []) at (one_listed items e f from into d own m has_m)
+      (All-cons IsOld ns [] (ms, first_in ms [], equal_forms m.entries.items n.entries.items (by_entries m n same)) (All-nil IsOld)))
+
+  -- where the atoms in guards are those of the expression
+  pub trans_compared : (P : RowAtom → Type 0) → ((k : Compare) → P (Left k) → IsCompared items e from (plain_compare k)) → AtomsAre P c → AreTransCompared items e from into c
+  trans_compared P to atoms = record { compares = tests; maps = map_listed }
+    where
+      tests : (k : Compare) → HasTest c (Left k) → IsCompared items e from (plain_compare k)
+      tests k (inl (inl (those, there, r, among, own))) =
+          let rules = All-contains (λ rs. All (λ p. EveryAtom P p.guard) rs) c.looks.rules those atoms.looks there in
+          to k (All-contains P (atoms_in r.guard) (Left k) (all_atoms P r.guard (All-contains (λ p. EveryAtom P p.guard) those r rules among)) own)
+      tests k (inl (inr (those, there, r, among, own))) =
+          let rules = All-contains (λ rs. All (λ p. EveryAtom P p.rule.guard) rs) c.rules those atoms.guards there in
+          to k (All-contains P (atoms_in r.rule.guard) (Left k) (all_atoms P r.rule.guard (All-contains (λ p. EveryAtom P p.rule.guard) those r rules among)) own)
+      tests k (inr (n, has, g, there, in_g)) = formula_fine n has g there (Left k) in_g
+
+-- ---- definitions
+
+pub opened_compared : (items : List Item) (n : Name) (x : X) → Opens items n.text x → (from into : List ℕ) (d : OutMachine RowAtom RowMap) → AreTransCompared items x from into d → AreTransCompared items (named n) from into d
+opened_compared items n x opens from into d own = record {
+  compares = λ c has. (let (k, is, same) = own.compares c has in (k, compare_opened n x from k opens is, same));
+  maps = λ m has. (let (l, is, same) = own.maps m has in (l, list_opened n x from into l opens is, same));
+}

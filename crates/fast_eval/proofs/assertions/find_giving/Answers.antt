@@ -1,0 +1,52 @@
+use Rattle.std.proofs.Common.{inr}
+use Rattle.std.proofs.lemmas.Result.{IfOk-weaker, IfErr-weaker}
+use Rattle.fast_syntax.specs.Plain.{plain_x}
+use Rattle.model_grammar.specs.Syntax as plain
+use Rattle.model_run.specs.Items.{judged_claim}
+use Rattle.fast_build.specs.Items.{items_of}
+use Rattle.model_names.specs.Kinds.{transformation}
+use Rattle.fast_eval.specs.Found.{IsFoundOf}
+use Rattle.fast_eval.specs.Scopes.{items_in}
+use Rattle.fast_eval.specs.Stops.{IsStopOf}
+use Rattle.fast_eval.proofs.Scoped.{made_from_there, named_there, found_back, claim_back}
+use Rattle.fast_eval.proofs.assertions.find_giving.Goals as goal
+
+pub returns-in_err-build_names-clause-built : goal.returns-in_err-build_names-clause-built
+returns-in_err-build_names-clause-built c = c.build_names.ensures.built c.requires.built
+
+pub scope_of-scope-requires : goal.scope_of-scope-requires
+scope_of-scope-requires c =
+    let (from, into, made) = c.requires.made in
+    record { checked = c.requires.checked; built = c.build_names.ensures.built c.requires.built; shallow = c.requires.shallow; made = (from, inr (into, made)) }
+
+pub judge_giving-requires : goal.judge_giving-requires
+judge_giving-requires c =
+    let k = c.args.checked.now in
+    let b = c.build_names.new.built in
+    let f = plain_x c.args.f.now in
+    let s = c.scope_of-scope.result in
+    let is = c.scope_of-scope.ensures.of in
+    let (from, into, made) = c.requires.made in
+    record {
+      scope = c.scope_of-scope.ensures.scope;
+      made = (into, made_from_there k b c.args.limit f s is from into (inr (into, made)) f made);
+      named = named_there k b c.args.limit f s is transformation f (c.in_ok-build_names.ensures {u = tt}).named;
+    }
+
+pub returns-clause-found : goal.returns-clause-found
+returns-clause-found c =
+    let k = c.args.checked.now in
+    let f = plain_x c.args.f.now in
+    let s = c.scope_of-scope.result in
+    IfOk-weaker c.judge_giving.result (IsFoundOf (items_in s) (plain.empty f)) (IsFoundOf (items_of k) (plain.empty f)) (found_back k c.build_names.new.built c.args.limit f s c.scope_of-scope.ensures.of (plain.empty f)) c.judge_giving.ensures.found
+
+pub returns-clause-stop : goal.returns-clause-stop
+returns-clause-stop c =
+    let k = c.args.checked.now in
+    let f = plain_x c.args.f.now in
+    let s = c.scope_of-scope.result in
+    IfErr-weaker c.judge_giving.result (IsStopOf (items_in s) (judged_claim (items_in s) (plain.empty f)) s.limit) (IsStopOf (items_of k) (judged_claim (items_of k) (plain.empty f)) c.args.limit)
+    (claim_back k c.build_names.new.built c.args.limit f s c.scope_of-scope.ensures.of (plain.empty f)) c.judge_giving.ensures.stop
+
+pub returns-clause-built : goal.returns-clause-built
+returns-clause-built c = c.build_names.ensures.built c.requires.built
