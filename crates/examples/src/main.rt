@@ -9,7 +9,7 @@ use fast_tool::run;
 use std::io;
 use std::rt::Files;
 
-const NAMES: [&str; 7] = [
+const NAMES: [&str; 8] = [
     "access",
     "documents",
     "parcels",
@@ -17,6 +17,7 @@ const NAMES: [&str; 7] = [
     "sanitiser",
     "sessions",
     "switches",
+    "typecheck",
 ];
 
 /// The most bytes of a stored report.
