@@ -6,8 +6,8 @@ use Rattle.model_sttr.specs.Transducer.{identity, run}
 use Rattle.sttr_theory.specs.Triples.{LookName, of_second, middle, asked_by}
 use Rattle.sttr_run.specs.Drafts.{name_of, IsAskedIn, Asks}
 use Rattle.sttr_run.specs.declared.drafts.Demand.{Demand}
-use Rattle.sttr_run.proofs.Members.{nil_out, one_out, append_out, append_left, append_right, push_out, push_old, push_new}
-use Rattle.sttr_theory.proofs.Members.{here}
+use Rattle.sttr_run.proofs.Members.{nil_out, push_out, push_old, push_new}
+use Rattle.sttr_theory.proofs.Members.{here, in_single, in_either, in_left, in_right}
 
 pub nothing_asked : (j : ℕ) (n : LookName) → IsAskedIn [] j n → ⊥
 nothing_asked j n (d, at, c, e) = nil_out d at
@@ -20,7 +20,7 @@ asked_more ds d j n = (
 
 pub asked_one : (d : Demand) (j : ℕ) (n : LookName) → IsAskedIn (d ∷ []) j n ↔ ((d.child ≡ j) × (name_of d.ask ≡ n))
 asked_one d j n = (
-  λ a. let is = one_out d a.0 a.1 in (ap (λ x. x.child) is ∙ a.2, ap (λ x. name_of x.ask) is ∙ a.3),
+  λ a. let is = in_single d a.0 a.1 in (ap (λ x. x.child) is ∙ a.2, ap (λ x. name_of x.ask) is ∙ a.3),
   λ e. (d, here d [], e.0, e.1),
 )
 
@@ -51,12 +51,12 @@ asks_copy old d e same name j n = (
 pub asks_more : (new mid old ds es : List Demand) → Asks mid old ds → Asks new mid es → Asks new old (ds ++ es)
 asks_more new mid old ds es f g j n = (
   λ a. elim ((g j n).0 a) [
-    | inl m ↦ elim ((f j n).0 m) [ inl o ↦ inl o | inr d ↦ inr (d.0, append_left ds es d.0 d.1, d.2, d.3) ]
-    | inr e ↦ inr (e.0, append_right ds es e.0 e.1, e.2, e.3)
+    | inl m ↦ elim ((f j n).0 m) [ inl o ↦ inl o | inr d ↦ inr (d.0, in_left ds es d.0 d.1, d.2, d.3) ]
+    | inr e ↦ inr (e.0, in_right ds es e.0 e.1, e.2, e.3)
   ],
   λ s. elim s [
     | inl o ↦ (g j n).1 (inl ((f j n).1 (inl o)))
-    | inr a ↦ elim (append_out ds es a.0 a.1) [ inl d ↦ (g j n).1 (inl ((f j n).1 (inr (a.0, d, a.2, a.3)))) | inr e ↦ (g j n).1 (inr (a.0, e, a.2, a.3)) ]
+    | inr a ↦ elim (in_either ds es a.0 a.1) [ inl d ↦ (g j n).1 (inl ((f j n).1 (inr (a.0, d, a.2, a.3)))) | inr e ↦ (g j n).1 (inr (a.0, e, a.2, a.3)) ]
   ],
 )
 
@@ -93,7 +93,7 @@ states_more ds child s ts d inv same name j n = (
 pub output_asked : (child q : ℕ) (all : List ℕ) (ds : List Demand) (d : Demand) → ds ≡ d ∷ [] → d.child ≡ child → name_of d.ask ≡ middle q all → (j : ℕ) (n : LookName) → IsAskedIn ds j n ↔ ((child ≡ j) × Contains (asked_by (run q) all) n)
 output_asked child q all ds d is same name j n = (
   λ a. let m = (asked_one d j n).0 (subst (λ xs. IsAskedIn xs j n) is a) in (sym same ∙ m.0, subst (Contains (middle q all ∷ [])) (sym name ∙ m.1) (here (middle q all) [])),
-  λ b. subst (λ xs. IsAskedIn xs j n) (sym is) ((asked_one d j n).1 (same ∙ b.0, name ∙ one_out (middle q all) n b.1)),
+  λ b. subst (λ xs. IsAskedIn xs j n) (sym is) ((asked_one d j n).1 (same ∙ b.0, name ∙ in_single (middle q all) n b.1)),
 )
 
 pub none_asked : (child : ℕ) (ds : List Demand) → ds ≡ [] → (j : ℕ) (n : LookName) → IsAskedIn ds j n ↔ ((child ≡ j) × Contains [] n)

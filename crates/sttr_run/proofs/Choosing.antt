@@ -1,13 +1,13 @@
 -- Picks of rules for the same states, or for some of them.
-use Rattle.std.proofs.Common.{ℕ, zero, suc, ◌≡◌, ◌<◌, ◌⊎◌, inl, inr, Bool, true, false, List, [], ◌∷◌, map, get_or, length, Contains, refl, sym, subst, ap, ◌∙◌, arith}
+use Rattle.std.proofs.Common.{ℕ, zero, suc, ◌≡◌, ◌<◌, ◌⊎◌, inl, inr, true, List, [], ◌∷◌, map, get_or, length, Contains, refl, sym, subst, ap, ◌∙◌, arith}
 use Rattle.model_sta.specs.Automaton.{Rule, rules_of}
 use Rattle.sttr_theory.specs.Lists.{SameStates}
 use Rattle.sttr_theory.specs.Ways.{Pick, pick, picks_of, fires}
-use Rattle.sttr_theory.proofs.Members.{here, there}
+use Rattle.sttr_theory.proofs.Members.{here, there, in_either, in_left, in_right, to_mapped, of_mapped, to_flat, of_flat}
+use Rattle.sttr_theory.proofs.Accept.{and_split, and_both, bool_same}
 use Rattle.sttr_run.specs.Drafts.{AreAmong}
 use Rattle.sttr_run.specs.Sets.{IsAscending}
-use Rattle.sttr_run.proofs.Covering.{and_parts, and_join}
-use Rattle.sttr_run.proofs.Members.{nil_out, cons_out, append_out, append_left, append_right, map_in, map_out, flat_in, flat_out}
+use Rattle.sttr_run.proofs.Members.{nil_out, cons_out}
 
 abbrev Distinct : List ℕ → Type 0
 Distinct [] = Unit {0}
@@ -43,8 +43,8 @@ module _ {L : Type 0} (looks : List (List (Rule L))) (c : ℕ) where
   in_picks : (Z : List ℕ) (p : Pick L) → Contains (picks_of looks c Z) p → (rs : List (Rule L)) × Chosen Z rs × (picked rs ≡ p)
   in_picks [] p at = ([], tt, elim (cons_out (picked []) [] p at) [ inl e ↦ e | inr none ↦ absurd (nil_out p none) ])
   in_picks (s ∷ Z) p at =
-      let (r, in_rules, row) = flat_out (λ r. map (pick c r) (picks_of looks c Z)) (rules_of looks s) p at in
-      let (q, in_q, e) = map_out (pick c r) (picks_of looks c Z) p row in
+      let (r, in_rules, row) = of_flat (λ r. map (pick c r) (picks_of looks c Z)) (rules_of looks s) p at in
+      let (q, in_q, e) = of_mapped (pick c r) (picks_of looks c Z) p row in
       let (rs, chosen, is) = in_picks Z q in_q in
       (r ∷ rs, (in_rules, chosen), ap (pick c r) is ∙ e)
 
@@ -52,19 +52,19 @@ module _ {L : Type 0} (looks : List (List (Rule L))) (c : ℕ) where
   of_picks [] [] chosen = here (picked []) []
   of_picks [] (r ∷ rs) chosen = absurd chosen
   of_picks (s ∷ Z) [] chosen = absurd chosen
-  of_picks (s ∷ Z) (r ∷ rs) chosen = flat_in (λ r. map (pick c r) (picks_of looks c Z)) (rules_of looks s) r (pick c r (picked rs)) chosen.0 (map_in (pick c r) (picks_of looks c Z) (picked rs) (of_picks Z rs chosen.1))
+  of_picks (s ∷ Z) (r ∷ rs) chosen = to_flat (λ r. map (pick c r) (picks_of looks c Z)) (rules_of looks s) r (pick c r (picked rs)) chosen.0 (to_mapped (pick c r) (picks_of looks c Z) (picked rs) (of_picks Z rs chosen.1))
 
   fires_each : (rs : List (Rule L)) (l : L) (r : Rule L) → (picked rs).guard l ≡ true → Contains rs r → fires r c l ≡ true
   fires_each [] l r h at = absurd (nil_out r at)
-  fires_each (q ∷ rs) l r h at = let both = and_parts (fires q c l) ((picked rs).guard l) h in elim (cons_out q rs r at) [ inl e ↦ subst (λ x. fires x c l ≡ true) e both.0 | inr later ↦ fires_each rs l r both.1 later ]
+  fires_each (q ∷ rs) l r h at = let both = and_split (fires q c l) ((picked rs).guard l) h in elim (cons_out q rs r at) [ inl e ↦ subst (λ x. fires x c l ≡ true) e both.0 | inr later ↦ fires_each rs l r both.1 later ]
 
   fires_all : (rs : List (Rule L)) (l : L) → ((r : Rule L) → Contains rs r → fires r c l ≡ true) → (picked rs).guard l ≡ true
   fires_all [] l f = refl
-  fires_all (q ∷ rs) l f = and_join (fires q c l) ((picked rs).guard l) (f q (here q rs)) (fires_all rs l (λ r at. f r (there q rs r at)))
+  fires_all (q ∷ rs) l f = and_both (fires q c l) ((picked rs).guard l) (f q (here q rs)) (fires_all rs l (λ r at. f r (there q rs r at)))
 
   wants_from : (rs : List (Rule L)) (j s : ℕ) → Contains ((picked rs).wants j) s → (r : Rule L) × Contains rs r × Contains (get_or r.demands j []) s
   wants_from [] j s at = absurd (nil_out s at)
-  wants_from (q ∷ rs) j s at = elim (append_out (get_or q.demands j []) ((picked rs).wants j) s at) [
+  wants_from (q ∷ rs) j s at = elim (in_either (get_or q.demands j []) ((picked rs).wants j) s at) [
     | inl a ↦ (q, here q rs, a)
     | inr b ↦ (let (r, in_rs, a) = wants_from rs j s b in (r, there q rs r in_rs, a))
   ]
@@ -72,8 +72,8 @@ module _ {L : Type 0} (looks : List (List (Rule L))) (c : ℕ) where
   wants_of_rule : (rs : List (Rule L)) (j s : ℕ) (r : Rule L) → Contains rs r → Contains (get_or r.demands j []) s → Contains ((picked rs).wants j) s
   wants_of_rule [] j s r at a = absurd (nil_out r at)
   wants_of_rule (q ∷ rs) j s r at a = elim (cons_out q rs r at) [
-    | inl e ↦ append_left (get_or q.demands j []) ((picked rs).wants j) s (subst (λ x. Contains (get_or x.demands j []) s) (sym e) a)
-    | inr later ↦ append_right (get_or q.demands j []) ((picked rs).wants j) s (wants_of_rule rs j s r later a)
+    | inl e ↦ in_left (get_or q.demands j []) ((picked rs).wants j) s (subst (λ x. Contains (get_or x.demands j []) s) (sym e) a)
+    | inr later ↦ in_right (get_or q.demands j []) ((picked rs).wants j) s (wants_of_rule rs j s r later a)
   ]
 
   -- of fewer rules
@@ -82,11 +82,6 @@ module _ {L : Type 0} (looks : List (List (Rule L))) (c : ℕ) where
 
   wants_less : (rs qs : List (Rule L)) → ((r : Rule L) → Contains rs r → Contains qs r) → (j : ℕ) → AreAmong ((picked rs).wants j) ((picked qs).wants j)
   wants_less rs qs f j s at = let (r, in_rs, a) = wants_from rs j s at in wants_of_rule qs j s r (f r in_rs) a
-
-  bool_same : (a b : Bool) → (a ≡ true → b ≡ true) → (b ≡ true → a ≡ true) → a ≡ b
-  bool_same true b f g = sym (f refl)
-  bool_same false true f g = g refl
-  bool_same false false f g = refl
 
   -- the rule at the state's place
   abbrev Paired : List ℕ → List (Rule L) → ℕ → Rule L → Type 0

@@ -1,28 +1,22 @@
 -- Drafts that cover lists of ways, as both are made.
 use Rattle.std.proofs.Common.{ℕ, ◌≡◌, ◌⊎◌, inl, inr, Bool, true, false, ◌&&◌, List, [], ◌∷◌, ◌++◌, map, get_or, Contains, refl, sym, subst, ap, ap₂, ◌∙◌}
-use Rattle.std.proofs.lemmas.List.{map-append, append_assoc}
+use Rattle.std.proofs.lemmas.List.{map-append}
 use Rattle.model_tree.specs.Label.{Label}
 use Rattle.model_tree.specs.Formula.{Formula, formula_holds}
 use Rattle.model_sttr.specs.Terms.{Term, on, build, Parts, no_parts, part, with_maps, parts_with_maps, StandsFor, StandFor}
-use Rattle.sttr_theory.specs.Triples.{Triple, LookName, asked, asked_by}
+use Rattle.sttr_theory.specs.Triples.{Triple, LookName, asked}
 use Rattle.sttr_theory.specs.Alike.{SameName, SameTriple}
 use Rattle.sttr_theory.specs.Lists.{pairs, merge}
 use Rattle.sttr_theory.specs.Ways.{WayOf, joined}
 use Rattle.sttr_theory.proofs.OneOf.{merge_at}
+use Rattle.sttr_theory.proofs.Members.{in_either, in_left, in_right, to_mapped, of_mapped, to_flat, of_flat}
+use Rattle.sttr_theory.proofs.Accept.{and_split, and_both}
+use Rattle.sttr_theory.proofs.AlikeWays.{asked_append}
 use Rattle.sttr_run.specs.Drafts.{FollowsFrom, IsFreer, IsAskedIn, Asks, parts_of, list_of, IsCopy, AreCopies, AllCopies, all_say, AllStand, guards_of, terms_of, terms_at, IsBoth, AreProducts, NeverHolds, SaysSame, SaysLess, Covers}
 use Rattle.sttr_run.specs.declared.drafts.Demand.{Demand}
 use Rattle.sttr_run.specs.declared.drafts.Draft.{Draft}
-use Rattle.sttr_run.proofs.Members.{append_out, append_left, append_right, map_in, map_out, flat_in, flat_out}
 
 -- ---- truth values
-
-and_true : (a b : Bool) → (a && b) ≡ true → (a ≡ true) × (b ≡ true)
-and_true true b h = (refl, h)
-and_true false b h = cc
-
-true_and : (a b : Bool) → a ≡ true → b ≡ true → (a && b) ≡ true
-true_and true b g h = h
-true_and false b g h = cc
 
 false_left : (a b : Bool) → a ≡ false → (a && b) ≡ false
 false_left true b h = cc
@@ -36,12 +30,6 @@ pub and_false : (a b : Bool) → (a ≡ false) ⊎ (b ≡ false) → (a && b) �
 and_false a b (inl h) = false_left a b h
 and_false a b (inr h) = false_right a b h
 
-pub and_parts : (a b : Bool) → (a && b) ≡ true → (a ≡ true) × (b ≡ true)
-and_parts = and_true
-
-pub and_join : (a b : Bool) → a ≡ true → b ≡ true → (a && b) ≡ true
-and_join = true_and
-
 pub and_assoc : (a b c : Bool) → ((a && b) && c) ≡ (a && (b && c))
 and_assoc true b c = refl
 and_assoc false b c = refl
@@ -53,10 +41,6 @@ module _ {A : Type 0} (holds : A → Label → Bool) where
 
 -- ---- names that are asked
 
-pub asked_append : (ds es : List Triple) → asked (ds ++ es) ≡ asked ds ++ asked es
-asked_append [] es = refl
-asked_append (d ∷ ds) es = ap (λ ns. asked_by d.first d.all ++ ns) (asked_append ds es) ∙ sym (append_assoc (asked_by d.first d.all) (asked ds) (asked es))
-
 pub asked_merge : (ds es : List (List Triple)) (j : ℕ) → asked (get_or (merge ds es) j []) ≡ asked (get_or ds j []) ++ asked (get_or es j [])
 asked_merge ds es j = ap asked (merge_at ds es j) ∙ asked_append (get_or ds j []) (get_or es j [])
 
@@ -67,8 +51,8 @@ module _ (Rel : LookName → LookName → Type 0) where
 
   pub from_both : (ds es fs : List Demand) (xs ys : List (List Triple)) → Asks fs ds es → FromNames ds xs → FromNames es ys → FromNames fs (merge xs ys)
   from_both ds es fs xs ys asks f g j n a = elim ((asks j n).0 a) [
-    | inl b ↦ (let (m, at, r) = f j n b in (m, subst (λ ns. Contains ns m) (sym (asked_merge xs ys j)) (append_left (asked (get_or xs j [])) (asked (get_or ys j [])) m at), r))
-    | inr b ↦ (let (m, at, r) = g j n b in (m, subst (λ ns. Contains ns m) (sym (asked_merge xs ys j)) (append_right (asked (get_or xs j [])) (asked (get_or ys j [])) m at), r))
+    | inl b ↦ (let (m, at, r) = f j n b in (m, subst (λ ns. Contains ns m) (sym (asked_merge xs ys j)) (in_left (asked (get_or xs j [])) (asked (get_or ys j [])) m at), r))
+    | inr b ↦ (let (m, at, r) = g j n b in (m, subst (λ ns. Contains ns m) (sym (asked_merge xs ys j)) (in_right (asked (get_or xs j [])) (asked (get_or ys j [])) m at), r))
   ]
 
   -- and the other way about
@@ -76,7 +60,7 @@ module _ (Rel : LookName → LookName → Type 0) where
   ToNames ds zs = (j : ℕ) (m : LookName) → Contains (asked (get_or zs j [])) m → (n : LookName) × IsAskedIn ds j n × Rel n m
 
   pub to_both : (ds es fs : List Demand) (xs ys : List (List Triple)) → Asks fs ds es → ToNames ds xs → ToNames es ys → ToNames fs (merge xs ys)
-  to_both ds es fs xs ys asks f g j m a = elim (append_out (asked (get_or xs j [])) (asked (get_or ys j [])) m (subst (λ ns. Contains ns m) (asked_merge xs ys j) a)) [
+  to_both ds es fs xs ys asks f g j m a = elim (in_either (asked (get_or xs j [])) (asked (get_or ys j [])) m (subst (λ ns. Contains ns m) (asked_merge xs ys j) a)) [
     | inl b ↦ (let (n, at, r) = f j m b in (n, (asks j n).1 (inl at), r))
     | inr b ↦ (let (n, at, r) = g j m b in (n, (asks j n).1 (inr at), r))
   ]
@@ -144,7 +128,7 @@ module _ {A M : Type 0} (holds : A → Label → Bool) (eq : M → M → Bool) (
 
   pub less_both : (a b y : Draft A M) (v : WayOf Label X) (w : WayOf Label Y) → IsBoth eq a b y → SaysLess holds make D left a v → SaysLess holds make D right b w → SaysLess holds make D whole y (joined f v w)
   less_both a b y v w is s t = record {
-    guard = λ l d h. let e = and_true (v.guard l) (w.guard l) h in guards_both a b y l is ∙ true_and (all_say holds (guards_of a) l) (all_say holds (guards_of b) l) (s.guard l d e.0) (t.guard l d e.1);
+    guard = λ l d h. let e = and_split (v.guard l) (w.guard l) h in guards_both a b y l is ∙ and_both (all_say holds (guards_of a) l) (all_say holds (guards_of b) l) (s.guard l d e.0) (t.guard l d e.1);
     asks = from_both FollowsFrom a.demands.items b.demands.items y.demands.items v.demands w.demands is.asks s.asks t.asks;
     freer_terms = terms_both IsFreer a b y v.term w.term is s.freer_terms t.freer_terms;
   }
@@ -157,10 +141,10 @@ module _ {A M : Type 0} (holds : A → Label → Bool) (eq : M → M → Bool) (
         let (a, in_a, b, in_b, both) = p.each y at in
         let (v, in_v, s) = c.each i is a in_a in
         let (w, in_w, t) = d.each i is b in_b in
-        (joined f v w, flat_in (λ v. map (joined f v) (ws i)) (vs i) v (joined f v w) in_v (map_in (joined f v) (ws i) w in_w), same_both a b y v w both s t);
+        (joined f v w, to_flat (λ v. map (joined f v) (ws i)) (vs i) v (joined f v w) in_v (to_mapped (joined f v) (ws i) w in_w), same_both a b y v w both s t);
     all = λ i more z at.
-        let (v, in_v, in_row) = flat_out (λ v. map (joined f v) (ws i)) (vs i) z at in
-        let (w, in_w, is) = map_out (joined f v) (ws i) z in_row in
+        let (v, in_v, in_row) = of_flat (λ v. map (joined f v) (ws i)) (vs i) z at in
+        let (w, in_w, is) = of_mapped (joined f v) (ws i) z in_row in
         subst (λ z. NeverHolds holds make D whole z ⊎ ((y : Draft A M) × Contains ys y × SaysLess holds make D whole y z)) is (found i more v w in_v in_w);
   }
     where

@@ -14,8 +14,8 @@ use Rattle.sttr_theory.proofs.Alike.{covers_are_ways}
 use Rattle.sttr_theory.proofs.Covers.{covers_match}
 use Rattle.sttr_theory.proofs.Asked.{at_map}
 use Rattle.sttr_theory.proofs.Each.{each_at, each_all}
+use Rattle.sttr_theory.proofs.Members.{in_either, in_left, in_right}
 use Rattle.sttr_run.specs.Drafts.{AreAmong, FollowsFrom, IsFreer}
-use Rattle.sttr_run.proofs.Members.{append_out, append_left, append_right}
 
 -- the term of the one stands for that of the other
 abbrev pub TermStands : {L : Type 0} → (Triple → Triple → Type 0) → (L → Type 0) → Option (Term Triple (L → L)) → Option (Term Triple (L → L)) → Type 0
@@ -90,16 +90,16 @@ module _ {L : Type 0} (f g : Sttr L) where
         → AreWays f g D p x ys
     covering_are_ways p x ys zs ways each all =
         let both = covers_are_ways f g D p x (ys ++ zs) zs ways (covers_match (AlikeWay D) (λ z. Never D z.guard) (ys ++ zs) zs (
-          (λ y at. elim (append_out ys zs y at) [ inl a ↦ each y a | inr b ↦ (y, b, way_self D y) ]),
-          λ z at. (z, append_right ys zs z at, way_self D z),
+          (λ y at. elim (in_either ys zs y at) [ inl a ↦ each y a | inr b ↦ (y, b, way_self D y) ]),
+          λ z at. (z, in_right ys zs z at, way_self D z),
         )) in
         record {
           all = λ l d ts w m. let (z, at, ok) = ways.all l d ts w m in elim (all z at) [
             | inl never ↦ absurd (let e : true ≡ false = sym ok.0 ∙ never l d in cc)
             | inr found ↦ (let (y, in_ys, follows) = found in (y, in_ys, works ts l d w y z follows ok))
           ];
-          only = λ l d ts w there can y at ok. both.only l d ts w there can y (append_left ys zs y at) ok;
-          fit = λ y at. both.fit y (append_left ys zs y at);
-          guards = λ y at. both.guards y (append_left ys zs y at);
-          maps = λ y at. both.maps y (append_left ys zs y at);
+          only = λ l d ts w there can y at ok. both.only l d ts w there can y (in_left ys zs y at) ok;
+          fit = λ y at. both.fit y (in_left ys zs y at);
+          guards = λ y at. both.guards y (in_left ys zs y at);
+          maps = λ y at. both.maps y (in_left ys zs y at);
         }

@@ -15,6 +15,7 @@ use Rattle.sttr_core.specs.Machine.{OutMachine}
 use Rattle.sttr_theory.specs.Lists.{SameStates}
 use Rattle.sttr_theory.specs.Ways.{Pick as Picking, pick, picks_of, fires}
 use Rattle.sttr_theory.proofs.Accept.{same_number, number_same}
+use Rattle.sttr_theory.proofs.Members.{in_single, in_either, in_left, in_right, to_mapped, of_mapped, to_flat, of_flat}
 use Rattle.sttr_run.specs.Drafts.{all_say}
 use Rattle.sttr_run.specs.Found.{GuardStands, FiredStands, PickStands, IsTermOf}
 use Rattle.sttr_run.specs.Picks.{wanted_in, fired_demands, fired_term, pick_guards, pick_demands, wants_of, IsWith, AreWithEach, AreHolding, IsFired, AreFired, PicksSame, ArePicks, NeverPicked, IsApplied, AreApplied}
@@ -22,7 +23,7 @@ use Rattle.sttr_run.specs.Runs.{OnTerm}
 use Rattle.sttr_run.specs.declared.picks.Fired.{Fired}
 use Rattle.sttr_run.specs.declared.picks.Pick.{Pick}
 use Rattle.sttr_run.proofs.Covering.{all_say_both, and_false}
-use Rattle.sttr_run.proofs.Members.{nil_out, one_out, append_out, append_left, append_right, push_out, push_old, push_new, map_in, map_out, flat_in, flat_out, all_at, all_of}
+use Rattle.sttr_run.proofs.Members.{nil_out, push_out, push_old, push_new, all_at, all_of}
 use Rattle.sttr_run.proofs.NodeWays.{same_trans}
 
 and_comm : (a b : Bool) → (a && b) ≡ (b && a)
@@ -41,8 +42,8 @@ wanted_more (e ∷ ds) d j = ap (λ xs. get_or e j [] ++ xs) (wanted_more ds d j
 
 swapped : (Z W : List ℕ) → SameStates (Z ++ W) (W ++ Z)
 swapped Z W = (
-  (λ s at. elim (append_out Z W s at) [ inl a ↦ append_right W Z s a | inr b ↦ append_left W Z s b ]),
-  λ s at. elim (append_out W Z s at) [ inl a ↦ append_right Z W s a | inr b ↦ append_left Z W s b ],
+  (λ s at. elim (in_either Z W s at) [ inl a ↦ in_right W Z s a | inr b ↦ in_left W Z s b ]),
+  λ s at. elim (in_either W Z s at) [ inl a ↦ in_right Z W s a | inr b ↦ in_left Z W s b ],
 )
 
 module _ {A M : Type 0} (holds : A → Label → Bool) (make : M → Label → Label) (D : Label → Type 0) (c : ℕ) (m : M) where
@@ -82,8 +83,8 @@ module _ {A M : Type 0} (holds : A → Label → Bool) (make : M → Label → L
 
   sides : (Z W V : List ℕ) → SameStates Z W → SameStates (V ++ Z) (V ++ W)
   sides Z W V a = (
-    (λ s at. elim (append_out V Z s at) [ inl b ↦ append_left V W s b | inr b ↦ append_right V W s (a.0 s b) ]),
-    λ s at. elim (append_out V W s at) [ inl b ↦ append_left V Z s b | inr b ↦ append_right V Z s (a.1 s b) ],
+    (λ s at. elim (in_either V Z s at) [ inl b ↦ in_left V W s b | inr b ↦ in_right V W s (a.0 s b) ]),
+    λ s at. elim (in_either V W s at) [ inl b ↦ in_left V Z s b | inr b ↦ in_right V Z s (a.1 s b) ],
   )
 
   module _ (looks : List (List (Rule Label))) where
@@ -92,8 +93,8 @@ module _ {A M : Type 0} (holds : A → Label → Bool) (make : M → Label → L
         let empty : Picking Label = record { guard = λ l. true; wants = λ j. [] } in
         let says : PicksSame holds make D c m x empty = record { guard = λ l d. ap (λ gs. all_say holds gs l) gs; wants = λ j. to_same (wants_of x j) [] (ap (λ ds. wanted_in ds j) ds) } in
         record {
-          each = λ y at. subst (λ y. (p : Picking Label) × Contains (picks_of looks c []) p × PicksSame holds make D c m y p) (one_out x y at) (empty, (0, omega arith, refl), says);
-          every = λ p at. subst (λ p. NeverPicked holds make D c m p ⊎ ((y : Pick A M) × Contains (x ∷ []) y × PicksSame holds make D c m y p)) (one_out empty p at) (inr (x, (0, omega arith, refl), says));
+          each = λ y at. subst (λ y. (p : Picking Label) × Contains (picks_of looks c []) p × PicksSame holds make D c m y p) (in_single x y at) (empty, (0, omega arith, refl), says);
+          every = λ p at. subst (λ p. NeverPicked holds make D c m p ⊎ ((y : Pick A M) × Contains (x ∷ []) y × PicksSame holds make D c m y p)) (in_single empty p at) (inr (x, (0, omega arith, refl), says));
         }
 
     -- a state without rules
@@ -137,9 +138,9 @@ module _ {A M : Type 0} (holds : A → Label → Bool) (make : M → Label → L
 
       every_more : (q : Picking Label) → Contains (picks_of looks c (s ∷ all)) q → NeverPicked holds make D c m q ⊎ ((y : Pick A M) × Contains ys y × PicksSame holds make D c m y q)
       every_more q at =
-          let (r', in_rules, row) = flat_out Row (rules_of looks s) q at in
-          let (p, in_picks, is) = map_out (pick c r') (picks_of looks c all) q row in
-          let (r, in_rs, e) = map_out (rule_meaning holds) rs r' (subst (λ ps. Contains ps r') rules_are in_rules) in
+          let (r', in_rules, row) = of_flat Row (rules_of looks s) q at in
+          let (p, in_picks, is) = of_mapped (pick c r') (picks_of looks c all) q row in
+          let (r, in_rs, e) = of_mapped (rule_meaning holds) rs r' (subst (λ ps. Contains ps r') rules_are in_rules) in
           subst (λ q. NeverPicked holds make D c m q ⊎ ((y : Pick A M) × Contains ys y × PicksSame holds make D c m y q)) (ap (λ r. pick c r p) e ∙ is)
           (by_constructor r p (r.constructor == c) refl (λ t. with_rule r p in_rs (same_number r.constructor c t) (picks.every p in_picks)))
 
@@ -151,7 +152,7 @@ module _ {A M : Type 0} (holds : A → Label → Bool) (make : M → Label → L
             let (r, in_rs, is, t) = fired.each f in_fs in
             let (p, in_picks, says) = picks.each x in_xs in (
               pick c (rule_meaning holds r) p,
-              flat_in Row (rules_of looks s) (rule_meaning holds r) (pick c (rule_meaning holds r) p) (subst (λ ps. Contains ps (rule_meaning holds r)) (sym rules_are) (map_in (rule_meaning holds) rs r in_rs)) (map_in (pick c (rule_meaning holds r)) (picks_of looks c all) p in_picks),
+              to_flat Row (rules_of looks s) (rule_meaning holds r) (pick c (rule_meaning holds r) p) (subst (λ ps. Contains ps (rule_meaning holds r)) (sym rules_are) (to_mapped (rule_meaning holds) rs r in_rs)) (to_mapped (pick c (rule_meaning holds r)) (picks_of looks c all) p in_picks),
               one_pick x y f r p w is says,
             );
         every = every_more;

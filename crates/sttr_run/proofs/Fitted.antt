@@ -15,8 +15,9 @@ use Rattle.sta_core.specs.declared.StaRule.{StaRule}
 use Rattle.sta_core.proofs.Meaning.{rules_of_automaton}
 use Rattle.sttr_core.specs.Machine.{OutMachine, transducer_of}
 use Rattle.sttr_core.proofs.Meaning.{meaning_of, rule_held, of_place, uses_as_with_maps}
+use Rattle.sttr_theory.proofs.Members.{of_mapped}
 use Rattle.sttr_run.specs.Fits.{SttrStands, OutStands, LooksStand}
-use Rattle.sttr_run.proofs.Members.{map_out, all_at, all_of}
+use Rattle.sttr_run.proofs.Members.{all_at, all_of}
 use Rattle.sttr_run.proofs.Weights.{mapped_length}
 
 each_of_all : {X : Type 0} (P : X → Type 0) (xs : List X) → All P xs → Each P xs
@@ -58,7 +59,7 @@ module _ {A M : Type 0} (holds : A → Label → Bool) (make : M → Label → L
 
   look_fits : (s : ℕ) (r : Rule Label) → Contains (rules_of T.looks s) r → Each (Each (λ s. s < length T.looks)) r.demands
   look_fits s r at =
-      let (x, in_x, is) = map_out (rule_meaning holds) (get_or d.looks.rules s []) r (subst (λ rs. Contains rs r) (rules_of_automaton holds d.looks s) at) in
+      let (x, in_x, is) = of_mapped (rule_meaning holds) (get_or d.looks.rules s []) r (subst (λ rs. Contains rs r) (rules_of_automaton holds d.looks s) at) in
       subst (λ (r : Rule Label). Each (Each (λ s. s < length T.looks)) r.demands) is
       (demands_low (length d.looks.rules) (length T.looks) many_looks x.demands (of_place (λ r. All (All (λ s. s < length d.looks.rules)) r.demands) d.looks.rules s x looks in_x))
 
@@ -84,12 +85,12 @@ module _ {A M : Type 0} (holds : A → Label → Bool) (make : M → Label → L
 pub rules_stand : {A G : Type 0} (m : Machine A) (rules : List (Vec (StaRule A) G)) → map (λ those. map plain_rule those.items) rules ≡ m.rules → All (λ those. All (RuleFits m.ranks (length m.rules)) those.items) rules → LooksStand m
 rules_stand {A} m rules e fit =
     all_of (All (λ r. All (All (λ s. s < length m.rules)) r.demands)) m.rules (λ those at.
-    let (u, in_rules, is) = map_out (λ those. map plain_rule those.items) rules those (subst (λ rs. Contains rs those) (sym e) at) in
+    let (u, in_rules, is) = of_mapped (λ those. map plain_rule those.items) rules those (subst (λ rs. Contains rs those) (sym e) at) in
     subst (All (λ (r : PlainRule A). All (All (λ s. s < length m.rules)) r.demands)) is
     (all_of (λ (r : PlainRule A). All (All (λ s. s < length m.rules)) r.demands) (map plain_rule u.items) (λ r in_r.
-    let (x, in_x, is') = map_out plain_rule u.items r in_r in
+    let (x, in_x, is') = of_mapped plain_rule u.items r in_r in
     let fits = all_at (RuleFits m.ranks (length m.rules)) u.items x (all_at (λ those. All (RuleFits m.ranks (length m.rules)) those.items) rules u fit in_rules) in_x in
     subst (λ (r : PlainRule A). All (All (λ s. s < length m.rules)) r.demands) is'
     (all_of (All (λ s. s < length m.rules)) (map (λ d. d.items) x.demands.items) (λ d in_d.
-    let (v, in_v, is'') = map_out (λ d. d.items) x.demands.items d in_d in
+    let (v, in_v, is'') = of_mapped (λ d. d.items) x.demands.items d in_d in
     subst (All (λ s. s < length m.rules)) is'' (all_at (λ d. All (λ s. s < length m.rules) d.items) x.demands.items v fits.2 in_v))))))

@@ -7,11 +7,11 @@ use Rattle.sttr_theory.specs.Triples.{Triple, LookName, of_second, middle, asked
 use Rattle.sttr_theory.specs.Alike.{SameName, SameTriple}
 use Rattle.sttr_theory.specs.Lists.{alone, SameStates}
 use Rattle.sttr_theory.specs.Ways.{WayOf, plain, leaf_ways, free_ways}
-use Rattle.sttr_theory.proofs.Members.{here}
+use Rattle.sttr_theory.proofs.Members.{here, in_single, to_mapped, of_mapped}
 use Rattle.sttr_run.specs.Drafts.{AreAmong, FollowsFrom, IsFreer, only, no_terms, all_say, AllStand, guards_of, terms_of, terms_at, SaysSame, SaysLess, Covers}
 use Rattle.sttr_run.specs.Leaves.{IsLeaf}
 use Rattle.sttr_run.specs.declared.drafts.Draft.{Draft}
-use Rattle.sttr_run.proofs.Members.{nil_out, one_out, map_in, map_out}
+use Rattle.sttr_run.proofs.Members.{nil_out}
 
 same_self : (Z : List ℕ) → SameStates Z Z
 same_self Z = (λ s a. a, λ s a. a)
@@ -19,16 +19,16 @@ same_self Z = (λ s a. a, λ s a. a)
 -- ---- names
 
 names_same : (h : Head) (Z W : List ℕ) → SameStates Z W → (n : LookName) → Contains (asked_by h Z) n → (m : LookName) × Contains (asked_by h W) m × SameName n m
-names_same identity Z W same n at = let (s, there, e) = map_out of_second Z n at in subst (λ n. (m : LookName) × Contains (asked_by identity W) m × SameName n m) e (of_second s, map_in of_second W s (same.0 s there), refl)
-names_same (run q) Z W same n at = subst (λ n. (m : LookName) × Contains (asked_by (run q) W) m × SameName n m) (one_out (middle q Z) n at) (middle q W, here (middle q W) [], (W, refl, same))
+names_same identity Z W same n at = let (s, there, e) = of_mapped of_second Z n at in subst (λ n. (m : LookName) × Contains (asked_by identity W) m × SameName n m) e (of_second s, to_mapped of_second W s (same.0 s there), refl)
+names_same (run q) Z W same n at = subst (λ n. (m : LookName) × Contains (asked_by (run q) W) m × SameName n m) (in_single (middle q Z) n at) (middle q W, here (middle q W) [], (W, refl, same))
 
 names_back : (h : Head) (Z W : List ℕ) → SameStates Z W → (m : LookName) → Contains (asked_by h W) m → (n : LookName) × Contains (asked_by h Z) n × SameName n m
-names_back identity Z W same m at = let (s, there, e) = map_out of_second W m at in subst (λ m. (n : LookName) × Contains (asked_by identity Z) n × SameName n m) e (of_second s, map_in of_second Z s (same.1 s there), refl)
-names_back (run q) Z W same m at = subst (λ m. (n : LookName) × Contains (asked_by (run q) Z) n × SameName n m) (one_out (middle q W) m at) (middle q Z, here (middle q Z) [], (W, refl, same))
+names_back identity Z W same m at = let (s, there, e) = of_mapped of_second W m at in subst (λ m. (n : LookName) × Contains (asked_by identity Z) n × SameName n m) e (of_second s, to_mapped of_second Z s (same.1 s there), refl)
+names_back (run q) Z W same m at = subst (λ m. (n : LookName) × Contains (asked_by (run q) Z) n × SameName n m) (in_single (middle q W) m at) (middle q Z, here (middle q Z) [], (W, refl, same))
 
 names_less : (h : Head) (Z W : List ℕ) → AreAmong Z W → (n : LookName) → Contains (asked_by h Z) n → (m : LookName) × Contains (asked_by h W) m × FollowsFrom n m
-names_less identity Z W among n at = let (s, there, e) = map_out of_second Z n at in subst (λ n. (m : LookName) × Contains (asked_by identity W) m × FollowsFrom n m) e (of_second s, map_in of_second W s (among s there), refl)
-names_less (run q) Z W among n at = subst (λ n. (m : LookName) × Contains (asked_by (run q) W) m × FollowsFrom n m) (one_out (middle q Z) n at) (middle q W, here (middle q W) [], (W, refl, among))
+names_less identity Z W among n at = let (s, there, e) = of_mapped of_second Z n at in subst (λ n. (m : LookName) × Contains (asked_by identity W) m × FollowsFrom n m) e (of_second s, to_mapped of_second W s (among s there), refl)
+names_less (run q) Z W among n at = subst (λ n. (m : LookName) × Contains (asked_by (run q) W) m × FollowsFrom n m) (in_single (middle q Z) n at) (middle q W, here (middle q W) [], (W, refl, among))
 
 asked_alone : (j i : ℕ) (x : Triple) (m : LookName) → Contains (asked (get_or (alone j x) i [])) m ↔ ((j ≡ i) × Contains (asked_by x.first x.all) m)
 asked_alone zero zero x m = (λ a. (refl, subst (λ ns. Contains ns m) (append-nil (asked_by x.first x.all)) a), λ b. subst (λ ns. Contains ns m) (sym (append-nil (asked_by x.first x.all))) b.1)
@@ -52,7 +52,7 @@ module _ {A M : Type 0} (holds : A → Label → Bool) (make : M → Label → L
     each = λ i s u at. (
       plain x,
       here (plain x) [],
-      subst (λ v. SaysSame holds make D terms v (plain x)) (one_out y u (subst (λ vs. Contains vs u) is at)) (record {
+      subst (λ v. SaysSame holds make D terms v (plain x)) (in_single y u (subst (λ vs. Contains vs u) is at)) (record {
         guard = λ l d. no_guard y l leaf.no_guards;
         asks = λ j n a. absurd (nil_out n ((leaf.asks j n).0 a).1);
         asked_of = λ j m a. absurd (nil_out m a);
@@ -62,7 +62,7 @@ module _ {A M : Type 0} (holds : A → Label → Bool) (make : M → Label → L
     all = λ i s z at. inr (
       y,
       subst (λ vs. Contains vs y) (sym is) (here y []),
-      subst (SaysLess holds make D terms y) (one_out (plain x) z at) (record {
+      subst (SaysLess holds make D terms y) (in_single (plain x) z at) (record {
         guard = λ l d h. no_guard y l leaf.no_guards;
         asks = λ j n a. absurd (nil_out n ((leaf.asks j n).0 a).1);
         freer_terms = terms_are IsFreer y [] (terms x) leaf.same_terms (subst (AllStand IsFreer D []) (sym none) tt);
@@ -81,7 +81,7 @@ module _ {A M : Type 0} (holds : A → Label → Bool) (make : M → Label → L
       each = λ Z s u at. (
         DemandsAlone h x Z,
         here (DemandsAlone h x Z) [],
-        subst (λ v. SaysSame holds make D terms v (DemandsAlone h x Z)) (one_out y u (subst (λ vs. Contains vs u) is at)) (record {
+        subst (λ v. SaysSame holds make D terms v (DemandsAlone h x Z)) (in_single y u (subst (λ vs. Contains vs u) is at)) (record {
           guard = λ l d. no_guard y l leaf.no_guards;
           asks = λ i n a. (let (e, in_names) = (leaf.asks i n).0 a in let (m, there, r) = names_same h all Z s n in_names in (m, (asked_alone j i (record { first = h; all = Z; second = None }) m).1 (e, there), r));
           asked_of = λ i m a. (let (e, in_names) = (asked_alone j i (record { first = h; all = Z; second = None }) m).0 a in let (n, there, r) = names_back h all Z s m in_names in (n, (leaf.asks i n).1 (e, there), r));
@@ -91,7 +91,7 @@ module _ {A M : Type 0} (holds : A → Label → Bool) (make : M → Label → L
       all = λ Z s z at. inr (
         y,
         subst (λ vs. Contains vs y) (sym is) (here y []),
-        subst (SaysLess holds make D terms y) (one_out (DemandsAlone h x Z) z at) (record {
+        subst (SaysLess holds make D terms y) (in_single (DemandsAlone h x Z) z at) (record {
           guard = λ l d t. no_guard y l leaf.no_guards;
           asks = λ i n a. (let (e, in_names) = (leaf.asks i n).0 a in let (m, there, r) = names_less h all Z s n in_names in (m, (asked_alone j i (record { first = h; all = Z; second = None }) m).1 (e, there), r));
           freer_terms = terms_are IsFreer y ts (terms x) leaf.same_terms less;
@@ -118,7 +118,7 @@ module _ {A M : Type 0} (holds : A → Label → Bool) (make : M → Label → L
       each = λ Z s u at. (
         way q k Z,
         here (way q k Z) [],
-        subst (λ v. SaysSame holds make D only v (way q k Z)) (one_out y u (subst (λ vs. Contains vs u) is at)) (record {
+        subst (λ v. SaysSame holds make D only v (way q k Z)) (in_single y u (subst (λ vs. Contains vs u) is at)) (record {
           guard = λ l d. no_guard y l leaf.no_guards;
           asks = λ i n a. absurd (nil_out n ((leaf.asks i n).0 a).1);
           asked_of = λ i m a. absurd (nil_out m a);
@@ -128,7 +128,7 @@ module _ {A M : Type 0} (holds : A → Label → Bool) (make : M → Label → L
       all = λ Z s z at. inr (
         y,
         subst (λ vs. Contains vs y) (sym is) (here y []),
-        subst (SaysLess holds make D only y) (one_out (way q k Z) z at) (record {
+        subst (SaysLess holds make D only y) (in_single (way q k Z) z at) (record {
           guard = λ l d t. no_guard y l leaf.no_guards;
           asks = λ i n a. absurd (nil_out n ((leaf.asks i n).0 a).1);
           freer_terms = terms_are IsFreer y (on (triple q k all) j ∷ []) (on (triple q k Z) j ∷ []) leaf.same_terms (((refl, s, refl), refl), tt);

@@ -10,7 +10,7 @@ use Rattle.model_sttr.specs.Transducer.{Head}
 use Rattle.sttr_core.specs.Fits.{EveryMap}
 use Rattle.sttr_core.specs.Machine.{OutMachine}
 use Rattle.sttr_theory.specs.Triples.{Triple, LookName}
-use Rattle.sttr_theory.proofs.Members.{there}
+use Rattle.sttr_theory.proofs.Members.{there, in_single, in_either}
 use Rattle.sttr_run.specs.Drafts.{parts_of, guards_of, terms_of, IsBoth, AddsProducts, AreProducts}
 use Rattle.sttr_run.specs.Found.{GuardStands, MapStands, DraftStands, PickStands, AreNodesOver}
 use Rattle.sttr_run.specs.Leaves.{IsLeaf}
@@ -19,7 +19,7 @@ use Rattle.sttr_run.specs.Runs.{IsRunMap}
 use Rattle.sttr_run.specs.declared.drafts.Draft.{Draft}
 use Rattle.sttr_run.specs.declared.picks.Pick.{Pick}
 use Rattle.sttr_run.proofs.Copies.{all_copies_maps}
-use Rattle.sttr_run.proofs.Members.{one_out, append_out, all_at, all_of}
+use Rattle.sttr_run.proofs.Members.{all_at, all_of}
 
 module _ {T A M : Type 0} (map_eq : M → M → Bool) (is_put : M → A → A → Type 0) (is_chained : M → M → M → Type 0) (fits : A → Type 0) (map_fits : M → Type 0) (map_makes : T → M → Type 0) (second : OutMachine A M) (top : Term Head M) (k : Option Head) where
   abbrev Guard : Formula A → Type 0
@@ -33,7 +33,7 @@ module _ {T A M : Type 0} (map_eq : M → M → Bool) (is_put : M → A → A �
 
   pub leaf_stands : (j : ℕ) (names : List LookName) (ts : List (Term Triple M)) (ys : List (Draft A M)) → IsLeaf j names ts ys → All (EveryMap Map) ts → All Stands ys
   leaf_stands j names ts ys (y, is, leaf) maps =
-      all_of Stands ys (λ z at. subst Stands (one_out y z (subst (λ zs. Contains zs z) is at)) (record { guards = subst (All Guard) (sym leaf.no_guards) (All-nil Guard); maps = subst (All (EveryMap Map)) (sym leaf.same_terms) maps }))
+      all_of Stands ys (λ z at. subst Stands (in_single y z (subst (λ zs. Contains zs z) is at)) (record { guards = subst (All Guard) (sym leaf.no_guards) (All-nil Guard); maps = subst (All (EveryMap Map)) (sym leaf.same_terms) maps }))
 
   pub no_maps : All (EveryMap {H = Triple} Map) []
   no_maps = All-nil (EveryMap Map)
@@ -51,9 +51,9 @@ module _ {T A M : Type 0} (map_eq : M → M → Bool) (is_put : M → A → A �
 
     both_stand : (a b y : Draft A M) → IsBoth map_eq a b y → Stands a → Stands b → Stands y
     both_stand a b y is s t = record {
-      guards = subst (All Guard) (sym is.guards) (all_of Guard (guards_of a ++ guards_of b) (λ g at. elim (append_out (guards_of a) (guards_of b) g at) [ inl l ↦ all_at Guard (guards_of a) g s.guards l | inr r ↦ all_at Guard (guards_of b) g t.guards r ]));
+      guards = subst (All Guard) (sym is.guards) (all_of Guard (guards_of a ++ guards_of b) (λ g at. elim (in_either (guards_of a) (guards_of b) g at) [ inl l ↦ all_at Guard (guards_of a) g s.guards l | inr r ↦ all_at Guard (guards_of b) g t.guards r ]));
       maps = all_copies_maps map_eq Map closed (terms_of y) (terms_of a ++ terms_of b) is.copies
-          (all_of (EveryMap Map) (terms_of a ++ terms_of b) (λ p at. elim (append_out (terms_of a) (terms_of b) p at) [ inl l ↦ all_at (EveryMap Map) (terms_of a) p s.maps l | inr r ↦ all_at (EveryMap Map) (terms_of b) p t.maps r ]));
+          (all_of (EveryMap Map) (terms_of a ++ terms_of b) (λ p at. elim (in_either (terms_of a) (terms_of b) p at) [ inl l ↦ all_at (EveryMap Map) (terms_of a) p s.maps l | inr r ↦ all_at (EveryMap Map) (terms_of b) p t.maps r ]));
     }
 
     pub products_stand : (firsts seconds ys : List (Draft A M)) → AreProducts map_eq firsts seconds ys → All Stands firsts → All Stands seconds → All Stands ys

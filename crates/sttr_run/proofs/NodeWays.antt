@@ -13,8 +13,9 @@ use Rattle.sttr_theory.specs.Lists.{once, SameStates}
 use Rattle.sttr_theory.specs.Alike.{SameTriple}
 use Rattle.sttr_theory.specs.Triples.{Triple, asked}
 use Rattle.sttr_theory.specs.Ways.{WayOf, Pick as Picking, picks_of, guarded, fires}
-use Rattle.sttr_theory.proofs.Accept.{same_number, number_same}
+use Rattle.sttr_theory.proofs.Accept.{same_number, number_same, and_split, and_both}
 use Rattle.sttr_theory.proofs.Once.{once_states}
+use Rattle.sttr_theory.proofs.Members.{to_mapped, of_mapped, to_flat, of_flat, in_either, in_left, in_right}
 use Rattle.sttr_run.specs.Drafts.{AreAmong, all_say, AllStand, terms_at, NeverHolds, SaysSame, SaysLess, Covers}
 use Rattle.sttr_run.specs.Found.{CoversPicks}
 use Rattle.sttr_run.specs.Picks.{pick_guards, pick_term, wants_of, ArePicks, AreApplied, PicksSame}
@@ -22,8 +23,7 @@ use Rattle.sttr_run.specs.Sets.{IsAscending}
 use Rattle.sttr_run.specs.declared.drafts.Draft.{Draft}
 use Rattle.sttr_run.specs.declared.picks.Pick.{Pick}
 use Rattle.sttr_run.proofs.Choosing.{pick_same, pick_less}
-use Rattle.sttr_run.proofs.Covering.{and_false, and_parts, and_join, and_assoc}
-use Rattle.sttr_run.proofs.Members.{map_in, map_out, flat_in, flat_out, append_out, append_left, append_right}
+use Rattle.sttr_run.proofs.Covering.{and_false, and_assoc}
 
 -- ---- demanded states once
 
@@ -47,19 +47,19 @@ false_and true b c f e = subst (λ x. (x && c) ≡ false) (f refl) e
 false_and false b c f e = refl
 
 true_and_if : (a b c : Bool) → (a ≡ true → b ≡ true) → (a && c) ≡ true → (b && c) ≡ true
-true_and_if a b c f e = let both = and_parts a c e in and_join b c (f both.0) both.1
+true_and_if a b c f e = let both = and_split a c e in and_both b c (f both.0) both.1
 
 pub same_trans : (Z V W : List ℕ) → SameStates Z V → SameStates V W → SameStates Z W
 same_trans Z V W a b = ((λ s at. b.0 s (a.0 s at)), λ s at. a.1 s (b.1 s at))
 
 same_more : (Z W V : List ℕ) → SameStates Z W → SameStates (Z ++ V) (W ++ V)
 same_more Z W V a = (
-  (λ s at. elim (append_out Z V s at) [ inl b ↦ append_left W V s (a.0 s b) | inr b ↦ append_right W V s b ]),
-  λ s at. elim (append_out W V s at) [ inl b ↦ append_left Z V s (a.1 s b) | inr b ↦ append_right Z V s b ],
+  (λ s at. elim (in_either Z V s at) [ inl b ↦ in_left W V s (a.0 s b) | inr b ↦ in_right W V s b ]),
+  λ s at. elim (in_either W V s at) [ inl b ↦ in_left Z V s (a.1 s b) | inr b ↦ in_right Z V s b ],
 )
 
 among_more : (Z W V : List ℕ) → AreAmong Z W → AreAmong (Z ++ V) (W ++ V)
-among_more Z W V a s at = elim (append_out Z V s at) [ inl b ↦ append_left W V s (a s b) | inr b ↦ append_right W V s b ]
+among_more Z W V a s at = elim (in_either Z V s at) [ inl b ↦ in_left W V s (a s b) | inr b ↦ in_right W V s b ]
 
 module _ {A M : Type 0} (holds : A → Label → Bool) (make : M → Label → Label) (D : Label → Type 0) {X : Type 0} (terms : X → List (Term Triple (Label → Label))) where
   -- another guard of the same way
@@ -87,7 +87,7 @@ module _ {A M : Type 0} (holds : A → Label → Bool) (make : M → Label → L
           let (z, in_ways, is) = says q.wants (λ j. same_trans (wants_of x j) (p.wants j) (q.wants j) (s.wants j) (wants j)) in
           let in_t : Contains (G q.wants) z = subst (λ F. Contains (F q.wants) z) (same_ways x) in_ways in (
             Picked q z,
-            flat_in (λ q. map (Picked q) (G q.wants)) (picks_of looks c Z) q (Picked q z) in_z (map_in (Picked q) (G q.wants) z in_t),
+            to_flat (λ q. map (Picked q) (G q.wants)) (picks_of looks c Z) q (Picked q z) in_z (to_mapped (Picked q) (G q.wants) z in_t),
             reguard_same y z (all_say holds (pick_guards x)) (λ l. q.guard (make m l) && z.guard l) (λ l d. ap (λ b. b && z.guard l) (s.guard l d ∙ guards (make m l))) (Picked q z) refl refl (λ l. refl) is,
           )
 
@@ -110,8 +110,8 @@ module _ {A M : Type 0} (holds : A → Label → Bool) (make : M → Label → L
 
       every_way : (Z : List ℕ) → AreAmong all Z → (z : WayOf Label X) → Contains (AllPicked Z) z → NeverHolds holds make D terms z ⊎ ((y : Draft A M) × Contains ys y × SaysLess holds make D terms y z)
       every_way Z among z' at =
-          let (q, in_z, row) = flat_out (λ q. map (Picked q) (G q.wants)) (picks_of looks c Z) z' at in
-          let (z, in_ways, is) = map_out (Picked q) (G q.wants) z' row in
+          let (q, in_z, row) = of_flat (λ q. map (Picked q) (G q.wants)) (picks_of looks c Z) z' at in
+          let (z, in_ways, is) = of_mapped (Picked q) (G q.wants) z' row in
           let (p, in_picks, follows, fewer) = pick_less looks c all Z among q in_z in
           subst (λ z. NeverHolds holds make D terms z ⊎ ((y : Draft A M) × Contains ys y × SaysLess holds make D terms y z)) is
           (elim (picks.every p in_picks) [
@@ -144,9 +144,9 @@ module _ {A M : Type 0} (holds : A → Label → Bool) (make : M → Label → L
 
       run_in : (Z : List ℕ) (q : Picking Label) (r : PlainOut (PlainRule A) M) (z : WayOf Label X) → Contains (picks_of looks c Z) q → Contains rules r → Contains (ways (Some r.term) (Wants q r)) z → Contains (AllRun Z) (Run q r z)
       run_in Z q r z in_z in_rules in_ways =
-          flat_in (λ q. map (guarded (λ l. q.guard (make m l))) (flat_map (Rows q) rules)) (picks_of looks c Z) q (Run q r z) in_z
-          (map_in (guarded (λ l. q.guard (make m l))) (flat_map (Rows q) rules) (guarded (Fires r) z)
-          (flat_in (Rows q) rules r (guarded (Fires r) z) in_rules (map_in (guarded (Fires r)) (ways (Some r.term) (Wants q r)) z in_ways)))
+          to_flat (λ q. map (guarded (λ l. q.guard (make m l))) (flat_map (Rows q) rules)) (picks_of looks c Z) q (Run q r z) in_z
+          (to_mapped (guarded (λ l. q.guard (make m l))) (flat_map (Rows q) rules) (guarded (Fires r) z)
+          (to_flat (Rows q) rules r (guarded (Fires r) z) in_rules (to_mapped (guarded (Fires r)) (ways (Some r.term) (Wants q r)) z in_ways)))
 
       fires_is : (r : PlainOut (PlainRule A) M) (l : Label) → r.rule.constructor ≡ c → Fires r l ≡ Guard r (make m l)
       fires_is r l e = ap (λ b. b && Guard r (make m l)) (number_same r.rule.constructor c e)
@@ -170,7 +170,7 @@ module _ {A M : Type 0} (holds : A → Label → Bool) (make : M → Label → L
       from_run q r z p x in_xs in_rules e s follows fewer in_ways =
           let known : (l : Label) → D l → q.guard (make m l) ≡ true → all_say holds (pick_guards x) l ≡ true = λ l d h. s.guard l d ∙ follows (make m l) h in
           let both : (l : Label) → D l → (q.guard (make m l) && Fires r l) ≡ true → (all_say holds (pick_guards x) l && Guard r (make m l)) ≡ true = λ l d h.
-          let h' = and_parts (q.guard (make m l)) (Fires r l) h in and_join (all_say holds (pick_guards x) l) (Guard r (make m l)) (known l d h'.0) (sym (fires_is r l e) ∙ h'.1) in
+          let h' = and_split (q.guard (make m l)) (Fires r l) h in and_both (all_say holds (pick_guards x) l) (Guard r (make m l)) (known l d h'.0) (sym (fires_is r l e) ∙ h'.1) in
           elim (applied.all x in_xs r in_rules e) [
             | inl never ↦ inl (λ l d. sym (and_assoc (q.guard (make m l)) (Fires r l) (z.guard l)) ∙ and_false (q.guard (make m l) && Fires r l) (z.guard l) (inl (false_if (q.guard (make m l) && Fires r l) (all_say holds (pick_guards x) l && Guard r (make m l)) (both l d) (never l d))))
             | inr found ↦ (let (x', in_more, is) = found in
@@ -196,10 +196,10 @@ module _ {A M : Type 0} (holds : A → Label → Bool) (make : M → Label → L
 
       every_run : (Z : List ℕ) → AreAmong all Z → (z : WayOf Label X) → Contains (AllRun Z) z → NeverHolds holds make D terms z ⊎ ((y : Draft A M) × Contains ys y × SaysLess holds make D terms y z)
       every_run Z among z'' at =
-          let (q, in_z, row) = flat_out (λ q. map (guarded (λ l. q.guard (make m l))) (flat_map (Rows q) rules)) (picks_of looks c Z) z'' at in
-          let (z', in_flat, is') = map_out (guarded (λ l. q.guard (make m l))) (flat_map (Rows q) rules) z'' row in
-          let (r, in_rules, in_row) = flat_out (Rows q) rules z' in_flat in
-          let (z, in_ways, is) = map_out (guarded (Fires r)) (ways (Some r.term) (Wants q r)) z' in_row in
+          let (q, in_z, row) = of_flat (λ q. map (guarded (λ l. q.guard (make m l))) (flat_map (Rows q) rules)) (picks_of looks c Z) z'' at in
+          let (z', in_flat, is') = of_mapped (guarded (λ l. q.guard (make m l))) (flat_map (Rows q) rules) z'' row in
+          let (r, in_rules, in_row) = of_flat (Rows q) rules z' in_flat in
+          let (z, in_ways, is) = of_mapped (guarded (Fires r)) (ways (Some r.term) (Wants q r)) z' in_row in
           let (p, in_picks, follows, fewer) = pick_less looks c all Z among q in_z in
           subst (λ z. NeverHolds holds make D terms z ⊎ ((y : Draft A M) × Contains ys y × SaysLess holds make D terms y z)) (ap (guarded (λ l. q.guard (make m l))) is ∙ is')
           (elim (picks.every p in_picks) [

@@ -3,6 +3,7 @@ use Rattle.std.proofs.Common.{ℕ, zero, suc, ◌+◌, ◌<◌, ◌≡◌, ◌�
 use Rattle.std.proofs.Math.ListN.{set}
 use Rattle.std.proofs.lemmas.List.{map-append}
 use Rattle.sttr_theory.specs.Triples.{LookName, asked}
+use Rattle.sttr_theory.proofs.AlikeWays.{asked_append}
 use Rattle.sttr_run.specs.Drafts.{name_of, IsAskedIn}
 use Rattle.std.specs.Prelude.{Option, Some, None, MatchOption}
 use Rattle.std.specs.Option.{option_map, option_to_list}
@@ -11,10 +12,9 @@ use Rattle.sttr_run.specs.Plain.{plain_triple}
 use Rattle.sttr_run.specs.declared.drafts.Demand.{Demand}
 use Rattle.sttr_run.specs.declared.triples.Triple.{Triple}
 use Rattle.sttr_run.proofs.Asking.{asked_more, nothing_asked}
-use Rattle.sttr_run.proofs.Covering.{asked_append}
-use Rattle.sttr_run.proofs.Members.{nil_out, one_out, append_out, append_left, append_right}
+use Rattle.sttr_run.proofs.Members.{nil_out}
 use Rattle.sttr_run.proofs.Popping.{Splits, splits_start, splits_more, all_done}
-use Rattle.sttr_theory.proofs.Members.{here}
+use Rattle.sttr_theory.proofs.Members.{here, in_single, in_either, in_left, in_right}
 
 same_or_not : (i j : ℕ) → (i ≡ j) ⊎ ¬ (i ≡ j)
 same_or_not zero zero = inl refl
@@ -63,8 +63,8 @@ module _ {G : Type 0} where
 
       at_i : Contains (asked (triples_at (set lists i v) i)) n ↔ (Contains (asked (triples_at lists i)) n ⊎ ((i ≡ i) × (name ≡ n)))
       at_i = (
-        λ a. elim (append_out (asked (triples_at lists i)) (name ∷ []) n (subst (λ ns. Contains ns n) names a)) [ inl b ↦ inl b | inr b ↦ inr (refl, one_out name n b) ],
-        λ s. subst (λ ns. Contains ns n) (sym names) (elim s [ inl b ↦ append_left (asked (triples_at lists i)) (name ∷ []) n b | inr b ↦ append_right (asked (triples_at lists i)) (name ∷ []) n (subst (Contains (name ∷ [])) b.1 (here name [])) ]),
+        λ a. elim (in_either (asked (triples_at lists i)) (name ∷ []) n (subst (λ ns. Contains ns n) names a)) [ inl b ↦ inl b | inr b ↦ inr (refl, in_single name n b) ],
+        λ s. subst (λ ns. Contains ns n) (sym names) (elim s [ inl b ↦ in_left (asked (triples_at lists i)) (name ∷ []) n b | inr b ↦ in_right (asked (triples_at lists i)) (name ∷ []) n (subst (Contains (name ∷ [])) b.1 (here name [])) ]),
       )
 
   -- the demands that are placed so far

@@ -13,7 +13,7 @@ use Rattle.sttr_theory.specs.Alike.{SameName, SameTriple, SameTerm, AlikeWay}
 use Rattle.sttr_theory.specs.Triples.{Triple, LookName, asked, AreWays}
 use Rattle.sttr_theory.specs.Triples as theory
 use Rattle.sttr_theory.specs.Ways.{WayOf, free_ways, gives_ways, free_way, giving_way}
-use Rattle.sttr_theory.proofs.Members.{there}
+use Rattle.sttr_theory.proofs.Members.{there, to_mapped, of_mapped}
 use Rattle.sttr_theory.proofs.Exact.{ways_exact}
 use Rattle.sttr_run.specs.Drafts.{AreAmong, FollowsFrom, IsFreer, no_terms, only, all_say, AllStand, guards_of, terms_of, terms_at, SaysSame, SaysLess, Covers}
 use Rattle.sttr_run.specs.Finished.{triples_at, IsOnly, IsFinished, AreFinished}
@@ -27,7 +27,7 @@ use Rattle.sttr_run.specs.declared.triples.Way.{Way}
 use Rattle.sttr_run.specs.declared.triples.WayTerm.{WayTerm}
 use Rattle.sttr_run.proofs.Exactly.{TermStands, Follows, covering_are_ways}
 use Rattle.sttr_run.proofs.Fitted.{are_states, stands_fit}
-use Rattle.sttr_run.proofs.Members.{map_in, map_out, all_at, all_of}
+use Rattle.sttr_run.proofs.Members.{all_at, all_of}
 use Rattle.sttr_run.proofs.RowWays.{set_same}
 
 module _ {A : Type 0} (h : A → Bool) where
@@ -87,18 +87,18 @@ module _ {A M : Type 0} (holds : A → Label → Bool) (make : M → Label → L
     module _ (Z all : List ℕ) (g : Grown [] all (Contains Z)) (F : List ℕ → List (WayOf Label X)) (ys : List (Draft A M)) (ws : List (Way A M)) (c : Covers holds make D terms (SameStates all) (AreAmong all) F ys) (done : AreFinished ys ws) where
       each_way : (v : theory.Way Label) → Contains (map (way_at holds make) ws) v → (z : theory.Way Label) × Contains (map way (F Z)) z × AlikeWay D v z
       each_way v at =
-          let (w, in_ws, is) = map_out (way_at holds make) ws v at in
+          let (w, in_ws, is) = of_mapped (way_at holds make) ws v at in
           let (y, in_ys, f) = done.each w in_ws in
           let (z, in_z, s) = c.each Z (set_same all Z g) y in_ys in
-          subst (λ v. (z : theory.Way Label) × Contains (map way (F Z)) z × AlikeWay D v z) is (way z, map_in way (F Z) z in_z, alike y w z f s)
+          subst (λ v. (z : theory.Way Label) × Contains (map way (F Z)) z × AlikeWay D v z) is (way z, to_mapped way (F Z) z in_z, alike y w z f s)
 
       all_ways : (v : theory.Way Label) → Contains (map way (F Z)) v → ((l : Label) → D l → v.guard l ≡ false) ⊎ ((w : theory.Way Label) × Contains (map (way_at holds make) ws) w × Follows D w v)
       all_ways v at =
-          let (z, in_z, is) = map_out way (F Z) v at in
+          let (z, in_z, is) = of_mapped way (F Z) v at in
           subst (λ v. ((l : Label) → D l → v.guard l ≡ false) ⊎ ((w : theory.Way Label) × Contains (map (way_at holds make) ws) w × Follows D w v)) is
           (elim (c.all Z (set_same all Z g).0 z in_z) [
             | inl never ↦ inl (λ l d. guards z l ∙ never l d)
-            | inr found ↦ inr (let (y, in_ys, s) = found in let (w, in_ws, f) = done.all y in_ys in (way_at holds make w, map_in (way_at holds make) ws w in_ws, follows y w z f s))
+            | inr found ↦ inr (let (y, in_ys, s) = found in let (w, in_ws, f) = done.all y in_ys in (way_at holds make w, to_mapped (way_at holds make) ws w in_ws, follows y w z f s))
           ])
 
   module _ (second : OutMachine A M) (looks : LooksStand second.looks) (stands : SttrStands second) (p : Term Head M) (x : Triple) (low : All (λ s. s < length second.looks.rules) x.all) (all : List ℕ) (g : Grown [] all (Contains x.all)) (ys : List (Draft A M)) (ws : List (Way A M)) (done : AreFinished ys ws) (f : Sttr Label) where

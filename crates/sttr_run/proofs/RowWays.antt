@@ -19,11 +19,11 @@ use Rattle.sttr_run.specs.Picks.{wanted_in, pick_guards, pick_term, wants_of}
 use Rattle.sttr_run.specs.Sets.{Grown}
 use Rattle.sttr_run.specs.declared.drafts.Draft.{Draft}
 use Rattle.sttr_run.specs.declared.picks.Pick.{Pick}
-use Rattle.sttr_theory.proofs.Members.{here}
+use Rattle.sttr_theory.proofs.Members.{here, in_single, to_mapped, of_mapped, to_flat, of_flat}
 use Rattle.sttr_run.proofs.Asking.{nothing_asked}
 use Rattle.sttr_run.proofs.Covering.{same_both, less_both, covers_pairs, and_false, parts_stand}
 use Rattle.sttr_run.proofs.LeafWays.{covers_plain}
-use Rattle.sttr_run.proofs.Members.{nil_out, one_out, map_in, map_out, flat_in, flat_out, push_out, push_old, push_new}
+use Rattle.sttr_run.proofs.Members.{nil_out, push_out, push_old, push_new}
 use Rattle.sttr_run.proofs.NodeWays.{same_trans}
 
 -- from place n on
@@ -57,11 +57,11 @@ module _ {A M : Type 0} (holds : A → Label → Bool) (make : M → Label → L
   pub covers_skip : {I : Type 0} (Same More : I → Type 0) (ws : I → List (WayOf Label ⊤)) (ys : List (Draft A M)) → Covers holds make D no_terms Same More ws ys → Covers holds make D no_terms Same More (λ i. pairs (joined first_of) (plain tt ∷ []) (ws i)) ys
   covers_skip Same More ws ys c = record {
     each = λ i s y at. let (w, in_w, says) = c.each i s y at in
-        (joined first_of (plain tt) w, flat_in (λ v. map (joined first_of v) (ws i)) (plain tt ∷ []) (plain tt) (joined first_of (plain tt) w) (here (plain tt) []) (map_in (joined first_of (plain tt)) (ws i) w in_w), record { guard = says.guard; asks = says.asks; asked_of = says.asked_of; same_terms = says.same_terms });
+        (joined first_of (plain tt) w, to_flat (λ v. map (joined first_of v) (ws i)) (plain tt ∷ []) (plain tt) (joined first_of (plain tt) w) (here (plain tt) []) (to_mapped (joined first_of (plain tt)) (ws i) w in_w), record { guard = says.guard; asks = says.asks; asked_of = says.asked_of; same_terms = says.same_terms });
     all = λ i s z at.
-        let (v, in_v, row) = flat_out (λ v. map (joined first_of v) (ws i)) (plain tt ∷ []) z at in
-        let (w, in_w, is) = map_out (joined first_of v) (ws i) z row in
-        let plain_is : plain tt ≡ v = one_out (plain tt) v in_v in
+        let (v, in_v, row) = of_flat (λ v. map (joined first_of v) (ws i)) (plain tt ∷ []) z at in
+        let (w, in_w, is) = of_mapped (joined first_of v) (ws i) z row in
+        let plain_is : plain tt ≡ v = in_single (plain tt) v in_v in
         subst (λ z. NeverHolds holds make D no_terms z ⊎ ((y : Draft A M) × Contains ys y × SaysLess holds make D no_terms y z)) (ap (λ v. joined first_of v w) plain_is ∙ is)
         (elim (c.all i s w in_w) [
           | inl never ↦ inl never
@@ -202,7 +202,7 @@ module _ {A M : Type 0} (holds : A → Label → Bool) (make : M → Label → L
           let (row, in_rows, is) = nodes.each y at in
           let (w, in_w, says) = cov.each i s row in_rows in (
             with_term (build c label) w,
-            map_in (with_term (build c label)) (ws i) w in_w,
+            to_mapped (with_term (build c label)) (ws i) w in_w,
             record {
               guard = λ l d. ap (λ gs. all_say holds gs l) is.same_guards ∙ says.guard l d;
               asks = λ j n a. says.asks j n (subst (λ ds. IsAskedIn ds j n) is.same_demands a);
@@ -211,7 +211,7 @@ module _ {A M : Type 0} (holds : A → Label → Bool) (make : M → Label → L
             },
           );
       all = λ i s z at.
-          let (w, in_w, e) = map_out (with_term (build c label)) (ws i) z at in
+          let (w, in_w, e) = of_mapped (with_term (build c label)) (ws i) z at in
           subst (λ z. NeverHolds holds make D only z ⊎ ((y : Draft A M) × Contains ys y × SaysLess holds make D only y z)) e
           (elim (cov.all i s w in_w) [
             | inl never ↦ inl never

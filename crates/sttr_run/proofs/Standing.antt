@@ -9,11 +9,12 @@ use Rattle.label_core.specs.declared.formula.Formula.{Formula as Written}
 use Rattle.sta_core.proofs.Meaning.{All_from_map}
 use Rattle.sttr_core.specs.Machine.{OutMachine}
 use Rattle.sttr_core.specs.Fits.{LabelsFit}
+use Rattle.sttr_theory.proofs.Members.{in_left, in_right}
+use Rattle.sttr_theory.proofs.Accept.{and_split}
 use Rattle.sttr_run.specs.Drafts.{all_say}
 use Rattle.sttr_run.specs.Found.{IsGuardOf}
 use Rattle.sttr_run.specs.Sources.{HasAtomIn}
-use Rattle.sttr_run.proofs.Covering.{and_parts}
-use Rattle.sttr_run.proofs.Members.{append_left, append_right, all_at}
+use Rattle.sttr_run.proofs.Members.{all_at}
 
 module _ {A : Type 0} (P Q : A → Type 0) where
   mutual
@@ -28,7 +29,7 @@ module _ {A : Type 0} (P Q : A → Type 0) where
 
     pub every_all : (fs : Formulas A) → ((a : A) → Contains (atoms_in_all fs) a → P a → Q a) → EveryAtomOfAll P fs → EveryAtomOfAll Q fs
     every_all no_formulas g e = tt
-    every_all (formula f fs) g e = (every_from f (λ a at. g a (append_left (atoms_in f) (atoms_in_all fs) a at)) e.0, every_all fs (λ a at. g a (append_right (atoms_in f) (atoms_in_all fs) a at)) e.1)
+    every_all (formula f fs) g e = (every_from f (λ a at. g a (in_left (atoms_in f) (atoms_in_all fs) a at)) e.0, every_all fs (λ a at. g a (in_right (atoms_in f) (atoms_in_all fs) a at)) e.1)
 
 module _ {A M : Type 0} (second : OutMachine A M) where
   -- an atom of a guard is one of the second
@@ -45,7 +46,7 @@ module _ {A : Type 0} (holds : A → Label → Bool) (l : Label) where
   each_says : (gs : List (Written A)) → all_say holds (map plain_formula gs) l ≡ true → All (λ f. IsTrue (formula_holds (λ a. holds a l) (plain_formula f))) gs
   each_says [] h = All-nil (λ f. IsTrue (formula_holds (λ a. holds a l) (plain_formula f)))
   each_says (g ∷ gs) h =
-      let both = and_parts (formula_holds (λ a. holds a l) (plain_formula g)) (all_say holds (map plain_formula gs) l) h in
+      let both = and_split (formula_holds (λ a. holds a l) (plain_formula g)) (all_say holds (map plain_formula gs) l) h in
       All-cons (λ f. IsTrue (formula_holds (λ a. holds a l) (plain_formula f))) g gs both.0 (each_says gs both.1)
 
   not_true : (b : Bool) → (b ≡ true → ⊥) → b ≡ false

@@ -10,9 +10,10 @@ use Rattle.sttr_core.specs.declared.term.Term.{Term as Written}
 use Rattle.sttr_core.specs.declared.term.Term.TheVariants.{Node}
 use Rattle.sttr_core.specs.Machine.{OutMachine}
 use Rattle.sttr_core.proofs.Parts as core
+use Rattle.sttr_theory.proofs.Members.{to_mapped}
 use Rattle.sttr_run.specs.Drafts.{parts_of}
 use Rattle.sttr_run.specs.Found.{IsWithin, IsNodeIn, MayRun}
-use Rattle.sttr_run.proofs.Members.{nil_out, cons_out, map_in, all_of}
+use Rattle.sttr_run.proofs.Members.{nil_out, cons_out, all_of}
 
 module _ {H M : Type 0} where
   abbrev mutual
@@ -70,8 +71,8 @@ module _ {M : Type 0} where
   -- the parts of a term of the second
   pub parts_run : {A : Type 0} (second : OutMachine A M) (t : Written M) (c : ℕ) (m : M) (v : Vec (Written M) Global) (ps : List (Written M)) → t ≡ Node c m v → ps ≡ v.items → MayRun second (plain_term t) → All (λ p. MayRun second (plain_term p)) ps
   parts_run second t c m v ps e f may = all_of (λ p. MayRun second (plain_term p)) ps (λ p at. record {
-    maps = λ n by. may.maps n (subst (λ x. MakesBy x n) (sym (written_node t c m v e)) (inr (makes_in (map plain_term v.items) n (plain_term p) (map_in plain_term v.items p (subst (λ qs. Contains qs p) f at)) by)));
-    same = λ j o. may.same j (subst (λ x. Occurs identity j x) (sym (written_node t c m v e)) (occurs_in (map plain_term v.items) identity j (plain_term p) (map_in plain_term v.items p (subst (λ qs. Contains qs p) f at)) o));
+    maps = λ n by. may.maps n (subst (λ x. MakesBy x n) (sym (written_node t c m v e)) (inr (makes_in (map plain_term v.items) n (plain_term p) (to_mapped plain_term v.items p (subst (λ qs. Contains qs p) f at)) by)));
+    same = λ j o. may.same j (subst (λ x. Occurs identity j x) (sym (written_node t c m v e)) (occurs_in (map plain_term v.items) identity j (plain_term p) (to_mapped plain_term v.items p (subst (λ qs. Contains qs p) f at)) o));
   })
 
 module _ {H M N : Type 0} (f : M → N) where

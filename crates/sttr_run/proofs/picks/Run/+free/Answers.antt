@@ -10,12 +10,13 @@ use Rattle.sttr_core.specs.Machine.{transducer_of}
 use Rattle.sttr_core.specs.Terms.{plain_term}
 use Rattle.sttr_theory.specs.Lists.{SameStates}
 use Rattle.sttr_theory.specs.Ways.{free_ways, rest_ways}
+use Rattle.sttr_theory.proofs.Members.{to_mapped}
 use Rattle.sttr_run.specs.Drafts.{AreAmong, AddsProducts, AreProducts, no_terms, Covers}
 use Rattle.sttr_run.specs.Found.{DraftStands, PickStands, IsWithin, IsFree, IsRest, used_by, meant_parts, CoversPicks}
 use Rattle.sttr_run.specs.Plain.{plain_second, plain_triple, plain_way_term}
 use Rattle.sttr_run.proofs.LeafWays.{demanded_covered}
 use Rattle.sttr_run.proofs.Made.{leaf_stands, no_maps, products_stand, guarded_stand}
-use Rattle.sttr_run.proofs.Members.{all_at, at_place, map_in}
+use Rattle.sttr_run.proofs.Members.{all_at, at_place}
 use Rattle.sttr_run.proofs.NodeWays.{picks_cover}
 use Rattle.sttr_run.proofs.Popping.{splits_start, splits_more, picked_end, picked_in}
 use Rattle.sttr_run.proofs.RowWays.{RestFrom, picks_start, picks_more, rest_start, rest_more, rest_skip}
@@ -82,7 +83,7 @@ pub rest-free-requires : goal.rest-free-requires
 rest-free-requires g t c κs within =
     let before = c.decreases in
     let low : c.parts.left - 1 < length c.args.node.now.parts.now = omega (arith, c.parts-test.true, c.parts.invariant.low) in
-    let at = map_in plain_term c.args.node.now.parts.now (get_or c.args.node.now.parts.now (c.parts.left - 1) c.index-node-left.result) (at_place c.args.node.now.parts.now (c.parts.left - 1) (get_or c.args.node.now.parts.now (c.parts.left - 1) c.index-node-left.result) low (ap (λ d. get_or c.args.node.now.parts.now (c.parts.left - 1) d) c.index-node-left.is)) in
+    let at = to_mapped plain_term c.args.node.now.parts.now (get_or c.args.node.now.parts.now (c.parts.left - 1) c.index-node-left.result) (at_place c.args.node.now.parts.now (c.parts.left - 1) (get_or c.args.node.now.parts.now (c.parts.left - 1) c.index-node-left.result) low (ap (λ d. get_or c.args.node.now.parts.now (c.parts.left - 1) d) c.index-node-left.is)) in
     let light = one_weight (map plain_term c.args.node.now.parts.now) (plain_term (get_or c.args.node.now.parts.now (c.parts.left - 1) c.index-node-left.result)) at in
     (omega (arith, before, light), (within.0, (within.1.0, (within.1.1.0, (within.1.1.1.0, (within.1.1.1.1, (c.requires.can, all_at (IsWithin (plain_term c.args.self.now.term.now)) (map plain_term c.args.node.now.parts.now) (plain_term (get_or c.args.node.now.parts.now (c.parts.left - 1) c.index-node-left.result)) c.requires.node.within at)))))))
 

@@ -10,13 +10,14 @@ use Rattle.sttr_core.specs.Terms.{plain_term}
 use Rattle.sttr_theory.specs.Lists.{SameStates}
 use Rattle.sttr_theory.specs.Built.{kept as kept'}
 use Rattle.sttr_theory.specs.Ways.{rest_ways, gives_ways, gives_at, over_term, over_parts, second_of, size, uses}
+use Rattle.sttr_theory.proofs.Members.{to_mapped}
 use Rattle.sttr_run.specs.Drafts.{AreAmong, AddsProducts, AreProducts, no_terms, only, parts_of, Covers}
 use Rattle.sttr_run.specs.Found.{DraftStands, PickStands, MapStands, IsWithin, IsRest, AreWanted, AreMoreWanted, meant_parts, pick_ways, CoversPicks}
 use Rattle.sttr_run.specs.Picks.{pick_demands}
 use Rattle.sttr_run.specs.Plain.{plain_second, plain_triple, plain_head, plain_way_term}
 use Rattle.sttr_run.proofs.LeafWays.{unchanged_covered, called_covered}
 use Rattle.sttr_run.proofs.Made.{leaf_stands, no_maps, products_stand, guarded_stand, nodes_stand}
-use Rattle.sttr_run.proofs.Members.{all_at, at_place, map_in, none_some}
+use Rattle.sttr_run.proofs.Members.{all_at, at_place, none_some}
 use Rattle.sttr_run.proofs.Popping.{splits_start, splits_more, picked_end, picked_in}
 use Rattle.sttr_run.proofs.RowWays.{picks_start, picks_more}
 use Rattle.sttr_run.proofs.Weights.{weight, weights, node_weight, one_weight, node_in, node_meant, dropped, mapped_length, some_dropped, map_at}
@@ -34,7 +35,7 @@ use Rattle.sttr_run.proofs.picks.Run.+gives.Goals as goal
 pub at-gives-requires : goal.at-gives-requires
 at-gives-requires g t c κs within =
     let before = c.decreases in
-    let at = map_in plain_term c.args.node.now.parts.now c.in-Some.part.now (at_place c.args.node.now.parts.now c.args.child c.in-Some.part.now c.in-Some.ensures.lookup.3.0 c.in-Some.ensures.lookup.1) in
+    let at = to_mapped plain_term c.args.node.now.parts.now c.in-Some.part.now (at_place c.args.node.now.parts.now c.args.child c.in-Some.part.now c.in-Some.ensures.lookup.3.0 c.in-Some.ensures.lookup.1) in
     let light = scaled_le (plain_second c.args.self.now.second.now) (weight (plain_term c.in-Some.part.now)) (weights (map plain_term c.args.node.now.parts.now)) (one_weight (map plain_term c.args.node.now.parts.now) (plain_term c.in-Some.part.now) at) in
     (omega (arith, before, light), (within.0, (within.1.0, (within.1.1.0, (within.1.1.1.0, (within.1.1.1.1, (c.requires.can, (all_at (IsWithin (plain_term c.args.self.now.term.now)) (map plain_term c.args.node.now.parts.now) (plain_term c.in-Some.part.now) c.requires.node.within at, c.requires.head))))))))
 
@@ -221,7 +222,7 @@ over_each-over-requires g t c κs within =
     let before = c.decreases in
     let low : c.terms.left - 1 < length c.args.terms.now = omega (arith, c.terms-test.true, c.terms.invariant.low) in
     let at = at_place c.args.terms.now (c.terms.left - 1) c.index-terms-left.result low c.index-terms-left.is in
-    let light = one_weight (map plain_term c.args.terms.now) (plain_term c.index-terms-left.result) (map_in plain_term c.args.terms.now c.index-terms-left.result at) in
+    let light = one_weight (map plain_term c.args.terms.now) (plain_term c.index-terms-left.result) (to_mapped plain_term c.args.terms.now c.index-terms-left.result at) in
     (omega (arith, before, light), (within.0, (within.1.0, (within.1.1.0, (within.1.1.1.0, (within.1.1.1.1, (c.requires.can, (c.requires.node, all_at (λ t. MayRun (plain_second c.args.self.now.second.now) (plain_term t)) c.args.terms.now c.index-terms-left.result c.requires.terms at))))))))
 
 pub over_each-terms-preserved : goal.over_each-terms-preserved

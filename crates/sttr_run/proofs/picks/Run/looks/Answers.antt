@@ -3,12 +3,13 @@ use Rattle.std.proofs.lemmas.List.{take_all, map-append}
 use Rattle.std.proofs.lemmas.List.Elements.{All-nil}
 use Rattle.sta_core.specs.Machine.{plain_rule}
 use Rattle.sttr_core.specs.Terms.{plain_term}
+use Rattle.sttr_theory.proofs.Members.{to_mapped}
 use Rattle.sttr_run.specs.Found.{FiredStands}
 use Rattle.sttr_run.specs.Picks.{AreFired}
 use Rattle.sttr_run.specs.Plain.{plain_second, plain_triple}
 use Rattle.sttr_run.specs.declared.picks.Fired.{Fired}
 use Rattle.sttr_run.proofs.Firing.{fired_none, fired_skip, fired_more}
-use Rattle.sttr_run.proofs.Members.{taken, map_in, at_place, all_push}
+use Rattle.sttr_run.proofs.Members.{taken, at_place, all_push}
 use Rattle.sttr_run.proofs.picks.Run.looks.Goals as goal
 
 pub rules-init : goal.rules-init
@@ -25,7 +26,7 @@ rules-preserved-then-rule-node g c = record {
 }
 
 pub put-requires-clause-guard : goal.put-requires-clause-guard
-put-requires-clause-guard g c = inl (map plain_rule c.args.rules.now, c.requires.rules, plain_rule c.rule-item.result, map_in plain_rule c.args.rules.now c.rule-item.result (at_place c.args.rules.now c.rules.rule-index c.rule-item.result c.rules-test.true c.rule-item.is), refl)
+put-requires-clause-guard g c = inl (map plain_rule c.args.rules.now, c.requires.rules, plain_rule c.rule-item.result, to_mapped plain_rule c.args.rules.now c.rule-item.result (at_place c.args.rules.now c.rules.rule-index c.rule-item.result c.rules-test.true c.rule-item.is), refl)
 
 pub rules-preserved : goal.rules-preserved
 rules-preserved g c =
