@@ -22,7 +22,7 @@ module _ {X : Type 0} where
   pub all_in : (P : X → Type 0) (xs : List X) → All P xs → (x : X) → Contains xs x → P x
   all_in P xs h x at = subst P at.2 (h at.0 x at.1)
 
-  get_same : (xs : List X) (k : ℕ) (d e : X) → k < length xs → get_or xs k d ≡ get_or xs k e
+  pub get_same : (xs : List X) (k : ℕ) (d e : X) → k < length xs → get_or xs k d ≡ get_or xs k e
   get_same [] k d e low = absurd (omega (arith, low))
   get_same (x ∷ xs) zero d e low = refl
   get_same (x ∷ xs) (suc k) d e low = get_same xs k d e (omega (arith, low))

@@ -3,7 +3,7 @@ pub mod Numbered
 pub mod Copying
 pub mod Tidied
 pub mod Atoms
-pub mod WaysAsked
+pub mod Running
 pub mod Standing
 pub mod Middles
 pub mod Sides
@@ -12,6 +12,9 @@ pub mod Owed
 pub mod CalledNumbers
 pub mod Renaming
 pub mod Outing
+pub mod Owning
+pub mod Chained
+pub mod Starting
 pub mod Restricted
 pub mod Keeping
 pub mod Selecting

@@ -13,7 +13,7 @@ use Rattle.model_sttr.specs.Plain.{PlainOut}
 use Rattle.model_sttr.proofs.Instances.{occurs_uses}
 use Rattle.label_core.specs.Formula.{plain_formula}
 use Rattle.label_core.specs.Meaning.{Meaning}
-use Rattle.sta_core.specs.Machine.{Machine, PlainRule}
+use Rattle.sta_core.specs.Machine.{PlainRule}
 use Rattle.sta_core.specs.Sta.{rule_meaning}
 use Rattle.sttr_core.specs.Machine.{OutMachine}
 use Rattle.sttr_core.proofs.Meaning.{uses_as_with_maps, rules_meant}
@@ -33,7 +33,7 @@ use Rattle.sttr_run.specs.declared.triples.Way as code
 use Rattle.sttr_preimage.specs.Rules.{IsWayMade, AreWayMade, way_demands, asks_in}
 use Rattle.sttr_preimage.specs.Tidy.{tidy_way}
 use Rattle.sttr_preimage.specs.Images.{first_of, second_of, meant, IsLookName, HasOutRule, IsLookAtom, RowStands, HasRules, HasRulesOver, HasWayRules, WayStands}
-use Rattle.sttr_preimage.specs.Results.{IsOldAtom, IsPutAtom}
+use Rattle.sttr_preimage.specs.Through.{IsAtomOf, IsAtomBehind}
 use Rattle.sttr_preimage.proofs.Atoms.{row_in, all_in, in_all, all_map, every_map, every_own}
 use Rattle.sttr_preimage.proofs.Numbered.{adds_then, adds_wider, adds_same, adds_extends, adds_length, match_none}
 use Rattle.sttr_preimage.proofs.Standing.{rule_over, sttr_fits, stands_at, as_many_rules}
@@ -79,36 +79,36 @@ module _ {A : Type 0} (ranks : List ℕ) where
 pub guard_at : {A M : Type 0} (P : A → Type 0) (f : OutMachine A M) (q : ℕ) (r : PlainOut (PlainRule A) M) → HasOutRule f q r → All (λ rules. All (λ r. EveryAtom P r.rule.guard) rules) f.rules → EveryAtom P r.rule.guard
 guard_at P f q r there h = all_in (λ r. EveryAtom P r.rule.guard) (get_or f.rules q []) (all_in (λ rules. All (λ r. EveryAtom P r.rule.guard) rules) f.rules h (get_or f.rules q []) (row_in f.rules q there.0)) r there.1
 
-module _ {A M V W : Type 0} (is_put : M → A → A → Type 0) (make : M → Label → Label) {label_of : V → Label} {holds : A → Label → Bool} (N : Meaning label_of holds W) (fits : A → Type 0) (f : OutMachine A M) (a : Machine A) where
+module _ {A M V W : Type 0} (is_put : M → A → A → Type 0) (make : M → Label → Label) {label_of : V → Label} {holds : A → Label → Bool} (N : Meaning label_of holds W) (fits : A → Type 0) (f g : OutMachine A M) where
   abbrev F : Sttr Label
-  F = first_of holds make f a
+  F = first_of holds make f g
 
   abbrev G : Sttr Label
-  G = second_of holds make f a
+  G = second_of holds make f g
 
   abbrev R : List ℕ
   R = f.looks.ranks
 
-  pub row_more : (S P : Type 0) (n m : ℕ) → n ≤ m → (r : PlainRule A) → RowStands is_put make N fits f a S P n r → RowStands is_put make N fits f a S P m r
+  pub row_more : (S P : Type 0) (n m : ℕ) → n ≤ m → (r : PlainRule A) → RowStands is_put make N fits f g S P n r → RowStands is_put make N fits f g S P m r
   row_more S P n m le r h = record { stands = rule_more R n m le r h.stands; fit = h.fit; atoms = h.atoms }
 
-  pub rows_more : (S P : Type 0) (n m : ℕ) → n ≤ m → (rs : List (PlainRule A)) → All (RowStands is_put make N fits f a S P n) rs → All (RowStands is_put make N fits f a S P m) rs
-  rows_more S P n m le rs h = all_map (RowStands is_put make N fits f a S P n) (RowStands is_put make N fits f a S P m) rs (row_more S P n m le) h
+  pub rows_more : (S P : Type 0) (n m : ℕ) → n ≤ m → (rs : List (PlainRule A)) → All (RowStands is_put make N fits f g S P n) rs → All (RowStands is_put make N fits f g S P m) rs
+  rows_more S P n m le rs h = all_map (RowStands is_put make N fits f g S P n) (RowStands is_put make N fits f g S P m) rs (row_more S P n m le) h
 
-  pub way_guards : (map_eq : M → M → Bool) (ys : List (code.Way A M)) → All (WayStands is_put make N fits f a map_eq) ys → All (λ y. EveryAtom fits (plain_formula y.guard)) ys
-  way_guards map_eq ys h = all_map (WayStands is_put make N fits f a map_eq) (λ y. EveryAtom fits (plain_formula y.guard)) ys (λ y stands. stands.fit) h
+  pub way_guards : (Q : M → Type 0) (ys : List (code.Way A M)) → All (WayStands is_put make N fits f g Q) ys → All (λ y. EveryAtom fits (plain_formula y.guard)) ys
+  way_guards Q ys h = all_map (WayStands is_put make N fits f g Q) (λ y. EveryAtom fits (plain_formula y.guard)) ys (λ y stands. stands.fit) h
 
   -- a name that fits is one that may be asked between
-  pub known_of : (x : LookName) → LookNameFits F G x → IsLookName holds make f a ⊥ ⊤ x
+  pub known_of : (x : LookName) → LookNameFits F G x → IsLookName holds make f g ⊥ ⊤ x
   known_of (of_first s) h = subst (λ n. s < n) (length-map f.looks.rules (map (rule_meaning holds))) h
-  known_of (of_second s) h = (subst (λ n. s < n) (length-map a.rules (map (rule_meaning holds))) h.0, inl h.1)
+  known_of (of_second s) h = (subst (λ n. s < n) (length-map g.looks.rules (map (rule_meaning holds))) h.0, inl h.1)
   known_of (middle q all) h = (
     subst (λ n. q < n) (as_many_rules holds make f) h.0,
-    each_to_all (λ s. s < length G.looks) (λ s. s < length a.rules) (λ s low. subst (λ n. s < n) (length-map a.rules (map (rule_meaning holds))) low) all h.1,
+    each_to_all (λ s. s < length G.looks) (λ s. s < length g.looks.rules) (λ s low. subst (λ n. s < n) (length-map g.looks.rules (map (rule_meaning holds))) low) all h.1,
     tt,
   )
 
-  module _ (looks : All (All (RuleStands R (length f.looks.rules))) f.looks.rules) (stands : SttrStands f) (guards : All (λ rules. All (λ r. EveryAtom fits r.rule.guard) rules) f.rules) (same : (b : A) → N.equal b b ≡ true) (map_eq : M → M → Bool) where
+  module _ (looks : All (All (RuleStands R (length f.looks.rules))) f.looks.rules) (stands : SttrStands f) (guards : All (λ rules. All (λ r. EveryAtom fits r.rule.guard) rules) f.rules) (same : (b : A) → N.equal b b ≡ true) (Q : M → Type 0) where
     module _ (q : ℕ) (ρ : PlainOut (PlainRule A) M) (there : HasOutRule f q ρ) where
       pub own : OutStands R (length f.looks.rules) (length f.rules) ρ
       own = stands_at holds make f stands q ρ there
@@ -116,8 +116,8 @@ module _ {A M V W : Type 0} (is_put : M → A → A → Type 0) (make : M → La
       own_fit : EveryAtom fits ρ.rule.guard
       own_fit = guard_at fits f q ρ there guards
 
-      own_atoms : EveryAtom (IsOldAtom N.equal f a.rules) ρ.rule.guard
-      own_atoms = every_own (IsOldAtom N.equal f a.rules) ρ.rule.guard (λ b c. (b, inr (get_or f.rules q [], row_in f.rules q there.0, ρ, there.1, c), same b))
+      own_atoms : EveryAtom (IsAtomOf N.equal f) ρ.rule.guard
+      own_atoms = every_own (IsAtomOf N.equal f) ρ.rule.guard (λ b c. (b, inr (get_or f.rules q [], row_in f.rules q there.0, ρ, there.1, c), same b))
 
       demanded : (j s : ℕ) → Contains (get_or ρ.rule.demands j []) s → s < length f.looks.rules
       demanded j s c = elim (cases_lt j (length ρ.rule.demands)) [
@@ -125,7 +125,7 @@ module _ {A M V W : Type 0} (is_put : M → A → A → Type 0) (make : M → La
         | inr past ↦ (let e = ap length (get_or_past ρ.rule.demands j [] past) in absurd (omega (arith, e, c.1)))
       ]
 
-      module _ (t : Triple) (ys : List (code.Way A M)) (are : AreWays F G N.has (with_maps make ρ.term) t (map tidy_way (map (way_at holds make) ys))) (ways : All (WayStands is_put make N fits f a map_eq) ys) where
+      module _ (t : Triple) (ys : List (code.Way A M)) (are : AreWays F G N.has (with_maps make ρ.term) t (map tidy_way (map (way_at holds make) ys))) (ways : All (WayStands is_put make N fits f g Q) ys) where
         abbrev pub tidied : code.Way A M → Way Label
         tidied y = tidy_way (way_at holds make y)
 
@@ -143,15 +143,15 @@ module _ {A M V W : Type 0} (is_put : M → A → A → Type 0) (make : M → La
             used (of_second s) asks = occurs_uses identity j (with_maps make ρ.term) asks.0
             used (middle k all) asks = occurs_uses (run k) j (with_maps make ρ.term) asks.0
 
-        pub wanted_known : (y : code.Way A M) → Contains ys y → (j : ℕ) (x : LookName) → Contains (way_demands ρ.rule y.demands.items j) x → IsLookName holds make f a ⊥ ⊤ x
+        pub wanted_known : (y : code.Way A M) → Contains ys y → (j : ℕ) (x : LookName) → Contains (way_demands ρ.rule y.demands.items j) x → IsLookName holds make f g ⊥ ⊤ x
         wanted_known y mine j x c = elim (in_either (firsts (get_or ρ.rule.demands j [])) (asks_in y.demands.items j) x c) [
-          | inl first ↦ (let (s, at, is) = of_mapped of_first (get_or ρ.rule.demands j []) x first in subst (IsLookName holds make f a ⊥ ⊤) is (demanded j s at))
-          | inr asks ↦ known_of x (asked_fits R N.has F G (sttr_fits holds make f looks stands) (run q) (subst (λ n. q < n) (sym (as_many_rules holds make f)) there.0) (meant holds make f a ρ) (rule_over holds make f q ρ there) x j
+          | inl first ↦ (let (s, at, is) = of_mapped of_first (get_or ρ.rule.demands j []) x first in subst (IsLookName holds make f g ⊥ ⊤) is (demanded j s at))
+          | inr asks ↦ known_of x (asked_fits R N.has F G (sttr_fits holds make f looks stands) (run q) (subst (λ n. q < n) (sym (as_many_rules holds make f)) there.0) (meant holds make f g ρ) (rule_over holds make f q ρ there) x j
               (each_at (λ n. IsAsked F G (with_maps make ρ.term) n j) (asks_in y.demands.items j) x (asked_at y mine j) asks))
         ]
 
         -- a rule that applies where the rule and a way do
-        pub made_rule : (names : List LookName) (m : PlainRule A) (y : code.Way A M) → Contains ys y → IsWayMade names ρ.rule m y → IsWayRule R N.has F G names (rule_meaning holds m) (meant holds make f a ρ) (tidied y)
+        pub made_rule : (names : List LookName) (m : PlainRule A) (y : code.Way A M) → Contains ys y → IsWayMade names ρ.rule m y → IsWayRule R N.has F G names (rule_meaning holds m) (meant holds make f g ρ) (tidied y)
         made_rule names m y mine h = record {
           same_constructor = h.constructor;
           same_guard = λ l d. ap (formula_holds (λ b. holds b l)) h.guard ∙ ap (λ b. formula_holds (λ b. holds b l) ρ.rule.guard && b) (and_true (formula_holds (λ b. holds b l) (plain_formula y.guard)));
@@ -164,9 +164,9 @@ module _ {A M V W : Type 0} (is_put : M → A → A → Type 0) (make : M → La
           ]);
         }
 
-        pub row_stands : (names : List LookName) (m : PlainRule A) (y : code.Way A M) → Contains ys y → IsWayMade names ρ.rule m y → RowStands is_put make N fits f a ⊥ ⊤ (length names) m
+        pub row_stands : (names : List LookName) (m : PlainRule A) (y : code.Way A M) → Contains ys y → IsWayMade names ρ.rule m y → RowStands is_put make N fits f g ⊥ ⊤ (length names) m
         row_stands names m y mine h =
-            let way = all_in (WayStands is_put make N fits f a map_eq) ys ways y mine in
+            let way = all_in (WayStands is_put make N fits f g Q) ys ways y mine in
             record {
               stands = record {
                 constructor = subst (λ c. c < length R) (sym h.constructor) own.rule.constructor;
@@ -175,52 +175,52 @@ module _ {A M V W : Type 0} (is_put : M → A → A → Type 0) (make : M → La
                     (made_demands R N.has F G names (length names) refl (rule_meaning holds m) _ _ _ (made_rule names m y mine h));
               };
               fit = subst (EveryAtom fits) (sym h.guard) (own_fit, (way.fit, tt));
-              atoms = subst (EveryAtom (IsLookAtom is_put make N fits f a ⊥ ⊤)) (sym h.guard) (
-                every_map (IsOldAtom N.equal f a.rules) (IsLookAtom is_put make N fits f a ⊥ ⊤) (λ b is. inl is) ρ.rule.guard own_atoms,
-                (every_map (IsPutAtom N.equal f a.rules is_put) (IsLookAtom is_put make N fits f a ⊥ ⊤) (λ b is. inr (inl (tt, is))) (plain_formula y.guard) way.atoms, tt),
+              atoms = subst (EveryAtom (IsLookAtom is_put make N fits f g ⊥ ⊤)) (sym h.guard) (
+                every_map (IsAtomOf N.equal f) (IsLookAtom is_put make N fits f g ⊥ ⊤) (λ b is. inl is) ρ.rule.guard own_atoms,
+                (every_map (IsAtomBehind N.equal is_put f g) (IsLookAtom is_put make N fits f g ⊥ ⊤) (λ b is. inr (inl (tt, is))) (plain_formula y.guard) way.atoms, tt),
               );
             }
 
-        pub all_ways_done : (old new : List LookName) (made : List (PlainRule A)) → AreWayMade holds N.has old new ρ.rule ys made → HasWayRules is_put make N fits f a old new ρ (map tidy_way (map (way_at holds make) ys)) made
+        pub all_ways_done : (old new : List LookName) (made : List (PlainRule A)) → AreWayMade holds N.has old new ρ.rule ys made → HasWayRules is_put make N fits f g old new ρ (map tidy_way (map (way_at holds make) ys)) made
         all_ways_done old new made h = record {
-          adds = adds_wider old new _ (IsLookName holds make f a ⊥ ⊤) h.adds (λ x w. wanted_known w.0 w.1 w.2 x w.4);
-          over = subst (AreRulesOfWays R N.has F G (IsWayRule R N.has F G new) (map (rule_meaning holds) made) (meant holds make f a ρ)) (sym (map-map tidy_way (way_at holds make) ys))
-              (covers_mapped (IsWayMade new ρ.rule) (λ y. AreApart holds N.has ρ.rule.guard (plain_formula y.guard)) (λ r w. IsWayRule R N.has F G new r (meant holds make f a ρ) w) (λ w. Never N.has (λ l. (meant holds make f a ρ).rule.guard l && w.guard l)) (rule_meaning holds) tidied made ys (λ m y at mine is. made_rule new m y mine is) (λ y out. out) h.rules);
-          stand = in_all (RowStands is_put make N fits f a ⊥ ⊤ (length new)) made (λ m at. let (y, mine, is) = h.rules.only m at in row_stands new m y mine is);
+          adds = adds_wider old new _ (IsLookName holds make f g ⊥ ⊤) h.adds (λ x w. wanted_known w.0 w.1 w.2 x w.4);
+          over = subst (AreRulesOfWays R N.has F G (IsWayRule R N.has F G new) (map (rule_meaning holds) made) (meant holds make f g ρ)) (sym (map-map tidy_way (way_at holds make) ys))
+              (covers_mapped (IsWayMade new ρ.rule) (λ y. AreApart holds N.has ρ.rule.guard (plain_formula y.guard)) (λ r w. IsWayRule R N.has F G new r (meant holds make f g ρ) w) (λ w. Never N.has (λ l. (meant holds make f g ρ).rule.guard l && w.guard l)) (rule_meaning holds) tidied made ys (λ m y at mine is. made_rule new m y mine is) (λ y out. out) h.rules);
+          stand = in_all (RowStands is_put make N fits f g ⊥ ⊤ (length new)) made (λ m at. let (y, mine, is) = h.rules.only m at in row_stands new m y mine is);
         }
 
   -- ---- all rules of a state of the transducer
 
   -- of more rules, where what is said of them stays true
   pub over_then : {X : Type 0} (Is Is' : X → OutRule Label → Way Label → Type 0) → ((r : X) (ρ : OutRule Label) (y : Way Label) → Is r ρ y → Is' r ρ y) → (t : Triple) (ρs : List (PlainOut (PlainRule A) M)) (rs made : List X) (ρ : PlainOut (PlainRule A) M) (ys : List (Way Label))
-      → AreRulesOver R N.has F G Is (map (meant holds make f a) ρs) rs t → AreWays F G N.has (with_maps make ρ.term) t ys → AreRulesOfWays R N.has F G Is' made (meant holds make f a ρ) ys → AreRulesOver R N.has F G Is' (map (meant holds make f a) (ρs ++ ρ ∷ [])) (rs ++ made) t
+      → AreRulesOver R N.has F G Is (map (meant holds make f g) ρs) rs t → AreWays F G N.has (with_maps make ρ.term) t ys → AreRulesOfWays R N.has F G Is' made (meant holds make f g ρ) ys → AreRulesOver R N.has F G Is' (map (meant holds make f g) (ρs ++ ρ ∷ [])) (rs ++ made) t
   over_then Is Is' to t ρs rs made ρ ys over ways same =
-      subst (λ l. AreRulesOver R N.has F G Is' l (rs ++ made) t) (sym (map-append (meant holds make f a) ρs (ρ ∷ [])))
-      (one_more_rule R N.has F G Is' t (map (meant holds make f a) ρs) rs (meant holds make f a ρ) ys made (rules_over_map R N.has F G Is Is' to (map (meant holds make f a) ρs) rs t over) ways same)
+      subst (λ l. AreRulesOver R N.has F G Is' l (rs ++ made) t) (sym (map-append (meant holds make f g) ρs (ρ ∷ [])))
+      (one_more_rule R N.has F G Is' t (map (meant holds make f g) ρs) rs (meant holds make f g ρ) ys made (rules_over_map R N.has F G Is Is' to (map (meant holds make f g) ρs) rs t over) ways same)
 
   -- all of them
-  pub over_all : {X : Type 0} (Is : X → OutRule Label → Way Label → Type 0) (q : ℕ) (t : Triple) (rs : List X) → t.first ≡ run q → AreRulesOver R N.has F G Is (map (meant holds make f a) (get_or f.rules q [])) rs t → AreRulesFor R N.has F G Is rs t
-  over_all Is q t rs first over = all_rules R N.has F G Is t (map (meant holds make f a) (get_or f.rules q [])) rs
+  pub over_all : {X : Type 0} (Is : X → OutRule Label → Way Label → Type 0) (q : ℕ) (t : Triple) (rs : List X) → t.first ≡ run q → AreRulesOver R N.has F G Is (map (meant holds make f g) (get_or f.rules q [])) rs t → AreRulesFor R N.has F G Is rs t
+  over_all Is q t rs first over = all_rules R N.has F G Is t (map (meant holds make f g) (get_or f.rules q [])) rs
       (λ ρ c. subst (λ h. IsRuleOf R N.has F G h ρ) (sym first) (subst (λ l. Contains l ρ) (sym (rules_meant holds make f q)) c))
       (λ ρ rule. subst (λ l. Contains l ρ) (rules_meant holds make f q) (subst (λ h. IsRuleOf R N.has F G h ρ) first rule)) over
 
-  pub over_none : (old : List LookName) (t : Triple) (rules : List (PlainRule A)) → rules ≡ [] → HasRulesOver is_put make N fits f a old old t [] rules
-  over_none old t rules e = subst (HasRulesOver is_put make N fits f a old old t []) (sym e) (record {
+  pub over_none : (old : List LookName) (t : Triple) (rules : List (PlainRule A)) → rules ≡ [] → HasRulesOver is_put make N fits f g old old t [] rules
+  over_none old t rules e = subst (HasRulesOver is_put make N fits f g old old t []) (sym e) (record {
     adds = adds_same old old _ refl;
     over = no_rules R N.has F G (IsWayRule R N.has F G old) t;
-    stand = in_all (RowStands is_put make N fits f a ⊥ ⊤ (length old)) [] (λ x c. absurd (omega (arith, c.1)));
+    stand = in_all (RowStands is_put make N fits f g ⊥ ⊤ (length old)) [] (λ x c. absurd (omega (arith, c.1)));
   })
 
-  pub over_more : (o b c : List LookName) (t : Triple) (ρs ρs' : List (PlainOut (PlainRule A) M)) (ρ : PlainOut (PlainRule A) M) (rules made next : List (PlainRule A)) (ys : List (Way Label)) → HasRulesOver is_put make N fits f a o b t ρs rules → AreWays F G N.has (with_maps make ρ.term) t ys → HasWayRules is_put make N fits f a b c ρ ys made
-      → ρs' ≡ ρs ++ ρ ∷ [] → next ≡ rules ++ made → HasRulesOver is_put make N fits f a o c t ρs' next
-  over_more o b c t ρs ρs' ρ rules made next ys h ways w e e' = subst (λ l. HasRulesOver is_put make N fits f a o c t l next) (sym e) (subst (HasRulesOver is_put make N fits f a o c t (ρs ++ ρ ∷ [])) (sym e') (record {
+  pub over_more : (o b c : List LookName) (t : Triple) (ρs ρs' : List (PlainOut (PlainRule A) M)) (ρ : PlainOut (PlainRule A) M) (rules made next : List (PlainRule A)) (ys : List (Way Label)) → HasRulesOver is_put make N fits f g o b t ρs rules → AreWays F G N.has (with_maps make ρ.term) t ys → HasWayRules is_put make N fits f g b c ρ ys made
+      → ρs' ≡ ρs ++ ρ ∷ [] → next ≡ rules ++ made → HasRulesOver is_put make N fits f g o c t ρs' next
+  over_more o b c t ρs ρs' ρ rules made next ys h ways w e e' = subst (λ l. HasRulesOver is_put make N fits f g o c t l next) (sym e) (subst (HasRulesOver is_put make N fits f g o c t (ρs ++ ρ ∷ [])) (sym e') (record {
     adds = adds_then o b c _ _ _ h.adds w.adds (λ x k. k) (λ x k. k);
-    over = subst (λ l. AreRulesOver R N.has F G (IsWayRule R N.has F G c) (map (meant holds make f a) (ρs ++ ρ ∷ [])) l t) (sym (map-append (rule_meaning holds) rules made))
+    over = subst (λ l. AreRulesOver R N.has F G (IsWayRule R N.has F G c) (map (meant holds make f g) (ρs ++ ρ ∷ [])) l t) (sym (map-append (rule_meaning holds) rules made))
         (over_then (IsWayRule R N.has F G b) (IsWayRule R N.has F G c) (way_grown R N.has F G b c (adds_extends b c _ w.adds)) t ρs (map (rule_meaning holds) rules) (map (rule_meaning holds) made) ρ ys h.over ways w.over);
-    stand = all_both (RowStands is_put make N fits f a ⊥ ⊤ (length c)) rules made (rows_more ⊥ ⊤ (length b) (length c) (adds_length b c _ w.adds) rules h.stand) w.stand;
+    stand = all_both (RowStands is_put make N fits f g ⊥ ⊤ (length c)) rules made (rows_more ⊥ ⊤ (length b) (length c) (adds_length b c _ w.adds) rules h.stand) w.stand;
   }))
 
-  pub middle_done : (old new : List LookName) (q : ℕ) (all : List ℕ) (rules : List (PlainRule A)) → HasRulesOver is_put make N fits f a old new (record { first = run q; all = all; second = None }) (get_or f.rules q []) rules → HasRules is_put make N fits f a old new (middle q all) rules
+  pub middle_done : (old new : List LookName) (q : ℕ) (all : List ℕ) (rules : List (PlainRule A)) → HasRulesOver is_put make N fits f g old new (record { first = run q; all = all; second = None }) (get_or f.rules q []) rules → HasRules is_put make N fits f g old new (middle q all) rules
   middle_done old new q all rules h = record {
     adds = h.adds;
     are = over_all (IsWayRule R N.has F G new) q (record { first = run q; all = all; second = None }) (map (rule_meaning holds) rules) refl h.over;

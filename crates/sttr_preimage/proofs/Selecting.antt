@@ -9,7 +9,6 @@ use Rattle.model_sta.specs.Sets.{Each}
 use Rattle.model_sttr.specs.Terms.{Term, on, build, Parts, no_parts, part, with_maps, Occurs, OccursIn, StandsFor, StandFor}
 use Rattle.model_sttr.specs.Transducer.{Head, OutRule, Sttr, out_rules, IsHead, SttrFits}
 use Rattle.model_sttr.specs.Plain.{PlainOut}
-use Rattle.model_sttr.proofs.Heads.{in_range}
 use Rattle.label_core.specs.Formula.{plain_formula}
 use Rattle.label_core.specs.Meaning.{Meaning}
 use Rattle.sta_core.specs.Fits.{RuleFits}
@@ -30,6 +29,7 @@ use Rattle.sttr_theory.specs.Results.{OfEither, IsOldHead, IsOldRule, IsJointRul
 use Rattle.sttr_theory.proofs.Fits.{made_demands, restriction_fits}
 use Rattle.sttr_theory.proofs.Grow.{push_before, push_at}
 use Rattle.sttr_theory.proofs.Guards.{restriction_guards, restriction_maps}
+use Rattle.sttr_theory.proofs.Linear.{restriction_linear}
 use Rattle.sttr_theory.proofs.Restriction.{restriction_owed}
 use Rattle.sttr_run.specs.Fits.{RuleStands, OutStands, SttrStands}
 use Rattle.sttr_preimage.specs.Names.{Adds}
@@ -37,21 +37,19 @@ use Rattle.sttr_preimage.specs.Called.{IsTermCopy}
 use Rattle.sttr_preimage.specs.Kept.{IsBelow, IsEither, joint_demands, IsKept, IsJoint, AreRestricted}
 use Rattle.sttr_preimage.specs.Images.{IsSecond, IsMiddle, HasOne, CanAsk, second_of, meant, IsLookName, IsLookAtom, AreAllRows, HasOutRule}
 use Rattle.sttr_preimage.specs.Outs.{RuleOver, IsOver}
-use Rattle.sttr_preimage.specs.Results.{trans_at, auto_at, IsOldAtom, IsAskedAtom, IsRestricted}
+use Rattle.sttr_preimage.specs.Through.{nothing_of}
+use Rattle.sttr_preimage.specs.Results.{trans_at, auto_at, IsOldAtom, IsOldMap, IsAskedAtom, IsRestricted}
 use Rattle.sttr_preimage.proofs.Atoms.{row_in, all_in, in_all, every_own}
-use Rattle.sttr_preimage.proofs.Finished.{look_built, every_name, every_fit, every_atom}
+use Rattle.sttr_preimage.proofs.Finished.{can_ask, own_asked, look_built, every_name, every_fit, every_atom}
 use Rattle.sttr_preimage.proofs.Keeping.{kept_wider}
 use Rattle.sttr_preimage.proofs.Middles.{guard_at, match_mapped, each_to_all, all_both, and_true}
 use Rattle.sttr_preimage.proofs.Numbered.{adds_extends, adds_then, match_none}
 use Rattle.sttr_preimage.proofs.Restricted.{in_rows}
 use Rattle.sttr_core.specs.Fits.{LabelsFit}
 use Rattle.sttr_preimage.proofs.Sides.{all_stand}
-use Rattle.sttr_preimage.proofs.Standing.{stands_at, sttr_fits, rule_over, as_many_rules}
+use Rattle.sttr_preimage.proofs.Standing.{below_of, stands_at, sttr_fits, rule_over, as_many_rules}
 use Rattle.sttr_theory.proofs.Members.{to_mapped, of_mapped, in_single}
 use Rattle.sttr_theory.proofs.Matches.{match_map}
-
-pub below_of : {A : Type 0} (ranks : List ℕ) (n : ℕ) (r : PlainRule A) → RuleStands ranks n r → IsBelow n r
-below_of ranks n r h j s c = all_in (λ s. s < n) (get_or r.demands j []) (all_in (All (λ s. s < n)) r.demands h.demands (get_or r.demands j []) (row_in r.demands j (in_range r.demands j s c))) s c
 
 module _ {A M : Type 0} (f : OutMachine A M) (stands : SttrStands f) where
   pub rules_below : (q : ℕ) (rs : List (SttrRule A M)) → q < length f.rules → map plain_out rs ≡ get_or f.rules q [] → All (λ r. IsBelow (length f.looks.rules) (plain_rule r.rule)) rs
@@ -99,17 +97,17 @@ module _ {A M V W : Type 0} (is_put : M → A → A → Type 0) (make : M → La
       by (of_second s) k is = is
       by (middle q all) k is = k
 
-  pub sides_known : (x : LookName) → Contains names x → IsLookName holds make f a (HasOne IsSecond names) (HasOne IsMiddle names) x
+  pub sides_known : (x : LookName) → Contains names x → IsLookName holds make f (nothing_of a) (HasOne IsSecond names) (HasOne IsMiddle names) x
   sides_known x c = by x c (side_known x c)
     where
-      by : (x : LookName) → Contains names x → IsEither (length f.looks.rules) (length a.rules) x → IsLookName holds make f a (HasOne IsSecond names) (HasOne IsMiddle names) x
+      by : (x : LookName) → Contains names x → IsEither (length f.looks.rules) (length a.rules) x → IsLookName holds make f (nothing_of a) (HasOne IsSecond names) (HasOne IsMiddle names) x
       by (of_first s) c k = k
       by (of_second s) c k = (k, inr (of_second s, c, tt))
       by (middle q all) c k = absurd k
 
-  pub sides_can : {T : Type 0} (atom_fits : T → A → Type 0) (map_fits map_makes : T → M → Type 0) (theory : T) → All (All (RuleStands f.looks.ranks (length f.looks.rules))) f.looks.rules → SttrStands f → LabelsFit (atom_fits theory) (map_fits theory) f → a.ranks ≡ f.looks.ranks → AtomsFit (atom_fits theory) a
-      → CanAsk atom_fits map_fits map_makes theory f a (HasOne IsSecond names) (HasOne IsMiddle names)
-  sides_can atom_fits map_fits map_makes theory looks stands labels ranks fit = record { looks = looks; stands = stands; labels = labels; makes = λ p. absurd (no_middle p); speaks = λ e. record { ranks = ranks; fit = fit } }
+  pub sides_can : {T : Type 0} (atom_fits : T → A → Type 0) (map_fits map_makes : T → M → Type 0) (theory : T) → All (All (RuleStands f.looks.ranks (length f.looks.rules))) f.looks.rules → SttrStands f → LabelsFit (atom_fits theory) (map_fits theory) f → All (All (RuleStands a.ranks (length a.rules))) a.rules → a.ranks ≡ f.looks.ranks → AtomsFit (atom_fits theory) a
+      → CanAsk atom_fits map_fits map_makes theory f (nothing_of a) (HasOne IsSecond names) (HasOne IsMiddle names)
+  sides_can atom_fits map_fits map_makes theory looks stands labels second ranks fit = can_ask a atom_fits map_fits map_makes theory f (HasOne IsSecond names) (HasOne IsMiddle names) looks stands labels second (λ p. absurd (no_middle p)) (λ e. record { ranks = ranks; fit = fit })
 
 -- ---- the restriction
 
@@ -117,18 +115,18 @@ module _ {A M V W : Type 0} (is_put : M → A → A → Type 0) (make : M → La
     (looks : All (All (RuleStands f.sttr.looks.ranks (length f.sttr.looks.rules))) f.sttr.looks.rules) (stands : SttrStands f.sttr) (start : f.state < length f.sttr.rules) (state : a.state < length a.sta.rules) (ranks : a.sta.ranks ≡ f.sttr.looks.ranks) (guards : All (λ rules. All (λ r. EveryAtom fits r.rule.guard) rules) f.sttr.rules) (asked_fit : AtomsFit fits a.sta) (same : (b : A) → N.equal b b ≡ true)
     (others : All (RuleStands a.sta.ranks (length a.sta.rules)) (get_or a.sta.rules a.state [])) (before old names : List LookName) (none : before ≡ [])
     (made : List (List (PlainOut (PlainRule A) M))) (h : AreRestricted make N.has eq (length f.sttr.looks.rules) (length a.sta.rules) holds before old f.sttr.rules f.state (get_or a.sta.rules a.state []) made)
-    (rows : List (List (PlainRule A))) (all : AreAllRows is_put make N fits f.sttr a.sta (HasOne IsSecond old) (HasOne IsMiddle old) old names rows) (d : OutMachine A M) (d_ranks : d.looks.ranks ≡ f.sttr.looks.ranks) (d_looks : d.looks.rules ≡ rows) (d_rules : d.rules ≡ made) (n : ℕ) (n_is : n ≡ length f.sttr.rules) (no_between : HasOne IsMiddle old → ⊥) where
+    (rows : List (List (PlainRule A))) (all : AreAllRows is_put make N fits f.sttr (nothing_of a.sta) (HasOne IsSecond old) (HasOne IsMiddle old) old names rows) (d : OutMachine A M) (d_ranks : d.looks.ranks ≡ f.sttr.looks.ranks) (d_looks : d.looks.rules ≡ rows) (d_rules : d.rules ≡ made) (n : ℕ) (n_is : n ≡ length f.sttr.rules) (no_between : HasOne IsMiddle old → ⊥) where
   abbrev F : Sttr Label
   F = transducer_of holds make f.sttr
 
   abbrev G : Sttr Label
-  G = second_of holds make f.sttr a.sta
+  G = second_of holds make f.sttr (nothing_of a.sta)
 
   abbrev R : List ℕ
   R = f.sttr.looks.ranks
 
   abbrev Old : PlainOut (PlainRule A) M → OutRule Label
-  Old r = meant holds make f.sttr a.sta r
+  Old r = meant holds make f.sttr (nothing_of a.sta) r
 
   ok : SttrFits F R
   ok = sttr_fits holds make f.sttr looks stands
@@ -191,8 +189,8 @@ module _ {A M V W : Type 0} (is_put : M → A → A → Type 0) (make : M → La
 
   pub restriction_built : IsBuiltRestriction R N.has (trans_at holds make f) (auto_at holds a) names (trans_at holds make (record { sttr = d; state = n }))
   restriction_built = record {
-    look = subst (λ rs. IsBuiltLook R N.has F G names (map (map (rule_meaning holds)) rs)) (sym d_looks) (look_built is_put make N fits f.sttr a.sta (HasOne IsSecond old) (HasOne IsMiddle old) old names rows all);
-    looks_fit = every_name is_put make N fits f.sttr a.sta (HasOne IsSecond old) (HasOne IsMiddle old) old names rows all (OfEither (trans_at holds make f) (auto_at holds a)) either;
+    look = subst (λ rs. IsBuiltLook R N.has F G names (map (map (rule_meaning holds)) rs)) (sym d_looks) (look_built is_put make N fits f.sttr (nothing_of a.sta) (HasOne IsSecond old) (HasOne IsMiddle old) old names rows all);
+    looks_fit = every_name is_put make N fits f.sttr (nothing_of a.sta) (HasOne IsSecond old) (HasOne IsMiddle old) old names rows all (OfEither (trans_at holds make f) (auto_at holds a)) either;
     as_many = as_many_rules holds make d ∙ ap length (d_rules ∙ h.is) ∙ length-append h.kept (h.joint ∷ []) ∙ (let m = many in let w = as_many_rules holds make f.sttr in omega (arith, m, w));
     start = n_is ∙ sym (as_many_rules holds make f.sttr);
     old = λ q low. let lt = subst (λ k. q < k) (as_many_rules holds make f.sttr) low in
@@ -216,7 +214,7 @@ module _ {A M V W : Type 0} (is_put : M → A → A → Type 0) (make : M → La
       its_in : (σ : PlainRule A) → Contains (get_or a.sta.rules a.state []) σ → Contains (rules_of (automaton_of holds a.sta) a.state) (rule_meaning holds σ)
       its_in σ its = subst (λ l. Contains l (rule_meaning holds σ)) (sym (rules_of_automaton holds a.sta a.state)) (to_mapped (rule_meaning holds) (get_or a.sta.rules a.state []) σ its)
 
-      either : (x : LookName) → IsLookName holds make f.sttr a.sta (HasOne IsSecond old) (HasOne IsMiddle old) x → OfEither (trans_at holds make f) (auto_at holds a) x
+      either : (x : LookName) → IsLookName holds make f.sttr (nothing_of a.sta) (HasOne IsSecond old) (HasOne IsMiddle old) x → OfEither (trans_at holds make f) (auto_at holds a) x
       either (of_first s) k = subst (λ n. s < n) (sym (length-map f.sttr.looks.rules (map (rule_meaning holds)))) k
       either (of_second s) k = subst (λ n. s < n) (sym (length-map a.sta.rules (map (rule_meaning holds)))) k.0
       either (middle q every) k = no_between k.2
@@ -226,6 +224,7 @@ module _ {A M V W : Type 0} (is_put : M → A → A → Type 0) (make : M → La
     exact = restriction_owed R N.has (trans_at holds make f) (auto_at holds a) names (trans_at holds make c) ok restriction_built;
     guards = λ l m dl dm on_f on_a. restriction_guards R N.has (trans_at holds make f) (auto_at holds a) names (trans_at holds make c) restriction_built l m dl dm on_f on_a;
     maps = restriction_maps R N.has (trans_at holds make f) (auto_at holds a) names (trans_at holds make c) restriction_built;
+    linear = restriction_linear R N.has (trans_at holds make f) (auto_at holds a) names (trans_at holds make c) restriction_built;
   }
 
   pub restriction_fitting : SttrFits (transducer_of holds make d) R
@@ -237,7 +236,7 @@ module _ {A M V W : Type 0} (is_put : M → A → A → Type 0) (make : M → La
   demands_low : (x : PlainRule A) (k : ℕ) (guard : Label → Bool) (W : ℕ → List LookName) → IsMadeRule R N.has F G names (rule_meaning holds x) k guard W → All (All (λ s. s < length names)) x.demands
   demands_low x k guard W is = each_to_all (Each (λ s. s < length names)) (All (λ s. s < length names)) (λ ds e. each_to_all (λ s. s < length names) (λ s. s < length names) (λ s low. low) ds e) x.demands (made_demands R N.has F G names (length names) refl (rule_meaning holds x) k guard W is)
 
-  row_of : (q : ℕ) (r x : PlainOut (PlainRule A) M) → HasOutRule f.sttr q r → x.rule.constructor ≡ r.rule.constructor → length x.rule.demands ≡ length r.rule.demands → All (All (λ s. s < length names)) x.rule.demands → EveryAtom fits x.rule.guard → EveryAtom Atom x.rule.guard → IsTermCopy make N.has eq r.term x.term → RuleOver fits Atom f.sttr eq (length names) x
+  row_of : (q : ℕ) (r x : PlainOut (PlainRule A) M) → HasOutRule f.sttr q r → x.rule.constructor ≡ r.rule.constructor → length x.rule.demands ≡ length r.rule.demands → All (All (λ s. s < length names)) x.rule.demands → EveryAtom fits x.rule.guard → EveryAtom Atom x.rule.guard → IsTermCopy make N.has eq r.term x.term → RuleOver fits Atom (IsOldMap eq f.sttr) f.sttr (length names) x
   row_of q r x there e count low fit atoms term =
       let own = (stands_at holds make f.sttr stands q r there).rule in
       record {
@@ -253,12 +252,12 @@ module _ {A M V W : Type 0} (is_put : M → A → A → Type 0) (make : M → La
   own_atoms : (q : ℕ) (r : PlainOut (PlainRule A) M) → HasOutRule f.sttr q r → EveryAtom Atom r.rule.guard
   own_atoms q r there = every_own Atom r.rule.guard (λ b at. inl (b, inr (get_or f.sttr.rules q [], row_in f.sttr.rules q there.0, r, there.1, at), same b))
 
-  kept_row : (q : ℕ) → q < length f.sttr.rules → (x : PlainOut (PlainRule A) M) → Contains (get_or h.kept q []) x → RuleOver fits Atom f.sttr eq (length names) x
+  kept_row : (q : ℕ) → q < length f.sttr.rules → (x : PlainOut (PlainRule A) M) → Contains (get_or h.kept q []) x → RuleOver fits Atom (IsOldMap eq f.sttr) f.sttr (length names) x
   kept_row q low x at =
       let (r, mine, is) = (kept_all q low).0 x at in
       row_of q r x (low, mine) is.rule.constructor is.rule.count (demands_low x.rule _ _ _ (old_rule q r x (low, mine) is).0) (subst (EveryAtom fits) (sym is.rule.guard) (own_fit q r (low, mine))) (subst (EveryAtom Atom) (sym is.rule.guard) (own_atoms q r (low, mine))) is.term
 
-  joint_row : (x : PlainOut (PlainRule A) M) → Contains h.joint x → RuleOver fits Atom f.sttr eq (length names) x
+  joint_row : (x : PlainOut (PlainRule A) M) → Contains h.joint x → RuleOver fits Atom (IsOldMap eq f.sttr) f.sttr (length names) x
   joint_row x at =
       let (r, mine, σ, its, one, joint) = h.are_joint.only x at in
       let those = row_in a.sta.rules a.state state in
@@ -267,23 +266,23 @@ module _ {A M V W : Type 0} (is_put : M → A → A → Type 0) (make : M → La
       row_of f.state r x (start, mine) joint.constructor joint.count (demands_low x.rule _ _ _ (joint_rule r x (start, mine) σ its one (joint_wide x r σ joint)).0)
       (subst (EveryAtom fits) (sym joint.guard) (own_fit f.state r (start, mine), (σ_fit, tt))) (subst (EveryAtom Atom) (sym joint.guard) (own_atoms f.state r (start, mine), (σ_atoms, tt))) joint.term
 
-  kept_rows : All (All (RuleOver fits Atom f.sttr eq (length names))) h.kept
-  kept_rows = in_rows (RuleOver fits Atom f.sttr eq (length names)) h.kept (λ q x low at. kept_row q (omega (arith, low, many)) x at)
+  kept_rows : All (All (RuleOver fits Atom (IsOldMap eq f.sttr) f.sttr (length names))) h.kept
+  kept_rows = in_rows (RuleOver fits Atom (IsOldMap eq f.sttr) f.sttr (length names)) h.kept (λ q x low at. kept_row q (omega (arith, low, many)) x at)
 
-  pub restriction_over : IsOver fits Atom f.sttr eq d
+  pub restriction_over : IsOver fits Atom (IsOldMap eq f.sttr) f.sttr d
   restriction_over = record {
     ranks = d_ranks;
-    fit = subst (λ rs. All (λ rules. All (λ r. EveryAtom fits r.guard) rules) rs) (sym d_looks) (every_fit is_put make N fits f.sttr a.sta (HasOne IsSecond old) (HasOne IsMiddle old) old names rows all);
-    atoms = subst (λ rs. All (λ rules. All (λ r. EveryAtom Atom r.guard) rules) rs) (sym d_looks) (every_atom is_put make N fits f.sttr a.sta (HasOne IsSecond old) (HasOne IsMiddle old) old names rows all Atom wide_atom);
-    rules = subst (λ k. All (All (RuleOver fits Atom f.sttr eq k)) d.rules) (sym all.count ∙ ap length (sym d_looks)) (subst (All (All (RuleOver fits Atom f.sttr eq (length names)))) (sym (d_rules ∙ h.is))
-        (all_both (All (RuleOver fits Atom f.sttr eq (length names))) h.kept (h.joint ∷ []) kept_rows
-        (in_all (All (RuleOver fits Atom f.sttr eq (length names))) (h.joint ∷ []) (λ rs one. subst (All (RuleOver fits Atom f.sttr eq (length names))) (in_single h.joint rs one) (in_all (RuleOver fits Atom f.sttr eq (length names)) h.joint joint_row)))));
+    fit = subst (λ rs. All (λ rules. All (λ r. EveryAtom fits r.guard) rules) rs) (sym d_looks) (every_fit is_put make N fits f.sttr (nothing_of a.sta) (HasOne IsSecond old) (HasOne IsMiddle old) old names rows all);
+    atoms = subst (λ rs. All (λ rules. All (λ r. EveryAtom Atom r.guard) rules) rs) (sym d_looks) (every_atom is_put make N fits f.sttr (nothing_of a.sta) (HasOne IsSecond old) (HasOne IsMiddle old) old names rows all Atom wide_atom);
+    rules = subst (λ k. All (All (RuleOver fits Atom (IsOldMap eq f.sttr) f.sttr k)) d.rules) (sym all.count ∙ ap length (sym d_looks)) (subst (All (All (RuleOver fits Atom (IsOldMap eq f.sttr) f.sttr (length names)))) (sym (d_rules ∙ h.is))
+        (all_both (All (RuleOver fits Atom (IsOldMap eq f.sttr) f.sttr (length names))) h.kept (h.joint ∷ []) kept_rows
+        (in_all (All (RuleOver fits Atom (IsOldMap eq f.sttr) f.sttr (length names))) (h.joint ∷ []) (λ rs one. subst (All (RuleOver fits Atom (IsOldMap eq f.sttr) f.sttr (length names))) (in_single h.joint rs one) (in_all (RuleOver fits Atom (IsOldMap eq f.sttr) f.sttr (length names)) h.joint joint_row)))));
   }
     where
-      wide_atom : (b : A) → IsLookAtom is_put make N fits f.sttr a.sta (HasOne IsSecond old) (HasOne IsMiddle old) b → Atom b
+      wide_atom : (b : A) → IsLookAtom is_put make N fits f.sttr (nothing_of a.sta) (HasOne IsSecond old) (HasOne IsMiddle old) b → Atom b
       wide_atom b (inl is) = inl is
       wide_atom b (inr (inl (p, is))) = absurd (no_between p)
-      wide_atom b (inr (inr (e, is))) = inr is
+      wide_atom b (inr (inr (e, is))) = inr (own_asked a.sta N.equal is_put f.sttr b is)
 
   pub restriction_low : n < length d.rules
   restriction_low = let m = many in let e = ap length (d_rules ∙ h.is) ∙ length-append h.kept (h.joint ∷ []) in omega (arith, m, e, n_is)

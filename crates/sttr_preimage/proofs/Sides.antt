@@ -26,7 +26,6 @@ use Rattle.sttr_preimage.specs.declared.names.Side.TheVariants as side
 use Rattle.sttr_preimage.specs.Names.{side_names, Adds}
 use Rattle.sttr_preimage.specs.Rules.{IsCopied, AreCopied}
 use Rattle.sttr_preimage.specs.Images.{IsSecond, IsMiddle, CanAsk, first_of, second_of, IsLookName, NextTo, IsLookAtom, RowStands, HasRules, HasRows, AreAllRows}
-use Rattle.sttr_preimage.specs.Results.{SpeaksOfInputs}
 use Rattle.sttr_preimage.proofs.Atoms.{row_in, all_in, in_all, all_map, every_map, every_own}
 use Rattle.sttr_preimage.proofs.Middles.{match_mapped, each_to_all, rows_more, all_both}
 use Rattle.sttr_preimage.proofs.Numbered.{adds_then, adds_same, adds_wider, adds_extends, adds_length}
@@ -50,21 +49,21 @@ looks_stand m rows e h = subst (All (All (RuleStands m.ranks (length m.rules))))
     let (those, there, is) = of_mapped (λ those. map plain_rule those.items) rows rs at in
     subst (All (RuleStands m.ranks (length m.rules))) is (all_stand m.ranks (length m.rules) those.items (all_in (λ those. All (RuleFits m.ranks (length m.rules)) those.items) rows h those there))))
 
-module _ {A M V W : Type 0} (is_put : M → A → A → Type 0) (make : M → Label → Label) {label_of : V → Label} {holds : A → Label → Bool} (N : Meaning label_of holds W) (fits : A → Type 0) (f : OutMachine A M) (a : Machine A) where
+module _ {A M V W : Type 0} (is_put : M → A → A → Type 0) (make : M → Label → Label) {label_of : V → Label} {holds : A → Label → Bool} (N : Meaning label_of holds W) (fits : A → Type 0) (f g : OutMachine A M) where
   abbrev F : Sttr Label
-  F = first_of holds make f a
+  F = first_of holds make f g
 
   abbrev G : Sttr Label
-  G = second_of holds make f a
+  G = second_of holds make f g
 
   abbrev R : List ℕ
   R = f.looks.ranks
 
   abbrev Known : Type 0 → Type 0 → LookName → Type 0
-  Known = IsLookName holds make f a
+  Known = IsLookName holds make f g
 
   abbrev Row : Type 0 → Type 0 → ℕ → PlainRule A → Type 0
-  Row = RowStands is_put make N fits f a
+  Row = RowStands is_put make N fits f g
 
   module _ (of : Side) (S P : Type 0) (n : ℕ) (known : (t : ℕ) → t < n → (x : LookName) → Contains (side_names of (t ∷ [])) x → Known S P x) (old new : List LookName) (rs made : List (PlainRule A)) (h : AreCopied old new of rs made) (stand : All (RuleStands R n) rs) where
     copy_is : (m r : PlainRule A) → IsCopied new of m r → IsCopy R N.has F G new (side_names of) (rule_meaning holds m) (rule_meaning holds r)
@@ -89,11 +88,11 @@ module _ {A M V W : Type 0} (is_put : M → A → A → Type 0) (make : M → La
     pub copies_add : Adds old new (Known S P)
     copies_add = adds_wider old new _ (Known S P) h.adds (λ x w. let (t, at, c) = one_name (get_or w.0.demands w.2 []) x w.3 in known t (demand_low w.0 (all_in (RuleStands R n) rs stand w.0 w.1) w.2 t at) x c)
 
-    pub copies_stand : All (λ r. EveryAtom fits r.guard × EveryAtom (IsLookAtom is_put make N fits f a S P) r.guard) rs → All (Row S P (length new)) made
+    pub copies_stand : All (λ r. EveryAtom fits r.guard × EveryAtom (IsLookAtom is_put make N fits f g S P) r.guard) rs → All (Row S P (length new)) made
     copies_stand atoms = in_all (Row S P (length new)) made (λ m at.
         let (r, mine, is) = h.copied.0 m at in
         let st = all_in (RuleStands R n) rs stand r mine in
-        let every = all_in (λ r. EveryAtom fits r.guard × EveryAtom (IsLookAtom is_put make N fits f a S P) r.guard) rs atoms r mine in
+        let every = all_in (λ r. EveryAtom fits r.guard × EveryAtom (IsLookAtom is_put make N fits f g S P) r.guard) rs atoms r mine in
         record {
           stands = record {
             constructor = subst (λ c. c < length R) (sym is.constructor) st.constructor;
@@ -102,11 +101,11 @@ module _ {A M V W : Type 0} (is_put : M → A → A → Type 0) (make : M → La
                 (made_demands R N.has F G new (length new) refl (rule_meaning holds m) _ _ _ (copy_is m r is));
           };
           fit = subst (EveryAtom fits) (sym is.guard) every.0;
-          atoms = subst (EveryAtom (IsLookAtom is_put make N fits f a S P)) (sym is.guard) every.1;
+          atoms = subst (EveryAtom (IsLookAtom is_put make N fits f g S P)) (sym is.guard) every.1;
         })
 
   module _ (same : (b : A) → N.equal b b ≡ true) (old new : List LookName) (rs made : List (PlainRule A)) (s : ℕ) where
-    pub first_done : s < length f.looks.rules → All (All (RuleStands R (length f.looks.rules))) f.looks.rules → AtomsFit fits f.looks → rs ≡ get_or f.looks.rules s [] → AreCopied old new side.First rs made → HasRules is_put make N fits f a old new (of_first s) made
+    pub first_done : s < length f.looks.rules → All (All (RuleStands R (length f.looks.rules))) f.looks.rules → AtomsFit fits f.looks → rs ≡ get_or f.looks.rules s [] → AreCopied old new side.First rs made → HasRules is_put make N fits f g old new (of_first s) made
     first_done low looks fit is h =
         let known : (t : ℕ) → t < length f.looks.rules → (x : LookName) → Contains (firsts (t ∷ [])) x → Known ⊥ ⊥ x = λ t lt x c. subst (Known ⊥ ⊥) (in_single (of_first t) x c) lt in
         let those : Contains f.looks.rules rs = subst (Contains f.looks.rules) (sym is) (row_in f.looks.rules s low) in
@@ -114,23 +113,23 @@ module _ {A M V W : Type 0} (is_put : M → A → A → Type 0) (make : M → La
         record {
           adds = copies_add side.First ⊥ ⊥ (length f.looks.rules) known old new rs made h stand;
           are = subst (Match (IsCopy R N.has F G new firsts) (map (rule_meaning holds) made)) (ap (map (rule_meaning holds)) is ∙ sym (rules_of_automaton holds f.looks s)) (copies_are side.First ⊥ ⊥ (length f.looks.rules) known old new rs made h stand);
-          stand = copies_stand side.First ⊥ ⊥ (length f.looks.rules) known old new rs made h stand (in_all (λ r. EveryAtom fits r.guard × EveryAtom (IsLookAtom is_put make N fits f a ⊥ ⊥) r.guard) rs (λ r at. (
+          stand = copies_stand side.First ⊥ ⊥ (length f.looks.rules) known old new rs made h stand (in_all (λ r. EveryAtom fits r.guard × EveryAtom (IsLookAtom is_put make N fits f g ⊥ ⊥) r.guard) rs (λ r at. (
             all_in (λ r. EveryAtom fits r.guard) rs (all_in (λ rules. All (λ r. EveryAtom fits r.guard) rules) f.looks.rules fit rs those) r at,
-            every_own (IsLookAtom is_put make N fits f a ⊥ ⊥) r.guard (λ b c. inl (b, inl (rs, those, r, at, c), same b)),
+            every_own (IsLookAtom is_put make N fits f g ⊥ ⊥) r.guard (λ b c. inl (b, inl (rs, those, r, at, c), same b)),
           )));
         }
 
-    pub second_done : s < length a.rules → SpeaksOfInputs fits f a → All (RuleStands a.ranks (length a.rules)) rs → rs ≡ get_or a.rules s [] → AreCopied old new side.Second rs made → HasRules is_put make N fits f a old new (of_second s) made
-    second_done low speaks stand' is h =
-        let known : (t : ℕ) → t < length a.rules → (x : LookName) → Contains (seconds (t ∷ [])) x → Known ⊤ ⊥ x = λ t lt x c. subst (Known ⊤ ⊥) (in_single (of_second t) x c) (lt, inr tt) in
-        let those : Contains a.rules rs = subst (Contains a.rules) (sym is) (row_in a.rules s low) in
-        let stand = subst (λ rk. All (RuleStands rk (length a.rules)) rs) speaks.ranks stand' in
+    pub second_done : s < length g.looks.rules → g.looks.ranks ≡ f.looks.ranks → AtomsFit fits g.looks → All (RuleStands g.looks.ranks (length g.looks.rules)) rs → rs ≡ get_or g.looks.rules s [] → AreCopied old new side.Second rs made → HasRules is_put make N fits f g old new (of_second s) made
+    second_done low same_ranks speaks stand' is h =
+        let known : (t : ℕ) → t < length g.looks.rules → (x : LookName) → Contains (seconds (t ∷ [])) x → Known ⊤ ⊥ x = λ t lt x c. subst (Known ⊤ ⊥) (in_single (of_second t) x c) (lt, inr tt) in
+        let those : Contains g.looks.rules rs = subst (Contains g.looks.rules) (sym is) (row_in g.looks.rules s low) in
+        let stand = subst (λ rk. All (RuleStands rk (length g.looks.rules)) rs) same_ranks stand' in
         record {
-          adds = copies_add side.Second ⊤ ⊥ (length a.rules) known old new rs made h stand;
-          are = subst (Match (IsCopy R N.has F G new seconds) (map (rule_meaning holds) made)) (ap (map (rule_meaning holds)) is ∙ sym (rules_of_automaton holds a s)) (copies_are side.Second ⊤ ⊥ (length a.rules) known old new rs made h stand);
-          stand = copies_stand side.Second ⊤ ⊥ (length a.rules) known old new rs made h stand (in_all (λ r. EveryAtom fits r.guard × EveryAtom (IsLookAtom is_put make N fits f a ⊤ ⊥) r.guard) rs (λ r at. (
-            all_in (λ r. EveryAtom fits r.guard) rs (all_in (λ rules. All (λ r. EveryAtom fits r.guard) rules) a.rules speaks.fit rs those) r at,
-            every_own (IsLookAtom is_put make N fits f a ⊤ ⊥) r.guard (λ b c. inr (inr (inr tt, (b, (rs, those, r, at, c), same b)))),
+          adds = copies_add side.Second ⊤ ⊥ (length g.looks.rules) known old new rs made h stand;
+          are = subst (Match (IsCopy R N.has F G new seconds) (map (rule_meaning holds) made)) (ap (map (rule_meaning holds)) is ∙ sym (rules_of_automaton holds g.looks s)) (copies_are side.Second ⊤ ⊥ (length g.looks.rules) known old new rs made h stand);
+          stand = copies_stand side.Second ⊤ ⊥ (length g.looks.rules) known old new rs made h stand (in_all (λ r. EveryAtom fits r.guard × EveryAtom (IsLookAtom is_put make N fits f g ⊤ ⊥) r.guard) rs (λ r at. (
+            all_in (λ r. EveryAtom fits r.guard) rs (all_in (λ rules. All (λ r. EveryAtom fits r.guard) rules) g.looks.rules speaks rs those) r at,
+            every_own (IsLookAtom is_put make N fits f g ⊤ ⊥) r.guard (λ b c. inr (inr (inr tt, (b, inl (rs, those, r, at, c), same b)))),
           )));
         }
 
@@ -152,7 +151,7 @@ module _ {A M V W : Type 0} (is_put : M → A → A → Type 0) (make : M → La
     gives_there x k (inr is) = elim (second_there x k is) [ inl g ↦ inl (gives_child holds make f g) | inr s ↦ inr s ]
 
     -- what a name asks may be asked
-    next_known : (x y : LookName) → Known S P x → NextTo holds make f a x y → Known S P y
+    next_known : (x y : LookName) → Known S P x → NextTo holds make f g x y → Known S P y
     next_known x (of_first t) k next = next
     next_known x (of_second t) k next = (next.0, elim next.1 [ inl g ↦ inl g | inr is ↦ second_there x k is ])
     next_known x (middle q all) k next = (next.0, next.1, middle_there x k next.2)
@@ -166,17 +165,17 @@ module _ {A M V W : Type 0} (is_put : M → A → A → Type 0) (make : M → La
     row_known x k n r h = record {
       stands = h.stands;
       fit = h.fit;
-      atoms = every_map (IsLookAtom is_put make N fits f a (IsSecond x) (IsMiddle x)) (IsLookAtom is_put make N fits f a S P) wider r.guard h.atoms;
+      atoms = every_map (IsLookAtom is_put make N fits f g (IsSecond x) (IsMiddle x)) (IsLookAtom is_put make N fits f g S P) wider r.guard h.atoms;
     }
       where
-        wider : (b : A) → IsLookAtom is_put make N fits f a (IsSecond x) (IsMiddle x) b → IsLookAtom is_put make N fits f a S P b
+        wider : (b : A) → IsLookAtom is_put make N fits f g (IsSecond x) (IsMiddle x) b → IsLookAtom is_put make N fits f g S P b
         wider b (inl old) = inl old
         wider b (inr (inl (is, put))) = inr (inl (middle_there x k is, put))
         wider b (inr (inr (is, asked))) = inr (inr (gives_there x k is, asked))
 
     pub record RowsSoFar (old new : List LookName) (rows : List (List (PlainRule A))) (place : ℕ) : Type 0 where
       pub adds : Adds old new (Known S P)
-      pub built : HasRows is_put make N fits f a S P new rows
+      pub built : HasRows is_put make N fits f g S P new rows
       pub count : length rows ≡ place
 
     pub rows_none : (names : List LookName) (rows : List (List (PlainRule A))) → ((x : LookName) → Contains names x → Known S P x) → rows ≡ [] → RowsSoFar names names rows 0
@@ -187,7 +186,7 @@ module _ {A M V W : Type 0} (is_put : M → A → A → Type 0) (make : M → La
     })
 
     -- one more name
-    pub rows_next : (o b c : List LookName) (x : LookName) (rows next : List (List (PlainRule A))) (rs : List (PlainRule A)) (place : ℕ) → RowsSoFar o b rows place → IsAt b place x → HasRules is_put make N fits f a b c x rs → next ≡ rows ++ rs ∷ [] → RowsSoFar o c next (place + 1)
+    pub rows_next : (o b c : List LookName) (x : LookName) (rows next : List (List (PlainRule A))) (rs : List (PlainRule A)) (place : ℕ) → RowsSoFar o b rows place → IsAt b place x → HasRules is_put make N fits f g b c x rs → next ≡ rows ++ rs ∷ [] → RowsSoFar o c next (place + 1)
     rows_next o b c x rows next rs place h at new e =
         let here : Contains b x = (place, at.0, at.1) in
         let k = h.built.known x here in
@@ -200,15 +199,24 @@ module _ {A M V W : Type 0} (is_put : M → A → A → Type 0) (make : M → La
                 (one_more_look R N.has F G b c (adds_extends b c _ adds) (map (map (rule_meaning holds)) rows) h.built.part x (map (rule_meaning holds) rs)
                 (subst (λ i. IsAt c i x) (sym (length-map rows (map (rule_meaning holds)) ∙ h.count)) (adds_extends b c _ adds place x at)) new.are);
             stand = all_both (All (Row S P (length c))) rows (rs ∷ [])
-                (all_map (All (Row S P (length b))) (All (Row S P (length c))) rows (λ those all. rows_more is_put make N fits f a S P (length b) (length c) (adds_length b c _ adds) those all) h.built.stand)
+                (all_map (All (Row S P (length b))) (All (Row S P (length c))) rows (λ those all. rows_more is_put make N fits f g S P (length b) (length c) (adds_length b c _ adds) those all) h.built.stand)
                 (in_all (All (Row S P (length c))) (rs ∷ []) (λ those one. subst (All (Row S P (length c))) (in_single rs those one) (all_map (Row (IsSecond x) (IsMiddle x) (length c)) (Row S P (length c)) rs (row_known x k (length c)) new.stand)));
           };
           count = let n = length-append rows (rs ∷ []) in omega (arith, n, h.count);
         })
 
-    pub rows_all : (o b : List LookName) (rows : List (List (PlainRule A))) (place : ℕ) → RowsSoFar o b rows place → length b ≤ place → AreAllRows is_put make N fits f a S P o b rows
+    pub rows_all : (o b : List LookName) (rows : List (List (PlainRule A))) (place : ℕ) → RowsSoFar o b rows place → length b ≤ place → AreAllRows is_put make N fits f g S P o b rows
     rows_all o b rows place h past = record { adds = h.adds; built = h.built; count = let few = h.built.part.no_more in let m = length-map rows (map (rule_meaning holds)) in omega (arith, few, m, h.count, past) }
 
     -- what is needed for one of the names
-    pub can_next : {T : Type 0} (atom_fits : T → A → Type 0) (map_fits map_makes : T → M → Type 0) (theory : T) → CanAsk atom_fits map_fits map_makes theory f a S P → (x : LookName) → Known S P x → CanAsk atom_fits map_fits map_makes theory f a (IsSecond x) (IsMiddle x)
-    can_next atom_fits map_fits map_makes theory can x k = record { looks = can.looks; stands = can.stands; labels = can.labels; makes = λ is. can.makes (middle_there x k is); speaks = λ is. can.speaks (gives_there x k is) }
+    pub can_next : {T : Type 0} (atom_fits : T → A → Type 0) (map_fits map_makes : T → M → Type 0) (theory : T) → CanAsk atom_fits map_fits map_makes theory f g S P → (x : LookName) → Known S P x → CanAsk atom_fits map_fits map_makes theory f g (IsSecond x) (IsMiddle x)
+    can_next atom_fits map_fits map_makes theory can x k = record {
+      looks = can.looks;
+      stands = can.stands;
+      labels = can.labels;
+      second_looks = can.second_looks;
+      second_stands = can.second_stands;
+      makes = λ is. can.makes (middle_there x k is);
+      ranks = λ is. can.ranks (gives_there x k is);
+      speaks = λ is. can.speaks (gives_there x k is);
+    }

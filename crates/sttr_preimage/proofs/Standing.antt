@@ -18,6 +18,7 @@ use Rattle.model_sttr.proofs.Heads.{in_range}
 use Rattle.sttr_run.specs.Fits.{RuleStands, OutStands, SttrStands}
 use Rattle.sttr_run.specs.Sources.{GivesChild}
 use Rattle.sttr_preimage.specs.Images.{HasOutRule}
+use Rattle.sttr_preimage.specs.Kept.{IsBelow}
 use Rattle.sttr_preimage.proofs.Atoms.{row_in, all_in}
 use Rattle.sttr_theory.proofs.Members.{to_mapped}
 
@@ -49,6 +50,10 @@ all_to_each P Q f xs h = each_all Q xs (λ x at. f x (all_in P xs h x at))
 
 pub states_to_each : (P Q : ℕ → Type 0) → ((s : ℕ) → P s → Q s) → (ds : List (List ℕ)) → All (All P) ds → Each (Each Q) ds
 states_to_each P Q f ds h = all_to_each (All P) (Each Q) (λ d all. all_to_each P Q f d all) ds h
+
+-- what a rule demands are states
+pub below_of : {A : Type 0} (ranks : List ℕ) (n : ℕ) (r : PlainRule A) → RuleStands ranks n r → IsBelow n r
+below_of ranks n r h j s c = all_in (λ s. s < n) (get_or r.demands j []) (all_in (All (λ s. s < n)) r.demands h.demands (get_or r.demands j []) (row_in r.demands j (in_range r.demands j s c))) s c
 
 module _ {A M : Type 0} (holds : A → Label → Bool) (make : M → Label → Label) (f : OutMachine A M) where
   abbrev pub meant_of : Sttr Label

@@ -1,4 +1,5 @@
 pub mod Results
+pub mod Through
 pub mod Sets
 pub mod Names
 pub mod Rules

@@ -45,7 +45,8 @@ StandsUnchanged fits f a = GivesChild f → SpeaksOfInputs fits f a
 -- ---- languages and relations
 
 module _ {A M V W : Type 0} (make : M → Label → Label) {label_of : V → Label} {holds : A → Label → Bool} (N : Meaning label_of holds W) where
-  -- exactly the trees of it, of whatever labels; each state has a language of the operands; guards tell apart no more labels
+  -- exactly the trees of it, of whatever labels; each state has a language of the operands; guards tell apart no more labels;
+  -- and no rule of a transducer uses a child twice where no rule of the operand does
   pub record HasDomain (f : Trans A M) (c : Lang A) : Type 0 where
     pub exact : IsDomain (Fits f.sttr.looks.ranks N.has) (trans_at holds make f) (auto_at holds c)
     pub guards : DomainKeepsGuards N.has (trans_at holds make f) (auto_at holds c)
@@ -58,11 +59,13 @@ module _ {A M V W : Type 0} (make : M → Label → Label) {label_of : V → Lab
     pub exact : IsRestriction (Fits f.sttr.looks.ranks N.has) (trans_at holds make f) (auto_at holds a) (trans_at holds make c)
     pub guards : RestrictionKeepsGuards N.has (trans_at holds make f) (auto_at holds a) (trans_at holds make c)
     pub maps : KeepsMaps N.has (trans_at holds make f) (trans_at holds make c)
+    pub linear : meant.AllLinear (transducer_of holds make f.sttr) → meant.AllLinear (transducer_of holds make c.sttr)
 
   pub record IsOutRestricted (f : Trans A M) (a : Lang A) (c : Trans A M) : Type 0 where
     pub exact : IsOutRestriction (Fits f.sttr.looks.ranks N.has) (trans_at holds make f) (auto_at holds a) (trans_at holds make c)
     pub guards : OutRestrictionKeepsGuards N.has (trans_at holds make f) (auto_at holds a) (trans_at holds make c)
     pub maps : KeepsMaps N.has (trans_at holds make f) (trans_at holds make c)
+    pub linear : meant.AllLinear (transducer_of holds make f.sttr) → meant.AllLinear (transducer_of holds make c.sttr)
 
 -- ---- atoms and maps
 

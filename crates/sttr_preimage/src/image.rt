@@ -9,11 +9,12 @@ ghost use Rattle.sttr_core.specs.Terms.{plain_term};
 ghost use Rattle.std.specs.Option.{option_map};
 ghost use Rattle.sttr_theory.specs.Triples.{AreWays, LookName, middle};
 ghost use Rattle.sttr_run.specs.Fits.{RuleStands};
-ghost use Rattle.sttr_run.specs.Plain.{plain_head, plain_triple, way_at};
+ghost use Rattle.sttr_run.specs.Plain.{plain_head, plain_second, plain_triple, way_at};
 ghost use Rattle.sttr_preimage.specs.Names.{plain_name, names_in};
 ghost use Rattle.sttr_preimage.specs.Tidy.{tidy_way};
 ghost use Rattle.sttr_preimage.specs.Images.{CanAsk, HasOutRule, HasRules, HasAllWays, AreAllRows, HasOne, IsSecond, IsMiddle, IsRange, IsLookName, WayStands, first_of, second_of};
-ghost use Rattle.sttr_preimage.specs.Results.{IsImageStop};
+ghost use Rattle.sttr_preimage.specs.Through.{IsThroughMap, IsThroughStop};
+ghost use Rattle.sttr_preimage.specs.Called.{KeepsOutput};
 
 use crate::names::{Name, Side, name_at};
 use crate::rules::{copied_rules, way_rules};
@@ -25,13 +26,13 @@ use std::alloc::Global;
 use sttr_core::{Sttr, SttrRule};
 use sttr_run::{Head, RunStop, Second, Triple, Way, ways};
 
-/// A transducer, and an automaton of which its outputs are asked.
+/// A transducer, and a second one that runs over its outputs.
 #[derive(Drop)]
 pub struct Image<'s, T: Labels> {
     pub theory: &'s T,
     pub alloc: Global,
     pub sttr: &'s Sttr<T::Atom, T::Map>,
-    pub asked: &'s Sta<T::Atom>,
+    pub second: Second<'s, T::Atom, T::Map>,
 }
 
 impl<'s, T: Labels> Image<'s, T> {
@@ -41,19 +42,14 @@ impl<'s, T: Labels> Image<'s, T> {
         rule: &SttrRule<T::Atom, T::Map>,
         triple: &Triple,
     ) -> Result<Vec<Way<T::Atom, T::Map>>, RunStop>
-        requires can { CanAsk T.atom_fits T.map_fits T.map_makes self.now.theory.now self.now.sttr.now self.now.asked.now ⊥ ⊤ }
+        requires can { CanAsk T.atom_fits T.map_fits T.map_makes self.now.theory.now self.now.sttr.now (plain_second self.now.second) ⊥ ⊤ }
         requires rule { (q : ℕ) × HasOutRule self.now.sttr.now q (plain_out rule.now) }
-        requires states { All (λ s. s < length self.now.asked.now.rules) triple.now.all.items }
-        ensures ways { IfOk result (λ ys. AreWays (first_of T.atom_holds T.make self.now.sttr.now self.now.asked.now) (second_of T.atom_holds T.make self.now.sttr.now self.now.asked.now) (T.meaning self.now.theory.now).has (with_maps T.make (plain_term rule.now.term)) (plain_triple triple.now) (map tidy_way (map (way_at T.atom_holds T.make) ys.items))) }
-        ensures made { IfOk result (λ ys. All (WayStands T.is_put T.make (T.meaning self.now.theory.now) (T.atom_fits self.now.theory.now) self.now.sttr.now self.now.asked.now T.Map.eq) ys.items) }
-        ensures stop { IfErr result (IsImageStop T.put_outside self.now.sttr.now self.now.asked.now.rules) }
+        requires states { All (λ s. s < length (plain_second self.now.second).looks.rules) triple.now.all.items }
+        ensures ways { IfOk result (λ ys. AreWays (first_of T.atom_holds T.make self.now.sttr.now (plain_second self.now.second)) (second_of T.atom_holds T.make self.now.sttr.now (plain_second self.now.second)) (T.meaning self.now.theory.now).has (with_maps T.make (plain_term rule.now.term)) (plain_triple triple.now) (map tidy_way (map (way_at T.atom_holds T.make) ys.items))) }
+        ensures made { IfOk result (λ ys. All (WayStands T.is_put T.make (T.meaning self.now.theory.now) (T.atom_fits self.now.theory.now) self.now.sttr.now (plain_second self.now.second) (IsThroughMap T.Map.eq T.is_chained (T.map_fits self.now.theory.now) T.map_makes self.now.sttr.now (plain_second self.now.second) (KeepsOutput (plain_triple triple.now)))) ys.items) }
+        ensures stop { IfErr result (IsThroughStop T.put_outside T.chain_outside self.now.sttr.now (plain_second self.now.second)) }
     {
-        let none = Vec::new(self.alloc);
-        let second = Second {
-            looks: self.asked,
-            rules: &none,
-        };
-        ways(self.theory, self.alloc, &second, &rule.term, triple)
+        ways(self.theory, self.alloc, &self.second, &rule.term, triple)
     }
 
     /// The rules for all ways in which the triple runs over the rule's term.
@@ -63,11 +59,11 @@ impl<'s, T: Labels> Image<'s, T> {
         triple: &Triple,
         names: &mut IndexSet<Name>,
     ) -> Result<Vec<StaRule<T::Atom>>, RunStop>
-        requires can { CanAsk T.atom_fits T.map_fits T.map_makes self.now.theory.now self.now.sttr.now self.now.asked.now ⊥ ⊤ }
+        requires can { CanAsk T.atom_fits T.map_fits T.map_makes self.now.theory.now self.now.sttr.now (plain_second self.now.second) ⊥ ⊤ }
         requires rule { (q : ℕ) × HasOutRule self.now.sttr.now q (plain_out rule.now) }
-        requires states { All (λ s. s < length self.now.asked.now.rules) triple.now.all.items }
-        ensures rules { IfOk result (λ rules. HasAllWays T.is_put T.make (T.meaning self.now.theory.now) (T.atom_fits self.now.theory.now) self.now.sttr.now self.now.asked.now (names_in names.old.keys) (names_in names.new.keys) (plain_triple triple.now) (plain_out rule.now) (map plain_rule rules.items)) }
-        ensures stop { IfErr result (IsImageStop T.put_outside self.now.sttr.now self.now.asked.now.rules) }
+        requires states { All (λ s. s < length (plain_second self.now.second).looks.rules) triple.now.all.items }
+        ensures rules { IfOk result (λ rules. HasAllWays T.is_put T.make (T.meaning self.now.theory.now) (T.atom_fits self.now.theory.now) self.now.sttr.now (plain_second self.now.second) (names_in names.old.keys) (names_in names.new.keys) (plain_triple triple.now) (plain_out rule.now) (map plain_rule rules.items)) }
+        ensures stop { IfErr result (IsThroughStop T.put_outside T.chain_outside self.now.sttr.now (plain_second self.now.second)) }
     {
         let ways = self.ways_over(rule, triple)?;
         let rules = way_rules(self.theory, self.alloc, &rule.rule, &ways, names)?;
@@ -81,11 +77,11 @@ impl<'s, T: Labels> Image<'s, T> {
         all: &[u64],
         names: &mut IndexSet<Name>,
     ) -> Result<Vec<StaRule<T::Atom>>, RunStop>
-        requires can { CanAsk T.atom_fits T.map_fits T.map_makes self.now.theory.now self.now.sttr.now self.now.asked.now ⊥ ⊤ }
+        requires can { CanAsk T.atom_fits T.map_fits T.map_makes self.now.theory.now self.now.sttr.now (plain_second self.now.second) ⊥ ⊤ }
         requires state { state < length self.now.sttr.now.rules }
-        requires states { All (λ s. s < length self.now.asked.now.rules) all.now }
-        ensures rules { IfOk result (λ rules. HasRules T.is_put T.make (T.meaning self.now.theory.now) (T.atom_fits self.now.theory.now) self.now.sttr.now self.now.asked.now (names_in names.old.keys) (names_in names.new.keys) (middle state all.now) (map plain_rule rules.items)) }
-        ensures stop { IfErr result (IsImageStop T.put_outside self.now.sttr.now self.now.asked.now.rules) }
+        requires states { All (λ s. s < length (plain_second self.now.second).looks.rules) all.now }
+        ensures rules { IfOk result (λ rules. HasRules T.is_put T.make (T.meaning self.now.theory.now) (T.atom_fits self.now.theory.now) self.now.sttr.now (plain_second self.now.second) (names_in names.old.keys) (names_in names.new.keys) (middle state all.now) (map plain_rule rules.items)) }
+        ensures stop { IfErr result (IsThroughStop T.put_outside T.chain_outside self.now.sttr.now (plain_second self.now.second)) }
     {
         let triple = triple_of(self.alloc, state, all, None)?;
         let mut rules = Vec::new(self.alloc);
@@ -101,10 +97,10 @@ impl<'s, T: Labels> Image<'s, T> {
         name: &Name,
         names: &mut IndexSet<Name>,
     ) -> Result<Vec<StaRule<T::Atom>>, RunStop>
-        requires can { CanAsk T.atom_fits T.map_fits T.map_makes self.now.theory.now self.now.sttr.now self.now.asked.now (IsSecond (plain_name name.now)) (IsMiddle (plain_name name.now)) }
-        requires name { IsLookName T.atom_holds T.make self.now.sttr.now self.now.asked.now (IsSecond (plain_name name.now)) (IsMiddle (plain_name name.now)) (plain_name name.now) }
-        ensures rules { IfOk result (λ rules. HasRules T.is_put T.make (T.meaning self.now.theory.now) (T.atom_fits self.now.theory.now) self.now.sttr.now self.now.asked.now (names_in names.old.keys) (names_in names.new.keys) (plain_name name.now) (map plain_rule rules.items)) }
-        ensures stop { IfErr result (IsImageStop T.put_outside self.now.sttr.now self.now.asked.now.rules) }
+        requires can { CanAsk T.atom_fits T.map_fits T.map_makes self.now.theory.now self.now.sttr.now (plain_second self.now.second) (IsSecond (plain_name name.now)) (IsMiddle (plain_name name.now)) }
+        requires name { IsLookName T.atom_holds T.make self.now.sttr.now (plain_second self.now.second) (IsSecond (plain_name name.now)) (IsMiddle (plain_name name.now)) (plain_name name.now) }
+        ensures rules { IfOk result (λ rules. HasRules T.is_put T.make (T.meaning self.now.theory.now) (T.atom_fits self.now.theory.now) self.now.sttr.now (plain_second self.now.second) (names_in names.old.keys) (names_in names.new.keys) (plain_name name.now) (map plain_rule rules.items)) }
+        ensures stop { IfErr result (IsThroughStop T.put_outside T.chain_outside self.now.sttr.now (plain_second self.now.second)) }
         ensures between { IfErr result (λ e. IsRange e → IsMiddle (plain_name name.now)) }
     {
         match name {
@@ -113,7 +109,7 @@ impl<'s, T: Labels> Image<'s, T> {
                 Ok(copied_rules(self.alloc, Side::First, rules, names)?)
             }
             Name::Second(state) => {
-                let rules = self.asked.rules_of(*state);
+                let rules = self.second.looks.rules_of(*state);
                 Ok(copied_rules(self.alloc, Side::Second, rules, names)?)
             }
             Name::Middle(state, all) => self.middle_rules(*state, all, names),
@@ -122,10 +118,10 @@ impl<'s, T: Labels> Image<'s, T> {
 
     /// The rules of the states of all names, and of those that they ask.
     pub fn rows(&self, names: &mut IndexSet<Name>) -> Result<Vec<Vec<StaRule<T::Atom>>>, RunStop>
-        requires can { CanAsk T.atom_fits T.map_fits T.map_makes self.now.theory.now self.now.sttr.now self.now.asked.now (HasOne IsSecond (names_in names.old.keys)) (HasOne IsMiddle (names_in names.old.keys)) }
-        requires known { (x : LookName) → Contains (names_in names.old.keys) x → IsLookName T.atom_holds T.make self.now.sttr.now self.now.asked.now (HasOne IsSecond (names_in names.old.keys)) (HasOne IsMiddle (names_in names.old.keys)) x }
-        ensures rows { IfOk result (λ rows. AreAllRows T.is_put T.make (T.meaning self.now.theory.now) (T.atom_fits self.now.theory.now) self.now.sttr.now self.now.asked.now (HasOne IsSecond (names_in names.old.keys)) (HasOne IsMiddle (names_in names.old.keys)) (names_in names.old.keys) (names_in names.new.keys) (map (λ those. map plain_rule those.items) rows.items)) }
-        ensures stop { IfErr result (IsImageStop T.put_outside self.now.sttr.now self.now.asked.now.rules) }
+        requires can { CanAsk T.atom_fits T.map_fits T.map_makes self.now.theory.now self.now.sttr.now (plain_second self.now.second) (HasOne IsSecond (names_in names.old.keys)) (HasOne IsMiddle (names_in names.old.keys)) }
+        requires known { (x : LookName) → Contains (names_in names.old.keys) x → IsLookName T.atom_holds T.make self.now.sttr.now (plain_second self.now.second) (HasOne IsSecond (names_in names.old.keys)) (HasOne IsMiddle (names_in names.old.keys)) x }
+        ensures rows { IfOk result (λ rows. AreAllRows T.is_put T.make (T.meaning self.now.theory.now) (T.atom_fits self.now.theory.now) self.now.sttr.now (plain_second self.now.second) (HasOne IsSecond (names_in names.old.keys)) (HasOne IsMiddle (names_in names.old.keys)) (names_in names.old.keys) (names_in names.new.keys) (map (λ those. map plain_rule those.items) rows.items)) }
+        ensures stop { IfErr result (IsThroughStop T.put_outside T.chain_outside self.now.sttr.now (plain_second self.now.second)) }
         ensures between { IfErr result (λ e. IsRange e → HasOne IsMiddle (names_in names.old.keys)) }
     {
         let mut rows = Vec::new(self.alloc);
@@ -144,10 +140,10 @@ impl<'s, T: Labels> Image<'s, T> {
         &self,
         names: &mut IndexSet<Name>,
     ) -> Result<Vec<Vec<StaRule<T::Atom>>>, Memory>
-        requires can { CanAsk T.atom_fits T.map_fits T.map_makes self.now.theory.now self.now.sttr.now self.now.asked.now (HasOne IsSecond (names_in names.old.keys)) (HasOne IsMiddle (names_in names.old.keys)) }
-        requires known { (x : LookName) → Contains (names_in names.old.keys) x → IsLookName T.atom_holds T.make self.now.sttr.now self.now.asked.now (HasOne IsSecond (names_in names.old.keys)) (HasOne IsMiddle (names_in names.old.keys)) x }
+        requires can { CanAsk T.atom_fits T.map_fits T.map_makes self.now.theory.now self.now.sttr.now (plain_second self.now.second) (HasOne IsSecond (names_in names.old.keys)) (HasOne IsMiddle (names_in names.old.keys)) }
+        requires known { (x : LookName) → Contains (names_in names.old.keys) x → IsLookName T.atom_holds T.make self.now.sttr.now (plain_second self.now.second) (HasOne IsSecond (names_in names.old.keys)) (HasOne IsMiddle (names_in names.old.keys)) x }
         requires sides { HasOne IsMiddle (names_in names.old.keys) → ⊥ }
-        ensures rows { IfOk result (λ rows. AreAllRows T.is_put T.make (T.meaning self.now.theory.now) (T.atom_fits self.now.theory.now) self.now.sttr.now self.now.asked.now (HasOne IsSecond (names_in names.old.keys)) (HasOne IsMiddle (names_in names.old.keys)) (names_in names.old.keys) (names_in names.new.keys) (map (λ those. map plain_rule those.items) rows.items)) }
+        ensures rows { IfOk result (λ rows. AreAllRows T.is_put T.make (T.meaning self.now.theory.now) (T.atom_fits self.now.theory.now) self.now.sttr.now (plain_second self.now.second) (HasOne IsSecond (names_in names.old.keys)) (HasOne IsMiddle (names_in names.old.keys)) (names_in names.old.keys) (names_in names.new.keys) (map (λ those. map plain_rule those.items) rows.items)) }
     {
         match self.rows(names) {
             Ok(rows) => Ok(rows),
@@ -191,6 +187,13 @@ pub fn looks_of<A, M>(sttr: &Sttr<A, M>) -> &Sta<A>
     let looks = sttr.lookahead();
     let _rules = looks.rules();
     looks
+}
+
+/// The rules of an automaton fit. Does nothing.
+pub fn rules_stand<A>(sta: &Sta<A>)
+    ensures { All (All (RuleStands sta.now.ranks (length sta.now.rules))) sta.now.rules }
+{
+    let _rules = sta.rules();
 }
 
 /// The ranks of the automaton's constructors.

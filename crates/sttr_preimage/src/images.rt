@@ -10,7 +10,7 @@ ghost use Rattle.sttr_theory.specs.Results.{IsBuiltPreImage};
 ghost use Rattle.sttr_run.specs.Fits.{SttrStands};
 ghost use Rattle.sttr_preimage.specs.Results.{HasDomain, HasPreImage, MakesAsked, MakesSome, StandsUnchanged, IsLanguageFrom, IsImageStop, trans_at, auto_at};
 
-use crate::image::{Image, copied_ranks, looks_of};
+use crate::image::{Image, copied_ranks, looks_of, rules_stand};
 use crate::names::{Name, number};
 use fast_fault::Memory;
 use indexmap::IndexSet;
@@ -18,7 +18,7 @@ use label_core::Labels;
 use sta_core::{Lang, Sta};
 use std::alloc::Global;
 use sttr_core::Trans;
-use sttr_run::RunStop;
+use sttr_run::{RunStop, Second};
 
 /// The trees for which the transducer has an output in all of these states.
 fn image<T: Labels>(
@@ -40,11 +40,15 @@ fn image<T: Labels>(
     ensures stop { IfErr result (IsImageStop T.put_outside trans.now.sttr asked.now.rules) }
 {
     let looks = looks_of(&trans.sttr);
+    rules_stand(asked);
     let image = Image {
         theory,
         alloc,
         sttr: &trans.sttr,
-        asked,
+        second: Second {
+            looks: asked,
+            rules: &[],
+        },
     };
     let mut names = IndexSet::new(alloc);
     let state = number(&mut names, Name::Middle(trans.state, all))?;

@@ -12,8 +12,8 @@ use indexmap::IndexSet;
 use std::alloc::Global;
 use sttr_run::{Head, Triple};
 
-/// What a state of a result accepts: what a state of the lookahead does, or of the automaton that is asked, or the trees
-/// for which a state of the transducer has an output that all of some states accept, which are in ascending order.
+/// What a state of a lookahead accepts: what a state of the first's does, or of the second's, or the trees for which a state
+/// of the first has an output that all of some states of the second's accept, which are in ascending order.
 #[derive(PartialEq, Eq, Hash, Drop)]
 pub enum Name {
     First(u64),
@@ -21,7 +21,7 @@ pub enum Name {
     Middle(u64, Vec<u64>),
 }
 
-/// The lookahead, or the automaton that is asked.
+/// The first's lookahead, or the second's.
 #[derive(Clone, Copy, Debug, PartialEq, Eq)]
 pub enum Side {
     First,

@@ -7,11 +7,12 @@ ghost use Rattle.sttr_core.specs.Machine.{plain_out};
 ghost use Rattle.sttr_run.specs.Fits.{RuleStands, SttrStands};
 ghost use Rattle.sttr_preimage.specs.Names.{names_in};
 ghost use Rattle.sttr_preimage.specs.Kept.{AreRestricted};
-ghost use Rattle.sttr_preimage.specs.Called.{plain_called, giving};
+ghost use Rattle.model_sttr.specs.Transducer.{identity};
+ghost use Rattle.sttr_preimage.specs.Called.{plain_called, through};
 ghost use Rattle.sttr_preimage.specs.Results.{IsRestricted, IsOutRestricted, MakesAsked, StandsUnchanged, IsTransFrom, IsTransPutFrom, IsImageStop};
 
-use crate::called::{Called, number_called};
-use crate::image::{Image, copied_ranks, looks_of};
+use crate::called::Called;
+use crate::image::{Image, copied_ranks, looks_of, rules_stand};
 use crate::kept::{joint_rules, kept_states};
 use crate::names::Name;
 use fast_fault::Memory;
@@ -20,7 +21,7 @@ use label_core::Labels;
 use sta_core::{Lang, Sta};
 use std::alloc::Global;
 use sttr_core::{Sttr, SttrRule, Trans};
-use sttr_run::RunStop;
+use sttr_run::{Head, RunStop, Second};
 
 /// The transducer on the inputs that are in the language.
 pub fn restrict<T: Labels>(
@@ -39,11 +40,15 @@ pub fn restrict<T: Labels>(
     ensures made { IfOk result (IsTransFrom T.Map.eq (T.meaning theory.now) (T.atom_fits theory.now) (T.map_fits theory.now) T.map_makes trans.now.sttr lang.now.sta.rules) }
 {
     let looks = looks_of(&trans.sttr);
+    rules_stand(&lang.sta);
     let image = Image {
         theory,
         alloc,
         sttr: &trans.sttr,
-        asked: &lang.sta,
+        second: Second {
+            looks: &lang.sta,
+            rules: &[],
+        },
     };
     let mut names = IndexSet::new(alloc);
     let rules = restricted_rules(theory, alloc, trans, lang, &mut names)?;
@@ -96,23 +101,24 @@ pub fn restrict_out<T: Labels>(
     ensures stop { IfErr result (IsImageStop T.put_outside trans.now.sttr lang.now.sta.rules) }
 {
     let _looks = looks_of(&trans.sttr);
+    rules_stand(&lang.sta);
     let image = Image {
         theory,
         alloc,
         sttr: &trans.sttr,
-        asked: &lang.sta,
+        second: Second {
+            looks: &lang.sta,
+            rules: &[],
+        },
     };
-    let mut called = IndexSet::new(alloc);
-    let state = number_called(&mut called, start_called(alloc, trans.state, lang.state)?)?;
-    let sttr = image.out_sttr(&mut called)?;
-    Ok(Trans { sttr, state })
+    image.trans_for(start_called(alloc, trans.state, lang.state)?)
 }
 
 /// The transducer's state, where its outputs are in the language.
 fn start_called(alloc: Global, state: u64, of: u64) -> Result<Called, Memory>
-    ensures { IfOk result (λ made. plain_called made ≡ giving state (of ∷ [])) }
+    ensures { IfOk result (λ made. plain_called made ≡ through state (of ∷ []) identity) }
 {
     let mut all = Vec::new(alloc);
     all.push(of)?;
-    Ok(Called { state, all })
+    Ok(Called::Through(state, all, Head::Same))
 }

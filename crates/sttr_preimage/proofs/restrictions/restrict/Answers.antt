@@ -3,6 +3,7 @@ use Rattle.sta_core.specs.Machine.{plain_rule}
 use Rattle.sttr_core.specs.Machine.{plain_out}
 use Rattle.sttr_preimage.specs.Names.{names_in}
 use Rattle.sttr_preimage.specs.Images.{HasOne, IsSecond, IsMiddle}
+use Rattle.sttr_preimage.specs.Through.{nothing_of}
 use Rattle.sttr_preimage.proofs.Finished.{rows_fit}
 use Rattle.sttr_preimage.proofs.Restricted.{is_over}
 use Rattle.sttr_preimage.proofs.Selecting.{all_added, no_middle, sides_known, sides_can, restriction_relation, restriction_fitting, restriction_over, restriction_low}
@@ -34,13 +35,13 @@ side_rows-requires-clause-can g c =
     let empty = names_in c.new-names.result.keys in
     let old = names_in c.restricted_rules.new.names.keys in
     sides_can T.Labels.is_put T.Labels.make (T.Theory.meaning c.args.theory.now) (T.Theory.atom_fits c.args.theory.now) f a empty old (ap names_in c.new-names.ensures.empty) (all_added c.in_ok-rules.ensures.rules)
-    T.Theory.atom_fits T.Labels.map_fits T.Labels.map_makes c.args.theory.now c.looks_of-looks.ensures.stand c.requires.stands c.requires.labels c.requires.ranks c.requires.fit
+    T.Theory.atom_fits T.Labels.map_fits T.Labels.map_makes c.args.theory.now c.looks_of-looks.ensures.stand c.requires.stands c.requires.labels c.rules_stand.ensures c.requires.ranks c.requires.fit
 
 pub new-looks-requires : goal.new-looks-requires
 new-looks-requires g c =
     let T = g.T in
     let old = names_in c.restricted_rules.new.names.keys in
-    rows_fit T.Labels.is_put T.Labels.make (T.Theory.meaning c.args.theory.now) (T.Theory.atom_fits c.args.theory.now) c.args.trans.now.sttr c.args.lang.now.sta (HasOne IsSecond old) (HasOne IsMiddle old) old (names_in c.side_rows.new.names.keys)
+    rows_fit T.Labels.is_put T.Labels.make (T.Theory.meaning c.args.theory.now) (T.Theory.atom_fits c.args.theory.now) c.args.trans.now.sttr (nothing_of c.args.lang.now.sta) (HasOne IsSecond old) (HasOne IsMiddle old) old (names_in c.side_rows.new.names.keys)
     (map (λ those. map plain_rule those.items) c.in_ok-rows.rows.items) c.in_ok-rows.ensures.rows c.in_ok-copied_ranks.field-0.items c.in_ok-rows.rows.items (c.in_ok-copied_ranks.ensures ∙ ap (λ m. m.ranks) c.looks_of-looks.ensures.looks) refl
 
 pub returns-clause-relation : goal.returns-clause-relation

@@ -1,40 +1,56 @@
-use Rattle.std.proofs.Common.{length, [], ◌∷◌, ap, subst}
-use Rattle.sttr_preimage.specs.Called.{called_in, giving}
-use Rattle.sttr_preimage.specs.Names.{IsNumber}
-use Rattle.sttr_preimage.specs.Results.{IsImageAtom}
-use Rattle.sttr_preimage.proofs.Restricted.{start_called, out_relation, out_fitting, out_state, is_over}
+use Rattle.std.proofs.Common.{sym, subst, inl, inr}
+use Rattle.sttr_preimage.specs.Called.{KeepsOutput}
+use Rattle.sttr_preimage.specs.Outs.{HasState, IsTransFor}
+use Rattle.sttr_preimage.specs.Results.{IsOutRestricted, IsTransPutFrom, IsImageStop}
+use Rattle.sttr_preimage.proofs.Atoms.{ok_map, err_map}
+use Rattle.sttr_preimage.proofs.Finished.{can_ask, stop_asked}
+use Rattle.sttr_preimage.specs.Through.{nothing_of, IsThroughMap}
+use Rattle.sttr_preimage.proofs.Restricted.{start_known, out_relation, out_made}
 use Rattle.sttr_preimage.proofs.Standing.{sttr_fits}
 use Rattle.sttr_preimage.proofs.restrictions.restrict_out.Goals as goal
 
-pub out_sttr-requires-clause-known : goal.out_sttr-requires-clause-known
-out_sttr-requires-clause-known g c =
-    let empty = called_in c.new-called.result.keys in
-    let names = called_in c.number_called.new.called.keys in
-    let is = subst (λ x. IsNumber empty names x c.in_ok-state.state) c.in_ok-start_called.ensures c.in_ok-state.ensures in
-    start_called (length c.args.trans.now.sttr.rules) (length c.args.lang.now.sta.rules) c.args.trans.now.state c.args.lang.now.state empty names (ap called_in c.new-called.ensures.empty) c.in_ok-state.state c.requires.start c.requires.state is
+pub trans_for-requires-clause-can : goal.trans_for-requires-clause-can
+trans_for-requires-clause-can g c =
+    let T = g.T in
+    can_ask c.args.lang.now.sta T.Theory.atom_fits T.Labels.map_fits T.Labels.map_makes c.args.theory.now c.args.trans.now.sttr _ _ c.looks_of-looks.ensures.stand c.requires.stands c.requires.labels c.rules_stand.ensures (λ p. c.requires.makes) (λ e. elim e [ inl child ↦ c.requires.unchanged child | inr none ↦ absurd none ])
+
+pub trans_for-requires-clause-known : goal.trans_for-requires-clause-known
+trans_for-requires-clause-known g c =
+    let T = g.T in
+    let N = T.Theory.meaning c.args.theory.now in
+    let fits = T.Theory.atom_fits c.args.theory.now in
+    let f = c.args.trans.now.sttr in
+    let a = c.args.lang.now.sta in
+    subst (λ x. HasState T.Labels.is_put T.Labels.make N fits f (nothing_of a) (KeepsOutput x) x) (sym c.in_ok-start_called.ensures) (start_known T.Labels.is_put T.Labels.make N fits f a c.args.trans.now.state c.args.lang.now.state c.requires.start c.requires.state)
 
 pub returns-clause-relation : goal.returns-clause-relation
 returns-clause-relation g c =
     let T = g.T in
-    let empty = called_in c.new-called.result.keys in
-    let names = called_in c.number_called.new.called.keys in
-    let is = subst (λ x. IsNumber empty names x c.in_ok-state.state) c.in_ok-start_called.ensures c.in_ok-state.ensures in
-    let fitting = sttr_fits T.Theory.atom_holds T.Labels.make c.args.trans.now.sttr c.looks_of-looks.ensures.stand c.requires.stands in
-    out_relation T.Labels.is_put T.Labels.make (T.Theory.meaning c.args.theory.now) (T.Theory.atom_fits c.args.theory.now) c.args.trans.now c.args.lang.now T.Map.PartialEq.eq fitting names (called_in c.out_sttr.new.called.keys) c.in_ok-sttr.sttr c.in_ok-state.state c.in_ok-sttr.ensures.sttr is.at
+    let N = T.Theory.meaning c.args.theory.now in
+    let fits = T.Theory.atom_fits c.args.theory.now in
+    let map_fits = T.Labels.map_fits c.args.theory.now in
+    let f = c.args.trans.now in
+    let a = c.args.lang.now in
+    let own = sttr_fits T.Theory.atom_holds T.Labels.make f.sttr c.looks_of-looks.ensures.stand c.requires.stands in
+    ok_map _ (IsOutRestricted T.Labels.make N f a) c.trans_for.result
+    (λ d h. out_relation T.Labels.is_put T.Labels.make N fits f a T.Map.PartialEq.eq T.Labels.is_chained map_fits T.Labels.map_makes d
+    (subst (λ x. IsTransFor T.Labels.is_put T.Labels.make N fits f.sttr (nothing_of a.sta) (IsThroughMap T.Map.PartialEq.eq T.Labels.is_chained map_fits T.Labels.map_makes f.sttr (nothing_of a.sta)) x d) c.in_ok-start_called.ensures h) own) c.trans_for.ensures.trans
 
 pub returns-clause-made : goal.returns-clause-made
 returns-clause-made g c =
     let T = g.T in
     let N = T.Theory.meaning c.args.theory.now in
     let fits = T.Theory.atom_fits c.args.theory.now in
-    let f = c.args.trans.now.sttr in
-    let a = c.args.lang.now.sta in
-    let empty = called_in c.new-called.result.keys in
-    let names = called_in c.number_called.new.called.keys in
-    let after = called_in c.out_sttr.new.called.keys in
-    let is = subst (λ x. IsNumber empty names x c.in_ok-state.state) c.in_ok-start_called.ensures c.in_ok-state.ensures in
-    let own = sttr_fits T.Theory.atom_holds T.Labels.make f c.looks_of-looks.ensures.stand c.requires.stands in
-    let fitting = out_fitting T.Labels.is_put T.Labels.make N fits c.args.trans.now c.args.lang.now T.Map.PartialEq.eq own names after c.in_ok-sttr.sttr c.in_ok-state.state c.in_ok-sttr.ensures.sttr is.at in
-    let there = out_state T.Labels.is_put T.Labels.make N fits f a T.Map.PartialEq.eq names after c.in_ok-sttr.sttr (giving c.args.trans.now.state (c.args.lang.now.state ∷ [])) c.in_ok-state.state c.in_ok-sttr.ensures.sttr is.at in
-    is_over T.Labels.make N fits (IsImageAtom N.equal f a.rules T.Labels.is_put) T.Map.PartialEq.eq (T.Labels.map_fits c.args.theory.now) T.Labels.map_makes f c.requires.labels.maps (λ m n e k. g.met.T.Labels.equal_maps_fit c.args.theory.now m n e k) (λ made m n e k. g.met.T.Labels.equal_maps_make made m n e k)
-    c.in_ok-sttr.sttr c.in_ok-sttr.ensures.sttr.over fitting c.in_ok-state.state there.1
+    let map_fits = T.Labels.map_fits c.args.theory.now in
+    let f = c.args.trans.now in
+    let a = c.args.lang.now in
+    let own = sttr_fits T.Theory.atom_holds T.Labels.make f.sttr c.looks_of-looks.ensures.stand c.requires.stands in
+    ok_map _ (IsTransPutFrom T.Map.PartialEq.eq T.Labels.is_put N fits map_fits T.Labels.map_makes f.sttr a.sta.rules) c.trans_for.result
+    (λ d h. out_made T.Labels.is_put T.Labels.make N fits f a T.Map.PartialEq.eq T.Labels.is_chained map_fits T.Labels.map_makes d
+    (subst (λ x. IsTransFor T.Labels.is_put T.Labels.make N fits f.sttr (nothing_of a.sta) (IsThroughMap T.Map.PartialEq.eq T.Labels.is_chained map_fits T.Labels.map_makes f.sttr (nothing_of a.sta)) x d) c.in_ok-start_called.ensures h) own
+    c.requires.labels.maps (λ m n e k. g.met.T.Labels.equal_maps_fit c.args.theory.now m n e k) (λ made m n e k. g.met.T.Labels.equal_maps_make made m n e k)) c.trans_for.ensures.trans
+
+pub returns-clause-stop : goal.returns-clause-stop
+returns-clause-stop g c =
+    let T = g.T in
+    err_map _ (IsImageStop T.Labels.put_outside c.args.trans.now.sttr c.args.lang.now.sta.rules) c.trans_for.result (λ e h. stop_asked c.args.lang.now.sta T.Labels.put_outside T.Labels.chain_outside c.args.trans.now.sttr e h) c.trans_for.ensures.stop

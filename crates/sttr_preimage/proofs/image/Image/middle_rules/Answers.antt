@@ -1,3 +1,4 @@
+use Rattle.sttr_run.specs.Plain.{plain_second}
 use Rattle.std.proofs.Common.{map, take, None, subst, ap, ◌∙◌, take_all}
 use Rattle.std.proofs.lemmas.List.{map-append}
 use Rattle.model_sttr.specs.Transducer.{run}
@@ -14,7 +15,7 @@ use Rattle.sttr_preimage.proofs.image.Image.middle_rules.Goals as goal
 pub rules-init : goal.rules-init
 rules-init g c =
     let T = g.T in
-    over_none T.Labels.is_put T.Labels.make (T.Theory.meaning c.args.self.now.theory.now) (T.Theory.atom_fits c.args.self.now.theory.now) c.args.self.now.sttr.now c.args.self.now.asked.now (names_in c.args.names.now.keys) (record { first = run c.args.state; all = c.args.all.now; second = None }) (map plain_rule c.new-rules.result.items) (ap (map plain_rule) c.new-rules.ensures.items)
+    over_none T.Labels.is_put T.Labels.make (T.Theory.meaning c.args.self.now.theory.now) (T.Theory.atom_fits c.args.self.now.theory.now) c.args.self.now.sttr.now (plain_second c.args.self.now.second) (names_in c.args.names.now.keys) (record { first = run c.args.state; all = c.args.all.now; second = None }) (map plain_rule c.new-rules.result.items) (ap (map plain_rule) c.new-rules.ensures.items)
 
 pub rules_over-requires-clause-rule : goal.rules_over-requires-clause-rule
 rules_over-requires-clause-rule g c =
@@ -26,7 +27,7 @@ rules-preserved g c =
     let N = T.Theory.meaning c.args.self.now.theory.now in
     let fits = T.Theory.atom_fits c.args.self.now.theory.now in
     let f = c.args.self.now.sttr.now in
-    let a = c.args.self.now.asked.now in
+    let a = (plain_second c.args.self.now.second) in
     let t : Triple = record { first = run c.args.state; all = c.args.all.now; second = None } in
     let b = names_in c.rules.names.keys in
     let new = names_in c.rules_over.new.names.keys in
@@ -42,7 +43,7 @@ returns-clause-rules g c =
     let N = T.Theory.meaning c.args.self.now.theory.now in
     let fits = T.Theory.atom_fits c.args.self.now.theory.now in
     let f = c.args.self.now.sttr.now in
-    let a = c.args.self.now.asked.now in
+    let a = (plain_second c.args.self.now.second) in
     let t : Triple = record { first = run c.args.state; all = c.args.all.now; second = None } in
     let old = names_in c.args.names.now.keys in
     let new = names_in c.rules.names.keys in

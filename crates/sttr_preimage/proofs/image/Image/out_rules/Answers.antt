@@ -1,60 +1,46 @@
-use Rattle.std.proofs.Common.{map, take, take_all, length, ◌<◌, All, sym, subst, ap, ◌∙◌}
-use Rattle.std.proofs.lemmas.List.{map-append}
+use Rattle.std.proofs.Common.{map, ◌<◌, true, ◌≡◌, inl, sym, subst, ap, ◌∙◌}
+use Rattle.model_sttr.specs.Transducer.{run}
 use Rattle.sttr_core.specs.Machine.{plain_out}
-use Rattle.sttr_preimage.specs.Called.{called_in, giving}
+use Rattle.sttr_theory.specs.Copies.{on_same}
+use Rattle.sttr_run.specs.Plain.{plain_second}
 use Rattle.sttr_preimage.specs.Names.{names_in}
-use Rattle.sttr_preimage.specs.Outs.{HasOutsOver, HasAllOuts}
-use Rattle.sttr_preimage.proofs.Copying.{take_mapped}
-use Rattle.sttr_preimage.proofs.Outing.{outs_over_none, outs_over_more, state_done}
-use Rattle.sttr_preimage.proofs.Standing.{item_there}
+use Rattle.sttr_preimage.specs.Called.{plain_called, called_in, KeepsOutput, AreOwnRules}
+use Rattle.sttr_preimage.specs.Images.{first_of, second_of}
+use Rattle.sttr_preimage.specs.Outs.{HasState, HasOuts}
+use Rattle.sttr_preimage.specs.Through.{IsThroughMap}
+use Rattle.sttr_preimage.proofs.Chained.{map_same, map_own}
+use Rattle.sttr_preimage.proofs.Owning.{own_low, rules_at, own_done}
+use Rattle.sttr_preimage.proofs.Standing.{as_many_rules, gives_child}
 use Rattle.sttr_preimage.proofs.image.Image.out_rules.Goals as goal
 
-pub rules-init : goal.rules-init
-rules-init g c =
-    let T = g.T in
-    outs_over_none T.Labels.is_put T.Labels.make (T.Theory.meaning c.args.self.now.theory.now) (T.Theory.atom_fits c.args.self.now.theory.now) c.args.self.now.sttr.now c.args.self.now.asked.now T.Map.PartialEq.eq (names_in c.args.names.now.keys) (called_in c.args.called.now.keys) (giving c.args.one.now.state c.args.one.now.all.items)
-    (map plain_out c.new-rules.result.items) (ap (map plain_out) c.new-rules.ensures.items)
-
-pub outs_over-requires-clause-rule : goal.outs_over-requires-clause-rule
-outs_over-requires-clause-rule g c =
-    (c.args.one.now.state, (c.requires.state, item_there c.args.self.now.sttr.now c.args.one.now.state c.rules_of-rule-items.result.now c.rules.rule-index c.rule-item.result c.rules_of-rule-items.ensures c.rules-test.true c.rule-item.is))
-
-pub outs_over-requires-clause-states : goal.outs_over-requires-clause-states
-outs_over-requires-clause-states g c =
-    subst (All (λ s. s < length c.args.self.now.asked.now.rules)) (sym (ap (λ t. t.all) c.in_ok-triple.ensures ∙ c.deref.ensures.value)) c.requires.states
-
-pub rules-preserved : goal.rules-preserved
-rules-preserved g c =
+pub returns-in_ok-own_rules-in-Own-clause-rules : goal.returns-in_ok-own_rules-in-Own-clause-rules
+returns-in_ok-own_rules-in-Own-clause-rules g c =
     let T = g.T in
     let N = T.Theory.meaning c.args.self.now.theory.now in
     let fits = T.Theory.atom_fits c.args.self.now.theory.now in
+    let map_fits = T.Labels.map_fits c.args.self.now.theory.now in
     let f = c.args.self.now.sttr.now in
-    let a = c.args.self.now.asked.now in
+    let s = plain_second c.args.self.now.second in
     let eq = T.Map.PartialEq.eq in
-    let t = giving c.args.one.now.state c.args.one.now.all.items in
-    let b = names_in c.rules.names.keys in
-    let new = names_in c.outs_over.new.names.keys in
-    let q = called_in c.rules.called.keys in
-    let after = called_in c.outs_over.new.called.keys in
-    let made = map plain_out c.in_ok-outs_over.field-0.items in
-    let same = c.in_ok-triple.ensures ∙ ap (giving c.args.one.now.state) c.deref.ensures.value in
-    let (ys, ways, has) = subst (λ z. HasAllOuts T.Labels.is_put T.Labels.make N fits f a eq b new q after z (plain_out c.rule-item.result) made) same c.in_ok-outs_over.ensures.rules in
-    outs_over_more T.Labels.is_put T.Labels.make N fits f a eq (names_in c.args.names.now.keys) b new (called_in c.args.called.now.keys) q after t (map plain_out (take c.rules.rule-index c.rules_of-rule-items.result.now)) (map plain_out (take _ c.rules_of-rule-items.result.now)) (plain_out c.rule-item.result)
-    (map plain_out c.rules.rules.items) made (map plain_out c.add_all.new.those.items) ys c.rules.invariant ways has
-    (take_mapped plain_out c.rules_of-rule-items.result.now c.rules.rule-index c.rule-item.result c.rules-test.true c.rule-item.is) (ap (map plain_out) c.in_ok-add_all.ensures ∙ map-append plain_out c.rules.rules.items c.in_ok-outs_over.field-0.items)
-
-pub returns-clause-rules : goal.returns-clause-rules
-returns-clause-rules g c =
-    let T = g.T in
-    let N = T.Theory.meaning c.args.self.now.theory.now in
-    let fits = T.Theory.atom_fits c.args.self.now.theory.now in
-    let f = c.args.self.now.sttr.now in
-    let a = c.args.self.now.asked.now in
-    let eq = T.Map.PartialEq.eq in
+    let can = c.requires.can in
+    let Q = IsThroughMap eq T.Labels.is_chained map_fits T.Labels.map_makes f s in
+    let F = first_of T.Theory.atom_holds T.Labels.make f s in
+    let G = second_of T.Theory.atom_holds T.Labels.make f s in
     let old = names_in c.args.names.now.keys in
-    let new = names_in c.rules.names.keys in
+    let new = names_in c.own_rules.new.names.keys in
     let before = called_in c.args.called.now.keys in
-    let after = called_in c.rules.called.keys in
-    let whole = ap (map plain_out) (take_all c.rules.rule-index c.rules_of-rule-items.result.now c.rules-test.false) ∙ c.rules_of-rule-items.ensures in
-    state_done T.Labels.is_put T.Labels.make N fits f a eq old new before after c.args.one.now.state c.args.one.now.all.items (map plain_out c.rules.rules.items)
-    (subst (λ ρs. HasOutsOver T.Labels.is_put T.Labels.make N fits f a eq old new before after (giving c.args.one.now.state c.args.one.now.all.items) ρs (map plain_out c.rules.rules.items)) whole c.rules.invariant)
+    let after = called_in c.own_rules.new.called.keys in
+    let made = map plain_out c.in_ok-own_rules-in-Own.field-0.items in
+    let q = c.in-Own.state in
+    let x = on_same (run q) in
+    let is = ap plain_called c.in-Own.is in
+    let reflexive = subst (λ eq. (b : _) → eq b b ≡ true) (sym (g.met.T.Theory.equal_is_own c.args.self.now.theory.now)) (λ b. g.met.T.Atom.Eq.laws.refl b) in
+    let known = subst (λ x. HasState T.Labels.is_put T.Labels.make N fits f s (KeepsOutput x) x) is c.requires.known in
+    let low = subst (λ n. q < n) (as_many_rules T.Theory.atom_holds T.Labels.make s) (own_low F G (KeepsOutput x) q known) in
+    let child = gives_child T.Theory.atom_holds T.Labels.make f known.is_first in
+    let place = rules_at c.args.self.now.second.rules.now q c.index-self-state.result low in
+    let own = subst (λ rs. AreOwnRules T.Labels.make N.has eq old new before after rs made) (ap (map plain_out) c.deref-in-Own.ensures.value ∙ sym place) c.in_ok-own_rules-in-Own.ensures in
+    subst (λ x. HasOuts T.Labels.is_put T.Labels.make N fits f s Q old new before after x made) (sym is)
+    (own_done T.Labels.is_put T.Labels.make N fits f s Q eq can.second_looks can.second_stands known.is_first (can.ranks (inl child)) (can.speaks (inl child)).guards reflexive q low old new before after made own
+    (λ m has. map_own eq T.Labels.is_chained map_fits T.Labels.map_makes f s (λ m. g.met.T.Map.Eq.laws.refl m) child (can.speaks (inl child)).maps (KeepsOutput x) m has)
+    (map_same eq T.Labels.is_chained map_fits T.Labels.map_makes f s g.met.T.Map.Eq.laws.congr (λ m n e k. g.met.T.Labels.equal_maps_fit c.args.self.now.theory.now m n e k) (λ made m n e k. g.met.T.Labels.equal_maps_make made m n e k) (KeepsOutput x)))
