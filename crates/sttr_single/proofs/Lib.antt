@@ -1,0 +1,8 @@
+pub mod Alike
+mod Applying
+mod Joining
+mod Low
+mod More
+mod Marked
+mod Answered
+mod Stopping

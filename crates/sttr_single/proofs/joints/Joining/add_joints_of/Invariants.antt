@@ -1,0 +1,6 @@
+use Rattle.std.proofs.Common.{◌≡◌, ◌<◌}
+use Rattle.sttr_single.specs.Joints.{AddsJoints}
+use Rattle.sttr_single.proofs.joints.Joining.add_joints_of.Given as goal
+
+abbrev pub invariant-firsts : goal.invariant-firsts
+invariant-firsts g l = AddsJoints g.T.Theory.atom_holds g.T.Map.PartialEq.eq (g.T.Theory.meaning l.self.theory.now).has l.self.sttr.now (λ q i j. (q ≡ l.state) × (i < l.first)) l.fn.joints.items l.joints.items

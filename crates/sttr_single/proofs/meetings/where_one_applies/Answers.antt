@@ -1,0 +1,6 @@
+use Rattle.std.proofs.Common.{length}
+use Rattle.sttr_single.proofs.More.{one_fits}
+use Rattle.sttr_single.proofs.meetings.where_one_applies.Goals as goal
+
+pub with_states-requires : goal.with_states-requires
+with_states-requires g c = one_fits c.args.looks.now.ranks (length c.args.looks.now.rules) c.args.joints.now c.requires c.in_ok-states.states.items c.in_ok-states.ensures

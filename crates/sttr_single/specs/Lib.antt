@@ -1,0 +1,4 @@
+pub mod Same
+pub mod Overlap
+pub mod Joints
+pub mod Shown
