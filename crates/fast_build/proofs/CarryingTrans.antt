@@ -28,7 +28,8 @@ use Rattle.model_run.specs.Parts.{IsFrom}
 use Rattle.model_run.specs.Seen.{listed, list_label, fields_at, of_language, of_transformation, IsTest, AreLabels, IsLabelOf}
 use Rattle.model_layers.specs.Carries.{IsTyped}
 use Rattle.model_layers.specs.Written.{IsTransformationFor, IsWrittenGuard, AreWrittenGuards, AreLanguagesReached, IsWrittenTrans, AppliesAs}
-use Rattle.model_layers.proofs.Names.{names_are_carried, names_are_seen}
+use Rattle.model_sttr.specs.Plain.{PlainOut}
+use Rattle.sta_core.specs.Machine.{PlainRule}
 use Rattle.sttr_core.specs.Machine.{OutMachine, transducer_of}
 use Rattle.record_label.specs.Rows.{RowAtom, row_holds}
 use Rattle.record_label.specs.declared.maps.RowMap.{RowMap}
@@ -36,7 +37,6 @@ use Rattle.fast_build.specs.Rules.{IsGuardFor}
 use Rattle.fast_build.specs.Terms.{row_make}
 use Rattle.fast_build.specs.Automaton.{IsGuardReached}
 use Rattle.fast_build.specs.Transducer.{IsOutGuardReached, IsMapReached, IsTransducerOf}
-use Rattle.fast_build.specs.CarriedTrans.{IsBuiltTransFor}
 use Rattle.fast_build.proofs.Guarding.{guard_means}
 use Rattle.fast_build.proofs.Carried.{of_each}
 use Rattle.fast_build.proofs.Standing.{type_named}
@@ -45,7 +45,7 @@ use Rattle.fast_build.proofs.OutStands.{trans_sound}
 use Rattle.fast_build.proofs.CalledFacts.{type_from, type_into, kind_there}
 use Rattle.fast_build.proofs.CalledFacts as facts
 use Rattle.fast_build.proofs.Relating.{map_makes}
-use Rattle.fast_build.proofs.Paired.{paired_many, paired_weaker}
+use Rattle.fast_build.proofs.Paired.{paired_many, paired_weaker, place_low}
 use Rattle.sta_core.specs.Sta.{rule_meaning}
 use Rattle.sttr_core.specs.Fits.{EveryMap}
 use Rattle.sttr_core.proofs.Meaning.{meaning_of, rule_held, of_place}
@@ -130,10 +130,14 @@ module _ (items : List Item) (well : is_well_formed items ≡ true) (n : Name) (
 
   -- ---- the states
 
-  many : length meant.rules ≡ length names
-  many =
+  pub states_many : length meant.rules ≡ length names
+  states_many =
       length-map d.rules (map (meaning_of row_holds row_make))
       ∙ (paired_many (AreOutRulesFor (input_of items n.text) (output_of items n.text) (number_in is.looked) (number_in names)) d.rules (map (out_rules_of items) names) is.rules ∙ length-map names (out_rules_of items))
+
+  -- a rule is one of a state's that there is
+  pub state_there : (q : ℕ) (r : PlainOut (PlainRule RowAtom) RowMap) → Contains (get_or d.rules q []) r → q < length names
+  state_there q r at = subst (λ k. q < k) states_many (subst (λ k. q < k) (sym (length-map d.rules (map (meaning_of row_holds row_make)))) (place_low d.rules q r at))
 
   look_many : length meant.looks ≡ length is.looked
   look_many =
@@ -146,21 +150,21 @@ module _ (items : List Item) (well : is_well_formed items ≡ true) (n : Name) (
   first_name : get_or names 0 [] ≡ n.text
   first_name = ap (λ ns. get_or ns 0 []) is.first
 
-  beside_goes : (k : ℕ) → k < length names → IsFrom items (named (name_of (get_or names k []))) from into
+  pub beside_goes : (k : ℕ) → k < length names → IsFrom items (named (name_of (get_or names k []))) from into
   beside_goes k low = let b = is.transformations k [] low in (b.kind, b.begins ∙ goes.1, b.ends ∙ goes.2)
 
   state_means : (k : ℕ) → k < length names → (u w : LabelTree) → IsTyped items from u → Gives meant (run k) u w ↔ IsRelated items (named (name_of (get_or names k []))) u w
   state_means k low u w h = let both = is.means k low u w (typed u h) in (both.1, both.0)
 
-  input_beside : (k : ℕ) → k < length names → input_of items (get_or names k []) ≡ input_of items n.text
+  pub input_beside : (k : ℕ) → k < length names → input_of items (get_or names k []) ≡ input_of items n.text
   input_beside k low = sym (input_type_of_name items (name_of (get_or names k []))) ∙ (ap (signature_named items) (beside_goes k low).1 ∙ input_is)
 
-  output_beside : (k : ℕ) → k < length names → output_of items (get_or names k []) ≡ output_of items n.text
+  pub output_beside : (k : ℕ) → k < length names → output_of items (get_or names k []) ≡ output_of items n.text
   output_beside k low = sym (output_type_of_name items (name_of (get_or names k []))) ∙ (ap (signature_named items) (beside_goes k low).2 ∙ output_is)
 
   outputs_typed : (q : ℕ) (u w : LabelTree) → q < length meant.rules → IsTyped items from u → Gives meant (run q) u w → IsTyped items into w
   outputs_typed q u w low h gives =
-      let below : q < length names = subst (λ k. q < k) many low in
+      let below : q < length names = subst (λ k. q < k) states_many low in
       let related = (state_means q below u w h).0 gives in
       let out = laws.outputs.of_names (name_of (get_or names q [])) (beside_goes q below).0 u w (subst (λ s. HasType s u) (sym (input_beside q below)) (typed u h)) related in
       subst (λ s. HasType s w) (output_beside q below ∙ sym output_is) out
@@ -175,12 +179,12 @@ module _ (items : List Item) (well : is_well_formed items ≡ true) (n : Name) (
         λ u h. (let both = is.look_means q below u (typed u h) in (both.1, both.0)),
       )
 
-  transformation_for : IsTransformationFor items n from into (record { sttr = meant; start = 0 })
+  pub transformation_for : IsTransformationFor items n from into (record { sttr = meant; start = 0 })
   transformation_for = record {
     goes = goes;
-    in_range = subst (λ k. 0 < k) (sym many) first;
+    in_range = subst (λ k. 0 < k) (sym states_many) first;
     means = λ u w h. subst (λ m. Gives meant (run 0) u w ↔ IsRelated items (named (name_of m)) u w) first_name (state_means 0 first u w h);
-    states = λ q low. (let below = subst (λ k. q < k) many low in
+    states = λ q low. (let below = subst (λ k. q < k) states_many low in
         (name_of (get_or names q []), is.reached q [] below, beside_goes q below, λ u w h. state_means q below u w h));
     looks = languages;
     typed = outputs_typed;
@@ -263,7 +267,7 @@ module _ (items : List Item) (well : is_well_formed items ≡ true) (n : Name) (
       let h = map_there k by in
       subst (λ f. IsLabelOf items into (f l)) h.makes (subst (λ (s : PlainSignature). HasSorts (sorts_of s) (row_make h.held l)) (sym output_is) (made_labels (sorts_of (output_of items n.text)) (map plain_entry h.held.entries.items) l h.made))
 
-  written_trans : IsWrittenTrans items n from into meant
+  pub written_trans : IsWrittenTrans items n from into meant
   written_trans = record {
     goes = goes;
     looks = look_guards;
@@ -275,14 +279,7 @@ module _ (items : List Item) (well : is_well_formed items ≡ true) (n : Name) (
 
   -- ---- to which trees the rules apply
 
-  applies : (k : ℕ) → k < length names → Pairwise (AppliesAs items from meant (name_of (get_or names k []))) (out_rules meant k) (out_rules_of items (get_or names k []))
-  applies k low =
+  pub rules_apply : (k : ℕ) → k < length names → Pairwise (AppliesAs items from meant (name_of (get_or names k []))) (out_rules meant k) (out_rules_of items (get_or names k []))
+  rules_apply k low =
       paired_weaker (λ r w. (u : LabelTree) → HasType (input_of items n.text) u → (rule_applies meant.looks u r.rule ≡ true) ↔ Applies items (input_of items n.text) w.rule u) (AppliesAs items from meant (name_of (get_or names k [])))
       (λ r w h u ok. subst (λ s. (rule_applies meant.looks u r.rule ≡ true) ↔ Applies items s w.rule u) (sym (input_beside k low)) (h u (typed u ok))) (out_rules meant k) (out_rules_of items (get_or names k [])) (is.applies k low)
-
-  pub is_built_trans_for : IsBuiltTransFor items n from into names d 0
-  is_built_trans_for = record {
-    carries = (names_are_carried items n).transformation from into (record { sttr = meant; start = 0 }) transformation_for;
-    seen = (names_are_seen items n).transformation from into meant written_trans;
-    applies = applies;
-  }

@@ -25,3 +25,11 @@ pub mod WholeTrans
 pub mod Gathering
 pub mod CarryingTrans
 pub mod Copying
+pub mod Bare
+pub mod SameMaps
+pub mod SameTerms
+pub mod Typed
+pub mod RulesWritten
+pub mod Linear
+pub mod Plain
+pub mod NamedTrans

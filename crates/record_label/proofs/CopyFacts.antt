@@ -23,7 +23,8 @@ by_plain A f g one h = subst (λ p. same_formula A (plain_formula f) p ≡ true)
 truths : (f g : Formula RowAtom) → plain_formula f ≡ plain_formula g → eq-value.it (Truth f) (Truth g) ≡ true
 truths f g one = by_plain _ f g one (laws-law.refl (Truth f))
 
-same_entry : (x y : RowEntry) → plain_entry x ≡ plain_entry y → eq-value.it x y ≡ true
+-- entries with one meaning
+pub same_entry : (x y : RowEntry) → plain_entry x ≡ plain_entry y → eq-value.it x y ≡ true
 same_entry (Number f) (Number g) e = let one : f ≡ g = cc in subst (λ h. eq-value.it (Number f) (Number h) ≡ true) one (laws-law.refl (Number f))
 same_entry (Number f) (Truth g) e = absurd cc
 same_entry (Number f) (Text t) e = absurd cc

@@ -23,7 +23,7 @@ use Rattle.model_guard.specs.Forms.{form_of, forms_in, is_whole, HasOutside}
 use Rattle.model_guard.specs.Guards.{is_guard}
 use Rattle.model_guard.proofs.Values.{form_value, form_over, whole_sort, guard_sort}
 use Rattle.record_label.specs.Rows.{RowAtom, count_of}
-use Rattle.record_label.specs.Guards.{IsGuardOf, side_of}
+use Rattle.record_label.specs.Guards.{IsGuardOf, formula_in, side_of}
 use Rattle.record_label.specs.Maps.{Entry, number_by, truth_by, text_by, is_of_sort, AreOfSorts, forms_in_each, IsEntryOf, AreEntriesOf}
 use Rattle.record_label.proofs.FieldFacts.{number_low}
 use Rattle.record_label.proofs.FormFacts.{outside_left, outside_right}
@@ -38,10 +38,10 @@ module _ (fields : List PlainField) where
     of_sort = refl;
   })
 
-  pub truth_entry : (e : Expr) (f : Formula RowAtom) → is_guard fields e ≡ true → IsGuardOf fields e f → IsEntryOf fields e truths (truth_by f)
-  truth_entry e f h is = record {
+  pub truth_entry : (e : Expr) (f : Formula RowAtom) → is_guard fields e ≡ true → IsGuardOf fields e f → f ≡ formula_in fields e → IsEntryOf fields e truths (truth_by f)
+  truth_entry e f h is same = record {
     makes = λ values sorts. ap truth (is.holds values sorts) ∙ sym (truth_of_sort (value_of fields values e) (guard_sort fields values e sorts h));
-    written = is;
+    written = (is, same);
     fit = is.fit;
     of_sort = refl;
   }

@@ -31,7 +31,7 @@ use Rattle.lin_solve.specs.Wholes.{wholes_label, wholes_of}
 use Rattle.lin_solve.specs.Equal.{wholes_back}
 use Rattle.record_label.specs.Rows.{truths_in, texts_in, RowAtom, RowFits, count_of}
 use Rattle.model_guard.specs.Compares.{comparison}
-use Rattle.record_label.specs.Guards.{compare_of, is_numeric, side_of, written_in, written_in_all, written_in_both, comparison_of, compared_by_forms, compared_by, pair_of, agreement_of, IsGuard, IsGuardOf, IsEqualityOf, IsFormulaOf, AreFormulasOf}
+use Rattle.record_label.specs.Guards.{compare_of, is_numeric, side_of, written_in, written_in_all, written_in_both, comparison_of, compared_by_forms, compared_by, pair_of, agreement_of, compared_as, formula_in, formulas_of_parts, IsGuard, IsGuardOf, IsEqualityOf}
 use Rattle.record_label.proofs.FieldFacts.{truth_field, text_field, number_low, truth_no_text, truth_no_whole, text_no_whole}
 use Rattle.fast_syntax.specs.Plain.{plain_expr, plain_node}
 use Rattle.fast_syntax.specs.declared.expressions.Expr.{Expr}
@@ -149,7 +149,7 @@ module _ (fields : List PlainField) where
   guard_no_text (syntax.minus p e) h = refl
   guard_no_text (syntax.chain kind p parts) h = refl
 
-  whole_numeric : (e : syntax.Expr) → is_whole fields e ≡ true → is_numeric fields e ≡ true
+  pub whole_numeric : (e : syntax.Expr) → is_whole fields e ≡ true → is_numeric fields e ≡ true
   whole_numeric (syntax.field p name) h = h
   whole_numeric (syntax.number p n) h = refl
   whole_numeric (syntax.text p t) h = cc
@@ -162,7 +162,7 @@ module _ (fields : List PlainField) where
   whole_numeric (syntax.chain Sum p parts) h = refl
   whole_numeric (syntax.chain Product p parts) h = refl
 
-  guard_not_numeric : (e : syntax.Expr) → is_guard fields e ≡ true → is_numeric fields e ≡ false
+  pub guard_not_numeric : (e : syntax.Expr) → is_guard fields e ≡ true → is_numeric fields e ≡ false
   guard_not_numeric (syntax.field p name) h = truth_no_whole fields name h
   guard_not_numeric (syntax.number p n) h = cc
   guard_not_numeric (syntax.text p t) h = cc
@@ -175,7 +175,7 @@ module _ (fields : List PlainField) where
   guard_not_numeric (syntax.chain Sum p parts) h = cc
   guard_not_numeric (syntax.chain Product p parts) h = cc
 
-  text_not_numeric : (e : syntax.Expr) → is_text fields e ≡ true → is_numeric fields e ≡ false
+  pub text_not_numeric : (e : syntax.Expr) → is_text fields e ≡ true → is_numeric fields e ≡ false
   text_not_numeric (syntax.field p name) h = text_no_whole fields name h
   text_not_numeric (syntax.number p n) h = cc
   text_not_numeric (syntax.text p t) h = refl
@@ -243,11 +243,12 @@ module _ (fields : List PlainField) where
         by AtLeast e = cc
 
     -- a comparison of two texts
-    pub text_comparison : (p : Pos) (rel : Rel) (found : TextAtom) → is_numeric fields a ≡ false → Some found ≡ comparison_of fields a b → IsFormulaOf fields (syntax.compare p rel a b) (compared_by rel (atom (Right (Right found))))
+    text_comparison : (p : Pos) (rel : Rel) (found : TextAtom) → is_numeric fields a ≡ false → Some found ≡ comparison_of fields a b → is_guard fields (syntax.compare p rel a b) ≡ true → IsGuardOf fields (syntax.compare p rel a b) (compared_by rel (atom (Right (Right found))))
     text_comparison p rel found other e guard = compared_guard p rel (atom (Right (Right found))) other (comparable rel other guard).0 (comparison_guard found e)
 
     -- a comparison of two guards
-    pub guard_comparison : (p : Pos) (rel : Rel) (f g : Formula RowAtom) → is_numeric fields a ≡ false → None ≡ comparison_of fields a b → IsFormulaOf fields a f → IsFormulaOf fields b g → IsFormulaOf fields (syntax.compare p rel a b) (compared_by rel (agreement_of f g))
+    guard_comparison : (p : Pos) (rel : Rel) (f g : Formula RowAtom) → is_numeric fields a ≡ false → None ≡ comparison_of fields a b → (is_guard fields a ≡ true → IsGuardOf fields a f) → (is_guard fields b ≡ true → IsGuardOf fields b g) → is_guard fields (syntax.compare p rel a b) ≡ true
+        → IsGuardOf fields (syntax.compare p rel a b) (compared_by rel (agreement_of f g))
     guard_comparison p rel f g other none of_a of_b guard =
         let asks = comparable rel other guard in
         let guards = missed_if (is_guard fields a) (is_guard fields b) (is_text fields a) (is_text fields b) (record { left = side_of fields a; right = side_of fields b }) asks.1 (sym none) in
@@ -289,52 +290,83 @@ module _ (fields : List PlainField) where
     pub others_compared : (p : Pos) (rel : Rel) → is_numeric fields a ≡ false → is_text fields a ≡ false → is_guard fields (syntax.compare p rel a b) ≡ true → (is_guard fields a ≡ true) × (is_guard fields b ≡ true)
     others_compared p rel other no_text guard = guards_only (is_guard fields a) (is_guard fields b) (is_text fields a) (is_text fields b) no_text (comparable rel other guard).1
 
-    pub number_comparison : length fields ≤ 8 → (p : Pos) (rel : Rel) → is_numeric fields a ≡ true → IsFormulaOf fields (syntax.compare p rel a b) (compared_by_forms rel (form_of fields a) (form_of fields b))
+    number_comparison : length fields ≤ 8 → (p : Pos) (rel : Rel) → is_numeric fields a ≡ true → is_guard fields (syntax.compare p rel a b) ≡ true → IsGuardOf fields (syntax.compare p rel a b) (compared_by_forms rel (form_of fields a) (form_of fields b))
     number_comparison few p rel numeric guard = let both = numbers_compared p rel numeric guard in number_guard few p rel numeric both.0 both.1
 
-  -- formulas of parts, joined
-  all_guard : (es : List syntax.Expr) (fs : List (Formula RowAtom)) → AreFormulasOf fields es fs → are_guards fields (unmarked es) ≡ true → IsGuard fields (λ values. all_true fields values (unmarked es)) (written_in_all fields (unmarked es)) (all_of (formulas_of fs))
-  all_guard [] [] are tests = record { holds = λ values sorts. refl; atoms = tt; fit = tt }
-  all_guard [] (f ∷ fs) are tests = absurd are
-  all_guard (e ∷ es) [] are tests = absurd are
-  all_guard (e ∷ es) (f ∷ fs) are tests =
-      let here = both_true (is_guard fields e) (are_guards fields (unmarked es)) tests in
-      let first = are.0 here.0 in
-      let rest = all_guard es fs are.1 here.1 in record {
-        holds = λ values sorts. λ i. first.holds values sorts i && rest.holds values sorts i;
-        atoms = (more_left (written_in fields e) (written_in_all fields (unmarked es)) f first.atoms, more_right (written_in fields e) (written_in_all fields (unmarked es)) (all_of (formulas_of fs)) rest.atoms);
-        fit = (first.fit, rest.fit);
-      }
+    compared_is : length fields ≤ 8 → (p : Pos) (rel : Rel) → is_guard fields (syntax.compare p rel a b) ≡ true → (is_guard fields a ≡ true → IsGuardOf fields a (formula_in fields a)) → (is_guard fields b ≡ true → IsGuardOf fields b (formula_in fields b))
+        → IsGuardOf fields (syntax.compare p rel a b) (formula_in fields (syntax.compare p rel a b))
+    compared_is few p rel guard of_a of_b = by (is_numeric fields a) refl
+      where
+        by_text : is_numeric fields a ≡ false → (found : Option TextAtom) → found ≡ comparison_of fields a b → IsGuardOf fields (syntax.compare p rel a b) (compared_as rel found (formula_in fields a) (formula_in fields b))
+        by_text other None e = guard_comparison p rel (formula_in fields a) (formula_in fields b) other e of_a of_b guard
+        by_text other (Some found) e = text_comparison p rel found other e guard
 
-  some_guard : (es : List syntax.Expr) (fs : List (Formula RowAtom)) → AreFormulasOf fields es fs → are_guards fields (unmarked es) ≡ true → IsGuard fields (λ values. some_true fields values (unmarked es)) (written_in_all fields (unmarked es)) (some_of (formulas_of fs))
-  some_guard [] [] are tests = record { holds = λ values sorts. refl; atoms = tt; fit = tt }
-  some_guard [] (f ∷ fs) are tests = absurd are
-  some_guard (e ∷ es) [] are tests = absurd are
-  some_guard (e ∷ es) (f ∷ fs) are tests =
-      let here = both_true (is_guard fields e) (are_guards fields (unmarked es)) tests in
-      let first = are.0 here.0 in
-      let rest = some_guard es fs are.1 here.1 in record {
-        holds = λ values sorts. λ i. first.holds values sorts i || rest.holds values sorts i;
-        atoms = (more_left (written_in fields e) (written_in_all fields (unmarked es)) f first.atoms, more_right (written_in fields e) (written_in_all fields (unmarked es)) (some_of (formulas_of fs)) rest.atoms);
-        fit = (first.fit, rest.fit);
-      }
+        by : (n : Bool) → is_numeric fields a ≡ n → IsGuardOf fields (syntax.compare p rel a b) (formula_in fields (syntax.compare p rel a b))
+        by true e = subst (λ w. IsGuardOf fields (syntax.compare p rel a b) (cond w (compared_by_forms rel (form_of fields a) (form_of fields b)) (compared_as rel (comparison_of fields a b) (formula_in fields a) (formula_in fields b)))) (sym e) (number_comparison few p rel e guard)
+        by false e = subst (λ w. IsGuardOf fields (syntax.compare p rel a b) (cond w (compared_by_forms rel (form_of fields a) (form_of fields b)) (compared_as rel (comparison_of fields a b) (formula_in fields a) (formula_in fields b)))) (sym e) (by_text e (comparison_of fields a b) refl)
+
+  module _ (few : length fields ≤ 8) where
+    mutual
+      -- the formula of a guard is the guard
+      pub guard_is : (e : syntax.Expr) → is_guard fields e ≡ true → IsGuardOf fields e (formula_in fields e)
+      guard_is (syntax.field p name) h = field_guard p name (number_at fields truths name) refl h
+      guard_is (syntax.number p n) h = absurd cc
+      guard_is (syntax.text p t) h = absurd cc
+      guard_is (syntax.truth p true) h = record { holds = λ values sorts. refl; atoms = tt; fit = tt }
+      guard_is (syntax.truth p false) h = record { holds = λ values sorts. refl; atoms = tt; fit = tt }
+      guard_is (syntax.negation p e) h = let own = guard_is e h in record { holds = λ values sorts. ap not (own.holds values sorts); atoms = own.atoms; fit = own.fit }
+      guard_is (syntax.compare p rel a b) h = compared_is a b few p rel h (guard_is a) (guard_is b)
+      guard_is (syntax.minus p e) h = absurd cc
+      guard_is (syntax.chain Disjunction p parts) h = some_guard parts h
+      guard_is (syntax.chain Conjunction p parts) h = all_guard parts h
+      guard_is (syntax.chain Sum p parts) h = absurd cc
+      guard_is (syntax.chain Product p parts) h = absurd cc
+
+      all_guard : (ps : syntax.Parts) → are_guards fields ps ≡ true → IsGuard fields (λ values. all_true fields values ps) (written_in_all fields ps) (all_of (formulas_of_parts fields ps))
+      all_guard syntax.no_parts tests = record { holds = λ values sorts. refl; atoms = tt; fit = tt }
+      all_guard (syntax.part marked e ps) tests =
+          let here = both_true (is_guard fields e) (are_guards fields ps) tests in
+          let first = guard_is e here.0 in
+          let rest = all_guard ps here.1 in record {
+            holds = λ values sorts. λ i. first.holds values sorts i && rest.holds values sorts i;
+            atoms = (more_left (written_in fields e) (written_in_all fields ps) (formula_in fields e) first.atoms, more_right (written_in fields e) (written_in_all fields ps) (all_of (formulas_of_parts fields ps)) rest.atoms);
+            fit = (first.fit, rest.fit);
+          }
+
+      some_guard : (ps : syntax.Parts) → are_guards fields ps ≡ true → IsGuard fields (λ values. some_true fields values ps) (written_in_all fields ps) (some_of (formulas_of_parts fields ps))
+      some_guard syntax.no_parts tests = record { holds = λ values sorts. refl; atoms = tt; fit = tt }
+      some_guard (syntax.part marked e ps) tests =
+          let here = both_true (is_guard fields e) (are_guards fields ps) tests in
+          let first = guard_is e here.0 in
+          let rest = some_guard ps here.1 in record {
+            holds = λ values sorts. λ i. first.holds values sorts i || rest.holds values sorts i;
+            atoms = (more_left (written_in fields e) (written_in_all fields ps) (formula_in fields e) first.atoms, more_right (written_in fields e) (written_in_all fields ps) (some_of (formulas_of_parts fields ps)) rest.atoms);
+            fit = (first.fit, rest.fit);
+          }
+
+  -- the formula of a comparison of others than whole numbers
+  pub compared_other : (a b : syntax.Expr) (p : Pos) (rel : Rel) → is_numeric fields a ≡ false → (found : Option TextAtom) → found ≡ comparison_of fields a b → compared_as rel found (formula_in fields a) (formula_in fields b) ≡ formula_in fields (syntax.compare p rel a b)
+  compared_other a b p rel other found is =
+      ap (λ o. compared_as rel o (formula_in fields a) (formula_in fields b)) is
+      ∙ ap (λ w. cond w (compared_by_forms rel (form_of fields a) (form_of fields b)) (compared_as rel (comparison_of fields a b) (formula_in fields a) (formula_in fields b))) (sym other)
+
+  -- the formulas of operands, in order
+  pub operands_in : (es : List syntax.Expr) → formulas_of (map (formula_in fields) es) ≡ formulas_of_parts fields (unmarked es)
+  operands_in [] = refl
+  operands_in (e ∷ es) = ap (formula (formula_in fields e)) (operands_in es)
+
+  pub conjunction_of : (v : Vec Expr Global) (p : Pos) (fs : List (Formula RowAtom)) → fs ≡ map (formula_in fields) (map plain_expr v.items) → all_of (formulas_of fs) ≡ formula_in fields (plain_node (And v) p)
+  conjunction_of v p fs are = ap (λ gs. all_of (formulas_of gs)) are ∙ ap all_of (operands_in (map plain_expr v.items)) ∙ sym (ap (formula_in fields) (plain_and v p))
+
+  pub disjunction_of : (v : Vec Expr Global) (p : Pos) (fs : List (Formula RowAtom)) → fs ≡ map (formula_in fields) (map plain_expr v.items) → some_of (formulas_of fs) ≡ formula_in fields (plain_node (Or v) p)
+  disjunction_of v p fs are = ap (λ gs. some_of (formulas_of gs)) are ∙ ap some_of (operands_in (map plain_expr v.items)) ∙ sym (ap (formula_in fields) (plain_or v p))
 
   -- one more formula at the end
-  formulas_push : (es : List syntax.Expr) (fs : List (Formula RowAtom)) (e : syntax.Expr) (f : Formula RowAtom) → AreFormulasOf fields es fs → IsFormulaOf fields e f → AreFormulasOf fields (es ++ e ∷ []) (fs ++ f ∷ [])
-  formulas_push [] [] e f are is = (is, tt)
-  formulas_push [] (g ∷ fs) e f are is = absurd are
-  formulas_push (d ∷ es) [] e f are is = absurd are
-  formulas_push (d ∷ es) (g ∷ fs) e f are is = (are.0, formulas_push es fs e f are.1 is)
-
-  pub conjunction_of : (v : Vec Expr Global) (p : Pos) (fs : List (Formula RowAtom)) → AreFormulasOf fields (map plain_expr v.items) fs → IsFormulaOf fields (plain_node (And v) p) (all_of (formulas_of fs))
-  conjunction_of v p fs are = subst (λ e. IsFormulaOf fields e (all_of (formulas_of fs))) (sym (plain_and v p)) (all_guard (map plain_expr v.items) fs are)
-
-  pub disjunction_of : (v : Vec Expr Global) (p : Pos) (fs : List (Formula RowAtom)) → AreFormulasOf fields (map plain_expr v.items) fs → IsFormulaOf fields (plain_node (Or v) p) (some_of (formulas_of fs))
-  disjunction_of v p fs are = subst (λ e. IsFormulaOf fields e (some_of (formulas_of fs))) (sym (plain_or v p)) (some_guard (map plain_expr v.items) fs are)
-
   pub formulas_more : (es : List Expr) (i : ℕ) (e : Expr) (fs : List (code.Formula RowAtom)) (f : code.Formula RowAtom) → i < length es → e ≡ get_or es i e
-      → AreFormulasOf fields (map plain_expr (take i es)) (map plain_formula fs) → IsFormulaOf fields (plain_expr e) (plain_formula f) → AreFormulasOf fields (map plain_expr (take (i + 1) es)) (map plain_formula (fs ++ f ∷ []))
+      → map plain_formula fs ≡ map (formula_in fields) (map plain_expr (take i es)) → plain_formula f ≡ formula_in fields (plain_expr e) → map plain_formula (fs ++ f ∷ []) ≡ map (formula_in fields) (map plain_expr (take (i + 1) es))
   formulas_more es i e fs f low at are is =
       let front : map plain_expr (take i es) ++ plain_expr e ∷ [] ≡ map plain_expr (take (i + 1) es) = sym (ap (map plain_expr) (take_more es i e low) ∙ map-append plain_expr (take i es) (get_or es i e ∷ []) ∙ ap (λ x. map plain_expr (take i es) ++ plain_expr x ∷ []) (sym at)) in
-      let made : map plain_formula fs ++ plain_formula f ∷ [] ≡ map plain_formula (fs ++ f ∷ []) = sym (map-append plain_formula fs (f ∷ [])) in
-      subst (λ xs. AreFormulasOf fields xs (map plain_formula (fs ++ f ∷ []))) front (subst (AreFormulasOf fields (map plain_expr (take i es) ++ plain_expr e ∷ [])) made (formulas_push (map plain_expr (take i es)) (map plain_formula fs) (plain_expr e) (plain_formula f) are is))
+      map-append plain_formula fs (f ∷ [])
+      ∙ (λ j. are j ++ is j ∷ [])
+      ∙ sym (map-append (formula_in fields) (map plain_expr (take i es)) (plain_expr e ∷ []))
+      ∙ ap (map (formula_in fields)) front

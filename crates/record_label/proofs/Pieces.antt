@@ -1,6 +1,5 @@
 -- Which expressions have the same pieces.
 use Rattle.std.proofs.Common.{◌≡◌, List, [], ◌++◌, refl, ap, sym, ◌∙◌, append_assoc, append-nil}
-use Rattle.model_grammar.specs.declared.Rel.{Rel}
 use Rattle.model_grammar.specs.Places.{nowhere, bare, bare_parts}
 use Rattle.model_grammar.specs.Syntax.{Expr, field, number, text, truth, negation, compare, minus, chain, Parts, no_parts, part}
 use Rattle.record_label.specs.declared.written.Mark.{Mark}

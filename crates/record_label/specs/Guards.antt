@@ -2,7 +2,7 @@
 use Rattle.std.specs.Prelude.{◌≡◌, Bool, true, false, ◌&&◌, cond, List, [], ◌∷◌, ◌++◌, map, Contains, Option, Some, None}
 use Rattle.model_tree.specs.Label.{Field, row}
 use Rattle.model_tree.specs.Signature.{PlainField, sort_of, wholes, truths, texts}
-use Rattle.model_tree.specs.Formula.{Formula, Formulas, atom, negation, all_of, some_of, formula, no_formulas, formula_holds, EveryAtom}
+use Rattle.model_tree.specs.Formula.{Formula, Formulas, yes, no, atom, negation, all_of, some_of, formula, no_formulas, formula_holds, EveryAtom}
 use Rattle.model_grammar.specs.declared.Rel.{Rel}
 use Rattle.model_grammar.specs.declared.Rel.TheVariants.{Equal, NotEqual, Less, AtMost, Greater, AtLeast}
 use Rattle.model_grammar.specs.declared.Chain.TheVariants.{Disjunction, Conjunction, Sum, Product}
@@ -13,7 +13,6 @@ use Rattle.model_label.specs.Meaning.{value_of, same_value, is_true}
 use Rattle.model_label.specs.Tests.{is_text}
 use Rattle.model_form.specs.Form.{Form}
 use Rattle.model_guard.specs.Forms.{form_of}
-use Rattle.model_guard.specs.Guards.{is_guard}
 use Rattle.label_core.specs.declared.pair.PairAtom.TheVariants.{Left, Right}
 use Rattle.flat_label.specs.declared.texts.TextAtom.{TextAtom}
 use Rattle.flat_label.specs.declared.texts.TextSide.{TextSide}
@@ -118,13 +117,27 @@ IsGuardOf fields e f = IsGuard fields (λ values. is_true fields values e) (writ
 abbrev pub IsEqualityOf : List PlainField → Expr → Expr → Formula RowAtom → Type 0
 IsEqualityOf fields a b f = IsGuard fields (λ values. same_value (value_of fields values a) (value_of fields values b)) (written_in_both fields a b) f
 
--- the formula of an expression, which is its guard where the expression is one
-abbrev pub IsFormulaOf : List PlainField → Expr → Formula RowAtom → Type 0
-IsFormulaOf fields e f = is_guard fields e ≡ true → IsGuardOf fields e f
+-- what a comparison of others than whole numbers asks for: of two texts, or of two tests with these formulas
+abbrev pub compared_as : Rel → Option TextAtom → Formula RowAtom → Formula RowAtom → Formula RowAtom
+compared_as rel None f g = compared_by rel (agreement_of f g)
+compared_as rel (Some a) f g = compared_by rel (atom (Right (Right a)))
 
--- a formula for each expression, in order
-abbrev pub AreFormulasOf : List PlainField → List Expr → List (Formula RowAtom) → Type 0
-AreFormulasOf fields [] [] = Unit {0}
-AreFormulasOf fields [] (f ∷ fs) = ⊥
-AreFormulasOf fields (e ∷ es) [] = ⊥
-AreFormulasOf fields (e ∷ es) (f ∷ fs) = IsFormulaOf fields e f × AreFormulasOf fields es fs
+module _ (fields : List PlainField) where
+  abbrev mutual
+    -- the formula of an expression, which is its guard where the expression is one
+    pub formula_in : Expr → Formula RowAtom
+    formula_in (field place name) = atom (Right (Left (record { field = number_at fields truths name })))
+    formula_in (number place n) = no
+    formula_in (text place t) = no
+    formula_in (truth place b) = cond b yes no
+    formula_in (syntax.negation place e) = negation (formula_in e)
+    formula_in (compare place rel a b) = cond (is_numeric fields a) (compared_by_forms rel (form_of fields a) (form_of fields b)) (compared_as rel (comparison_of fields a b) (formula_in a) (formula_in b))
+    formula_in (minus place e) = no
+    formula_in (chain Disjunction place parts) = some_of (formulas_of_parts parts)
+    formula_in (chain Conjunction place parts) = all_of (formulas_of_parts parts)
+    formula_in (chain Sum place parts) = no
+    formula_in (chain Product place parts) = no
+
+    pub formulas_of_parts : Parts → Formulas RowAtom
+    formulas_of_parts no_parts = no_formulas
+    formulas_of_parts (part marked e parts) = formula (formula_in e) (formulas_of_parts parts)

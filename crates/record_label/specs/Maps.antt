@@ -18,7 +18,7 @@ use Rattle.flat_label.specs.declared.texts.TextSide.{TextSide}
 use Rattle.flat_label.specs.declared.texts.TextSide.TheVariants as side
 use Rattle.flat_label.specs.Texts.{texts_label, side_text, SideFits}
 use Rattle.lin_solve.specs.declared.compare.Compare.{Compare}
-use Rattle.record_label.specs.Guards.{IsGuardOf, side_of}
+use Rattle.record_label.specs.Guards.{IsGuardOf, formula_in, side_of}
 use Rattle.record_label.specs.Rows.{texts_in, RowAtom, row_holds, RowFits, count_of}
 
 -- a form for a whole number, a formula for a truth value, and a field or a constant for a text
@@ -166,7 +166,7 @@ forms_in_each fields (e ∷ es) = forms_in fields e ++ forms_in_each fields es
 -- the entry is what is written: the form of a whole number, the guard of a truth value, the side of a text
 abbrev pub IsAsWritten : List PlainField → Expr → Entry → Type 0
 IsAsWritten fields e (number_by f) = f ≡ form_of fields e
-IsAsWritten fields e (truth_by f) = IsGuardOf fields e f
+IsAsWritten fields e (truth_by f) = IsGuardOf fields e f × (f ≡ formula_in fields e)
 IsAsWritten fields e (text_by s) = s ≡ side_of fields e
 
 -- The entry makes of each label of the type the value that the expression has there, by what is written; it is of this sort, and speaks of fields that there are.

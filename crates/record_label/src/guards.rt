@@ -9,7 +9,7 @@ ghost use Rattle.lin_form.specs.Stops.{StopsAt};
 ghost use Rattle.label_core.specs.Formula.{plain_formula};
 ghost use Rattle.fast_tree.specs.Signatures.{plain_signature};
 ghost use Rattle.fast_syntax.specs.Plain.{plain_expr};
-ghost use Rattle.record_label.specs.Guards.{IsGuardOf, IsFormulaOf, AreFormulasOf, pair_of, agreement_of, compared_by, compared_by_forms, comparison_of, is_numeric, side_of};
+ghost use Rattle.record_label.specs.Guards.{IsGuardOf, formula_in, pair_of, agreement_of, compared_by, compared_by_forms, comparison_of, is_numeric, side_of};
 ghost use Rattle.record_label.specs.Parts.{AreWithin, unmarked};
 
 use crate::forms::form_of;
@@ -159,7 +159,7 @@ fn formula_of(
     signature: &Signature,
 ) -> Result<Formula<RowAtom>, FormStop>
     requires { length signature.now.fields.items ≤ 8 }
-    ensures { MatchResult result (λ made. IsFormulaOf (plain_signature signature.now).fields (plain_expr expr.now) (plain_formula made)) (λ stop. StopsAt (HasOutside (forms_in (plain_signature signature.now).fields (plain_expr expr.now))) stop) }
+    ensures { MatchResult result (λ made. plain_formula made ≡ formula_in (plain_signature signature.now).fields (plain_expr expr.now)) (λ stop. StopsAt (HasOutside (forms_in (plain_signature signature.now).fields (plain_expr expr.now))) stop) }
 {
     match &expr.node {
         Node::Field(name) => {
@@ -196,7 +196,7 @@ fn formulas_of(
     signature: &Signature,
 ) -> Result<Vec<Formula<RowAtom>>, FormStop>
     requires { length signature.now.fields.items ≤ 8 }
-    ensures { MatchResult result (λ made. AreFormulasOf (plain_signature signature.now).fields (map plain_expr parts.now) (map plain_formula made.items)) (λ stop. StopsAt (HasOutside (forms_in_all (plain_signature signature.now).fields (unmarked (map plain_expr parts.now)))) stop) }
+    ensures { MatchResult result (λ made. map plain_formula made.items ≡ map (formula_in (plain_signature signature.now).fields) (map plain_expr parts.now)) (λ stop. StopsAt (HasOutside (forms_in_all (plain_signature signature.now).fields (unmarked (map plain_expr parts.now)))) stop) }
 {
     let mut formulas = Vec::new(alloc);
     for part in parts {
@@ -214,7 +214,8 @@ pub fn guard_of(
     requires few { length signature.now.fields.items ≤ 8 }
     requires guard { is_guard (plain_signature signature.now).fields (plain_expr expr.now) ≡ true }
     requires within { AreWithin (forms_in (plain_signature signature.now).fields (plain_expr expr.now)) }
-    ensures { IfOk result (λ guard. IsGuardOf (plain_signature signature.now).fields (plain_expr expr.now) (plain_formula guard)) }
+    ensures guard { IfOk result (λ guard. IsGuardOf (plain_signature signature.now).fields (plain_expr expr.now) (plain_formula guard)) }
+    ensures formula { IfOk result (λ guard. plain_formula guard ≡ formula_in (plain_signature signature.now).fields (plain_expr expr.now)) }
 {
     match formula_of(alloc, expr, signature) {
         Ok(guard) => Ok(guard),

@@ -7,7 +7,7 @@ use Rattle.fast_build.specs.Transformations.{find_trans}
 use Rattle.fast_build.specs.CarriedTrans.{IsBuiltTransFor}
 use Rattle.fast_build.specs.Transducer.{IsTransducerOf}
 use Rattle.fast_build.proofs.OutStands.{trans_sound}
-use Rattle.fast_build.proofs.CarryingTrans.{is_built_trans_for}
+use Rattle.fast_build.proofs.NamedTrans.{is_built_trans_for}
 use Rattle.fast_build.proofs.transducer.transformation.Goals as goal
 
 pub unreachable-requires-in_default-signature : goal.unreachable-requires-in_default-signature

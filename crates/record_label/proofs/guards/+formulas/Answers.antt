@@ -1,6 +1,5 @@
-use Rattle.std.proofs.Common.{◌≡◌, ◌≤◌, ◌+◌, ◌++◌, true, false, map, drop, length, Some, None, sym, subst, ap, ◌∙◌}
+use Rattle.std.proofs.Common.{◌≡◌, ◌+◌, ◌++◌, true, false, cond, map, drop, Some, None, sym, subst, ap, ◌∙◌}
 use Rattle.std.proofs.Math.IntN.{ℤ}
-use Rattle.std.proofs.lemmas.List.{length-map}
 use Rattle.std.proofs.lemmas.Result.{err_from_is_err_and}
 use Rattle.model_grammar.specs.declared.Chain.TheVariants.{Conjunction, Disjunction}
 use Rattle.model_grammar.specs.Syntax.{chain}
@@ -9,16 +8,13 @@ use Rattle.label_core.specs.Formula.{plain_formula}
 use Rattle.lin_form.proofs.Putting.{stops_weaker}
 use Rattle.fast_syntax.specs.declared.expressions.Node.TheVariants.{Compare}
 use Rattle.fast_syntax.specs.Plain.{plain_expr, plain_node}
-use Rattle.fast_tree.specs.Signatures.{plain_signature, plain_field}
-use Rattle.record_label.specs.Guards.{IsFormulaOf, comparison_of, compared_by, compared_by_forms, agreement_of, is_numeric}
+use Rattle.fast_tree.specs.Signatures.{plain_signature}
+use Rattle.record_label.specs.Guards.{formula_in, comparison_of, compared_as, compared_by, compared_by_forms, agreement_of, is_numeric}
 use Rattle.record_label.specs.Parts.{unmarked}
 use Rattle.record_label.proofs.ExprParts.{plain_and, plain_or}
 use Rattle.record_label.proofs.FormFacts.{outside_left, outside_right, passed, operand_at, in_first, in_rest}
-use Rattle.record_label.proofs.GuardFacts.{field_guard, conjunction_of, disjunction_of, formulas_more, text_comparison, guard_comparison, number_comparison}
+use Rattle.record_label.proofs.GuardFacts.{conjunction_of, disjunction_of, formulas_more, compared_other}
 use Rattle.record_label.proofs.guards.+formulas.Goals as goal
-
-pub formula_of-returns-in-Field : goal.formula_of-returns-in-Field
-formula_of-returns-in-Field t c = rw c.in-Field.is (field_guard (plain_signature c.args.signature.now).fields c.args.expr.now.place c.in-Field.name c.number_of-field.result c.number_of-field.ensures)
 
 pub formula_of-returns-in_err-formulas_of-in-And : goal.formula_of-returns-in_err-formulas_of-in-And
 formula_of-returns-in_err-formulas_of-in-And t c =
@@ -50,10 +46,9 @@ formula_of-returns-then-is_numeric t c =
     let a = plain_expr c.in-Compare.left.value in
     let b = plain_expr c.in-Compare.right.value in
     let node = plain_node (Compare rel c.in-Compare.left c.in-Compare.right) place in
-    let few : length fields ≤ 8 = subst (λ k. k ≤ 8) (sym (length-map c.args.signature.now.fields.items plain_field)) c.requires in
     let numeric : is_numeric fields a ≡ true = sym (rw c.deref-in-Compare.ensures at c.is_numeric.ensures) ∙ c.if-is_numeric.true in
-    rw c.in-Compare.is (passed c.compared_numbers.result (λ made. plain_formula made ≡ compared_by_forms rel (form_of fields a) (form_of fields b)) (λ made. IsFormulaOf fields node (plain_formula made)) (HasOutside (forms_in fields a ++ forms_in fields b)) (HasOutside (forms_in fields a ++ forms_in fields b))
-    (λ made is. subst (IsFormulaOf fields node) (sym is) (number_comparison fields a b few place rel numeric)) (λ n o. o) (rw (c.deref-then-is_numeric.ensures, c.deref-then-is_numeric-2.ensures) at c.compared_numbers.ensures))
+    rw c.in-Compare.is (passed c.compared_numbers.result (λ made. plain_formula made ≡ compared_by_forms rel (form_of fields a) (form_of fields b)) (λ made. plain_formula made ≡ formula_in fields node) (HasOutside (forms_in fields a ++ forms_in fields b)) (HasOutside (forms_in fields a ++ forms_in fields b))
+    (λ made is. is ∙ ap (λ w. cond w (compared_by_forms rel (form_of fields a) (form_of fields b)) (compared_as rel (comparison_of fields a b) (formula_in fields a) (formula_in fields b))) (sym numeric)) (λ n o. o) (rw (c.deref-then-is_numeric.ensures, c.deref-then-is_numeric-2.ensures) at c.compared_numbers.ensures))
 
 pub formula_of-returns-in-Some : goal.formula_of-returns-in-Some
 formula_of-returns-in-Some t c =
@@ -64,7 +59,7 @@ formula_of-returns-in-Some t c =
     let b = plain_expr c.in-Compare.right.value in
     let other : is_numeric fields a ≡ false = sym (rw c.deref-in-Compare.ensures at c.is_numeric.ensures) ∙ c.if-is_numeric.false in
     let found : Some c.in-Some.atom ≡ comparison_of fields a b = sym c.in-Some.is ∙ (rw (c.deref-in-Compare-2.ensures, c.deref-in-Compare-3.ensures) at (c.in_ok-atom-in-Compare.ensures {u = tt})) in
-    rw c.in-Compare.is (subst (IsFormulaOf fields (plain_node (Compare rel c.in-Compare.left c.in-Compare.right) place)) (sym (c.in_ok-compared-in-Compare.ensures {u = tt})) (text_comparison fields a b place rel c.in-Some.atom other found))
+    rw c.in-Compare.is (c.in_ok-compared-in-Compare.ensures {u = tt} ∙ compared_other fields a b place rel other (Some c.in-Some.atom) found)
 
 pub formula_of-returns-in_ok-formulas_of-in-And : goal.formula_of-returns-in_ok-formulas_of-in-And
 formula_of-returns-in_ok-formulas_of-in-And t c =
@@ -85,9 +80,10 @@ formula_of-returns-in_ok-compared-in-Compare-2 t c =
     let none : None ≡ comparison_of fields a b = sym c.in_default-2.is ∙ (rw (c.deref-in-Compare-2.ensures, c.deref-in-Compare-3.ensures) at (c.in_ok-atom-in-Compare.ensures {u = tt})) in
     let f = plain_formula c.in_ok-first-in-Compare.first in
     let g = plain_formula c.in_ok-second-in-Compare.second in
+    let first : f ≡ formula_in fields a = rw c.deref-in-Compare-4.ensures at (c.in_ok-first-in-Compare.ensures {u = tt}) in
+    let second : g ≡ formula_in fields b = rw c.deref-in-Compare-5.ensures at (c.in_ok-second-in-Compare.ensures {u = tt}) in
     let made : plain_formula c.in_ok-compared-in-Compare-2.field-0 ≡ compared_by rel (agreement_of f g) = c.in_ok-compared-in-Compare-2.ensures {u = tt} ∙ ap (compared_by rel) (c.in_ok-agreement-in-Compare.ensures {u = tt}) in
-    rw c.in-Compare.is (subst (IsFormulaOf fields (plain_node (Compare rel c.in-Compare.left c.in-Compare.right) place)) (sym made)
-    (guard_comparison fields a b place rel f g other none (rw c.deref-in-Compare-4.ensures at (c.in_ok-first-in-Compare.ensures {u = tt})) (rw c.deref-in-Compare-5.ensures at (c.in_ok-second-in-Compare.ensures {u = tt}))))
+    rw c.in-Compare.is (made ∙ (λ i. compared_by rel (agreement_of (first i) (second i))) ∙ compared_other fields a b place rel other None none)
 
 pub formula_of-returns-in_err-first-in-Compare : goal.formula_of-returns-in_err-first-in-Compare
 formula_of-returns-in_err-first-in-Compare t c =

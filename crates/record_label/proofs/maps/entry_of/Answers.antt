@@ -18,7 +18,8 @@ returns-in_ok-form_in_range-in-Int c =
 
 pub returns-in_ok-guard_of-in-Bool : goal.returns-in_ok-guard_of-in-Bool
 returns-in_ok-guard_of-in-Bool c =
-    rw c.in-Bool.is (truth_entry (plain_signature c.args.from.now).fields (plain_expr c.args.expr.now) (plain_formula c.in_ok-guard_of-in-Bool.field-0) (rw c.in-Bool.is at c.requires.sorted) (c.in_ok-guard_of-in-Bool.ensures {u = tt}))
+    let made = c.in_ok-guard_of-in-Bool.ensures {u = tt} in
+    rw c.in-Bool.is (truth_entry (plain_signature c.args.from.now).fields (plain_expr c.args.expr.now) (plain_formula c.in_ok-guard_of-in-Bool.field-0) (rw c.in-Bool.is at c.requires.sorted) made.guard made.formula)
 
 pub returns-in-Some : goal.returns-in-Some
 returns-in-Some c =

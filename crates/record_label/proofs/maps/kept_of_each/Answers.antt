@@ -1,4 +1,4 @@
-use Rattle.std.proofs.Common.{◌≡◌, map, take, length, arith, ◌∙◌}
+use Rattle.std.proofs.Common.{◌≡◌, map, take, arith, ◌∙◌}
 use Rattle.std.proofs.lemmas.List.{take_all, length-map}
 use Rattle.model_tree.specs.Signature.{sorts_of, PlainField}
 use Rattle.fast_tree.specs.Signatures.{plain_signature, plain_field}

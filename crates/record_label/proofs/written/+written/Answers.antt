@@ -1,9 +1,6 @@
 use Rattle.std.proofs.Common.{◌≡◌, ◌++◌, ap, sym, subst, ◌∙◌}
 use Rattle.std.specs.Prelude.{OnOk}
-use Rattle.model_grammar.specs.declared.Chain.TheVariants.{Sum, Product, Disjunction, Conjunction}
-use Rattle.model_grammar.specs.Syntax.{chain}
-use Rattle.fast_syntax.specs.Plain.{plain_expr, plain_node}
-use Rattle.fast_syntax.specs.Slices.{plain_sum_parts, plain_prod_parts}
+use Rattle.fast_syntax.specs.Plain.{plain_node}
 use Rattle.fast_syntax.proofs.Rows.{plain_sum_of, plain_product_of}
 use Rattle.record_label.specs.Written.{marks_of}
 use Rattle.record_label.proofs.ExprParts.{plain_or, plain_and}
