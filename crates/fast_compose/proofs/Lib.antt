@@ -1,0 +1,12 @@
+pub mod Named
+pub mod Repeating
+pub mod First
+pub mod Rounds
+pub mod States
+pub mod Stopping
+pub mod Searched
+pub mod Pairs
+pub mod Judging
+pub mod Parts
+pub mod Answered
+pub mod Declared
