@@ -15,7 +15,7 @@ use Rattle.model_layers.specs.Causes.{IsAmong}
 use Rattle.model_layers.proofs.Chosen.{first_of, second_of}
 use Rattle.model_layers.proofs.Sight.{the_only}
 use Rattle.model_layers.specs.Compared.{HasOutside}
-use Rattle.model_layers.proofs.Types.{union_on, intersection_on, difference_on, complement_on, minimize_on, domain_on, pre_image_on, restriction_from, out_restriction_from}
+use Rattle.model_layers.proofs.Types.{union_on, intersection_on, difference_on, complement_on, minimize_on, domain_on, pre_image_on, restriction_from, out_restriction_from, composition_from}
 use Rattle.model_layers.proofs.Wider.{are_among, are_widened}
 use Rattle.lin_solve.specs.Shown.{bits_of}
 use Rattle.fast_eval.specs.declared.stops.EvalStop.{EvalStop}
@@ -51,7 +51,7 @@ mutual
   made_from items from into (two Union place x y) made = absurd made
   made_from items from into (two Difference place x y) made = absurd made
   made_from items from into (two PreImage place x y) made = absurd made
-  made_from items from into (two Compose place x y) made = absurd made
+  made_from items from into (two Compose place x y) made = let (middle, first, second, can) = made in composition_from items place x y from middle (made_from items from middle x first) into (made_from items middle into y second)
   made_from items from into (two Apply place x y) made = absurd made
   made_from items from into (literal name labels xs) made = absurd made
 

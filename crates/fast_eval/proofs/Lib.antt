@@ -25,5 +25,6 @@ pub mod Applying
 pub mod TransWritten
 pub mod TransStands
 pub mod Put
+pub mod Chained
 pub mod Imaged
 pub mod Breaking

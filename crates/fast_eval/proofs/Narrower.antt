@@ -3,7 +3,7 @@ use Rattle.std.proofs.Common.{◌⊎◌, inl, inr, List, []}
 use Rattle.model_tree.specs.Tree.{Tree}
 use Rattle.model_sta.specs.Automaton.{Rule}
 use Rattle.model_sttr.specs.Transducer.{run, Sttr, Trans, Gives}
-use Rattle.model_sttr.specs.Operations.{HasSource, AlikePairs, OfTransState, OfSources, OfOutputs, IsTransMadeOf, IsDomain, IsPreImage, IsRestriction, IsOutRestriction}
+use Rattle.model_sttr.specs.Operations.{HasSource, AlikePairs, OfTransState, OfSources, OfOutputs, OfPairs, IsTransMadeOf, IsDomain, IsPreImage, IsRestriction, IsOutRestriction, IsComposition}
 use Rattle.model_sta.specs.Operations.{HasAll, Auto, Has, InOne, Alike, OfState, OfClasses, IsMadeOf, OfBoth, OfBothOrClasses, IsUnion, IsIntersection, IsDifference, IsComplement, IsMinimal}
 
 module _ {L : Type 0} (Typed Fewer : Tree L → Type 0) (within : (t : Tree L) → Fewer t → Typed t) where
@@ -61,6 +61,17 @@ module _ {L : Type 0} (Typed Fewer : Tree L → Type 0) (within : (t : Tree L) �
   of_outputs : (f : Sttr L) (rules : List (List (Rule L))) (R : Tree L → Tree L → Type 0) → OfOutputs Typed f rules R → OfOutputs Fewer f rules R
   of_outputs f rules R o = record { head = o.head; is_head = o.is_head; all = o.all; are = o.are; same = alike_pairs R (λ t u. Gives f o.head t u × HasAll rules o.all u) o.same }
 
+  of_pairs : (f g : Sttr L) (R : Tree L → Tree L → Type 0) → OfPairs Typed f g R → OfPairs Fewer f g R
+  of_pairs f g R o = record {
+    first = o.first;
+    is_first = o.is_first;
+    second = o.second;
+    is_second = o.is_second;
+    all = o.all;
+    are = o.are;
+    same = alike_pairs R (λ t w. (u : Tree L) × Gives f o.first t u × HasAll g.looks o.all u × Gives g o.second u w) o.same;
+  }
+
   look_or_source : (f : Sttr L) (rules : List (List (Rule L))) (P : Tree L → Type 0) → OfState Typed f.looks P ⊎ OfSources Typed f rules P → OfState Fewer f.looks P ⊎ OfSources Fewer f rules P
   look_or_source f rules P (inl look) = inl (of_state f.looks P look)
   look_or_source f rules P (inr source) = inr (of_sources f rules P source)
@@ -95,3 +106,8 @@ module _ {L : Type 0} (Typed Fewer : Tree L → Type 0) (within : (t : Tree L) �
   out_restriction f a c is =
       trans_made (λ P. OfState Typed f.sttr.looks P ⊎ OfSources Typed f.sttr a.rules P) (λ P. OfState Fewer f.sttr.looks P ⊎ OfSources Fewer f.sttr a.rules P) (OfOutputs Typed f.sttr a.rules) (OfOutputs Fewer f.sttr a.rules) _ c
       (λ t u. Gives f.sttr (run f.start) t u × Has a.rules a.start u) (look_or_source f.sttr a.rules) (of_outputs f.sttr a.rules) is
+
+  pub composition : (f g c : Trans L) → IsComposition Typed f g c → IsComposition Fewer f g c
+  composition f g c is =
+      trans_made (λ P. OfState Typed f.sttr.looks P ⊎ OfSources Typed f.sttr g.sttr.looks P) (λ P. OfState Fewer f.sttr.looks P ⊎ OfSources Fewer f.sttr g.sttr.looks P) (OfPairs Typed f.sttr g.sttr) (OfPairs Fewer f.sttr g.sttr) _ c
+      (λ t w. (u : Tree L) × Gives f.sttr (run f.start) t u × Gives g.sttr (run g.start) u w) (look_or_source f.sttr g.sttr.looks) (of_pairs f.sttr g.sttr) is

@@ -33,7 +33,7 @@ use Rattle.sta_classes.specs.Guards.{all_guards, atoms_of_all}
 use Rattle.sta_theory.proofs.Lists.{first_in, later_in, in_left, in_right, in_map}
 use Rattle.sttr_core.specs.Machine.{OutMachine}
 use Rattle.sttr_core.specs.Fits.{EveryMap, MapsAre}
-use Rattle.sttr_run.specs.Sources.{HasAtom, HasMap, GivesChild}
+use Rattle.sttr_run.specs.Sources.{HasAtom, HasAtomIn, HasMap, GivesChild}
 use Rattle.sttr_preimage.specs.Results.{IsOldAtom, IsAskedAtom, IsImageAtom, IsOldMap, AtomsAre, IsImageStop}
 use Rattle.sttr_run.specs.declared.running.RunStop.TheVariants as run
 use Rattle.record_label.specs.Derived.{same_atoms, same_compares}
@@ -56,11 +56,8 @@ same_parts a b e = let parts = parts_of_equal a b e in (ap (λ r. plain_relation
 further : (c d e : plain.Compare) → IsSameCompare c d → IsSameCompare d e → IsSameCompare c e
 further c d e first second = (first.0 ∙ second.0, same_further c.left d.left e.left first.1 second.1, same_further c.right d.right e.right first.2 second.2)
 
--- an atom that equals a comparison is one
-module _ (P : Compare → Type 0) where
-  by_equal : (a : RowAtom) (c : Compare) → same_atoms a (Left c) ≡ true → ((k : Compare) → a ≡ Left k → IsSameCompare (plain_compare k) (plain_compare c) → P c) → P c
-  by_equal (Left k) c e f = f k refl (same_parts k c e)
-  by_equal (Right q) c e f = absurd (let no : false ≡ true = e in cc)
+pub itself : (c : plain.Compare) → IsSameCompare c c
+itself c = (refl, same_itself c.left, same_itself c.right)
 
 -- ---- atoms in guards
 
@@ -68,10 +65,10 @@ one_alone : {X : Type 0} (a b : X) → Contains (a ∷ []) b → a ≡ b
 one_alone a b (zero, low, is) = is
 one_alone a b (suc k, low, is) = absurd (omega (arith, low))
 
-none : {X : Type 0} (x : X) → Contains [] x → ⊥
+pub none : {X : Type 0} (x : X) → Contains [] x → ⊥
 none x (k, low, is) = omega (arith, low)
 
-place_of : {X : Type 0} (x : X) (xs : List X) (y : X) → Contains (x ∷ xs) y → (x ≡ y) ⊎ Contains xs y
+pub place_of : {X : Type 0} (x : X) (xs : List X) (y : X) → Contains (x ∷ xs) y → (x ≡ y) ⊎ Contains xs y
 place_of x xs y (zero, low, is) = inl is
 place_of x xs y (suc k, low, is) = inr (k, omega (arith, low), is)
 
@@ -122,15 +119,36 @@ module _ (items : List Item) where
       (All-cons (λ d. IsOneOf (k ∷ []) d ⊎ IsOneOf [] d) c [] (inl (k, first_in k [], same)) (All-nil (λ d. IsOneOf (k ∷ []) d ⊎ IsOneOf [] d))))
 
   -- the forms of a label list of an expression
-  abbrev AreFormsOf : X → List ℕ → List ℕ → List Form → Type 0
+  abbrev pub AreFormsOf : X → List ℕ → List ℕ → List Form → Type 0
   AreFormsOf e from into ms = (l : LabelList) × IsLabelList items e from into l × AreSameForms (list_forms l) ms
 
   -- one map alone
-  abbrev one_map : List Form → TransducerForms
+  abbrev pub one_map : List Form → TransducerForms
   one_map ms = record { compares = []; maps = ms ∷ [] }
 
+  -- an atom of a comparison of the expression
+  module _ (e : X) (from : List ℕ) where
+    abbrev pub IsFine : RowAtom → Type 0
+    IsFine (Left k) = IsCompared items e from (plain_compare k)
+    IsFine (Right q) = Unit {0}
+
+    pub fine_equal : (a b : RowAtom) → same_atoms a b ≡ true → IsFine a → IsFine b
+    fine_equal (Left k) (Left j) same (g, is, alike) = (g, is, further g (plain_compare k) (plain_compare j) alike (same_parts k j same))
+    fine_equal (Left k) (Right q) same fine = tt
+    fine_equal (Right p) (Left j) same fine = absurd (let no : false ≡ true = same in cc)
+    fine_equal (Right p) (Right q) same fine = tt
+
+    -- of an operand
+    pub operand_fine : (f : X) → Contains (operands e) f → (a : RowAtom) → ((k : Compare) → a ≡ Left k → IsCompared items f from (plain_compare k)) → IsFine a
+    operand_fine f at (Left k) own = one_compared e f from at (plain_compare k) (plain_compare k) (own k refl) (itself (plain_compare k))
+    operand_fine f at (Right q) own = tt
+
+  -- the comparisons that are asked of a language
+  asked_one : (y : X) (type : List ℕ) (b : Machine RowAtom) → AreCompared items y type (compares_in b) → (k : Compare) → HasAtom b.rules (Left k) → IsCompared items y type (plain_compare k)
+  asked_one y type b other k has = All-contains (IsCompared items y type) (compares_in b) (plain_compare k) other (compare_in b k has)
+
   module _ (e f : X) (from into : List ℕ) (d : OutMachine RowAtom RowMap) (own : AreTransCompared items f from into d) where
-    one_listed : (m : RowMap) → HasMap d m → AreComparedTrans items f from into (one_map (forms_of (entries_of m)))
+    pub one_listed : (m : RowMap) → HasMap d m → AreComparedTrans items f from into (one_map (forms_of (entries_of m)))
     one_listed m has = record {
       compares = All-nil (IsCompared items f from);
       maps = All-cons (AreFormsOf f from into) (forms_of (entries_of m)) [] (own.maps m has) (All-nil (AreFormsOf f from into));
@@ -139,25 +157,20 @@ module _ (items : List Item) where
     -- ---- atoms that are as before
 
     module _ (at : Contains (operands e) f) where
-      test_compared : (a : RowAtom) → HasTest d a → (c : Compare) → same_atoms a (Left c) ≡ true → IsCompared items e from (plain_compare c)
-      test_compared a has c same =
-          by_equal (λ c. IsCompared items e from (plain_compare c)) a c same
-          (λ k is alike. one_compared e f from at (plain_compare k) (plain_compare c) (own.compares k (subst (HasTest d) is has)) alike)
+      pub test_fine : (a : RowAtom) → HasTest d a → IsFine e from a
+      test_fine a has = operand_fine e from f at a (λ k is. own.compares k (subst (HasTest d) is has))
+
+      pub test_compared : (a : RowAtom) → HasTest d a → (c : Compare) → same_atoms a (Left c) ≡ true → IsCompared items e from (plain_compare c)
+      test_compared a has c same = fine_equal e from a (Left c) same (test_fine a has)
 
       pub old_compared : (asked : List (List (PlainRule RowAtom))) (c : Compare) → IsOldAtom same_atoms d asked (Left c) → IsCompared items e from (plain_compare c)
       old_compared asked c (a, has, same) = test_compared a (inl has) c same
 
-    -- ---- atoms that are asked of a language
+    -- ---- atoms that are asked of a language, as they are
 
     module _ (y : X) (type : List ℕ) (b : Machine RowAtom) (other : AreCompared items y type (compares_in b)) where
-      asked_one : (k : Compare) → HasAtom b.rules (Left k) → IsCompared items y type (plain_compare k)
-      asked_one k has = All-contains (IsCompared items y type) (compares_in b) (plain_compare k) other (compare_in b k has)
-
-      -- as they are
       pub asked_compared : Contains (operands e) y → (c : Compare) → IsAskedAtom same_atoms d b.rules (Left c) → IsCompared items e type (plain_compare c)
-      asked_compared at c (a, has, same) =
-          by_equal (λ c. IsCompared items e type (plain_compare c)) a c same
-          (λ k is alike. one_compared e y type at (plain_compare k) (plain_compare c) (asked_one k (subst (HasAtom b.rules) is has)) alike)
+      asked_compared at c (a, has, same) = fine_equal e type a (Left c) same (operand_fine e type y at a (λ k is. asked_one y type b other k (subst (HasAtom b.rules) is has)))
 
 -- ---- what is put
 
@@ -175,54 +188,53 @@ decided_none : (b : Bool) (d : RowAtom) → Contains (atoms_in (decided b)) d �
 decided_none true d at = none d at
 decided_none false d at = none d at
 
-is_right : (d : RowAtom) (c : Compare) (q : _) → Right q ≡ d → same_atoms d (Left c) ≡ true → ⊥
-is_right d c q is same = let e : same_atoms (Right q) (Left c) ≡ true = subst (λ z. same_atoms z (Left c) ≡ true) (sym is) same in let no : false ≡ true = e in cc
-
-no_compare : (s t : TextSide) (d : RowAtom) (c : Compare) → Contains (atoms_in (are_one s t)) d → same_atoms d (Left c) ≡ true → ⊥
-no_compare (side.Constant s) (side.Constant t) d c at same = decided_none (bytes_eq s t) d at
-no_compare (side.Constant s) (side.Field k) d c at same = is_right d c _ (one_alone _ d at) same
-no_compare (side.Field k) t d c at same = is_right d c _ (one_alone _ d at) same
-
 abbrev pub row_is_put : RowMap → RowAtom → RowAtom → Type 0
 row_is_put m a = Contains (atoms_in (put_atom (entries_of m) a))
 
 abbrev pub row_outside : RowMap → RowAtom → ℤ → Type 0
 row_outside m = IsOutsidePut (entries_of m)
 
+one_text : (items : List Item) (e : X) (from : List ℕ) (s t : TextSide) (p : RowAtom) → Contains (atoms_in (are_one s t)) p → IsFine items e from p
+one_text items e from (side.Constant s) (side.Constant t) p at = absurd (decided_none (bytes_eq s t) p at)
+one_text items e from (side.Constant s) (side.Field k) p at = subst (IsFine items e from) (one_alone _ p at) tt
+one_text items e from (side.Field k) t p at = subst (IsFine items e from) (one_alone _ p at) tt
+
 module _ (items : List Item) (e f y : X) (from into : List ℕ) (back : LooksBack e f y) (at_f : Contains (operands e) f) (at_y : Contains (operands e) y) (out : output_of items f ≡ Some into)
-    (d : OutMachine RowAtom RowMap) (own : AreTransCompared items f from into d) (b : Machine RowAtom) (other : AreCompared items y into (compares_in b)) where
-  -- a comparison that is asked of labels that a map makes
-  put_one : (m : RowMap) → HasMap d m → (k c : plain.Compare) → IsCompared items y into k → IsSameCompare (put_forms (forms_of (entries_of m)) k) c → IsCompared items e from c
-  put_one m has k c asked same =
-      let ms = forms_of (entries_of m) in
-      All-head (IsCompared items e from) c []
-      ((compares_go_up items).put e f y from into (one_map items ms) (k ∷ []) (c ∷ []) back at_f at_y out (one_listed items e f from into d own m has) (All-cons (IsCompared items y into) k [] asked (All-nil (IsCompared items y into)))
-      (All-cons (IsPutOf (from ≡ into) (one_map items ms) (k ∷ [])) c [] (inr (inl (ms, first_in ms [], k, first_in k [], same))) (All-nil (IsPutOf (from ≡ into) (one_map items ms) (k ∷ [])))))
+    (d : OutMachine RowAtom RowMap) (own : AreTransCompared items f from into d) where
+  -- comparisons that are asked of labels that a map makes
+  module _ (Asked : RowAtom → Type 0) (asked : (k : Compare) → Asked (Left k) → IsCompared items y into (plain_compare k)) where
+    put_one : (m : RowMap) → HasMap d m → (k : plain.Compare) → IsCompared items y into k → IsCompared items e from (put_forms (forms_of (entries_of m)) k)
+    put_one m has k is =
+        let ms = forms_of (entries_of m) in
+        let c = put_forms ms k in
+        All-head (IsCompared items e from) c []
+        ((compares_go_up items).put e f y from into (one_map items ms) (k ∷ []) (c ∷ []) back at_f at_y out (one_listed items e f from into d own m has) (All-cons (IsCompared items y into) k [] is (All-nil (IsCompared items y into)))
+        (All-cons (IsPutOf (from ≡ into) (one_map items ms) (k ∷ [])) c [] (inr (inl (ms, first_in ms [], k, first_in k [], itself c))) (All-nil (IsPutOf (from ≡ into) (one_map items ms) (k ∷ [])))))
 
-  put_compared : (m : RowMap) → HasMap d m → (a : RowAtom) → HasAtom b.rules a → (p : RowAtom) → row_is_put m a p → (c : Compare) → same_atoms p (Left c) ≡ true → IsCompared items e from (plain_compare c)
-  put_compared m has (Left k) asked p at c same =
-      by_equal (λ c. IsCompared items e from (plain_compare c)) (Left (put_compare (forms_of (entries_of m)) k)) c (subst (λ z. same_atoms z (Left c) ≡ true) (sym (one_alone (Left (put_compare (forms_of (entries_of m)) k)) p at)) same)
-      (λ j is alike. put_one m has (plain_compare k) (plain_compare c) (asked_one items e f from into d own y into b other k asked) (let made : plain_compare j ≡ put_forms (forms_of (entries_of m)) (plain_compare k) = ap plain_compare (sym (same_numbers (put_compare (forms_of (entries_of m)) k) j is)) in subst (λ z. IsSameCompare z (plain_compare c)) made alike))
-  put_compared m has (Right (Left t)) asked p at c same =
-      let (g, there, in_g) = formula_at (formulas_in (entries_of m)) t.field p at in
-      test_compared items e f from into d own at_f p (inr (m, has, g, there, in_g)) c same
-  put_compared m has (Right (Right t)) asked p at c same = absurd (no_compare (put_side (entries_of m) t.left) (put_side (entries_of m) t.right) p c at same)
+    pub put_fine : (m : RowMap) → HasMap d m → (a : RowAtom) → Asked a → (p : RowAtom) → row_is_put m a p → IsFine items e from p
+    put_fine m has (Left k) is p at = subst (IsFine items e from) (one_alone (Left (put_compare (forms_of (entries_of m)) k)) p at) (put_one m has (plain_compare k) (asked k is))
+    put_fine m has (Right (Left t)) is p at =
+        let (g, there, in_g) = formula_at (formulas_in (entries_of m)) t.field p at in
+        test_fine items e f from into d own at_f p (inr (m, has, g, there, in_g))
+    put_fine m has (Right (Right t)) is p at = one_text items e from (put_side (entries_of m) t.left) (put_side (entries_of m) t.right) p at
 
-  pub image_compared : (GivesChild d → from ≡ into) → (c : Compare) → IsImageAtom same_atoms d b.rules row_is_put (Left c) → IsCompared items e from (plain_compare c)
-  image_compared one c (inl old) = old_compared items e f from into d own at_f b.rules c old
-  image_compared one c (inr (inl (m, has, a, asked, p, put, same))) = put_compared m has a asked p put c same
-  image_compared one c (inr (inr (gives, asked))) = subst (λ t. IsCompared items e t (plain_compare c)) (sym (one gives)) (asked_compared items e f from into d own y into b other at_y c asked)
+    -- a number that stops a put
+    pub put_outside : (m : RowMap) → HasMap d m → (a : RowAtom) → Asked a → (n : ℤ) → row_outside m a n → HasOutside items e n
+    put_outside m has (Left k) is n outside =
+        let ms = forms_of (entries_of m) in
+        (numbers_go_up items).put e f y from into (one_map items ms) (plain_compare k ∷ []) back out (one_listed items e f from into d own m has)
+        (All-cons (IsCompared items y into) (plain_compare k) [] (asked k is) (All-nil (IsCompared items y into))) ms (first_in ms []) (plain_compare k) (first_in (plain_compare k) []) n outside
+    put_outside m has (Right q) is n outside = absurd outside
 
-  -- a number that stops a put
-  put_outside : (m : RowMap) → HasMap d m → (a : RowAtom) → HasAtom b.rules a → (n : ℤ) → row_outside m a n → HasOutside items e n
-  put_outside m has (Left k) asked n outside =
-      let ms = forms_of (entries_of m) in
-      (numbers_go_up items).put e f y from into (one_map items ms) (plain_compare k ∷ []) back out (one_listed items e f from into d own m has)
-      (All-cons (IsCompared items y into) (plain_compare k) [] (asked_one items e f from into d own y into b other k asked) (All-nil (IsCompared items y into))) ms (first_in ms []) (plain_compare k) (first_in (plain_compare k) []) n outside
-  put_outside m has (Right q) asked n outside = absurd outside
+  -- of a language
+  module _ (b : Machine RowAtom) (other : AreCompared items y into (compares_in b)) where
+    pub image_compared : (GivesChild d → from ≡ into) → (c : Compare) → IsImageAtom same_atoms d b.rules row_is_put (Left c) → IsCompared items e from (plain_compare c)
+    image_compared one c (inl old) = old_compared items e f from into d own at_f b.rules c old
+    image_compared one c (inr (inl (m, has, a, is, p, put, same))) = fine_equal items e from p (Left c) same (put_fine (HasAtom b.rules) (asked_one items y into b other) m has a is p put)
+    image_compared one c (inr (inr (gives, is))) = subst (λ t. IsCompared items e t (plain_compare c)) (sym (one gives)) (asked_compared items e f from into d own y into b other at_y c is)
 
-  pub image_outside : (n : ℤ) → IsImageStop row_outside d b.rules (run.Range n) → HasOutside items e n
-  image_outside n (m, has, a, asked, outside) = put_outside m has a asked n outside
+    pub image_outside : (n : ℤ) → IsImageStop row_outside d b.rules (run.Range n) → HasOutside items e n
+    image_outside n (m, has, a, is, outside) = put_outside (HasAtom b.rules) (asked_one items y into b other) m has a is n outside
 
 -- ---- results
 
@@ -241,7 +253,7 @@ both_true true b e = (refl, e)
 both_true false b e = cc
 
 -- equal maps have equal forms
-equal_forms : (xs ys : List RowEntry) → pointwise same_entries xs ys ≡ true → AreSameForms (forms_of (map plain_entry xs)) (forms_of (map plain_entry ys))
+pub equal_forms : (xs ys : List RowEntry) → pointwise same_entries xs ys ≡ true → AreSameForms (forms_of (map plain_entry xs)) (forms_of (map plain_entry ys))
 equal_forms [] [] e = tt
 equal_forms [] (y ∷ ys) e = absurd (cc)
 equal_forms (x ∷ xs) [] e = absurd (cc)
@@ -282,39 +294,45 @@ equal_formulas (x ∷ xs) (y ∷ ys) e f at = let both = both_true (same_entries
     by (Text s) (Truth h) same rest at = absurd (let no : false ≡ true = same in cc)
     by (Text s) (Text t) same rest at = rest at
 
+-- so their formulas have comparisons of one expression
+pub equal_fine : (items : List Item) (e : X) (from : List ℕ) (m n : RowMap) → pointwise same_entries m.entries.items n.entries.items ≡ true
+    → ((h : Formula RowAtom) → Contains (formulas_in (entries_of m)) h → (a : RowAtom) → Contains (atoms_in h) a → IsFine items e from a)
+    → (g : Formula RowAtom) → Contains (formulas_in (entries_of n)) g → (a : RowAtom) → Contains (atoms_in g) a → IsFine items e from a
+equal_fine items e from m n same own g there a in_g =
+    let P = IsFine items e from in
+    let (h, in_m, alike) = equal_formulas m.entries.items n.entries.items same g there in
+    let fine_h : EveryAtom P h = every_atom P h (each_all P (atoms_in h) (own h in_m)) in
+    All-contains P (atoms_in g) a (all_atoms P g (same_every same_atoms P (fine_equal items e from) h g alike fine_h)) in_g
+
 -- equal maps are so entry by entry
 abbrev pub IsByEntries : (RowMap → RowMap → Bool) → Type 0
 IsByEntries map_eq = (m n : RowMap) → map_eq m n ≡ true → pointwise same_entries m.entries.items n.entries.items ≡ true
 
+-- what holds of each atom in guards
+pub atom_of : (P : RowAtom → Type 0) (c : OutMachine RowAtom RowMap) → AtomsAre P c → (a : RowAtom) → HasAtomIn c a → P a
+atom_of P c atoms a (inl (those, there, r, among, own)) =
+    let rules = All-contains (λ rs. All (λ p. EveryAtom P p.guard) rs) c.looks.rules those atoms.looks there in
+    All-contains P (atoms_in r.guard) a (all_atoms P r.guard (All-contains (λ p. EveryAtom P p.guard) those r rules among)) own
+atom_of P c atoms a (inr (those, there, r, among, own)) =
+    let rules = All-contains (λ rs. All (λ p. EveryAtom P p.rule.guard) rs) c.rules those atoms.guards there in
+    All-contains P (atoms_in r.rule.guard) a (all_atoms P r.rule.guard (All-contains (λ p. EveryAtom P p.rule.guard) those r rules among)) own
+
+-- and of each map
+pub map_of : (P : RowMap → Type 0) (c : OutMachine RowAtom RowMap) → MapsAre P c → (n : RowMap) → HasMap c n → P n
+map_of P c maps n (those, there, r, among, makes) =
+    let rules = All-contains (λ rs. All (λ p. EveryMap P p.term) rs) c.rules those maps there in
+    All-contains (λ p. EveryMap P p.term) those r rules among n makes
+
 module _ (items : List Item) (e f : X) (from into : List ℕ) (at : Contains (operands e) f) (d : OutMachine RowAtom RowMap) (own : AreTransCompared items f from into d) (map_eq : RowMap → RowMap → Bool) (by_entries : IsByEntries map_eq)
     (c : OutMachine RowAtom RowMap) (old : MapsAre (IsOldMap map_eq d) c) where
-  -- an atom of a comparison of the expression
-  abbrev IsFine : RowAtom → Type 0
-  IsFine (Left k) = IsCompared items e from (plain_compare k)
-  IsFine (Right q) = Unit {0}
-
-  fine_equal : (a b : RowAtom) → same_atoms a b ≡ true → IsFine a → IsFine b
-  fine_equal (Left k) (Left j) same (g, is, alike) = (g, is, further g (plain_compare k) (plain_compare j) alike (same_parts k j same))
-  fine_equal (Left k) (Right q) same fine = tt
-  fine_equal (Right p) (Left j) same fine = absurd (let no : false ≡ true = same in cc)
-  fine_equal (Right p) (Right q) same fine = tt
-
   old_map : (n : RowMap) → HasMap c n → IsOldMap map_eq d n
-  old_map n (those, there, r, among, makes) =
-      let rules = All-contains (λ rs. All (λ p. EveryMap (IsOldMap map_eq d) p.term) rs) c.rules those old there in
-      All-contains (λ p. EveryMap (IsOldMap map_eq d) p.term) those r rules among n makes
-
-  fine_in : (m : RowMap) → HasMap d m → (g : Formula RowAtom) → Contains (formulas_in (entries_of m)) g → (a : RowAtom) → Contains (atoms_in g) a → IsFine a
-  fine_in m has g there (Left k) in_g = let c = plain_compare k in one_compared items e f from at c c (own.compares k (inr (m, has, g, there, in_g))) (refl, same_itself c.left, same_itself c.right)
-  fine_in m has g there (Right q) in_g = tt
+  old_map = map_of (IsOldMap map_eq d) c old
 
   -- a formula of a map of the result
-  formula_fine : (n : RowMap) → HasMap c n → (g : Formula RowAtom) → Contains (formulas_in (entries_of n)) g → (a : RowAtom) → Contains (atoms_in g) a → IsFine a
-  formula_fine n has g there a in_g =
+  formula_fine : (n : RowMap) → HasMap c n → (g : Formula RowAtom) → Contains (formulas_in (entries_of n)) g → (a : RowAtom) → Contains (atoms_in g) a → IsFine items e from a
+  formula_fine n has g there =
       let (m, has_m, same) = old_map n has in
-      let (h, in_m, alike) = equal_formulas m.entries.items n.entries.items (by_entries m n same) g there in
-      let fine_h : EveryAtom IsFine h = every_atom IsFine h (each_all IsFine (atoms_in h) (λ b. fine_in m has_m h in_m b)) in
-      All-contains IsFine (atoms_in g) a (all_atoms IsFine g (same_every same_atoms IsFine fine_equal h g alike fine_h)) in_g
+      equal_fine items e from m n (by_entries m n same) (λ h in_m b in_h. test_fine items e f from into d own at b (inr (m, has_m, h, in_m, in_h))) g there
 
   map_listed : (n : RowMap) → HasMap c n → AreListed items e from into n
   map_listed n has =
@@ -331,12 +349,7 @@ module _ (items : List Item) (e f : X) (from into : List ℕ) (at : Contains (op
   trans_compared P to atoms = record { compares = tests; maps = map_listed }
     where
       tests : (k : Compare) → HasTest c (Left k) → IsCompared items e from (plain_compare k)
-      tests k (inl (inl (those, there, r, among, own))) =
-          let rules = All-contains (λ rs. All (λ p. EveryAtom P p.guard) rs) c.looks.rules those atoms.looks there in
-          to k (All-contains P (atoms_in r.guard) (Left k) (all_atoms P r.guard (All-contains (λ p. EveryAtom P p.guard) those r rules among)) own)
-      tests k (inl (inr (those, there, r, among, own))) =
-          let rules = All-contains (λ rs. All (λ p. EveryAtom P p.rule.guard) rs) c.rules those atoms.guards there in
-          to k (All-contains P (atoms_in r.rule.guard) (Left k) (all_atoms P r.rule.guard (All-contains (λ p. EveryAtom P p.rule.guard) those r rules among)) own)
+      tests k (inl own) = to k (atom_of P c atoms (Left k) own)
       tests k (inr (n, has, g, there, in_g)) = formula_fine n has g there (Left k) in_g
 
 -- ---- definitions

@@ -27,6 +27,7 @@ use Rattle.fast_build.specs.Transformations.{own_trans}
 use Rattle.fast_eval.specs.declared.built.Built.{Built}
 use Rattle.fast_eval.specs.Defined.{AreDefined, AreDefinedOf, IsMadeInto, AreKnownInto}
 use Rattle.fast_eval.specs.Table.{HasBuilt}
+use Rattle.model_run.specs.Items.{AreComposable}
 use Rattle.fast_eval.specs.Forms.{AreReady, AreKnown, IsMadeOn, IsMadeFrom, IsMadeAt, IsReadyName, IsTransKnown, IsKnownAt}
 use Rattle.fast_eval.proofs.Claims.{made_on, made_from}
 use Rattle.fast_eval.proofs.Typing.{made_of_form, made_from_form}
@@ -80,15 +81,15 @@ module _ (items : List Item) (whole : IsSound items) where
   empty_inside before x e = empty_first (x_failures items before 0 None x) _ e
 
   -- a language or a transformation
-  pub empty_made : (before : List Item) (x : X) → is_empty (claim_failures items before (empty x)) ≡ true → is_built_expression x ≡ true → (type : List ℕ) × IsMadeAt items type x
-  empty_made before x e form =
+  pub empty_made : (before : List Item) (x : X) → is_empty (claim_failures items before (empty x)) ≡ true → is_built_expression x ≡ true → AreComposable items x → (type : List ℕ) × IsMadeAt items type x
+  empty_made before x e form can =
       let inside = empty_inside before x e in
       let k = kinded items whole before 0 None x inside in
       by (kind_of items x) k refl inside
     where
       by : (kind : Option Kind) → IsKinded items x → kind_of items x ≡ kind → is_empty (x_failures items before 0 None x) ≡ true → (type : List ℕ) × IsMadeAt items type x
-      by (Some language) k is inside = let (type, on) = typed_as x k is in (type, inl (made_of_form items whole before 0 None x type form inside on))
-      by (Some transformation) k is inside = let (from, into, goes) = typed_from x k is in (from, inr (into, made_from_form items whole before 0 None x from into form inside goes))
+      by (Some language) k is inside = let (type, on) = typed_as x k is in (type, inl (made_of_form items whole before 0 None x type form can inside on))
+      by (Some transformation) k is inside = let (from, into, goes) = typed_from x k is in (from, inr (into, made_from_form items whole before 0 None x from into form can inside goes))
       by (Some a_tree) k is inside = let no : true ≡ false = sym (ap is_tree is) ∙ passed (is_tree (kind_of items x)) WrongKind (place_of_x x) (empty_second (x_failures items before 0 None x) (fails_if (is_tree (kind_of items x)) WrongKind (place_of_x x)) e) in absurd (cc)
       by None k is inside = let no : Some k.kind ≡ None = sym k.is ∙ is in absurd (cc)
 
@@ -98,8 +99,8 @@ module _ (items : List Item) (whole : IsSound items) where
     pub first : IsMadeOn items type x
     pub second : IsMadeOn items type y
 
-  pub equal_made : (before : List Item) (x y : X) → is_empty (claim_failures items before (equal x y)) ≡ true → is_built_expression x ≡ true → is_built_expression y ≡ true → AreMadeOnOne x y
-  equal_made before x y e form_x form_y =
+  pub equal_made : (before : List Item) (x y : X) → is_empty (claim_failures items before (equal x y)) ≡ true → is_built_expression x ≡ true → is_built_expression y ≡ true → AreComposable items x → AreComposable items y → AreMadeOnOne x y
+  equal_made before x y e form_x form_y can_x can_y =
       let wx = whole_failures items before None language x in
       let wanted = type_as items before language x in
       let wy = whole_failures items before wanted language y in
@@ -114,8 +115,8 @@ module _ (items : List Item) (whole : IsSound items) where
       let same = same_types items (type_of items x) (type_of items y) own_x.1.0 own_y.1.0 own_x.1.1 own_y.1.1 told in
       record {
         type = own_x.1.0;
-        first = made_of_form items whole before 0 None x own_x.1.0 form_x in_x (own_x.0, own_x.1.1);
-        second = made_of_form items whole before 0 None y own_x.1.0 form_y in_y (own_y.0, same ∙ own_x.1.1);
+        first = made_of_form items whole before 0 None x own_x.1.0 form_x can_x in_x (own_x.0, own_x.1.1);
+        second = made_of_form items whole before 0 None y own_x.1.0 form_y can_y in_y (own_y.0, same ∙ own_x.1.1);
       }
 
   -- a whole expression, and what it is
@@ -143,8 +144,9 @@ module _ (items : List Item) (whole : IsSound items) where
     pub fine : is_empty (x_failures items before 0 None f) ≡ true
     pub second_fine : is_empty (x_failures items before 0 None y) ≡ true
 
-  pub check_made : (before : List Item) (x f y : X) → is_empty (claim_failures items before (type_check x f y)) ≡ true → is_built_expression x ≡ true → is_built_expression f ≡ true → is_built_expression y ≡ true → AreMadeToCheck before x f y
-  check_made before x f y e form_x form_f form_y =
+  pub check_made : (before : List Item) (x f y : X) → is_empty (claim_failures items before (type_check x f y)) ≡ true → is_built_expression x ≡ true → is_built_expression f ≡ true → is_built_expression y ≡ true
+      → AreComposable items x → AreComposable items f → AreComposable items y → AreMadeToCheck before x f y
+  check_made before x f y e form_x form_f form_y can_x can_f can_y =
       let wx = whole_failures items before None language x in
       let wf = whole_failures items before (type_as items before language x) transformation f in
       let wy = whole_failures items before (output_as items before transformation f) language y in
@@ -161,9 +163,9 @@ module _ (items : List Item) (whole : IsSound items) where
       record {
         type = type;
         into = into;
-        first = made_of_form items whole before 0 None x type form_x one.inside (one.own.0, one.own.1.1);
-        goes = made_from_form items whole before 0 None f type into form_f two.inside (two.own.0, type_f, two.own.1.3);
-        second = made_of_form items whole before 0 None y into form_y three.inside (three.own.0, type_y);
+        first = made_of_form items whole before 0 None x type form_x can_x one.inside (one.own.0, one.own.1.1);
+        goes = made_from_form items whole before 0 None f type into form_f can_f two.inside (two.own.0, type_f, two.own.1.3);
+        second = made_of_form items whole before 0 None y into form_y can_y three.inside (three.own.0, type_y);
         first_fine = one.inside;
         fine = two.inside;
         second_fine = three.inside;
@@ -235,7 +237,7 @@ module _ (items : List Item) (whole : IsSound items) where
       trans_names_ready from into (two Union place x y) made known = absurd made
       trans_names_ready from into (two Difference place x y) made known = absurd made
       trans_names_ready from into (two PreImage place x y) made known = absurd made
-      trans_names_ready from into (two Compose place x y) made known = absurd made
+      trans_names_ready from into (two Compose place x y) made known = (trans_names_ready from made.0 x made.1 (firsts x y known), trans_names_ready made.0 into y made.2 (seconds x y known))
       trans_names_ready from into (two Apply place x y) made known = absurd made
       trans_names_ready from into (literal name labels xs) made known = absurd made
 
@@ -271,22 +273,22 @@ module _ (items : List Item) (whole : IsSound items) where
     begins : type_of items d.value ≡ Some d.from.text
     begins = (value_has items whole item at d is).1 ∙ from_declared items whole item at d is
 
-    def_made_from : (n : Name) → d.into ≡ Some n → is_built_expression d.value ≡ true → IsMadeFrom items d.from.text n.text d.value
-    def_made_from n e form =
+    def_made_from : (n : Name) → d.into ≡ Some n → is_built_expression d.value ≡ true → AreComposable items d.value → IsMadeFrom items d.from.text n.text d.value
+    def_made_from n e form can =
         let has = value_has items whole item at d is in
         let output = ap (option_and_then (declared_type items)) e ∙ into_declared items whole item at d n is e in
-        made_from_form items whole at.before 0 wanted d.value d.from.text n.text form (checked items whole item at d is).inside (has.0 ∙ ap (λ o. Some (defined_kind o)) e, begins, has.2 ∙ output)
+        made_from_form items whole at.before 0 wanted d.value d.from.text n.text form can (checked items whole item at d is).inside (has.0 ∙ ap (λ o. Some (defined_kind o)) e, begins, has.2 ∙ output)
 
-    def_made : d.into ≡ None → is_built_expression d.value ≡ true → IsMadeOn items d.from.text d.value
-    def_made e form =
+    def_made : d.into ≡ None → is_built_expression d.value ≡ true → AreComposable items d.value → IsMadeOn items d.from.text d.value
+    def_made e form can =
         let has = value_has items whole item at d is in
-        made_of_form items whole at.before 0 wanted d.value d.from.text form (checked items whole item at d is).inside (has.0 ∙ ap (λ o. Some (defined_kind o)) e, begins)
+        made_of_form items whole at.before 0 wanted d.value d.from.text form can (checked items whole item at d is).inside (has.0 ∙ ap (λ o. Some (defined_kind o)) e, begins)
 
-    def_made_as : (into : Option Name) → d.into ≡ into → is_built_expression d.value ≡ true → IsMadeInto items into d.value
-    def_made_as None e form = (d.from.text, def_made e form)
-    def_made_as (Some n) e form = (d.from.text, n.text, def_made_from n e form)
+    def_made_as : (into : Option Name) → d.into ≡ into → is_built_expression d.value ≡ true → AreComposable items d.value → IsMadeInto items into d.value
+    def_made_as None e form can = (d.from.text, def_made e form can)
+    def_made_as (Some n) e form can = (d.from.text, n.text, def_made_from n e form can)
 
-    pub def_made_into : is_built_expression d.value ≡ true → IsMadeInto items d.into d.value
+    pub def_made_into : is_built_expression d.value ≡ true → AreComposable items d.value → IsMadeInto items d.into d.value
     def_made_into = def_made_as d.into refl
 
     module _ (b : Built) (P : List ℕ → Type 0) (defined : AreDefinedOf P b at.before) (named_in : (m : List ℕ) → IsNamedIn d.value m → P m) where

@@ -12,6 +12,7 @@ use Rattle.model_checks.specs.Programs.{is_well_formed}
 use Rattle.model_meaning.specs.Laws.{StandsFor}
 use Rattle.model_meaning.specs.Reached.{itself, definition_of, Opens}
 use Rattle.model_run.specs.Parts.{IsFrom}
+use Rattle.model_run.specs.Plain.{at_opened}
 use Rattle.model_layers.proofs.CarryTrans.{definitions_carry}
 use Rattle.model_layers.proofs.Sight.{definitions_are_seen}
 use Rattle.meaning_laws.specs.Laws.{HasDeclared}
@@ -44,6 +45,8 @@ module _ (items : List Item) (well : is_well_formed items ≡ true) (n : Name) (
         stands = rules_stand items n.text names f.sttr is;
         labels = subst (λ s. LabelsFit (RowFits (sorts_of s)) (λ m. EntriesFit (sorts_of s) (entries_of m)) f.sttr) (sym input) is.labels;
         made = subst (λ s. MapsAre (λ m. map sort_by (entries_of m) ≡ sorts_of s) f.sttr) (sym output) is.made;
+        plain = own.plain;
+        linear = own.linear;
       }
 
 pub trans_for_name : (items : List Item) (well : is_well_formed items ≡ true) (name : List ℕ) (t : TransItem) → find_trans items name ≡ Some t → (names : List (List ℕ)) (f : Trans RowAtom RowMap) → IsTransducerOf items name names f.sttr
@@ -65,6 +68,8 @@ module _ (items : List Item) (n : Name) (x : X) (is : definition_of items n.text
     stands = built.stands;
     labels = built.labels;
     made = built.made;
+    plain = λ plain. built.plain (λ some. plain (at_opened n x opens some));
+    linear = λ linear. built.linear (λ some. linear (at_opened n x opens some));
   }
 
 -- a name that has no transformation yet is that of a `trans`

@@ -124,7 +124,7 @@ module _ (fields : List PlainField) where
   formula_by (e ∷ es) (s ∷ sorts) (number_by g ∷ entries) of are f at = by_later e es f (formula_by es sorts entries of.1 are.1 f at)
   formula_by (e ∷ es) (s ∷ sorts) (text_by t ∷ entries) of are f at = by_later e es f (formula_by es sorts entries of.1 are.1 f at)
   formula_by (e ∷ es) (s ∷ sorts) (truth_by g ∷ entries) of are f at = elim (either_place g (formulas_in entries) f at) [
-    | inl same ↦ record { expr = e; there = first_in e es; guard = of_sort e s truths are.0.of_sort of.0; is = subst (IsGuardOf fields e) same are.0.written }
+    | inl same ↦ record { expr = e; there = first_in e es; guard = of_sort e s truths are.0.of_sort of.0; is = subst (IsGuardOf fields e) same are.0.written.0 }
     | inr later ↦ by_later e es f (formula_by es sorts entries of.1 are.1 f later)
   ]
 

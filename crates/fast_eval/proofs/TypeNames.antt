@@ -132,7 +132,7 @@ mutual
   types_there items from into (two Union place x y) made = absurd made
   types_there items from into (two Difference place x y) made = absurd made
   types_there items from into (two PreImage place x y) made = absurd made
-  types_there items from into (two Compose place x y) made = absurd made
+  types_there items from into (two Compose place x y) made = let (middle, first, second, can) = made in ((types_there items from middle x first).0, (types_there items middle into y second).1)
   types_there items from into (two Apply place x y) made = absurd made
   types_there items from into (literal name labels xs) made = absurd made
 
@@ -161,7 +161,7 @@ at_first items type Intersect place x y (inr (into, made)) = absurd made
 at_first items type Union place x y (inr (into, made)) = absurd made
 at_first items type Difference place x y (inr (into, made)) = absurd made
 at_first items type PreImage place x y (inr (into, made)) = absurd made
-at_first items type Compose place x y (inr (into, made)) = absurd made
+at_first items type Compose place x y (inr (into, made)) = inr (made.0, made.1)
 at_first items type Restrict place x y (inr (into, made)) = inr (into, made.0)
 at_first items type RestrictOut place x y (inr (into, made)) = inr (into, made.0)
 at_first items type Apply place x y (inr (into, made)) = absurd made

@@ -1,5 +1,5 @@
 -- The operands of an expression of a well-formed program are of the kinds and types that its operations take.
-use Rattle.std.proofs.Common.{◌≡◌, ℕ, suc, Bool, true, false, ◌&&◌, List, ◌++◌, Option, Some, None, refl, sym, subst, ◌∙◌}
+use Rattle.std.proofs.Common.{◌≡◌, inl, inr, ℕ, suc, Bool, true, false, ◌&&◌, List, ◌++◌, Option, Some, None, refl, sym, subst, ◌∙◌}
 use Rattle.fast_fault.specs.declared.place.Pos.{Pos}
 use Rattle.model_grammar.specs.declared.Op1.{Op1}
 use Rattle.model_grammar.specs.declared.Op1.TheVariants.{Complement, Minimize, Domain, GetWitness}
@@ -16,6 +16,7 @@ use Rattle.model_run.specs.Built.{is_built_expression, is_built_one, is_built_tw
 use Rattle.model_run.specs.Parts.{IsOn, IsFrom}
 use Rattle.meaning_laws.proofs.Kinded.{IsTypedAs, kinded, kind_needed, through}
 use Rattle.meaning_laws.proofs.Valued.{same_types, not_other}
+use Rattle.model_run.specs.Items.{AreComposable}
 use Rattle.fast_eval.specs.Forms.{IsMadeOn, IsMadeFrom}
 
 and_parts : (a b : Bool) → (a && b) ≡ true → (a ≡ true) × (b ≡ true)
@@ -90,77 +91,86 @@ module _ (items : List Item) (whole : IsSound items) where
       ((own_x.0, said language x (type_of items x) type own_x.0 on), (own_y.0, of_wanted before op x y type own_y.1.0 (wanted ∙ on) own_y.1.1 s.told))
 
   mutual
-    -- an expression of a form that can be evaluated is made of languages and transformations, where it is a language
-    pub made_of_form : (before : List Item) (around : ℕ) (expected : Option (List ℕ)) (x : X) (type : List ℕ) → is_built_expression x ≡ true → is_empty (x_failures items before around expected x) ≡ true → IsOn items x type → IsMadeOn items type x
-    made_of_form before around expected (named n) type form e on = on
-    made_of_form before around expected (literal name labels xs) type form e on = absurd (cc)
-    made_of_form before around expected (one Complement place x) type form e on =
+    -- an expression of a form that can be evaluated is made of languages and transformations, where it is a language and what it composes can be composed
+    pub made_of_form : (before : List Item) (around : ℕ) (expected : Option (List ℕ)) (x : X) (type : List ℕ) → is_built_expression x ≡ true → AreComposable items x → is_empty (x_failures items before around expected x) ≡ true → IsOn items x type → IsMadeOn items type x
+    made_of_form before around expected (named n) type form can e on = on
+    made_of_form before around expected (literal name labels xs) type form can e on = absurd (cc)
+    made_of_form before around expected (one Complement place x) type form can e on =
         let o = only before around expected Complement place x e in
-        made_of_form before (suc around) None x type (form_one Complement place x form) o.fine (o.own.0, said language x (type_of items x) type o.own.0 on.1)
-    made_of_form before around expected (one Minimize place x) type form e on =
+        made_of_form before (suc around) None x type (form_one Complement place x form) can o.fine (o.own.0, said language x (type_of items x) type o.own.0 on.1)
+    made_of_form before around expected (one Minimize place x) type form can e on =
         let o = only before around expected Minimize place x e in
-        made_of_form before (suc around) None x type (form_one Minimize place x form) o.fine (o.own.0, said language x (type_of items x) type o.own.0 on.1)
-    made_of_form before around expected (one Domain place f) type form e on =
+        made_of_form before (suc around) None x type (form_one Minimize place x form) can o.fine (o.own.0, said language x (type_of items x) type o.own.0 on.1)
+    made_of_form before around expected (one Domain place f) type form can e on =
         let o = only before around expected Domain place f e in
         let (from, into, begins, ends) = o.own.1 in
-        (into, made_from_form before (suc around) None f type into (form_one Domain place f form) o.fine (o.own.0, said transformation f (type_of items f) type o.own.0 on.1, ends))
-    made_of_form before around expected (one GetWitness place x) type form e on = absurd (cc)
-    made_of_form before around expected (two Intersect place x y) type form e on =
+        (into, made_from_form before (suc around) None f type into (form_one Domain place f form) can o.fine (o.own.0, said transformation f (type_of items f) type o.own.0 on.1, ends))
+    made_of_form before around expected (one GetWitness place x) type form can e on = absurd (cc)
+    made_of_form before around expected (two Intersect place x y) type form can e on =
         let forms = forms_two Intersect place x y form in
         let s = sides before around expected Intersect place x y e in
         let both = both_on before around Intersect x y type refl refl refl s on.1 in
-        (made_of_form before (suc around) None x type forms.0 s.first_fine both.0, made_of_form before (suc around) (expected_as language (wanted_second items before Intersect x)) y type forms.1 s.second_fine both.1)
-    made_of_form before around expected (two Union place x y) type form e on =
+        (made_of_form before (suc around) None x type forms.0 (λ u v at. can u v (inl at)) s.first_fine both.0, made_of_form before (suc around) (expected_as language (wanted_second items before Intersect x)) y type forms.1 (λ u v at. can u v (inr at)) s.second_fine both.1)
+    made_of_form before around expected (two Union place x y) type form can e on =
         let forms = forms_two Union place x y form in
         let s = sides before around expected Union place x y e in
         let both = both_on before around Union x y type refl refl refl s on.1 in
-        (made_of_form before (suc around) None x type forms.0 s.first_fine both.0, made_of_form before (suc around) (expected_as language (wanted_second items before Union x)) y type forms.1 s.second_fine both.1)
-    made_of_form before around expected (two Difference place x y) type form e on =
+        (made_of_form before (suc around) None x type forms.0 (λ u v at. can u v (inl at)) s.first_fine both.0, made_of_form before (suc around) (expected_as language (wanted_second items before Union x)) y type forms.1 (λ u v at. can u v (inr at)) s.second_fine both.1)
+    made_of_form before around expected (two Difference place x y) type form can e on =
         let forms = forms_two Difference place x y form in
         let s = sides before around expected Difference place x y e in
         let both = both_on before around Difference x y type refl refl refl s on.1 in
-        (made_of_form before (suc around) None x type forms.0 s.first_fine both.0, made_of_form before (suc around) (expected_as language (wanted_second items before Difference x)) y type forms.1 s.second_fine both.1)
-    made_of_form before around expected (two PreImage place f y) type form e on =
+        (made_of_form before (suc around) None x type forms.0 (λ u v at. can u v (inl at)) s.first_fine both.0, made_of_form before (suc around) (expected_as language (wanted_second items before Difference x)) y type forms.1 (λ u v at. can u v (inr at)) s.second_fine both.1)
+    made_of_form before around expected (two PreImage place f y) type form can e on =
         let forms = forms_two PreImage place f y form in
         let s = sides before around expected PreImage place f y e in
         let (from, into, begins, ends) = s.first.1 in
         let type_y = of_wanted before PreImage f y into s.second.1.0 (said_back transformation f (output_of items f) into s.first.0 ends) s.second.1.1 s.told in (
           into,
-          made_from_form before (suc around) None f type into forms.0 s.first_fine (s.first.0, said transformation f (type_of items f) type s.first.0 on.1, ends),
-          made_of_form before (suc around) (expected_as language (wanted_second items before PreImage f)) y into forms.1 s.second_fine (s.second.0, type_y),
+          made_from_form before (suc around) None f type into forms.0 (λ u v at. can u v (inl at)) s.first_fine (s.first.0, said transformation f (type_of items f) type s.first.0 on.1, ends),
+          made_of_form before (suc around) (expected_as language (wanted_second items before PreImage f)) y into forms.1 (λ u v at. can u v (inr at)) s.second_fine (s.second.0, type_y),
         )
-    made_of_form before around expected (two Compose place x y) type form e on = let no : Some transformation ≡ Some language = on.0 in absurd (cc)
-    made_of_form before around expected (two Restrict place x y) type form e on = let no : Some transformation ≡ Some language = on.0 in absurd (cc)
-    made_of_form before around expected (two RestrictOut place x y) type form e on = let no : Some transformation ≡ Some language = on.0 in absurd (cc)
-    made_of_form before around expected (two Apply place x y) type form e on = absurd (cc)
+    made_of_form before around expected (two Compose place x y) type form can e on = let no : Some transformation ≡ Some language = on.0 in absurd (cc)
+    made_of_form before around expected (two Restrict place x y) type form can e on = let no : Some transformation ≡ Some language = on.0 in absurd (cc)
+    made_of_form before around expected (two RestrictOut place x y) type form can e on = let no : Some transformation ≡ Some language = on.0 in absurd (cc)
+    made_of_form before around expected (two Apply place x y) type form can e on = absurd (cc)
 
     -- the same where it is a transformation
-    pub made_from_form : (before : List Item) (around : ℕ) (expected : Option (List ℕ)) (x : X) (from into : List ℕ) → is_built_expression x ≡ true → is_empty (x_failures items before around expected x) ≡ true → IsFrom items x from into → IsMadeFrom items from into x
-    made_from_form before around expected (named n) from into form e goes = goes
-    made_from_form before around expected (literal name labels xs) from into form e goes = absurd (cc)
-    made_from_form before around expected (one Complement place x) from into form e goes = let no : Some language ≡ Some transformation = goes.0 in absurd (cc)
-    made_from_form before around expected (one Minimize place x) from into form e goes = let no : Some language ≡ Some transformation = goes.0 in absurd (cc)
-    made_from_form before around expected (one Domain place x) from into form e goes = let no : Some language ≡ Some transformation = goes.0 in absurd (cc)
-    made_from_form before around expected (one GetWitness place x) from into form e goes = absurd (cc)
-    made_from_form before around expected (two Intersect place x y) from into form e goes = let no : Some language ≡ Some transformation = goes.0 in absurd (cc)
-    made_from_form before around expected (two Union place x y) from into form e goes = let no : Some language ≡ Some transformation = goes.0 in absurd (cc)
-    made_from_form before around expected (two Difference place x y) from into form e goes = let no : Some language ≡ Some transformation = goes.0 in absurd (cc)
-    made_from_form before around expected (two PreImage place x y) from into form e goes = let no : Some language ≡ Some transformation = goes.0 in absurd (cc)
-    made_from_form before around expected (two Compose place x y) from into form e goes = absurd (cc)
-    made_from_form before around expected (two Restrict place f y) from into form e goes =
+    pub made_from_form : (before : List Item) (around : ℕ) (expected : Option (List ℕ)) (x : X) (from into : List ℕ) → is_built_expression x ≡ true → AreComposable items x → is_empty (x_failures items before around expected x) ≡ true → IsFrom items x from into → IsMadeFrom items from into x
+    made_from_form before around expected (named n) from into form can e goes = goes
+    made_from_form before around expected (literal name labels xs) from into form can e goes = absurd (cc)
+    made_from_form before around expected (one Complement place x) from into form can e goes = let no : Some language ≡ Some transformation = goes.0 in absurd (cc)
+    made_from_form before around expected (one Minimize place x) from into form can e goes = let no : Some language ≡ Some transformation = goes.0 in absurd (cc)
+    made_from_form before around expected (one Domain place x) from into form can e goes = let no : Some language ≡ Some transformation = goes.0 in absurd (cc)
+    made_from_form before around expected (one GetWitness place x) from into form can e goes = absurd (cc)
+    made_from_form before around expected (two Intersect place x y) from into form can e goes = let no : Some language ≡ Some transformation = goes.0 in absurd (cc)
+    made_from_form before around expected (two Union place x y) from into form can e goes = let no : Some language ≡ Some transformation = goes.0 in absurd (cc)
+    made_from_form before around expected (two Difference place x y) from into form can e goes = let no : Some language ≡ Some transformation = goes.0 in absurd (cc)
+    made_from_form before around expected (two PreImage place x y) from into form can e goes = let no : Some language ≡ Some transformation = goes.0 in absurd (cc)
+    made_from_form before around expected (two Compose place x y) from into form can e goes =
+        let forms = forms_two Compose place x y form in
+        let s = sides before around expected Compose place x y e in
+        let (start, middle, begins, ends) = s.first.1 in
+        let type_y = of_wanted before Compose x y middle s.second.1.0 (said_back transformation x (output_of items x) middle s.first.0 ends) s.second.1.2 s.told in (
+          middle,
+          made_from_form before (suc around) None x from middle forms.0 (λ u v at. can u v (inr (inl at))) s.first_fine (s.first.0, said transformation x (type_of items x) from s.first.0 goes.1, ends),
+          made_from_form before (suc around) (expected_as transformation (wanted_second items before Compose x)) y middle into forms.1 (λ u v at. can u v (inr (inr at))) s.second_fine (s.second.0, type_y, said transformation y (output_of items y) into s.second.0 goes.2),
+          can x y (inl (refl, refl)),
+        )
+    made_from_form before around expected (two Restrict place f y) from into form can e goes =
         let forms = forms_two Restrict place f y form in
         let s = sides before around expected Restrict place f y e in
         let begins = said transformation f (type_of items f) from s.first.0 goes.1 in
         let type_y = of_wanted before Restrict f y from s.second.1.0 goes.1 s.second.1.1 s.told in (
-          made_from_form before (suc around) None f from into forms.0 s.first_fine (s.first.0, begins, said transformation f (output_of items f) into s.first.0 goes.2),
-          made_of_form before (suc around) (expected_as language (wanted_second items before Restrict f)) y from forms.1 s.second_fine (s.second.0, type_y),
+          made_from_form before (suc around) None f from into forms.0 (λ u v at. can u v (inl at)) s.first_fine (s.first.0, begins, said transformation f (output_of items f) into s.first.0 goes.2),
+          made_of_form before (suc around) (expected_as language (wanted_second items before Restrict f)) y from forms.1 (λ u v at. can u v (inr at)) s.second_fine (s.second.0, type_y),
         )
-    made_from_form before around expected (two RestrictOut place f y) from into form e goes =
+    made_from_form before around expected (two RestrictOut place f y) from into form can e goes =
         let forms = forms_two RestrictOut place f y form in
         let s = sides before around expected RestrictOut place f y e in
         let begins = said transformation f (type_of items f) from s.first.0 goes.1 in
         let type_y = of_wanted before RestrictOut f y into s.second.1.0 goes.2 s.second.1.1 s.told in (
-          made_from_form before (suc around) None f from into forms.0 s.first_fine (s.first.0, begins, said transformation f (output_of items f) into s.first.0 goes.2),
-          made_of_form before (suc around) (expected_as language (wanted_second items before RestrictOut f)) y into forms.1 s.second_fine (s.second.0, type_y),
+          made_from_form before (suc around) None f from into forms.0 (λ u v at. can u v (inl at)) s.first_fine (s.first.0, begins, said transformation f (output_of items f) into s.first.0 goes.2),
+          made_of_form before (suc around) (expected_as language (wanted_second items before RestrictOut f)) y into forms.1 (λ u v at. can u v (inr at)) s.second_fine (s.second.0, type_y),
         )
-    made_from_form before around expected (two Apply place x y) from into form e goes = absurd (cc)
+    made_from_form before around expected (two Apply place x y) from into form can e goes = absurd (cc)

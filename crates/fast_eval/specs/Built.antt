@@ -28,7 +28,8 @@ use Rattle.record_label.specs.Maps.{Entry, EntriesFit, sort_by, forms_of, formul
 use Rattle.record_label.specs.PlainMaps.{plain_entry}
 use Rattle.fast_build.specs.Terms.{row_make}
 use Rattle.model_run.specs.Seen.{LabelList, list_forms, IsLabelList, IsCompare, IsSameCompare}
-use Rattle.model_layers.specs.Carries.{Carries, CarriesTrans}
+use Rattle.model_run.specs.Plain.{IsPlain, IsLinear}
+use Rattle.model_layers.specs.Carries.{IsTyped, Carries, CarriesTrans}
 use Rattle.model_layers.specs.Seen.{IsSeen, IsSeenTrans}
 use Rattle.model_layers.specs.Compared.{AreCompared, AreSameForms}
 
@@ -76,7 +77,8 @@ pub record AreTransCompared (items : List Item) (e : X) (from into : List ℕ) (
 -- The transducer was built for the expression of a transformation between the types of these names: it has the relation of the
 -- expression, each state has one of which the expression is made, its guards and maps are seen in the expression, and its
 -- comparisons and forms are those of the expression. Its rules are over the constructors and labels of the input type, and make
--- labels of the output type.
+-- labels of the output type. Each state gives at most one tree where the expression is plain, and no rule uses a child twice
+-- where it is linear.
 pub record IsTransBuiltOf (items : List Item) (e : X) (from into : List ℕ) (f : Trans RowAtom RowMap) : Type 0 where
   pub carries : CarriesTrans items e from into (trans_of f)
   pub seen : IsSeenTrans items e from into (trans_of f).sttr
@@ -85,3 +87,5 @@ pub record IsTransBuiltOf (items : List Item) (e : X) (from into : List ℕ) (f 
   pub stands : SttrStands f.sttr
   pub labels : LabelsFit (RowFits (sorts_of (signature_named items (Some from)))) (λ m. EntriesFit (sorts_of (signature_named items (Some from))) (entries_of m)) f.sttr
   pub made : MapsAre (λ m. map sort_by (entries_of m) ≡ sorts_of (signature_named items (Some into))) f.sttr
+  pub plain : IsPlain items e → meant.IsFunctionalOn (trans_of f).sttr (IsTyped items from)
+  pub linear : IsLinear items e → meant.AllLinear (trans_of f).sttr

@@ -8,6 +8,7 @@ use Rattle.model_grammar.specs.Syntax.{X, named, one, two, literal, Claim, equal
 use Rattle.model_names.specs.Kinds.{Kind, language, transformation, a_tree, taken_by_one, taken_first, taken_second, kind_of}
 use Rattle.program_check.specs.Tells.{Told}
 use Rattle.model_run.specs.Parts.{IsOn, IsFrom}
+use Rattle.model_run.specs.Plain.{IsPlain, IsLinear}
 use Rattle.fast_build.specs.Items.{find_lang}
 use Rattle.fast_build.specs.Transformations.{find_trans}
 use Rattle.fast_eval.specs.declared.built.Built.{Built}
@@ -90,7 +91,7 @@ abbrev mutual
   IsMadeOn items type (two Apply place x y) = ⊥
   IsMadeOn items type (literal name labels xs) = ⊥
 
-  -- the same, and a transformation between the types
+  -- the same, and a transformation between the types; of two that are composed the first is plain or the second linear
   pub IsMadeFrom : List Item → List ℕ → List ℕ → X → Type 0
   IsMadeFrom items from into (named n) = IsFrom items (named n) from into
   IsMadeFrom items from into (one op place x) = ⊥
@@ -100,7 +101,7 @@ abbrev mutual
   IsMadeFrom items from into (two Union place x y) = ⊥
   IsMadeFrom items from into (two Difference place x y) = ⊥
   IsMadeFrom items from into (two PreImage place x y) = ⊥
-  IsMadeFrom items from into (two Compose place x y) = ⊥
+  IsMadeFrom items from into (two Compose place x y) = (middle : List ℕ) × IsMadeFrom items from middle x × IsMadeFrom items middle into y × (IsPlain items x ⊎ IsLinear items y)
   IsMadeFrom items from into (two Apply place x y) = ⊥
   IsMadeFrom items from into (literal name labels xs) = ⊥
 

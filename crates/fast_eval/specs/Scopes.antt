@@ -4,6 +4,7 @@ use Rattle.model_tree.specs.Signature.{sorts_of}
 use Rattle.model_grammar.specs.Syntax.{X, Item}
 use Rattle.model_tree.specs.Tree.{LabelTree}
 use Rattle.model_meaning.specs.Meaning.{IsInLanguage, IsRelated, signature_named}
+use Rattle.model_run.specs.Plain.{IsPlain, IsLinear}
 use Rattle.model_layers.specs.Carries.{IsTyped}
 use Rattle.program_check.specs.Tells.{IsChecked}
 use Rattle.program_check.specs.declared.programs.Checked.{Checked}
@@ -106,6 +107,12 @@ IsTransOperandFrom items e from b o = (into : List ℕ) → IsMadeFrom items fro
 pub record LooksAt (items : List Item) (f y : X) (from into : List ℕ) (a : Trans RowAtom RowMap) (b : Lang RowAtom) : Type 0 where
   pub first : IsTransBuiltOf items f from into a
   pub second : IsBuiltOf items y into b
+
+-- two transformations, one from the type of what the other gives, of which the first is plain or the second linear
+pub record RunsAfter (items : List Item) (f g : X) (from into last : List ℕ) (a b : Trans RowAtom RowMap) : Type 0 where
+  pub first : IsTransBuiltOf items f from into a
+  pub second : IsTransBuiltOf items g into last b
+  pub can : IsPlain items f ⊎ IsLinear items g
 
 -- each tree of the type is in the language of the expression, or isn't
 abbrev pub IsDecided : List Item → List ℕ → X → Type 0

@@ -1,13 +1,14 @@
 //! The automata of expressions of languages, and the transducers of expressions of transformations.
 
-ghost use Rattle.std.specs.Prelude.{◌≡◌, ℕ, List, IfOk, IfErr, None, true};
+ghost use Rattle.std.specs.Prelude.{◌≡◌, ◌⊎◌, ℕ, List, IfOk, IfErr, None, true};
 ghost use Rattle.fast_syntax.specs.View.{plain_name};
 ghost use Rattle.fast_syntax.specs.Plain.{plain_x};
 ghost use Rattle.model_grammar.specs.Syntax as plain;
 ghost use Rattle.model_grammar.specs.declared.Op1.TheVariants.{Domain};
-ghost use Rattle.model_grammar.specs.declared.Op2.TheVariants.{PreImage, Restrict, RestrictOut};
+ghost use Rattle.model_grammar.specs.declared.Op2.TheVariants.{PreImage, Compose, Restrict, RestrictOut};
 ghost use Rattle.model_names.specs.Kinds.{language, transformation};
 ghost use Rattle.model_run.specs.Parts.{IsOn, IsFrom};
+ghost use Rattle.model_run.specs.Plain.{IsPlain, IsLinear};
 ghost use Rattle.fast_eval.specs.Built.{IsBuiltOf};
 ghost use Rattle.fast_eval.specs.Counted.{IsCounted};
 ghost use Rattle.fast_eval.specs.Forms.{AreNamed, IsMadeOn, IsMadeFrom, joins_two, changes_one};
@@ -16,7 +17,7 @@ ghost use Rattle.fast_eval.specs.Stops.{StopsExpression};
 ghost use Rattle.fast_eval.specs.Table.{HasBuilt, IsNamed};
 
 use crate::built::Built;
-use crate::images::{inputs, restricted, restricted_out, sources};
+use crate::images::{composed, inputs, restricted, restricted_out, sources};
 use crate::scopes::scope_of;
 use crate::stops::EvalStop;
 use fast_fault::Text;
@@ -232,6 +233,7 @@ pub fn transformation(alloc: Global, scope: &Scope, f: &X) -> Result<TransOperan
         X::Named(name) => Ok(named_trans(scope, name)),
         X::Two(Op2::Restrict, _, inside, y) => restrict_of(alloc, scope, inside, y),
         X::Two(Op2::RestrictOut, _, inside, y) => restrict_out_of(alloc, scope, inside, y),
+        X::Two(Op2::Compose, _, inside, other) => compose_of(alloc, scope, inside, other),
         X::One(..) | X::Two(..) | X::Literal(..) => unreachable!(),
     }
 }
@@ -269,4 +271,22 @@ fn restrict_out_of(alloc: Global, scope: &Scope, f: &X, y: &X) -> Result<TransOp
     let a = trans_of(scope.built, &a);
     let b = lang_of(scope.built, &b);
     Ok(TransOperand::Made(restricted_out(alloc, scope, a, b)?))
+}
+
+/// The transducer of a transformation after another.
+#[cycle(expressions)]
+fn compose_of(alloc: Global, scope: &Scope, f: &X, g: &X) -> Result<TransOperand, EvalStop>
+    requires scope { IsScope scope.now }
+    requires made { (into middle : List ℕ) × IsMadeFrom (items_in scope.now) (type_in scope.now) middle (plain_x f.now) × IsMadeFrom (items_in scope.now) middle into (plain_x g.now) × (IsPlain (items_in scope.now) (plain_x f.now) ⊎ IsLinear (items_in scope.now) (plain_x g.now)) }
+    requires first_named { AreNamed transformation scope.now.built.now (plain_x f.now) }
+    requires second_named { AreNamed transformation scope.now.built.now (plain_x g.now) }
+    ensures built { IfOk result (λ o. (place : _) → IsTransOperandFrom (items_in scope.now) (plain.two Compose place (plain_x f.now) (plain_x g.now)) (type_in scope.now) scope.now.built.now o) }
+    ensures stop { IfErr result (λ s. (place : _) → StopsExpression (items_in scope.now) (plain.two Compose place (plain_x f.now) (plain_x g.now)) scope.now.limit s) }
+{
+    let other = scope_of(scope.checked, scope.built, scope.limit, g);
+    let b = transformation(alloc, &other, g)?;
+    let a = transformation(alloc, scope, f)?;
+    let a = trans_of(scope.built, &a);
+    let b = trans_of(scope.built, &b);
+    Ok(TransOperand::Made(composed(alloc, scope, a, b)?))
 }

@@ -1,11 +1,11 @@
-//! What is made of a transformation, and of a transformation and a language.
+//! What is made of a transformation, of a transformation and a language, and of two transformations.
 
 ghost use Rattle.std.specs.Prelude.{◌≡◌, ℕ, List, IfOk, IfErr};
 ghost use Rattle.model_grammar.specs.Syntax as plain;
 ghost use Rattle.model_grammar.specs.declared.Op1.TheVariants.{Domain};
-ghost use Rattle.model_grammar.specs.declared.Op2.TheVariants.{PreImage, Restrict, RestrictOut};
+ghost use Rattle.model_grammar.specs.declared.Op2.TheVariants.{PreImage, Compose, Restrict, RestrictOut};
 ghost use Rattle.fast_eval.specs.Built.{IsBuiltOf, IsTransBuiltOf};
-ghost use Rattle.fast_eval.specs.Scopes.{items_in, type_in, IsScope, LooksAt};
+ghost use Rattle.fast_eval.specs.Scopes.{items_in, type_in, IsScope, LooksAt, RunsAfter};
 ghost use Rattle.fast_eval.specs.Stops.{StopsExpression};
 
 use crate::evaluation::Scope;
@@ -14,6 +14,7 @@ use fast_fault::Memory;
 use record_label::{RowAtom, RowMap};
 use sta_core::Lang;
 use std::alloc::Global;
+use sttr_compose::compose;
 use sttr_core::Trans;
 use sttr_preimage::{domain, preimage, restrict, restrict_out};
 
@@ -73,4 +74,19 @@ pub fn restricted_out(
     ensures stop { IfErr result (λ s. (place : _) (f y : plain.X) (into : List ℕ) → LooksAt (items_in scope.now) f y (type_in scope.now) into a.now b.now → StopsExpression (items_in scope.now) (plain.two RestrictOut place f y) scope.now.limit s) }
 {
     Ok(restrict_out(scope.theory, alloc, a, b)?)
+}
+
+/// The second transformation after the first.
+pub fn composed(
+    alloc: Global,
+    scope: &Scope,
+    a: &Trans<RowAtom, RowMap>,
+    b: &Trans<RowAtom, RowMap>,
+) -> Result<Trans<RowAtom, RowMap>, EvalStop>
+    requires scope { IsScope scope.now }
+    requires operands { (f g : plain.X) × (into last : List ℕ) × RunsAfter (items_in scope.now) f g (type_in scope.now) into last a.now b.now }
+    ensures built { IfOk result (λ c. (place : _) (f g : plain.X) (into last : List ℕ) → RunsAfter (items_in scope.now) f g (type_in scope.now) into last a.now b.now → IsTransBuiltOf (items_in scope.now) (plain.two Compose place f g) (type_in scope.now) last c) }
+    ensures stop { IfErr result (λ s. (place : _) (f g : plain.X) (into last : List ℕ) → RunsAfter (items_in scope.now) f g (type_in scope.now) into last a.now b.now → StopsExpression (items_in scope.now) (plain.two Compose place f g) scope.now.limit s) }
+{
+    Ok(compose(scope.theory, alloc, a, b)?)
 }

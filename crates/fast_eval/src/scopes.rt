@@ -58,6 +58,7 @@ pub fn output_of<'c>(checked: &'c Checked, x: &X) -> Option<&'c Text>
     match x {
         X::Named(name) => outputs_in(checked.kind(&name.text)),
         X::Two(Op2::Restrict | Op2::RestrictOut, _, f, _) => output_of(checked, f),
+        X::Two(Op2::Compose, _, _, g) => output_of(checked, g),
         X::One(..) | X::Two(..) | X::Literal(..) => None,
     }
 }

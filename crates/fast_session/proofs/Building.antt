@@ -1,7 +1,7 @@
 -- What a name needs is built, item by item.
-use Rattle.std.proofs.Common.{◌≡◌, ◌⊎◌, inl, inr, ℕ, Bool, true, false, not, ◌&&◌, List, [], ◌∷◌, ◌++◌, Option, Some, None, take, Contains, refl, sym, ap, subst, ◌∙◌, arith}
+use Rattle.std.proofs.Common.{◌≡◌, inl, inr, ℕ, Bool, true, false, not, ◌&&◌, List, [], ◌∷◌, ◌++◌, Option, Some, None, take, Contains, refl, sym, ap, subst, ◌∙◌, arith}
 use Rattle.std.specs.Prelude.{is_some}
-use Rattle.std.specs.Option.{option_and_then, option_map_or}
+use Rattle.std.specs.Option.{option_and_then, option_map, option_map_or}
 use Rattle.model_tree.specs.Tree.{LabelTree}
 use Rattle.model_program.specs.Syntax.{Name}
 use Rattle.model_grammar.specs.Syntax.{Body, sorts, tree, lang, trans, def, assertion, DefItem, Item}
@@ -19,6 +19,7 @@ use Rattle.model_meaning.proofs.Members.{one_of, none_of}
 use Rattle.meaning_laws.proofs.Kinded.{IsKinded, kinded}
 use Rattle.meaning_laws.proofs.Known.{has_name}
 use Rattle.model_run.specs.Built.{is_built, is_built_expression, is_built_body}
+use Rattle.model_run.specs.Items.{expressions_in, IsComposable, AreComposable}
 use Rattle.model_run.specs.Causes.{HasCause, more_classes, too_wide, form_number}
 use Rattle.model_run.specs.Report.{named_x}
 use Rattle.model_run.specs.Texts.{IsNameOf}
@@ -37,7 +38,7 @@ use Rattle.fast_eval.specs.Stops.{StopsExpression}
 use Rattle.fast_eval.specs.Defined.{IsDefined, AreDefinedOf, IsMadeInto, AreKnownInto}
 use Rattle.fast_eval.specs.Table.{HasBuilt, IsGrown}
 use Rattle.fast_eval.specs.declared.built.Built.{Built}
-use Rattle.fast_eval.proofs.Outcomes.{def_cause}
+use Rattle.fast_eval.proofs.Outcomes.{each_composable, def_cause}
 use Rattle.fast_eval.proofs.Keeping.{built_grown}
 use Rattle.fast_eval.proofs.Keeping.{more_twice as grown_twice}
 use Rattle.fast_eval.proofs.Stepping.{def_made_into, def_known_into, typed_as, typed_from, found_there}
@@ -46,9 +47,12 @@ use Rattle.fast_session.specs.declared.answers.Halt.TheVariants as halt
 use Rattle.fast_session.specs.declared.items.Around.{Around}
 use Rattle.fast_session.specs.declared.items.Kept.{Kept}
 use Rattle.fast_session.specs.Answers.{stopped_by, stopped_outputs, halt_at}
-use Rattle.fast_session.specs.Items.{IsBuiltMore}
+use Rattle.fast_session.specs.declared.answers.Stopped.{Stopped}
+use Rattle.fast_session.specs.declared.answers.Stopped.TheVariants.{By}
+use Rattle.fast_session.specs.declared.answers.Stopped.TheVariants as stopped
+use Rattle.fast_session.specs.Items.{IsAlwaysStopped, IsBuiltMore}
 use Rattle.fast_session.specs.Kept.{items_in}
-use Rattle.fast_session.specs.Needed.{AreNeeded, IsBuildable, IsHaltAmong, IsHaltNeeded, IsTreeStopped}
+use Rattle.fast_session.specs.Needed.{AreNeeded, AreComposableOf, IsBuildable, IsHaltAmong, IsHaltNeeded, IsTreeStopped}
 use Rattle.fast_session.proofs.Following.{value_found}
 
 -- ---- the form of a definition
@@ -66,18 +70,33 @@ module _ (a : Around) (names : List (List ℕ)) (item : Item) (k : Kept) (b : Is
   pub value_is : definition_of (items_in a) d.name.text ≡ Some d.value
   value_is = value_found (items_in a) whole item b.at d is
 
-  pub value_made : IsMadeInto (items_in a) d.into d.value
-  value_made = def_made_into (items_in a) whole item b.at d is (form (items_in a) item b.is_built d is)
+  module _ (composable : IsComposable (items_in a) item.body) where
+    value_can : AreComposable (items_in a) d.value
+    value_can = each_composable (items_in a) item.body composable d.value (subst (λ b. Contains (expressions_in b) d.value) (sym is) (first_in d.value []))
 
-  pub value_known : Contains names d.name.text → AreKnownInto (items_in a) k.built d.into d.value
-  value_known there = def_known_into (items_in a) whole item b.at d is k.built (Contains names) b.defined (λ m named_at. b.closed item b.at d (omega arith) is there m named_at) value_made
+    pub value_made : IsMadeInto (items_in a) d.into d.value
+    value_made = def_made_into (items_in a) whole item b.at d is (form (items_in a) item b.is_built d is) value_can
 
-module _ (items : List Item) (limit : ℕ) (names : List (List ℕ)) (item : Item) (there : Contains items item) (d : DefItem) (is : item.body ≡ def d) (own : Contains names d.name.text) where
-  pub def_halts : (stop : EvalStop) → StopsExpression items d.value limit stop → IsHaltAmong items limit names (halt_at item.place (stopped_by limit stop))
-  def_halts Classes stop = (item, there, refl, d, is, own, subst (λ b. HasCause items limit [] b (more_classes limit)) (sym is) (def_cause items limit [] d Classes stop), tt)
-  def_halts (Wide c) stop = (item, there, refl, d, is, own, subst (λ b. HasCause items limit [] b (too_wide (bits_of c.width))) (sym is) (def_cause items limit [] d (Wide c) stop), tt)
-  def_halts (Range n) stop = (item, there, refl, d, is, own, subst (λ b. HasCause items limit [] b (form_number n)) (sym is) (def_cause items limit [] d (Range n) stop), tt)
-  def_halts Memory stop = tt
+    pub value_known : Contains names d.name.text → AreKnownInto (items_in a) k.built d.into d.value
+    value_known there = def_known_into (items_in a) whole item b.at d is k.built (Contains names) b.defined (λ m named_at. b.closed item b.at d (omega arith) is there m named_at) value_made
+
+-- what stops the evaluation of a definition's expression is a cause, whatever was printed before
+pub def_always : (items : List Item) (limit : ℕ) (item : Item) (d : DefItem) → item.body ≡ def d → (stop : EvalStop) → StopsExpression items d.value limit stop → IsAlwaysStopped items limit item (stopped_by limit stop)
+def_always items limit item d is Classes stop = (λ trees shown. subst (λ b. HasCause items limit trees b (more_classes limit)) (sym is) (def_cause items limit trees d Classes stop), tt)
+def_always items limit item d is (Wide c) stop = (λ trees shown. subst (λ b. HasCause items limit trees b (too_wide (bits_of c.width))) (sym is) (def_cause items limit trees d (Wide c) stop), tt)
+def_always items limit item d is (Range n) stop = (λ trees shown. subst (λ b. HasCause items limit trees b (form_number n)) (sym is) (def_cause items limit trees d (Range n) stop), tt)
+def_always items limit item d is Memory stop = tt
+
+-- an item with one of the names, which has the cause
+pub halts_among : (items : List Item) (limit : ℕ) (names : List (List ℕ)) (item : Item) → Contains items item → (own : Name) → own_name item.body ≡ Some own → Contains names own.text
+    → (s : Stopped) → IsAlwaysStopped items limit item s → IsHaltAmong items limit names (halt_at item.place s)
+halts_among items limit names item there own named at (By cause) stop = (item, there, refl, own, named, at, stop.0 [], stop.1)
+halts_among items limit names item there own named at stopped.Memory stop = tt
+
+-- the name of an item, where there is one
+pub named_as : (o : Option Name) (text : List ℕ) → Some text ≡ option_map (λ (n : Name). n.text) o → (own : Name) × (o ≡ Some own) × (own.text ≡ text)
+named_as None text e = absurd (cc)
+named_as (Some own) text e = (own, refl, cc)
 
 pub stands_there : (items : List Item) (item : Item) → StandsIn items item → Contains items item
 stands_there items item at = subst (λ l. Contains l item) (sym at.is) (Contains-append_right at.before (item ∷ at.behind) item (first_in item at.behind))
@@ -97,6 +116,20 @@ one_defined P old new before item grown was own other d at is wanted = elim (app
   | inr there ↦ elim (one_of item other [] there) [ inl same ↦ own d (ap (λ (i : Item). i.body) same ∙ is) wanted | inr none ↦ absurd (none_of other none) ]
 ]
 
+-- the same of items whose compositions can be made
+pub none_composable : (items : List Item) (P : List ℕ → Type 0) (some : List Item) → AreComposableOf items P (take 0 some)
+none_composable items P [] item own at = absurd (none_of item at)
+none_composable items P (x ∷ xs) item own at = absurd (none_of item at)
+
+pub one_composable : (items : List Item) (P : List ℕ → Type 0) (before : List Item) (item : Item) → AreComposableOf items P before → ((own : Name) → own_name item.body ≡ Some own → P own.text → IsComposable items item.body) → AreComposableOf items P (before ++ item ∷ [])
+one_composable items P before item was own other name at named wanted = elim (append_member before (item ∷ []) other at) [
+  | inl here ↦ was other name here named wanted
+  | inr there ↦ elim (one_of item other [] there) [
+    | inl same ↦ subst (λ (i : Item). IsComposable items i.body) same (own name (ap (λ (i : Item). own_name i.body) same ∙ named) wanted)
+    | inr none ↦ absurd (none_of other none)
+  ]
+]
+
 pub more_twice : (items : List Item) (old mid new : Kept) → IsBuiltMore items old mid → IsBuiltMore items mid new → IsBuiltMore items old new
 more_twice items old mid new g h = record { built = h.built; grown = grown_twice old.built mid.built new.built g.grown h.grown; trees = h.trees ∙ g.trees }
 
@@ -104,7 +137,7 @@ more_twice items old mid new g h = record { built = h.built; grown = grown_twice
 
 module _ (items : List Item) (limit : ℕ) (name : List ℕ) (names : List (List ℕ)) (need : AreNeeded items name names) where
   pub halt_needed : (h : Halt) → IsHaltAmong items limit names h → IsHaltNeeded items limit name h
-  halt_needed (halt.Refused cause place) (item, there, at, d, is, own, has, typed) = (item, record { there = there; own = d.name; named = ap own_name is; needed = need.needed d.name.text own }, at, has, typed)
+  halt_needed (halt.Refused cause place) (item, there, at, own, named, among, has, typed) = (item, record { there = there; own = own; named = named; needed = need.needed own.text among }, at, has, typed)
   halt_needed (halt.Ended refusal) h = absurd h
   halt_needed halt.Memory h = tt
 

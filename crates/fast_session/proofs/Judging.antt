@@ -1,5 +1,5 @@
 -- Verdicts on statements, and why there is none.
-use Rattle.std.proofs.Common.{◌≡◌, inl, inr, ℕ, Bool, true, false, not, ◌&&◌, List, [], ◌∷◌, Some, None, Contains, refl, sym, ap, subst, ◌∙◌}
+use Rattle.std.proofs.Common.{◌≡◌, inl, inr, ℕ, Bool, true, false, not, List, ◌∷◌, Some, None, refl, sym, ap, subst, ◌∙◌}
 use Rattle.model_tree.specs.Tree.{Tree, LabelTree, relabel}
 use Rattle.model_tree.specs.Scalars.{has_scalars}
 use Rattle.model_tree.specs.Signature.{HasType}
@@ -10,21 +10,18 @@ use Rattle.model_meaning.specs.Meaning.{input_type, signature_named}
 use Rattle.model_names.specs.Kinds.{type_of}
 use Rattle.model_meaning.specs.Values.{Printed}
 use Rattle.model_meaning.specs.Truth.{IsTrue, Shows}
-use Rattle.model_meaning.proofs.Members.{one_of, none_of}
-use Rattle.model_run.specs.Built.{is_built_expression, is_built_claim}
 use Rattle.model_run.specs.Causes.{AreAllLarge, HasCause, too_large}
-use Rattle.model_run.specs.Items.{claimed, expressions_in, judged_claim, claim_has_classes, IsComposable}
+use Rattle.model_run.specs.Items.{judged_claim, claim_has_classes, IsComposable}
 use Rattle.model_run.specs.Outcomes.{Outcome, true_verdict, tree_verdict, claim_type, trees_in, IsShownWith, IsVerdict, IsOutcomeOf}
 use Rattle.model_run.specs.Printable.{IsPrintable}
 use Rattle.fast_eval.specs.declared.stops.EvalStop.{EvalStop}
 use Rattle.fast_eval.specs.declared.stops.EvalStop.TheVariants.{Classes, Wide, Range, Memory}
-use Rattle.fast_build.proofs.Elements.{first_true, second_true}
 use Rattle.fast_eval.specs.Found.{IsInLimits}
 use Rattle.fast_eval.specs.Forms.{IsMadeAt}
 use Rattle.fast_eval.proofs.Claims.{made_on, made_from}
 use Rattle.fast_eval.specs.Stops.{IsStopOf, IsCauseFor}
 use Rattle.fast_eval.specs.Stops.{StopsExpression}
-use Rattle.fast_eval.proofs.Outcomes.{forms_compose, def_cause, claim_cause, large_cause}
+use Rattle.fast_eval.proofs.Outcomes.{def_cause, claim_cause, large_cause}
 use Rattle.tree_values.specs.Trees.{Tells}
 use Rattle.tree_values.specs.declared.trees.Trees.{Trees}
 use Rattle.fast_session.specs.declared.answers.Cause.TheVariants.{TreeSize}
@@ -138,24 +135,3 @@ module _ (a : Around) (item : Item) (old new : Kept) (s : AssertItem) (is : item
             (λ d other. let no : assertion s ≡ def d = sym is ∙ other in absurd (cc))
             (λ t other. let no : assertion s ≡ tree t = sym is ∙ other in cc);
       }
-
--- nothing is composed in statements of languages
-claim_composes : (items : List Item) (claim : Claim) → is_member claim ≡ false → is_built_claim claim ≡ true → (e : X) → Contains (claimed claim) e → is_built_expression e ≡ true
-claim_composes items (equal x y) of built e at = elim (one_of x e (y ∷ []) at) [
-  | inl same ↦ subst (λ z. is_built_expression z ≡ true) same (first_true (is_built_expression x) (is_built_expression y) built)
-  | inr other ↦ elim (one_of y e [] other) [ inl same ↦ subst (λ z. is_built_expression z ≡ true) same (second_true (is_built_expression x) (is_built_expression y) built) | inr none ↦ absurd (none_of e none) ]
-]
-claim_composes items (member x y) of built e at = absurd (cc)
-claim_composes items (empty x) of built e at = elim (one_of x e [] at) [ inl same ↦ subst (λ z. is_built_expression z ≡ true) same built | inr none ↦ absurd (none_of e none) ]
-claim_composes items (type_check x f y) of built e at =
-    let rest = second_true (is_built_expression x) (is_built_expression f && is_built_expression y) built in
-    elim (one_of x e (f ∷ y ∷ []) at) [
-      | inl same ↦ subst (λ z. is_built_expression z ≡ true) same (first_true (is_built_expression x) (is_built_expression f && is_built_expression y) built)
-      | inr other ↦ elim (one_of f e (y ∷ []) other) [
-        | inl same ↦ subst (λ z. is_built_expression z ≡ true) same (first_true (is_built_expression f) (is_built_expression y) rest)
-        | inr last ↦ elim (one_of y e [] last) [ inl same ↦ subst (λ z. is_built_expression z ≡ true) same (second_true (is_built_expression f) (is_built_expression y) rest) | inr none ↦ absurd (none_of e none) ]
-      ]
-    ]
-
-pub assertion_composes : (items : List Item) (item : Item) (s : AssertItem) → item.body ≡ assertion s → is_member s.claim ≡ false → is_built_claim s.claim ≡ true → IsComposable items item.body
-assertion_composes items item s is of built = forms_compose items item.body (λ e at. claim_composes items s.claim of built e (subst (λ b. Contains (expressions_in b) e) is at))

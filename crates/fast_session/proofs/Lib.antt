@@ -10,3 +10,4 @@ pub mod Following
 pub mod Building
 pub mod Prepared
 pub mod Composed
+pub mod Uncomposed

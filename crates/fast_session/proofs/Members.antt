@@ -1,11 +1,12 @@
 -- Verdicts on statements that a tree is in a language.
-use Rattle.std.proofs.Common.{◌≡◌, inl, ℕ, true, false, not, ◌&&◌, List, Some, refl, sym, ap, subst}
+use Rattle.std.proofs.Common.{◌≡◌, inl, ℕ, true, false, not, ◌&&◌, List, [], ◌∷◌, Some, refl, sym, ap, subst}
 use Rattle.model_tree.specs.Signature.{HasType}
 use Rattle.model_grammar.specs.Syntax.{X, Claim, equal, member, empty, type_check, AssertItem, assertion, Item}
 use Rattle.model_meaning.specs.Meaning.{input_type}
 use Rattle.model_run.specs.Built.{is_built_expression, is_built_tree, is_built_claim}
-use Rattle.model_run.specs.Items.{IsComposable}
+use Rattle.model_run.specs.Items.{used_in, claimed, AreComposable, AreAllComposable, IsComposable}
 use Rattle.model_run.specs.Outcomes.{Outcome, tree_verdict, claim_type, trees_in, IsShownWith, IsVerdict}
+use Rattle.sta_theory.proofs.Lists.{first_in, in_left, in_right}
 use Rattle.fast_build.proofs.Elements.{first_true, second_true}
 use Rattle.fast_eval.specs.Found.{IsInLimits}
 use Rattle.fast_eval.specs.Forms.{AreKnown, IsMadeOn, IsMadeAt}
@@ -15,7 +16,7 @@ use Rattle.tree_values.specs.Forms.{IsTreeOn, IsTreeKnown}
 use Rattle.tree_values.specs.Members.{IsMember, IsMemberStop}
 use Rattle.tree_values.specs.Stops.{IsStopTyped, IsCauseOf}
 use Rattle.tree_values.specs.Trees.{meant, Tells}
-use Rattle.tree_values.proofs.Outcomes.{member_composes, member_cause, member_shown}
+use Rattle.tree_values.proofs.Outcomes.{member_cause, member_shown}
 use Rattle.tree_values.proofs.Programs.{AreSides, member_made, member_known}
 use Rattle.fast_session.specs.declared.items.Around.{Around}
 use Rattle.fast_session.specs.declared.items.Kept.{Kept}
@@ -23,13 +24,13 @@ use Rattle.fast_session.specs.declared.verdicts.Verdict.{Verdict}
 use Rattle.fast_session.specs.Answers.{stopped_value, verdict_on}
 use Rattle.fast_session.specs.Kept.{items_in, IsReady}
 use Rattle.fast_session.specs.Items.{HaveScalars, IsTyped, IsStoppedAt, is_member, spoken_of, verdict_outcome, IsVerdictOn}
-use Rattle.fast_session.proofs.Judging.{shown_if, assertion_composes}
+use Rattle.fast_session.proofs.Judging.{shown_if}
 use Rattle.fast_session.proofs.Printing.{stopped_value_cause}
-use Rattle.fast_session.proofs.Ready.{whole, claim_built, IsClaimReady, assertion_ready}
+use Rattle.fast_session.proofs.Ready.{whole, claim_built, claim_can, IsClaimReady, assertion_ready}
 
-module _ (a : Around) (item : Item) (old : Kept) (ready : IsReady a item old) (s : AssertItem) (is : item.body ≡ assertion s) (x y : X) (same : s.claim ≡ member x y) where
+module _ (a : Around) (item : Item) (old : Kept) (ready : IsReady a item old) (composable : IsComposable (items_in a) item.body) (s : AssertItem) (is : item.body ≡ assertion s) (x y : X) (same : s.claim ≡ member x y) where
   built_member : (is_built_tree x && is_built_expression y) ≡ true
-  built_member = subst (λ c. is_built_claim c ≡ true) same (claim_built a item old ready s is)
+  built_member = subst (λ c. is_built_claim c ≡ true) same (claim_built a item old ready composable s is)
 
   form_x : is_built_tree x ≡ true
   form_x = first_true (is_built_tree x) (is_built_expression y) built_member
@@ -37,17 +38,24 @@ module _ (a : Around) (item : Item) (old : Kept) (ready : IsReady a item old) (s
   form_y : is_built_expression y ≡ true
   form_y = second_true (is_built_tree x) (is_built_expression y) built_member
 
-  sides : AreSides (items_in a) (whole a item old ready) x y
-  sides = member_made (items_in a) (whole a item old ready) item ready.at s x y is same form_x form_y
+  -- what its expressions compose can be composed
+  all_can : AreAllComposable (items_in a) (claimed (member x y))
+  all_can = subst (λ c. AreAllComposable (items_in a) (claimed c)) same (claim_can a item old ready composable s is)
+
+  can_x : AreAllComposable (items_in a) (used_in x)
+  can_x e at = all_can e (in_left (used_in x) (y ∷ []) e at)
+
+  can_y : AreComposable (items_in a) y
+  can_y = all_can y (in_right (used_in x) (y ∷ []) y (first_in y []))
+
+  sides : AreSides (items_in a) (whole a item old ready composable) x y
+  sides = member_made (items_in a) (whole a item old ready composable) item ready.at s x y is same form_x form_y can_x can_y
 
   pub member_on : (type : List ℕ) × IsMadeOn (items_in a) type y × IsTreeOn (items_in a) type x
   member_on = (sides.type, sides.right, sides.left)
 
   pub member_names : IsTreeKnown (items_in a) old.trees old.built x × AreKnown (items_in a) old.built y
-  member_names = member_known (items_in a) (whole a item old ready) item ready.at s x y is same form_x form_y old.built old.trees ready.kept.defined ready.kept.printed
-
-  pub member_composable : IsComposable (items_in a) item.body
-  member_composable = subst (IsComposable (items_in a)) (sym is) (member_composes (items_in a) s x y same form_x form_y)
+  member_names = member_known (items_in a) (whole a item old ready composable) item ready.at s x y is same form_x form_y can_x can_y old.built old.trees ready.kept.defined ready.kept.printed
 
   pub member_stops : (stop : ValueStop) → ((done : List Outcome) → Tells old.trees (trees_in done) → IsMemberStop (items_in a) (trees_in done) a.limit x y stop) → IsStopTyped (items_in a) stop → IsStoppedAt (items_in a) a.limit item old (stopped_value a.limit stop)
   member_stops stop cause typed = stopped_value_cause (items_in a) a.limit item old stop (λ done told. subst (λ b. IsCauseOf (items_in a) a.limit (trees_in done) b stop) (sym is) (member_cause (items_in a) a.limit (trees_in done) s x y same stop (cause done told))) typed
@@ -69,22 +77,13 @@ module _ (a : Around) (item : Item) (old : Kept) (ready : IsReady a item old) (s
 
 -- ---- statements of both kinds
 
-module _ (a : Around) (item : Item) (old : Kept) (ready : IsReady a item old) (s : AssertItem) (is : item.body ≡ assertion s) where
-  spoken_by : (claim : Claim) → s.claim ≡ claim → (is_member claim ≡ false → IsClaimReady a item old ready claim) → (type : List ℕ) × IsMadeAt (items_in a) type (spoken_of claim)
+module _ (a : Around) (item : Item) (old : Kept) (ready : IsReady a item old) (composable : IsComposable (items_in a) item.body) (s : AssertItem) (is : item.body ≡ assertion s) where
+  spoken_by : (claim : Claim) → s.claim ≡ claim → (is_member claim ≡ false → IsClaimReady a item old ready composable claim) → (type : List ℕ) × IsMadeAt (items_in a) type (spoken_of claim)
   spoken_by (equal x y) same ready_of = let r = ready_of refl in (r.type, inl r.on.0)
-  spoken_by (member x y) same ready_of = let m = member_on a item old ready s is x y same in (m.0, inl m.1)
+  spoken_by (member x y) same ready_of = let m = member_on a item old ready composable s is x y same in (m.0, inl m.1)
   spoken_by (empty x) same ready_of = let r = ready_of refl in (r.type, r.on)
   spoken_by (type_check x f y) same ready_of = let r = ready_of refl in (r.type, inl r.on.1)
 
   -- the expression with the type of whose trees the statement speaks
   pub spoken_made : (type : List ℕ) × IsMadeAt (items_in a) type (spoken_of s.claim)
-  spoken_made = spoken_by s.claim refl (assertion_ready a item old ready s is)
-
-  composed_by : (claim : Claim) → s.claim ≡ claim → (is_member claim ≡ false → IsComposable (items_in a) item.body) → IsComposable (items_in a) item.body
-  composed_by (equal x y) same else = else refl
-  composed_by (member x y) same else = member_composable a item old ready s is x y same
-  composed_by (empty x) same else = else refl
-  composed_by (type_check x f y) same else = else refl
-
-  pub composes : IsComposable (items_in a) item.body
-  composes = composed_by s.claim refl (λ of. assertion_composes (items_in a) item s is of (claim_built a item old ready s is))
+  spoken_made = spoken_by s.claim refl (assertion_ready a item old ready composable s is)

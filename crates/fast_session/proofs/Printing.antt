@@ -9,10 +9,11 @@ use Rattle.model_meaning.specs.Meaning.{signature_named}
 use Rattle.model_meaning.specs.Values.{IsValue}
 use Rattle.model_checks.proofs.Soundness.{same_from_test}
 use Rattle.model_run.specs.Built.{is_built_body, is_built_tree}
-use Rattle.model_run.specs.Items.{IsComposable}
+use Rattle.model_run.specs.Items.{used_in, expressions_in, AreAllComposable, IsComposable}
 use Rattle.model_run.specs.Outcomes.{Outcome, tree_line, trees_in, IsOutcomeOf}
 use Rattle.fast_build.proofs.Naming.{same_itself}
 use Rattle.fast_eval.specs.Found.{IsInLimits}
+use Rattle.fast_eval.proofs.Outcomes.{each_composable}
 use Rattle.fast_eval.specs.Table.{AreBuilt, IsGrown}
 use Rattle.fast_eval.specs.declared.stops.EvalStop.TheVariants.{Classes, Wide, Range, Memory}
 use Rattle.tree_values.specs.declared.stops.ValueStop.{ValueStop}
@@ -21,7 +22,7 @@ use Rattle.tree_values.specs.declared.trees.Trees.{Trees}
 use Rattle.tree_values.specs.Forms.{IsTreeOn, IsTreeKnown}
 use Rattle.tree_values.specs.Stops.{IsValueStop, IsStopTyped, IsCauseOf}
 use Rattle.tree_values.specs.Trees.{tree_at, Adds, Tells}
-use Rattle.tree_values.proofs.Outcomes.{tree_composes, tree_cause}
+use Rattle.tree_values.proofs.Outcomes.{tree_cause}
 use Rattle.tree_values.proofs.Programs.{tree_made, tree_is_known, type_by_name}
 use Rattle.fast_session.specs.declared.items.Around.{Around}
 use Rattle.fast_session.specs.declared.items.Kept.{Kept}
@@ -55,18 +56,21 @@ stopped_value_cause items limit item old (SeveralOutputs two) cause typed = (cau
 told_more : (old new : Trees) (name : List ℕ) (signature : PlainSignature) (t : LabelTree) → Adds old new name t → (done : List Outcome) → Tells old (trees_in done) → Tells new (trees_in (tree_line name signature t ∷ done))
 told_more old new name signature t added done told other = added other ∙ ap (cond (same_text name other) (Some t)) (told other)
 
-module _ (a : Around) (item : Item) (old : Kept) (ready : IsReady a item old) (t : TreeItem) (is : item.body ≡ tree t) where
+module _ (a : Around) (item : Item) (old : Kept) (ready : IsReady a item old) (composable : IsComposable (items_in a) item.body) (t : TreeItem) (is : item.body ≡ tree t) where
   abbrev type : PlainSignature
   type = signature_named (items_in a) (Some t.of.text)
 
   tree_form : is_built_tree t.value ≡ true
   tree_form = subst (λ b. is_built_body b ≡ true) is ready.is_built
 
+  tree_can : AreAllComposable (items_in a) (used_in t.value)
+  tree_can = subst (λ b. AreAllComposable (items_in a) (expressions_in b)) is (each_composable (items_in a) item.body composable)
+
   pub value_made : IsTreeOn (items_in a) t.of.text t.value
-  value_made = tree_made (items_in a) (whole a item old ready) item ready.at t is tree_form
+  value_made = tree_made (items_in a) (whole a item old ready composable) item ready.at t is tree_form tree_can
 
   pub value_known : IsTreeKnown (items_in a) old.trees old.built t.value
-  value_known = tree_is_known (items_in a) (whole a item old ready) item ready.at t is tree_form old.built old.trees ready.kept.defined ready.kept.printed
+  value_known = tree_is_known (items_in a) (whole a item old ready composable) item ready.at t is tree_form tree_can old.built old.trees ready.kept.defined ready.kept.printed
 
   pub value_stops : (s : ValueStop) → ((done : List Outcome) → Tells old.trees (trees_in done) → IsValueStop (items_in a) (trees_in done) a.limit type t.value s) → IsStopTyped (items_in a) s → IsStoppedAt (items_in a) a.limit item old (stopped_value a.limit s)
   value_stops s cause typed = stopped_value_cause (items_in a) a.limit item old s (λ done told. subst (λ b. IsCauseOf (items_in a) a.limit (trees_in done) b s) (sym is) (tree_cause (items_in a) a.limit (trees_in done) t s (cause done told))) typed
@@ -88,7 +92,7 @@ module _ (a : Around) (item : Item) (old : Kept) (ready : IsReady a item old) (t
     kept_tree typed limits before was = record {
       built = subst (AreBuilt (items_in a)) (sym printed.built) printed.more.built;
       typed = typed_more old.trees new.trees t.name.text v added_to_old (items_in a) (same_from_test t.name.text)
-          (subst (λ s. HasType s v) (sym (type_by_name (items_in a) (whole a item old ready) item ready.at t is)) typed) limits was.typed;
+          (subst (λ s. HasType s v) (sym (type_by_name (items_in a) (whole a item old ready composable) item ready.at t is)) typed) limits was.typed;
       defined = defined_more before item old.built new.built (subst (IsGrown old.built) (sym printed.built) printed.more.grown) was.defined (λ d other. let no : tree t ≡ def d = sym is ∙ other in absurd (cc));
       printed = printed_more before item old.trees new.trees (still_there old.trees new.trees t.name.text v added_to_old) was.printed
           (λ u other. subst (λ (w : TreeItem). is_some (tree_at new.trees w.name.text) ≡ true) (own_tree u other) (own_there old.trees new.trees t.name.text v added_to_old (same_itself t.name.text)));
@@ -97,7 +101,7 @@ module _ (a : Around) (item : Item) (old : Kept) (ready : IsReady a item old) (t
     pub done_tree : (o : Outcome) → o ≡ tree_line t.name.text type v → ((done : List Outcome) → Tells old.trees (trees_in done) → IsValue (items_in a) (trees_in done) type t.value v) → HasType type v → IsInLimits v → IsDone (items_in a) item old new o
     done_tree o same value typed limits = subst (IsDone (items_in a) item old new) (sym same) (record {
       may = λ done told scalars. record {
-        composable = subst (IsComposable (items_in a)) (sym is) (tree_composes (items_in a) t tree_form);
+        composable = composable;
         is = subst (λ b. IsOutcomeOf (items_in a) (trees_in done) item.place.line b (tree_line t.name.text type v)) (sym is) (refl, refl, value done told, shown_if v limits scalars);
       };
       typed = typed;

@@ -1,17 +1,15 @@
 -- Items without a line, and statements, print no tree.
-use Rattle.std.proofs.Common.{◌≡◌, inl, inr, ℕ, Bool, true, List, [], ◌∷◌, Option, Some, None, Contains, refl, sym, subst, ◌∙◌}
+use Rattle.std.proofs.Common.{◌≡◌, ℕ, Bool, List, ◌∷◌, Option, Some, None, refl, sym, subst, ◌∙◌}
 use Rattle.model_tree.specs.Tree.{Tree}
 use Rattle.model_tree.specs.Signature.{PlainSignature}
 use Rattle.fast_tree.specs.declared.label.Label.{Label}
-use Rattle.model_grammar.specs.Syntax.{X, sorts, tree, lang, trans, def, DefItem, TreeItem, Item}
+use Rattle.model_grammar.specs.Syntax.{sorts, tree, lang, trans, def, DefItem, TreeItem, Item}
 use Rattle.model_meaning.specs.Values.{Printed}
-use Rattle.model_meaning.proofs.Members.{one_of, none_of}
-use Rattle.model_run.specs.Built.{is_built_expression}
-use Rattle.model_run.specs.Items.{expressions_in}
+use Rattle.model_run.specs.Items.{IsComposable}
 use Rattle.model_run.specs.Outcomes.{Outcome, silent, trees_in, IsOutcomeOf}
 use Rattle.fast_eval.specs.Counted.{IsCounted, outcome_of}
 use Rattle.fast_eval.specs.Table.{AreBuilt}
-use Rattle.fast_eval.proofs.Outcomes.{forms_compose, def_outcome}
+use Rattle.fast_eval.proofs.Outcomes.{def_outcome}
 use Rattle.fast_eval.specs.Defined.{IsDefined}
 use Rattle.fast_eval.proofs.Keeping.{none_more}
 use Rattle.tree_values.specs.Trees.{Tells}
@@ -34,34 +32,31 @@ pub nothing_more : (items : List Item) (k : Kept) → AreBuilt items k.built →
 nothing_more items k built = record { built = built; grown = none_more k.built; trees = refl }
 
 module _ (items : List Item) (item : Item) where
-  -- an item without a line, which has no expression
-  pub done_bare : (k : Kept) → ((e : X) → ¬ (Contains (expressions_in item.body) e)) → ((trees : List Printed) → IsOutcomeOf items trees item.place.line item.body silent)
+  -- an item without a line
+  done_bare : (k : Kept) → IsComposable items item.body → ((trees : List Printed) → IsOutcomeOf items trees item.place.line item.body silent)
       → ((d : DefItem) → ¬ (item.body ≡ def d)) → ((t : TreeItem) → ¬ (item.body ≡ tree t)) → IsDone items item k k silent
-  done_bare k bare is no_def no_tree = record {
-    may = λ done told scalars. record { composable = forms_compose items item.body (λ e at. absurd (bare e at)); is = is (trees_in done) };
+  done_bare k composable is no_def no_tree = record {
+    may = λ done told scalars. record { composable = composable; is = is (trees_in done) };
     typed = tt;
     told = λ done told. told;
     kept = λ before was. kept_built before item items k k (nothing_more items k was.built) was (λ d is. absurd (no_def d is)) no_tree;
   }
 
   -- an item of a type, of a language, and of a transformation
-  pub done_sorts : (k : Kept) (t : _) → item.body ≡ sorts t → IsDone items item k k silent
-  done_sorts k t is = done_bare k
-      (λ e at. none_of e (subst (λ b. Contains (expressions_in b) e) is at))
+  pub done_sorts : (k : Kept) → IsComposable items item.body → (t : _) → item.body ≡ sorts t → IsDone items item k k silent
+  done_sorts k composable t is = done_bare k composable
       (λ trees. subst (λ b. IsOutcomeOf items trees item.place.line b silent) (sym is) refl)
       (λ d other. let no : sorts t ≡ def d = sym is ∙ other in cc)
       (λ u other. let no : sorts t ≡ tree u = sym is ∙ other in cc)
 
-  pub done_lang : (k : Kept) (l : _) → item.body ≡ lang l → IsDone items item k k silent
-  done_lang k l is = done_bare k
-      (λ e at. none_of e (subst (λ b. Contains (expressions_in b) e) is at))
+  pub done_lang : (k : Kept) → IsComposable items item.body → (l : _) → item.body ≡ lang l → IsDone items item k k silent
+  done_lang k composable l is = done_bare k composable
       (λ trees. subst (λ b. IsOutcomeOf items trees item.place.line b silent) (sym is) refl)
       (λ d other. let no : lang l ≡ def d = sym is ∙ other in cc)
       (λ u other. let no : lang l ≡ tree u = sym is ∙ other in cc)
 
-  pub done_trans : (k : Kept) (t : _) → item.body ≡ trans t → IsDone items item k k silent
-  done_trans k t is = done_bare k
-      (λ e at. none_of e (subst (λ b. Contains (expressions_in b) e) is at))
+  pub done_trans : (k : Kept) → IsComposable items item.body → (t : _) → item.body ≡ trans t → IsDone items item k k silent
+  done_trans k composable t is = done_bare k composable
       (λ trees. subst (λ b. IsOutcomeOf items trees item.place.line b silent) (sym is) refl)
       (λ d other. let no : trans t ≡ def d = sym is ∙ other in cc)
       (λ u other. let no : trans t ≡ tree u = sym is ∙ other in cc)
@@ -76,18 +71,15 @@ counted_tells name None done = refl
 counted_tells name (Some n) done = refl
 
 -- a definition
-module _ (a : Around) (item : Item) (old new : Kept) (ready : IsReady a item old) (d : DefItem) (is : item.body ≡ def d) where
+module _ (a : Around) (item : Item) (old new : Kept) (ready : IsReady a item old) (composable : IsComposable (items_in a) item.body) (d : DefItem) (is : item.body ≡ def d) where
   own_def : (e : DefItem) → item.body ≡ def e → d ≡ e
   own_def e other = let same : def d ≡ def e = sym is ∙ other in cc
-
-  form_of : (e : X) → Contains (d.value ∷ []) e → is_built_expression e ≡ true
-  form_of e at = elim (one_of d.value e [] at) [ inl same ↦ subst (λ x. is_built_expression x ≡ true) same (def_form a item old ready d is) | inr none ↦ absurd (none_of e none) ]
 
   pub done_def : IsBuiltMore (items_in a) old new → IsDefined new.built d → (count : Option ℕ) → IsCounted (items_in a) d.value count → IsDone (items_in a) item old new (outcome_of d.name.text count)
   done_def more named count counted = record {
     may = λ done told scalars. record {
-      composable = forms_compose (items_in a) item.body (λ e at. form_of e (subst (λ b. Contains (expressions_in b) e) is at));
-      is = subst (λ b. IsOutcomeOf (items_in a) (trees_in done) item.place.line b (outcome_of d.name.text count)) (sym is) (def_outcome (items_in a) (trees_in done) d d.value (def_form a item old ready d is) count counted);
+      composable = composable;
+      is = subst (λ b. IsOutcomeOf (items_in a) (trees_in done) item.place.line b (outcome_of d.name.text count)) (sym is) (def_outcome (items_in a) (trees_in done) d d.value (def_form a item old ready composable d is) count counted);
     };
     typed = counted_typed d.name.text count;
     told = λ done told. subst (λ (outcomes : List Printed). Tells new.trees outcomes) (sym (counted_tells d.name.text count done)) (subst (λ (ts : Trees). Tells ts (trees_in done)) (sym more.trees) told);

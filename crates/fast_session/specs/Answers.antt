@@ -10,9 +10,12 @@ use Rattle.fast_tree.specs.Entries.{label_meaning}
 use Rattle.fast_tree.specs.declared.label.Label.{Label}
 use Rattle.model_grammar.specs.Syntax.{Item}
 use Rattle.model_meaning.specs.Meaning.{signature_named}
-use Rattle.model_run.specs.Causes.{Stop, more_classes, too_wide, form_number, label_number, too_much, empty_language, no_output, two_outputs, too_large}
+use Rattle.model_run.specs.Causes.{Stop, more_classes, too_wide, form_number, label_number, too_much, not_composable, empty_language, no_output, two_outputs, too_large}
 use Rattle.model_run.specs.Outcomes.{Outcome, silent, tree_line, minimal_line, true_verdict, tree_verdict}
 use Rattle.lin_solve.specs.Shown.{bits_of}
+use Rattle.fast_compose.specs.Stops.{meeting_of, plain_uncomposable}
+use Rattle.fast_compose.specs.declared.stops.ComposeStop.{ComposeStop}
+use Rattle.fast_compose.specs.declared.stops.ComposeStop.TheVariants as composing
 use Rattle.fast_eval.specs.declared.stops.EvalStop.{EvalStop}
 use Rattle.fast_eval.specs.declared.stops.EvalStop.TheVariants as evaluation
 use Rattle.fast_eval.specs.declared.stops.OutputStop.{OutputStop}
@@ -23,7 +26,7 @@ use Rattle.tree_values.specs.declared.stops.ValueStop.TheVariants as values
 use Rattle.tree_values.specs.Stops.{type_of_tree, AreShown}
 use Rattle.tree_values.specs.Trees.{meant}
 use Rattle.fast_session.specs.declared.answers.Cause.{Cause}
-use Rattle.fast_session.specs.declared.answers.Cause.TheVariants.{Classes, Width, FormRange, LabelRange, Outputs, EmptyLanguage, NoOutput, SeveralOutputs, TreeSize}
+use Rattle.fast_session.specs.declared.answers.Cause.TheVariants.{Classes, Width, FormRange, LabelRange, Outputs, NotComposable, EmptyLanguage, NoOutput, SeveralOutputs, TreeSize}
 use Rattle.fast_session.specs.declared.answers.Stopped.{Stopped}
 use Rattle.fast_session.specs.declared.answers.Stopped.TheVariants as stopped
 use Rattle.fast_session.specs.declared.answers.Line.{Line}
@@ -43,6 +46,7 @@ code_of (Width bits) = codes.Width
 code_of (FormRange n) = codes.FormRange
 code_of (LabelRange n) = codes.LabelRange
 code_of (Outputs load) = codes.Outputs
+code_of (NotComposable u) = codes.NotComposable
 code_of EmptyLanguage = codes.EmptyLanguage
 code_of (NoOutput t) = codes.OutputCount
 code_of (SeveralOutputs two) = codes.OutputCount
@@ -55,6 +59,7 @@ module _ (items : List Item) where
   plain_cause (FormRange n) = form_number n
   plain_cause (LabelRange n) = label_number n
   plain_cause (Outputs load) = too_much (load_of load)
+  plain_cause (NotComposable u) = not_composable (plain_uncomposable items u)
   plain_cause EmptyLanguage = empty_language
   plain_cause (NoOutput t) = no_output (type_of_tree items t) (meant t.tree)
   plain_cause (SeveralOutputs two) = two_outputs (type_of_tree items two.input) (meant two.input.tree) (signature_named items (Some two.into)) (meant two.first) (meant two.second)
@@ -62,6 +67,7 @@ module _ (items : List Item) where
 
   -- the trees that the refusal shows have their types
   abbrev pub IsCauseTyped : Cause → Type 0
+  IsCauseTyped (NotComposable u) = HasType (signature_named items (Some u.meeting.of)) (meeting_of u)
   IsCauseTyped (NoOutput t) = HasType (type_of_tree items t) (meant t.tree)
   IsCauseTyped (SeveralOutputs two) =
       HasType (type_of_tree items two.input) (meant two.input.tree) × HasType (signature_named items (Some two.into)) (meant two.first) × HasType (signature_named items (Some two.into)) (meant two.second)
@@ -69,6 +75,7 @@ module _ (items : List Item) where
 
 -- their texts are of Unicode scalars, which printing them shows
 abbrev pub CanBeShown : Cause → Type 0
+CanBeShown (NotComposable u) = has_scalars (meeting_of u) ≡ true
 CanBeShown (NoOutput t) = has_scalars (meant t.tree) ≡ true
 CanBeShown (SeveralOutputs two) = AreShown two
 CanBeShown cause = Unit {0}
@@ -79,6 +86,14 @@ stopped_by limit evaluation.Classes = stopped.By (Classes limit)
 stopped_by limit (evaluation.Wide c) = stopped.By (Width (bits_of c.width))
 stopped_by limit (evaluation.Range n) = stopped.By (FormRange n)
 stopped_by limit evaluation.Memory = stopped.Memory
+
+-- where it isn't known that compositions can be made
+abbrev pub stopped_composing : ℕ → ComposeStop → Stopped
+stopped_composing limit composing.Classes = stopped.By (Classes limit)
+stopped_composing limit (composing.Wide c) = stopped.By (Width (bits_of c.width))
+stopped_composing limit (composing.NotComposable u) = stopped.By (NotComposable u)
+stopped_composing limit composing.TooLarge = stopped.By TreeSize
+stopped_composing limit composing.Memory = stopped.Memory
 
 -- where there is no list of outputs
 abbrev pub stopped_outputs : ℕ → OutputStop → Stopped

@@ -3,6 +3,7 @@ use Rattle.std.specs.Prelude.{◌≡◌, ℕ, Bool, true, false, List, [], ◌�
 use Rattle.model_tree.specs.Scalars.{has_scalars}
 use Rattle.model_tree.specs.Signature.{HasType}
 use Rattle.model_grammar.specs.Syntax.{X, Claim, equal, member, empty, type_check, AssertItem, Item}
+use Rattle.model_meaning.specs.Values.{Printed}
 use Rattle.model_run.specs.Causes.{HasCause}
 use Rattle.model_run.specs.Outcomes.{Outcome, silent, tree_line, minimal_line, true_verdict, tree_verdict, claim_type, trees_in, IsOutcome, IsVerdict}
 use Rattle.fast_eval.specs.Table.{AreBuilt, IsGrown}
@@ -42,6 +43,11 @@ abbrev pub IsStoppedAt : List Item → ℕ → Item → Kept → Stopped → Typ
 IsStoppedAt items limit item old (By cause) =
     ((done : List Outcome) → Tells old.trees (trees_in done) → CanBeShown cause → HasCause items limit (trees_in done) item.body (plain_cause items cause)) × IsCauseTyped items cause
 IsStoppedAt items limit item old Memory = Unit {0}
+
+-- the same, whatever trees were printed before it
+abbrev pub IsAlwaysStopped : List Item → ℕ → Item → Stopped → Type 0
+IsAlwaysStopped items limit item (By cause) = ((trees : List Printed) → CanBeShown cause → HasCause items limit trees item.body (plain_cause items cause)) × IsCauseTyped items cause
+IsAlwaysStopped items limit item Memory = Unit {0}
 
 -- ---- verdicts
 

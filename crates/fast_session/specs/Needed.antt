@@ -2,10 +2,13 @@
 use Rattle.std.specs.Prelude.{◌≡◌, ◌⊎◌, ◌≤◌, ℕ, true, List, [], ◌∷◌, ◌++◌, Option, Some, None, length}
 use Rattle.std.specs.List.{Contains}
 use Rattle.model_tree.specs.Tree.{LabelTree}
+use Rattle.model_program.specs.Syntax.{Name}
 use Rattle.model_grammar.specs.Syntax.{X, named, one, two, literal, DefItem, Body, sorts, tree, lang, trans, def, assertion, Item}
 use Rattle.model_checks.specs.Sound.{StandsIn}
 use Rattle.model_meaning.specs.Reached.{IsNamedIn, DependsOn}
+use Rattle.model_names.specs.Declared.{own_name}
 use Rattle.model_run.specs.Built.{is_built}
+use Rattle.model_run.specs.Items.{IsComposable}
 use Rattle.model_run.specs.Causes.{HasCause, TreeHasCause}
 use Rattle.model_run.specs.Report.{named_x, IsNeeded}
 use Rattle.program_check.specs.Tells.{IsChecked}
@@ -17,7 +20,7 @@ use Rattle.fast_session.specs.declared.answers.Stopped.{Stopped}
 use Rattle.fast_session.specs.declared.answers.Stopped.TheVariants.{By, Memory}
 use Rattle.fast_session.specs.declared.items.Around.{Around}
 use Rattle.fast_session.specs.declared.items.Kept.{Kept}
-use Rattle.fast_session.specs.Answers.{plain_cause, IsCauseTyped}
+use Rattle.fast_session.specs.Answers.{plain_cause, CanBeShown, IsCauseTyped}
 use Rattle.fast_session.specs.Kept.{items_in}
 
 -- the definition that an item is
@@ -62,10 +65,14 @@ pub record IsBuildable (a : Around) (names : List (List ℕ)) (item : Item) (k :
   pub defined : AreDefinedOf (Contains names) k.built at.before
   pub shallow : a.limit ≤ 2000
 
--- the item at the place is a definition with one of the names, and has the cause
+-- of these items, the compositions of each with one of the names can be made
+abbrev pub AreComposableOf : List Item → (List ℕ → Type 0) → List Item → Type 0
+AreComposableOf items P some = (item : Item) (own : Name) → Contains some item → own_name item.body ≡ Some own → P own.text → IsComposable items item.body
+
+-- the item at the place has one of the names, and the cause
 abbrev pub IsHaltAmong : List Item → ℕ → List (List ℕ) → Halt → Type 0
 IsHaltAmong items limit names (halt.Refused cause place) =
-    (item : Item) × Contains items item × (place ≡ item.place) × (d : DefItem) × (item.body ≡ def d) × Contains names d.name.text × HasCause items limit [] item.body (plain_cause items cause) × IsCauseTyped items cause
+    (item : Item) × Contains items item × (place ≡ item.place) × (own : Name) × (own_name item.body ≡ Some own) × Contains names own.text × (CanBeShown cause → HasCause items limit [] item.body (plain_cause items cause)) × IsCauseTyped items cause
 IsHaltAmong items limit names (halt.Ended refusal) = ⊥
 IsHaltAmong items limit names halt.Memory = Unit {0}
 
@@ -76,6 +83,6 @@ IsTreeStopped items name t Memory = Unit {0}
 
 -- the name needs the item at the place, which has the cause
 abbrev pub IsHaltNeeded : List Item → ℕ → List ℕ → Halt → Type 0
-IsHaltNeeded items limit name (halt.Refused cause place) = (item : Item) × IsNeeded items name item × (place ≡ item.place) × HasCause items limit [] item.body (plain_cause items cause) × IsCauseTyped items cause
+IsHaltNeeded items limit name (halt.Refused cause place) = (item : Item) × IsNeeded items name item × (place ≡ item.place) × (CanBeShown cause → HasCause items limit [] item.body (plain_cause items cause)) × IsCauseTyped items cause
 IsHaltNeeded items limit name (halt.Ended refusal) = ⊥
 IsHaltNeeded items limit name halt.Memory = Unit {0}

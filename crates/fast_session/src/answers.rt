@@ -3,6 +3,7 @@
 ghost use Rattle.std.specs.Prelude.{◌≡◌};
 ghost use Rattle.fast_session.specs.Answers.{code_of, ending_of, halt_at};
 
+use fast_compose::Uncomposable;
 use fast_fault::{Code, Memory, Pos, Refusal, Text};
 use fast_tree::{Label, Tree};
 use sttr_apply::Load;
@@ -55,6 +56,8 @@ pub enum Cause {
     LabelRange(i128),
     /// There are too many or too large outputs.
     Outputs(Load),
+    /// Two transformations can't be composed.
+    NotComposable(Uncomposable),
     /// A tree is wanted of a language that has none.
     EmptyLanguage,
     /// One output is wanted for a tree that has none.
@@ -76,6 +79,7 @@ impl Cause {
             Cause::FormRange(_) => Code::FormRange,
             Cause::LabelRange(_) => Code::LabelRange,
             Cause::Outputs(_) => Code::Outputs,
+            Cause::NotComposable(_) => Code::NotComposable,
             Cause::EmptyLanguage => Code::EmptyLanguage,
             Cause::NoOutput(_) | Cause::SeveralOutputs(_) => Code::OutputCount,
             Cause::TreeSize => Code::TreeSize,

@@ -3,12 +3,14 @@
 ghost use Rattle.std.specs.Prelude.{◌≡◌, List, IfOk, IfErr};
 ghost use Rattle.fast_syntax.specs.Plain.{plain_item, plain_def};
 ghost use Rattle.model_grammar.specs.Syntax as plain;
+ghost use Rattle.model_run.specs.Items.{IsComposable};
 ghost use Rattle.fast_eval.specs.Counted.{outcome_of};
 ghost use Rattle.fast_session.specs.Answers.{given};
 ghost use Rattle.fast_session.specs.Kept.{items_in, IsReady};
 ghost use Rattle.fast_session.specs.Items.{IsDone, IsStoppedAt};
 
 use crate::answers::{Line, Stopped};
+use crate::compositions::can_compose;
 use crate::stops::stopped;
 use crate::trees::do_tree;
 use crate::verdicts::do_assertion;
@@ -53,6 +55,7 @@ fn do_def(
     own: &DefItem,
 ) -> Result<Option<Line>, Stopped>
     requires ready { IsReady around.now (plain_item item.now) kept.old }
+    requires composable { IsComposable (items_in around.now) (plain_item item.now).body }
     requires is { (plain_item item.now).body ≡ plain.def (plain_def own.now) }
     ensures done { IfOk result (λ line. IsDone (items_in around.now) (plain_item item.now) kept.old kept.new (given (items_in around.now) line)) }
     ensures stopped { IfErr result (IsStoppedAt (items_in around.now) around.now.limit (plain_item item.now) kept.old) }
@@ -60,6 +63,26 @@ fn do_def(
     match define(alloc, around.checked, &mut kept.built, around.limit, own) {
         Ok(count) => Ok(line_of(alloc, &own.name.text, count)?),
         Err(stop) => Err(stopped(around.limit, stop)),
+    }
+}
+
+/// Does an item whose compositions can be made, and gives its line if it has one.
+fn do_ready(
+    alloc: Global,
+    around: &Around,
+    kept: &mut Kept,
+    item: &Item,
+) -> Result<Option<Line>, Stopped>
+    requires ready { IsReady around.now (plain_item item.now) kept.old }
+    requires composable { IsComposable (items_in around.now) (plain_item item.now).body }
+    ensures done { IfOk result (λ line. IsDone (items_in around.now) (plain_item item.now) kept.old kept.new (given (items_in around.now) line)) }
+    ensures stopped { IfErr result (IsStoppedAt (items_in around.now) around.now.limit (plain_item item.now) kept.old) }
+{
+    match &item.body {
+        Body::Sorts(_) | Body::Lang(_) | Body::Trans(_) => Ok(None),
+        Body::Def(own) => do_def(alloc, around, kept, item, own),
+        Body::Tree(own) => Ok(Some(do_tree(alloc, around, kept, item, own)?)),
+        Body::Assert(own) => Ok(Some(do_assertion(alloc, around, kept, item, own)?)),
     }
 }
 
@@ -74,10 +97,6 @@ pub fn do_item(
     ensures done { IfOk result (λ line. IsDone (items_in around.now) (plain_item item.now) kept.old kept.new (given (items_in around.now) line)) }
     ensures stopped { IfErr result (IsStoppedAt (items_in around.now) around.now.limit (plain_item item.now) kept.old) }
 {
-    match &item.body {
-        Body::Sorts(_) | Body::Lang(_) | Body::Trans(_) => Ok(None),
-        Body::Def(own) => do_def(alloc, around, kept, item, own),
-        Body::Tree(own) => Ok(Some(do_tree(alloc, around, kept, item, own)?)),
-        Body::Assert(own) => Ok(Some(do_assertion(alloc, around, kept, item, own)?)),
-    }
+    can_compose(alloc, around, item)?;
+    do_ready(alloc, around, kept, item)
 }

@@ -5,6 +5,8 @@ ghost use Rattle.std.specs.List.{list_all};
 ghost use Rattle.std.specs.Option.{option_map};
 ghost use Rattle.fast_syntax.specs.Plain.{plain_x, plain_def, plain_item};
 ghost use Rattle.model_grammar.specs.Syntax as plain;
+ghost use Rattle.model_program.specs.Syntax.{Name};
+ghost use Rattle.model_names.specs.Declared.{own_name};
 ghost use Rattle.model_run.specs.Built.{is_built, is_built_expression};
 ghost use Rattle.program_check.specs.Tells.{IsChecked};
 ghost use Rattle.fast_build.specs.Items.{items_of};
@@ -40,6 +42,19 @@ fn add_names(alloc: Global, x: &X, names: &mut IndexSet<Text>) -> Result<(), Mem
             add_names(alloc, second, names)
         }
         X::Literal(..) => unreachable!(),
+    }
+}
+
+/// The name that the item declares for a tree, a language or a transformation.
+pub fn own_name(item: &Item) -> Option<&Text>
+    ensures { option_map (λ t. t.now) result ≡ option_map (λ (n : Name). n.text) (own_name (plain_item item.now).body) }
+{
+    match &item.body {
+        Body::Tree(own) => Some(&own.name.text),
+        Body::Lang(own) => Some(&own.name.text),
+        Body::Trans(own) => Some(&own.name.text),
+        Body::Def(own) => Some(&own.name.text),
+        Body::Sorts(_) | Body::Assert(_) => None,
     }
 }
 

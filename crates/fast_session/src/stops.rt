@@ -1,9 +1,10 @@
 //! Why items aren't done, by what stops their parts.
 
 ghost use Rattle.std.specs.Prelude.{◌≡◌};
-ghost use Rattle.fast_session.specs.Answers.{stopped_by, stopped_outputs, stopped_value};
+ghost use Rattle.fast_session.specs.Answers.{stopped_by, stopped_composing, stopped_outputs, stopped_value};
 
 use crate::answers::{Cause, Stopped};
+use fast_compose::ComposeStop;
 use fast_eval::{EvalStop, OutputStop};
 use tree_values::ValueStop;
 
@@ -16,6 +17,19 @@ pub fn stopped(limit: u32, stop: EvalStop) -> Stopped
         EvalStop::Wide(chain) => Stopped::By(Cause::Width(chain.width.bits())),
         EvalStop::Range(number) => Stopped::By(Cause::FormRange(number)),
         EvalStop::Memory => Stopped::Memory,
+    }
+}
+
+/// Where it isn't known that compositions can be made.
+pub fn uncomposed(limit: u32, stop: ComposeStop) -> Stopped
+    ensures { result ≡ stopped_composing limit stop }
+{
+    match stop {
+        ComposeStop::Classes => Stopped::By(Cause::Classes(limit)),
+        ComposeStop::Wide(chain) => Stopped::By(Cause::Width(chain.width.bits())),
+        ComposeStop::NotComposable(shown) => Stopped::By(Cause::NotComposable(shown)),
+        ComposeStop::TooLarge => Stopped::By(Cause::TreeSize),
+        ComposeStop::Memory => Stopped::Memory,
     }
 }
 

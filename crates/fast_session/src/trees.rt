@@ -4,6 +4,7 @@ ghost use Rattle.std.specs.Prelude.{◌≡◌, List, Some, IfOk, IfErr, OnOk};
 ghost use Rattle.model_tree.specs.Signature.{HasType};
 ghost use Rattle.fast_syntax.specs.Plain.{plain_item, plain_tree, plain_x};
 ghost use Rattle.model_grammar.specs.Syntax as plain;
+ghost use Rattle.model_run.specs.Items.{IsComposable};
 ghost use Rattle.model_meaning.specs.Meaning.{signature_named};
 ghost use Rattle.model_meaning.specs.Values.{IsValue};
 ghost use Rattle.model_run.specs.Outcomes.{Outcome, tree_line, trees_in};
@@ -31,6 +32,7 @@ fn value_of(
     own: &TreeItem,
 ) -> Result<Tree<Label>, ValueStop>
     requires ready { IsReady around.now (plain_item item.now) kept.old }
+    requires composable { IsComposable (items_in around.now) (plain_item item.now).body }
     requires is { (plain_item item.now).body ≡ plain.tree (plain_tree own.now) }
     ensures more { IsBuiltMore (items_in around.now) kept.old kept.new }
     ensures value { IfOk result (λ t. (done : List Outcome) → Tells kept.old.trees (trees_in done) → IsValue (items_in around.now) (trees_in done) (signature_named (items_in around.now) (Some own.now.of.text)) (plain_x own.now.value) (meant t)) }
@@ -70,6 +72,7 @@ pub fn do_tree(
     own: &TreeItem,
 ) -> Result<Line, Stopped>
     requires ready { IsReady around.now (plain_item item.now) kept.old }
+    requires composable { IsComposable (items_in around.now) (plain_item item.now).body }
     requires is { (plain_item item.now).body ≡ plain.tree (plain_tree own.now) }
     ensures done { IfOk result (λ line. IsDone (items_in around.now) (plain_item item.now) kept.old kept.new (line_outcome (items_in around.now) line)) }
     ensures stopped { IfErr result (IsStoppedAt (items_in around.now) around.now.limit (plain_item item.now) kept.old) }

@@ -3,6 +3,7 @@
 ghost use Rattle.std.specs.Prelude.{◌≡◌, ℕ, List, true, false, IfOk, IfErr};
 ghost use Rattle.fast_syntax.specs.Plain.{plain_x, plain_claim, plain_assert, plain_item};
 ghost use Rattle.model_grammar.specs.Syntax as plain;
+ghost use Rattle.model_run.specs.Items.{IsComposable};
 ghost use Rattle.program_check.specs.Tells.{IsChecked};
 ghost use Rattle.fast_eval.specs.Forms.{IsMadeAt};
 ghost use Rattle.fast_session.specs.Answers.{line_outcome};
@@ -36,6 +37,7 @@ fn judged(
     own: &AssertItem,
 ) -> Result<Verdict, Stopped>
     requires ready { IsReady around.now (plain_item item.now) kept.old }
+    requires composable { IsComposable (items_in around.now) (plain_item item.now).body }
     requires is { (plain_item item.now).body ≡ plain.assertion (plain_assert own.now) }
     requires of { is_member (plain_claim own.now.claim) ≡ false }
     ensures more { IsBuiltMore (items_in around.now) kept.old kept.new }
@@ -71,6 +73,7 @@ fn looked_up(
     own: &AssertItem,
 ) -> Result<Verdict, Stopped>
     requires ready { IsReady around.now (plain_item item.now) kept.old }
+    requires composable { IsComposable (items_in around.now) (plain_item item.now).body }
     requires is { (plain_item item.now).body ≡ plain.assertion (plain_assert own.now) }
     requires of { is_member (plain_claim own.now.claim) ≡ true }
     ensures more { IsBuiltMore (items_in around.now) kept.old kept.new }
@@ -112,6 +115,7 @@ fn decided(
     own: &AssertItem,
 ) -> Result<Verdict, Stopped>
     requires ready { IsReady around.now (plain_item item.now) kept.old }
+    requires composable { IsComposable (items_in around.now) (plain_item item.now).body }
     requires is { (plain_item item.now).body ≡ plain.assertion (plain_assert own.now) }
     ensures more { IsBuiltMore (items_in around.now) kept.old kept.new }
     ensures verdict { IfOk result (IsVerdictOn (items_in around.now) item.now.place.line (plain_assert own.now) kept.old) }
@@ -166,6 +170,7 @@ pub fn do_assertion(
     own: &AssertItem,
 ) -> Result<Line, Stopped>
     requires ready { IsReady around.now (plain_item item.now) kept.old }
+    requires composable { IsComposable (items_in around.now) (plain_item item.now).body }
     requires is { (plain_item item.now).body ≡ plain.assertion (plain_assert own.now) }
     ensures done { IfOk result (λ line. IsDone (items_in around.now) (plain_item item.now) kept.old kept.new (line_outcome (items_in around.now) line)) }
     ensures stopped { IfErr result (IsStoppedAt (items_in around.now) around.now.limit (plain_item item.now) kept.old) }

@@ -164,11 +164,11 @@ module _ (items : List Item) (file name trees : List ℕ) (kind : Kind) (composa
       (so_far.written, (record { left = drop (length placed) placed; done = length placed }, so_far.written, [], so_far.come, ends_held items file name trees (record { left = drop (length placed) placed; done = length placed }) [] kind composable (drop_all placed) refl, sym (append-nil so_far.written)), so_far.appended)
 
 -- an item that the name needs is refused
-pub needed_refused : (items : List Item) (limit : ℕ) (file name : List ℕ) (Shown : Type 0) (place : Pos) (stop : Stop) (before after : Option (List ℕ)) (status : Status) (item : Item) → IsNeeded items name item → place ≡ item.place → HasCause items limit [] item.body stop
+pub needed_refused : (items : List Item) (limit : ℕ) (file name : List ℕ) (Shown : Type 0) (place : Pos) (stop : Stop) (before after : Option (List ℕ)) (status : Status) (item : Item) → IsNeeded items name item → place ≡ item.place → (Shown → HasCause items limit [] item.body stop)
     → IsRefusal Shown before after (stop_line stop file place) status → IsUnprepared items limit file name before after status
 needed_refused items limit file name Shown place stop before after status item needed at cause (inl none) = inl none
 needed_refused items limit file name Shown place stop before after status item needed at cause (inr (shown, ends)) =
-    inr (item, stop, record { needed = needed; cause = cause }, subst (λ p. EndsWith before after (stop_line stop file p) RunRefused status) at ends)
+    inr (item, stop, record { needed = needed; cause = cause shown }, subst (λ p. EndsWith before after (stop_line stop file p) RunRefused status) at ends)
 
 -- what the name needs isn't built
 pub unprepared_report : (items : List Item) (file name trees : List ℕ) (kind : Kind) (placed : List PlacedTree) (status : Status) (before after : Option (List ℕ)) → IsUnprepared items 1000 file name before after status

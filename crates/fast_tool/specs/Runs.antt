@@ -1,5 +1,5 @@
 -- How a run goes on, and how it ends.
-use Rattle.std.specs.Prelude.{◌≡◌, ℕ, Bool, List, ◌∷◌, Option, ◌⊎◌, drop, length}
+use Rattle.std.specs.Prelude.{◌≡◌, ℕ, suc, Bool, List, ◌∷◌, ◌++◌, Option, ◌⊎◌, drop, length, codes, decimal, encode_utf8_all}
 use Rattle.fast_fault.specs.declared.status.Status.{Status}
 use Rattle.fast_fault.specs.declared.status.Status.TheVariants.{RunRefused, SinkFault, Memory}
 use Rattle.fast_fault.specs.Written.{Appends, AppendsPrefix}
@@ -9,6 +9,7 @@ use Rattle.model_run.specs.Outcomes.{Outcome, trees_in, IsOutcome, line_of, says
 use Rattle.model_run.specs.Lines.{stop_line}
 use Rattle.model_run.specs.Scripts.{Comes, Writes}
 use Rattle.model_run.specs.Report.{items_script, StatusReport}
+use Rattle.fast_compose.specs.declared.stops.Uncomposable.{Uncomposable}
 use Rattle.fast_session.specs.Items.{HaveScalars}
 use Rattle.fast_session.specs.Sessions.{items_in, IsAt, IsItemAt}
 use Rattle.fast_session.specs.declared.session.Session.{Session}
@@ -19,6 +20,12 @@ IsFault status = (status ≡ SinkFault) ⊎ (status ≡ Memory)
 -- a line was put whole, with the status that was to end the report, or a front of it, with a fault
 abbrev pub EndsWith : Option (List ℕ) → Option (List ℕ) → List ℕ → Status → Status → Type 0
 EndsWith before after line status answer = ((answer ≡ status) × Appends before after line) ⊎ (IsFault answer × AppendsPrefix before after line)
+
+-- the rules of two transformations that aren't composed, by numbers from 1
+abbrev pub rules_shown : Uncomposable → List ℕ
+rules_shown u =
+    codes " " ++ (encode_utf8_all u.meeting.name ++ (codes " " ++ (decimal (suc u.meeting.first) ++ (codes " " ++ (decimal (suc u.meeting.second)
+    ++ (codes " " ++ (encode_utf8_all u.copying.name ++ (codes " " ++ decimal (suc u.copying.rule)))))))))
 
 -- nothing was put, for want of memory; or the line of a refusal that can be shown, or a front of it with a fault
 abbrev pub IsRefusal : Type 0 → Option (List ℕ) → Option (List ℕ) → List ℕ → Status → Type 0

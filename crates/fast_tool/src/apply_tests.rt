@@ -181,11 +181,7 @@ const VALUES: [(&str, u8, &str); 7] = [
         4,
         "tree t (z [5])\nrefused 33 LabelRange at F:9:1 9223372036854775808\n",
     ),
-    (
-        "def h : B -> B := (compose f g)",
-        3,
-        "refused 9 NotYet at F:7:1\n",
-    ),
+    ("def h : B -> B := (compose f g)", 0, ""),
 ];
 
 #[test]

@@ -19,9 +19,10 @@ fn is_built_two(op: Op2) -> bool
         | Op2::Union
         | Op2::Difference
         | Op2::PreImage
+        | Op2::Compose
         | Op2::Restrict
         | Op2::RestrictOut => true,
-        Op2::Compose | Op2::Apply => false,
+        Op2::Apply => false,
     }
 }
 

@@ -22,6 +22,8 @@ mod accept_tests;
 #[cfg(test)]
 mod apply_tests;
 #[cfg(test)]
+mod compose_tests;
+#[cfg(test)]
 mod definition_tests;
 #[cfg(test)]
 mod image_tests;

@@ -1,6 +1,6 @@
 //! Lines that are put, and the lines of refusals.
 
-ghost use Rattle.std.specs.Prelude.{◌≡◌, ◌≢◌, ◌≤◌, ◌⊎◌, IfOk, IfErr, OnOk, OnErr, Err, true, string_bytes, codes, ◌++◌};
+ghost use Rattle.std.specs.Prelude.{◌≡◌, ◌≢◌, ◌≤◌, ◌⊎◌, IfOk, IfErr, OnOk, OnErr, Err, true, string_bytes, codes, ◌++◌, suc};
 ghost use Rattle.fast_fault.specs.Written.{Appends, AppendsPrefix, Rose};
 ghost use Rattle.fast_fault.specs.declared.status.Status.TheVariants.{TextRefused, RunRefused, SinkFault, TextFault};
 ghost use Rattle.model_tree.specs.Scalars.{has_scalars};
@@ -11,14 +11,16 @@ ghost use Rattle.program_check.specs.Tells.{IsChecked};
 ghost use Rattle.fast_build.specs.Items.{items_of};
 ghost use Rattle.tree_values.specs.Stops.{type_of_tree};
 ghost use Rattle.tree_values.specs.Trees.{meant};
-ghost use Rattle.fast_session.specs.declared.answers.Cause.TheVariants.{NoOutput, SeveralOutputs};
+ghost use Rattle.fast_session.specs.declared.answers.Cause.TheVariants.{NotComposable, NoOutput, SeveralOutputs};
 ghost use Rattle.model_run.specs.Loads.{load_shown};
 ghost use Rattle.sttr_apply.specs.Plain.{load_of};
 ghost use Rattle.fast_session.specs.Answers.{plain_cause, IsCauseTyped, CanBeShown};
 ghost use Rattle.fast_tool.specs.Runs.{IsFault, EndsWith, IsRefusal};
+ghost use Rattle.fast_tool.specs.Runs.{rules_shown};
 ghost use Rattle.fast_tool.specs.Taken.{refusal_head};
 
 use crate::lines::append_tree;
+use fast_compose::Uncomposable;
 use fast_fault::{Code, Memory, Pos, PutFault, Refusal, Sink, Status};
 use fast_session::Cause;
 use program_check::Checked;
@@ -158,6 +160,48 @@ fn shown_two(alloc: Global, checked: &Checked, two: &TwoOutputs) -> Result<Vec<u
     Ok(text)
 }
 
+/// The number of the rule at a place, counted from 1.
+fn rule_number(place: u32) -> u64
+    ensures { result ≡ suc place }
+{
+    u64::from(place) + 1
+}
+
+/// The rules of two transformations that aren't composed, counted from 1.
+fn rules_text(alloc: Global, shown: &Uncomposable) -> Result<String, Memory>
+    ensures { IfOk result (λ text. string_bytes text ≡ rules_shown shown.now) }
+{
+    let name = shown.meeting.name.as_str();
+    let first = rule_number(shown.meeting.first);
+    let second = rule_number(shown.meeting.second);
+    let copier = shown.copying.name.as_str();
+    let rule = rule_number(shown.copying.rule);
+    Ok(format!(in alloc; " {name} {first} {second} {copier} {rule}")?)
+}
+
+/// What the line of a refusal shows of two transformations that aren't composed.
+fn shown_uncomposed(
+    alloc: Global,
+    checked: &Checked,
+    shown: &Uncomposable,
+) -> Result<Vec<u8>, Memory>
+    requires checked { IsChecked checked.now }
+    requires typed { IsCauseTyped (items_of checked.now) (NotComposable shown.now) }
+    ensures text { IfOk result (λ text. text.items ≡ stop_shows (plain_cause (items_of checked.now) (NotComposable shown.now))) }
+    ensures scalars { OnOk result (CanBeShown (NotComposable shown.now)) }
+{
+    let mut text = Vec::new(alloc);
+    append_tree(
+        alloc,
+        &mut text,
+        checked,
+        &shown.meeting.of,
+        &shown.meeting.tree,
+    )?;
+    text.extend_from_slice(rules_text(alloc, shown)?.as_bytes())?;
+    Ok(text)
+}
+
 /// What the line of a refusal of an item shows behind the place.
 fn shown_for(alloc: Global, checked: &Checked, cause: &Cause) -> Result<Vec<u8>, Memory>
     requires checked { IsChecked checked.now }
@@ -171,6 +215,7 @@ fn shown_for(alloc: Global, checked: &Checked, cause: &Cause) -> Result<Vec<u8>,
         Cause::FormRange(number) => Ok(format!(in alloc; " {number}")?.into_bytes()),
         Cause::LabelRange(number) => Ok(format!(in alloc; " {number}")?.into_bytes()),
         Cause::Outputs(load) => Ok(Vec::from_slice(alloc, load_shown(*load).as_bytes())?),
+        Cause::NotComposable(shown) => shown_uncomposed(alloc, checked, shown),
         Cause::NoOutput(input) => shown_none(alloc, checked, input),
         Cause::SeveralOutputs(two) => shown_two(alloc, checked, two),
         Cause::EmptyLanguage | Cause::TreeSize => Ok(Vec::new(alloc)),

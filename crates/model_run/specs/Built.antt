@@ -9,7 +9,7 @@ use Rattle.model_grammar.specs.declared.Op2.TheVariants.{Intersect, Union, Diffe
 use Rattle.model_grammar.specs.Syntax.{X, named, one, two, literal, Xs, no_x, and_x, Claim, equal, member, empty, type_check, Body, sorts, tree, lang, trans, def, assertion, Item}
 use Rattle.model_run.specs.Words.{CommandForm, check_form, run_form, apply_form, accepts_form, self_form}
 
--- the operations that give a language or a transformation: all but composition
+-- the operations that give a language or a transformation
 abbrev pub is_built_one : Op1 → Bool
 is_built_one Complement = true
 is_built_one Minimize = true
@@ -21,7 +21,7 @@ is_built_two Intersect = true
 is_built_two Union = true
 is_built_two Difference = true
 is_built_two PreImage = true
-is_built_two Compose = false
+is_built_two Compose = true
 is_built_two Restrict = true
 is_built_two RestrictOut = true
 is_built_two Apply = false

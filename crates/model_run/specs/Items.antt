@@ -144,6 +144,13 @@ pub data IsComposedInItem (items : List Item) (x y : X) : Body → Type 0 where
 abbrev pub IsComposable : List Item → Body → Type 0
 IsComposable items body = (x y : X) → IsComposedInItem items x y body → IsPlain items x ⊎ IsLinear items y
 
+-- the same of an expression, and of several
+abbrev pub AreComposable : List Item → X → Type 0
+AreComposable items e = (x y : X) → IsComposedIn x y e → IsPlain items x ⊎ IsLinear items y
+
+abbrev pub AreAllComposable : List Item → List X → Type 0
+AreAllComposable items es = (e : X) → Contains es e → AreComposable items e
+
 -- ---- the trees of an item
 
 module _ (items : List Item) (P : PlainSignature → X → Type 0) where

@@ -1,20 +1,21 @@
-use Rattle.std.proofs.Common.{◌≡◌, ◌∙◌, refl, ap, ap₂, sym, subst}
+use Rattle.std.proofs.Common.{◌≡◌, ◌∙◌, inr, refl, arith, ap, ap₂, sym, subst}
 use Rattle.std.proofs.lemmas.Result.{IfOk-weaker}
 use Rattle.fast_fault.specs.declared.place.Pos.{Pos}
 use Rattle.model_grammar.specs.Syntax.{X, one, two}
 use Rattle.model_grammar.specs.declared.Op1.TheVariants.{Domain}
-use Rattle.model_grammar.specs.declared.Op2.TheVariants.{PreImage, Restrict, RestrictOut}
+use Rattle.model_grammar.specs.declared.Op2.TheVariants.{PreImage, Compose, Restrict, RestrictOut}
+use Rattle.model_names.specs.Kinds.{transformation}
 use Rattle.fast_syntax.specs.Plain.{plain_x}
 use Rattle.fast_syntax.specs.declared.items.X as written
 use Rattle.fast_eval.specs.Built.{IsBuiltOf}
 use Rattle.fast_eval.specs.Forms.{IsMadeOn}
-use Rattle.fast_eval.specs.Scopes.{items_in, type_in, IsOperandOf, IsTransOperandFrom, LooksAt}
+use Rattle.fast_eval.specs.Scopes.{items_in, type_in, IsOperandOf, IsTransOperandFrom, LooksAt, RunsAfter}
 use Rattle.fast_eval.specs.Stops.{StopsExpression}
 use Rattle.fast_eval.specs.declared.evaluation.Operand.TheVariants.{Made}
 use Rattle.fast_eval.proofs.Claims.{made_evaluated, any_stops, domain_stops, first_stops, second_stops}
 use Rattle.fast_eval.proofs.Keeping.{on_err}
 use Rattle.fast_eval.proofs.Ready.{operand_built, made_operand, trans_operand_built, made_trans_operand}
-use Rattle.fast_eval.proofs.Scoped.{operand_back, stop_back}
+use Rattle.fast_eval.proofs.Scoped.{made_from_there, named_there, operand_back, trans_back, stop_back}
 use Rattle.fast_eval.proofs.evaluation.+expressions.Goals as goal
 
 pub language-returns-in_err-of-in-One-clause-stop : goal.language-returns-in_err-of-in-One-clause-stop
@@ -157,6 +158,21 @@ transformation-returns-in-Two-RestrictOut-default-default-default-clause-built t
     ap₂ (λ v w. two RestrictOut place (plain_x v) (plain_x w)) c.deref-in-Two-RestrictOut-default-default-default.ensures c.deref-in-Two-RestrictOut-default-default-default-2.ensures ∙ (ap (λ op. two op place (plain_x c.in-Two-RestrictOut-default-default-default.inside.value) (plain_x c.in-Two-RestrictOut-default-default-default.y.value)) (sym (rw c.in-Two-RestrictOut-default-default-default.is at c.in-Two-RestrictOut-default-default-default.field-0-is)) ∙ sym (ap plain_x c.in-Two-RestrictOut-default-default-default.is)) in
     IfOk-weaker c.restrict_out_of.result (λ o. (at : Pos) → IsTransOperandFrom items (two RestrictOut at f y) type b o) (IsTransOperandFrom items (plain_x c.args.f.now) type b)
     (λ o h. subst (λ z. IsTransOperandFrom items z type b o) at (h place)) c.restrict_out_of.ensures.built
+
+pub transformation-returns-in-Two-Compose-default-default-default-clause-built :
+    goal.transformation-returns-in-Two-Compose-default-default-default-clause-built
+unfolding written.out-X denote.Hole.Carrier.out
+transformation-returns-in-Two-Compose-default-default-default-clause-built t c =
+    let items = items_in c.args.scope.now in
+    let type = type_in c.args.scope.now in
+    let b = c.args.scope.now.built.now in
+    let f = plain_x c.deref-in-Two-Compose-default-default-default.result.now in
+    let y = plain_x c.deref-in-Two-Compose-default-default-default-2.result.now in
+    let place = c.in-Two-Compose-default-default-default.field-1 in
+    let at : two Compose place f y ≡ plain_x c.args.f.now =
+    ap₂ (λ v w. two Compose place (plain_x v) (plain_x w)) c.deref-in-Two-Compose-default-default-default.ensures c.deref-in-Two-Compose-default-default-default-2.ensures ∙ (ap (λ op. two op place (plain_x c.in-Two-Compose-default-default-default.inside.value) (plain_x c.in-Two-Compose-default-default-default.other.value)) (sym (rw c.in-Two-Compose-default-default-default.is at c.in-Two-Compose-default-default-default.field-0-is)) ∙ sym (ap plain_x c.in-Two-Compose-default-default-default.is)) in
+    IfOk-weaker c.compose_of.result (λ o. (at : Pos) → IsTransOperandFrom items (two Compose at f y) type b o) (IsTransOperandFrom items (plain_x c.args.f.now) type b)
+    (λ o h. subst (λ z. IsTransOperandFrom items z type b o) at (h place)) c.compose_of.ensures.built
 
 pub domain_of-returns-in_err-a-clause-stop : goal.domain_of-returns-in_err-a-clause-stop
 domain_of-returns-in_err-a-clause-stop t c =
@@ -320,3 +336,101 @@ restrict_out_of-returns-clause-built t c =
       second = operand_built items y into b c.in_ok-b.b c.lang_of-b.result.now own c.lang_of-b.ensures;
     } in
     made_trans_operand items (two RestrictOut place f y) type into b c.in_ok-restricted_out.field-0 (c.in_ok-restricted_out.ensures.built place f y into looks)
+
+pub compose_of-transformation-requires : goal.compose_of-transformation-requires
+compose_of-transformation-requires t c =
+    let s = c.args.scope.now in
+    let g = plain_x c.args.g.now in
+    let of = c.scope_of-other.ensures.of in
+    let (into, middle, first, second, can) = c.requires.made in
+    let made = made_from_there s.checked.now s.built.now s.limit g c.scope_of-other.result of middle into (inr (into, second)) g second in
+    let named = named_there s.checked.now s.built.now s.limit g c.scope_of-other.result of transformation g c.requires.second_named in
+    (omega (arith, c.decreases), (c.scope_of-other.ensures.scope, ((into, made), named)))
+
+pub compose_of-trans_of-b-requires : goal.compose_of-trans_of-b-requires
+compose_of-trans_of-b-requires t c =
+    let s = c.args.scope.now in
+    let g = plain_x c.args.g.now in
+    let (into, middle, first, second, can) = c.requires.made in
+    (trans_back s.checked.now s.built.now s.limit g c.scope_of-other.result c.scope_of-other.ensures.of middle into second c.in_ok-b.b c.in_ok-b.ensures.built).low
+
+pub compose_of-composed-requires-clause-operands :
+    goal.compose_of-composed-requires-clause-operands
+compose_of-composed-requires-clause-operands t c =
+    let items = items_in c.args.scope.now in
+    let type = type_in c.args.scope.now in
+    let most = c.args.scope.now.limit in
+    let b = c.args.scope.now.built.now in
+    let f = plain_x c.args.f.now in
+    let g = plain_x c.args.g.now in
+    let (into, middle, first, second, can) = c.requires.made in
+    let own = trans_back c.args.scope.now.checked.now b most g c.scope_of-other.result c.scope_of-other.ensures.of middle into second c.in_ok-b.b c.in_ok-b.ensures.built in (
+      f,
+      g,
+      middle,
+      into,
+      record {
+        first = trans_operand_built items f type middle b c.in_ok-a.a c.trans_of-a.result.now (c.in_ok-a.ensures.built middle first) c.trans_of-a.ensures;
+        second = trans_operand_built items g middle into b c.in_ok-b.b c.trans_of-b.result.now own c.trans_of-b.ensures;
+        can = can;
+      },
+    )
+
+pub compose_of-returns-in_err-b-clause-stop : goal.compose_of-returns-in_err-b-clause-stop
+compose_of-returns-in_err-b-clause-stop t c =
+    let items = items_in c.args.scope.now in
+    let most = c.args.scope.now.limit in
+    let f = plain_x c.args.f.now in
+    let g = plain_x c.args.g.now in
+    let e = c.in_err-b.field-0.0 in
+    let own = stop_back c.args.scope.now.checked.now c.args.scope.now.built.now most g c.scope_of-other.result c.scope_of-other.ensures.of e c.in_err-b.ensures.stop in
+    on_err (λ s. (place : Pos) → StopsExpression items (two Compose place f g) most s) c.from_residual.result e c.from_residual.ensures.1
+    (λ place. second_stops items most Compose place f g refl e own)
+
+pub compose_of-returns-in_err-a-clause-stop : goal.compose_of-returns-in_err-a-clause-stop
+compose_of-returns-in_err-a-clause-stop t c =
+    let items = items_in c.args.scope.now in
+    let most = c.args.scope.now.limit in
+    let f = plain_x c.args.f.now in
+    let g = plain_x c.args.g.now in
+    let e = c.in_err-a.field-0.0 in
+    on_err (λ s. (place : Pos) → StopsExpression items (two Compose place f g) most s) c.from_residual-in_err-a.result e c.from_residual-in_err-a.ensures.1
+    (λ place. first_stops items most Compose place f g refl e c.in_err-a.ensures.stop)
+
+pub compose_of-returns-in_err-composed-clause-stop :
+    goal.compose_of-returns-in_err-composed-clause-stop
+compose_of-returns-in_err-composed-clause-stop t c =
+    let items = items_in c.args.scope.now in
+    let type = type_in c.args.scope.now in
+    let most = c.args.scope.now.limit in
+    let b = c.args.scope.now.built.now in
+    let f = plain_x c.args.f.now in
+    let g = plain_x c.args.g.now in
+    let e = c.in_err-composed.field-0.0 in
+    let (into, middle, first, second, can) = c.requires.made in
+    let own = trans_back c.args.scope.now.checked.now b most g c.scope_of-other.result c.scope_of-other.ensures.of middle into second c.in_ok-b.b c.in_ok-b.ensures.built in
+    let runs : RunsAfter items f g type middle into c.trans_of-a.result.now c.trans_of-b.result.now = record {
+      first = trans_operand_built items f type middle b c.in_ok-a.a c.trans_of-a.result.now (c.in_ok-a.ensures.built middle first) c.trans_of-a.ensures;
+      second = trans_operand_built items g middle into b c.in_ok-b.b c.trans_of-b.result.now own c.trans_of-b.ensures;
+      can = can;
+    } in
+    on_err (λ s. (place : Pos) → StopsExpression items (two Compose place f g) most s) c.from_residual-in_err-composed.result e c.from_residual-in_err-composed.ensures.1
+    (λ place. c.in_err-composed.ensures.stop place f g middle into runs)
+
+pub compose_of-returns-clause-built : goal.compose_of-returns-clause-built
+compose_of-returns-clause-built t c =
+    let items = items_in c.args.scope.now in
+    let type = type_in c.args.scope.now in
+    let most = c.args.scope.now.limit in
+    let b = c.args.scope.now.built.now in
+    let f = plain_x c.args.f.now in
+    let g = plain_x c.args.g.now in
+    λ place into made.
+    let (middle, first, second, can) = made in
+    let own = trans_back c.args.scope.now.checked.now b most g c.scope_of-other.result c.scope_of-other.ensures.of middle into second c.in_ok-b.b c.in_ok-b.ensures.built in
+    let runs : RunsAfter items f g type middle into c.trans_of-a.result.now c.trans_of-b.result.now = record {
+      first = trans_operand_built items f type middle b c.in_ok-a.a c.trans_of-a.result.now (c.in_ok-a.ensures.built middle first) c.trans_of-a.ensures;
+      second = trans_operand_built items g middle into b c.in_ok-b.b c.trans_of-b.result.now own c.trans_of-b.ensures;
+      can = can;
+    } in
+    made_trans_operand items (two Compose place f g) type into b c.in_ok-composed.field-0 (c.in_ok-composed.ensures.built place f g middle into runs)

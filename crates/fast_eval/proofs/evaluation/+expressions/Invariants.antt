@@ -20,3 +20,6 @@ decreases-restrict_of l = size_of (plain_x l.f.now) + size_of (plain_x l.f.now) 
 
 abbrev pub decreases-restrict_out_of : goal.decreases-restrict_out_of
 decreases-restrict_out_of l = size_of (plain_x l.f.now) + size_of (plain_x l.f.now) + (size_of (plain_x l.y.now) + size_of (plain_x l.y.now)) + 1
+
+abbrev pub decreases-compose_of : goal.decreases-compose_of
+decreases-compose_of l = size_of (plain_x l.f.now) + size_of (plain_x l.f.now) + (size_of (plain_x l.g.now) + size_of (plain_x l.g.now)) + 1

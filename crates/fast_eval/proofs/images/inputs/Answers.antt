@@ -20,7 +20,7 @@ domain-requires c =
     let (f, into, built) = c.requires.operand in
     record {
       stands = built.stands;
-      start = trans_low (items_in s) (type_in s) s.theory.now c.requires.scope.labels f into a built;
+      start = trans_low (items_in s) f (type_in s) into a built;
       labels = trans_labels (items_in s) (type_in s) s.theory.now c.requires.scope.labels f into a built;
       makes = makes_some (items_in s) (type_in s) s.theory.now c.requires.scope.labels f into a built;
     }

@@ -22,7 +22,7 @@ restrict-requires c =
     let (y, also) = c.requires.second in
     record {
       stands = own.stands;
-      start = trans_low (items_in s) (type_in s) s.theory.now c.requires.scope.labels f into a own;
+      start = trans_low (items_in s) f (type_in s) into a own;
       state = start_low (items_in s) (type_in s) y b also;
       ranks = same_trees (items_in s) (type_in s) s.theory.now c.requires.scope.labels f y into a b own also;
       labels = trans_labels (items_in s) (type_in s) s.theory.now c.requires.scope.labels f into a own;

@@ -17,7 +17,7 @@ preimage-requires c =
     let (f, y, into, looks) = c.requires.operands in
     record {
       stands = looks.first.stands;
-      start = trans_low (items_in s) (type_in s) s.theory.now c.requires.scope.labels f into a looks.first;
+      start = trans_low (items_in s) f (type_in s) into a looks.first;
       state = start_low (items_in s) into y b looks.second;
       labels = trans_labels (items_in s) (type_in s) s.theory.now c.requires.scope.labels f into a looks.first;
       makes = makes_asked (items_in s) (type_in s) s.theory.now c.requires.scope.labels f into a looks.first y b looks.second;

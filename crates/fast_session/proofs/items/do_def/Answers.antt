@@ -8,19 +8,19 @@ use Rattle.fast_session.proofs.Silent.{done_def}
 use Rattle.fast_session.proofs.items.do_def.Goals as goal
 
 pub define-requires-clause-defined : goal.define-requires-clause-defined
-define-requires-clause-defined c = def_is _ _ _ c.requires.ready _ c.requires.is
+define-requires-clause-defined c = def_is _ _ _ c.requires.ready c.requires.composable _ c.requires.is
 
 pub define-requires-clause-made : goal.define-requires-clause-made
-define-requires-clause-made c = def_made _ _ _ c.requires.ready _ c.requires.is
+define-requires-clause-made c = def_made _ _ _ c.requires.ready c.requires.composable _ c.requires.is
 
 pub define-requires-clause-known : goal.define-requires-clause-known
-define-requires-clause-known c = def_known _ _ _ c.requires.ready _ c.requires.is
+define-requires-clause-known c = def_known _ _ _ c.requires.ready c.requires.composable _ c.requires.is
 
 pub returns-in_ok-line_of-in-Ok-clause-done : goal.returns-in_ok-line_of-in-Ok-clause-done
 returns-in_ok-line_of-in-Ok-clause-done c =
     let items = items_in c.args.around.now in
     subst (IsDone items (plain_item c.args.item.now) _ _) (sym (c.in_ok-line_of-in-Ok.ensures items))
-    (done_def _ _ _ _ c.requires.ready _ c.requires.is (record { built = c.define.ensures.built; grown = c.define.ensures.grown; trees = refl }) c.in-Ok.ensures.named _ c.in-Ok.ensures.counted)
+    (done_def _ _ _ _ c.requires.ready c.requires.composable _ c.requires.is (record { built = c.define.ensures.built; grown = c.define.ensures.grown; trees = refl }) c.in-Ok.ensures.named _ c.in-Ok.ensures.counted)
 
 pub returns-in-Err-clause-stopped : goal.returns-in-Err-clause-stopped
 returns-in-Err-clause-stopped c =

@@ -7,10 +7,10 @@ use Rattle.fast_session.proofs.Ready.{assertion_ready}
 use Rattle.fast_session.proofs.verdicts.judged.Goals as goal
 
 pub judge-requires-clause-made : goal.judge-requires-clause-made
-judge-requires-clause-made c = let r = assertion_ready _ _ _ c.requires.ready _ c.requires.is c.requires.of in (r.type, r.on)
+judge-requires-clause-made c = let r = assertion_ready _ _ _ c.requires.ready c.requires.composable _ c.requires.is c.requires.of in (r.type, r.on)
 
 pub judge-requires-clause-known : goal.judge-requires-clause-known
-judge-requires-clause-known c = (assertion_ready _ _ _ c.requires.ready _ c.requires.is c.requires.of).known
+judge-requires-clause-known c = (assertion_ready _ _ _ c.requires.ready c.requires.composable _ c.requires.is c.requires.of).known
 
 pub returns-in-Err-clause-stopped : goal.returns-in-Err-clause-stopped
 returns-in-Err-clause-stopped c =

@@ -6,17 +6,17 @@ use Rattle.fast_session.proofs.Members.{member_on, member_names, member_stops}
 use Rattle.fast_session.proofs.verdicts.looked_up.Goals as goal
 
 pub member-requires-clause-made : goal.member-requires-clause-made
-member-requires-clause-made c = member_on _ _ _ c.requires.ready _ c.requires.is (plain_x c.in-Member.x) (plain_x c.in-Member.y) (ap plain_claim c.in-Member.is)
+member-requires-clause-made c = member_on _ _ _ c.requires.ready c.requires.composable _ c.requires.is (plain_x c.in-Member.x) (plain_x c.in-Member.y) (ap plain_claim c.in-Member.is)
 
 pub member-requires-clause-known : goal.member-requires-clause-known
-member-requires-clause-known c = (member_names _ _ _ c.requires.ready _ c.requires.is (plain_x c.in-Member.x) (plain_x c.in-Member.y) (ap plain_claim c.in-Member.is)).0
+member-requires-clause-known c = (member_names _ _ _ c.requires.ready c.requires.composable _ c.requires.is (plain_x c.in-Member.x) (plain_x c.in-Member.y) (ap plain_claim c.in-Member.is)).0
 
 pub member-requires-clause-also_known : goal.member-requires-clause-also_known
-member-requires-clause-also_known c = (member_names _ _ _ c.requires.ready _ c.requires.is (plain_x c.in-Member.x) (plain_x c.in-Member.y) (ap plain_claim c.in-Member.is)).1
+member-requires-clause-also_known c = (member_names _ _ _ c.requires.ready c.requires.composable _ c.requires.is (plain_x c.in-Member.x) (plain_x c.in-Member.y) (ap plain_claim c.in-Member.is)).1
 
 pub returns-in-Err-clause-stopped : goal.returns-in-Err-clause-stopped
 returns-in-Err-clause-stopped c =
     let items = items_in c.args.around.now in
     let limit = c.args.around.now.limit in
     subst (IsStoppedAt items limit (plain_item c.args.item.now) c.args.kept.now) (sym c.unvalued.ensures)
-    (member_stops _ _ _ c.requires.ready _ c.requires.is (plain_x c.in-Member.x) (plain_x c.in-Member.y) (ap plain_claim c.in-Member.is) _ (λ done told. c.in-Err.ensures.stop _ told) c.in-Err.ensures.shown)
+    (member_stops _ _ _ c.requires.ready c.requires.composable _ c.requires.is (plain_x c.in-Member.x) (plain_x c.in-Member.y) (ap plain_claim c.in-Member.is) _ (λ done told. c.in-Err.ensures.stop _ told) c.in-Err.ensures.shown)

@@ -1,7 +1,5 @@
 use Rattle.std.proofs.Common.{◌≡◌, ◌∙◌, inl, inr, true, false, sym, ap}
 use Rattle.std.specs.Prelude.{is_some}
-use Rattle.fast_session.specs.Sessions.{items_in}
-use Rattle.fast_session.proofs.Composed.{each_composes}
 use Rattle.fast_session.proofs.Prepared.{at_more}
 use Rattle.fast_session.proofs.session.Session.prepare.Goals as goal
 
@@ -30,7 +28,4 @@ pub returns-in-Err-clause-halt : goal.returns-in-Err-clause-halt
 returns-in-Err-clause-halt c = λ running. c.in-Err.ensures.halt
 
 pub returns-in-Ok-clause-composable : goal.returns-in-Ok-clause-composable
-returns-in-Ok-clause-composable c = elim c.requires.session [
-  | inl s ↦ (λ item need. each_composes (items_in c.args.self.now) s.1.over.built item need.there)
-  | inr over ↦ (let bad : false ≡ true = sym (ap is_some c.in_default.is) ∙ over in absurd (cc))
-]
+returns-in-Ok-clause-composable c = c.in-Ok.ensures.composable
