@@ -9,10 +9,11 @@ use fast_tool::run;
 use std::io;
 use std::rt::Files;
 
-const NAMES: [&str; 8] = [
+const NAMES: [&str; 9] = [
     "access",
     "documents",
     "parcels",
+    "pipelines",
     "policies",
     "sanitiser",
     "sessions",
