@@ -8,7 +8,7 @@ use Rattle.model_meaning.specs.Meaning.{signature_named}
 use Rattle.model_meaning.proofs.Members.{one_of, none_of}
 use Rattle.model_grammar.specs.Syntax.{X, Claim, equal, member, empty, type_check, Body, TreeItem, tree, DefItem, def, AssertItem, assertion, Item}
 use Rattle.model_run.specs.Plain.{ReachesSome, at_name, at_opened, of_first, of_second, of_restricted, of_out_restricted, Meet}
-use Rattle.model_run.specs.Items.{used_in, claimed, expressions_in, judged, IsComposedIn, in_expression, IsComposable}
+use Rattle.model_run.specs.Items.{used_in, claimed, expressions_in, judged, IsComposedIn, in_expression, IsComposable, AreComposable}
 use Rattle.model_layers.specs.Causes.{IsAmong, CausesWiden}
 use Rattle.model_layers.proofs.Wider.{are_widened}
 use Rattle.lin_solve.specs.Shown.{bits_of}
@@ -17,7 +17,7 @@ use Rattle.fast_compose.specs.declared.stops.ComposeStop.{ComposeStop}
 use Rattle.fast_compose.specs.declared.stops.ComposeStop.TheVariants.{Classes, Wide, NotComposable, TooLarge, Memory}
 use Rattle.fast_compose.specs.declared.stops.Uncomposable.{Uncomposable}
 use Rattle.fast_compose.specs.Stops.{meeting_of, IsComposeCause}
-use Rattle.fast_compose.specs.Composed.{stated, AreComposable, IsUncomposable, StopsPair}
+use Rattle.fast_compose.specs.Composed.{stated, IsUncomposable, StopsPair}
 use Rattle.fast_compose.proofs.Judging.{used_composed, IsOfItem}
 
 -- ---- all can be made

@@ -9,12 +9,12 @@ use Rattle.model_grammar.specs.declared.Op2.TheVariants.{Intersect, Union, Diffe
 use Rattle.model_grammar.specs.Syntax.{Expr, X, named, one, two, literal, Xs, no_x, and_x, Item}
 use Rattle.model_meaning.specs.Reached.{IsNamedIn, IsNamedInOne}
 use Rattle.model_run.specs.Plain.{IsPlain, IsLinear}
-use Rattle.model_run.specs.Items.{IsComposedIn, IsComposedInOne}
+use Rattle.model_run.specs.Items.{IsComposedIn, IsComposedInOne, AreComposable}
 use Rattle.fast_syntax.specs.declared.items.X as code
 use Rattle.fast_syntax.specs.Plain.{plain_x}
 use Rattle.fast_syntax.specs.Slices.{plain_children}
 use Rattle.fast_compose.specs.declared.stops.ComposeStop.{ComposeStop}
-use Rattle.fast_compose.specs.Composed.{AreNamesDeclared, AreComposable, StopsPair, StopsIn}
+use Rattle.fast_compose.specs.Composed.{AreNamesDeclared, StopsPair, StopsIn}
 
 -- ---- how large an expression is
 

@@ -1,5 +1,5 @@
 -- The compositions in expressions, and why one can't be made.
-use Rattle.std.specs.Prelude.{◌≡◌, ◌⊎◌, ◌≤◌, ℕ, true, List, [], ◌∷◌, Some, is_some}
+use Rattle.std.specs.Prelude.{◌≡◌, ◌≤◌, ℕ, true, List, [], ◌∷◌, Some, is_some}
 use Rattle.model_tree.specs.Tree.{node_count, depth}
 use Rattle.model_tree.specs.Kept.{is_kept}
 use Rattle.model_grammar.specs.Syntax.{X, Claim, equal, member, empty, type_check, OutRule, Item}
@@ -7,7 +7,7 @@ use Rattle.model_names.specs.Declared.{find_item}
 use Rattle.model_meaning.specs.Types.{input_of}
 use Rattle.model_meaning.specs.Meaning.{signature_named}
 use Rattle.model_meaning.specs.Reached.{IsNamedIn}
-use Rattle.model_run.specs.Plain.{ReachesSome, Meet, Copies, IsPlain, IsLinear}
+use Rattle.model_run.specs.Plain.{ReachesSome, Meet, Copies}
 use Rattle.model_run.specs.Parts.{HasMoreTrees}
 use Rattle.model_run.specs.Items.{IsComposedIn}
 use Rattle.model_run.specs.Causes.{AreAllLarge, IsTooWide, IsFirstCopying}
@@ -36,9 +36,6 @@ by_classes classes.Memory = Memory
 module _ (items : List Item) where
   abbrev pub AreNamesDeclared : X → Type 0
   AreNamesDeclared e = (n : List ℕ) → IsNamedIn e n → is_some (find_item items n) ≡ true
-
-  abbrev pub AreComposable : X → Type 0
-  AreComposable e = (x y : X) → IsComposedIn x y e → IsPlain items x ⊎ IsLinear items y
 
   -- rules of the first meet, and one of the second copies
   pub record IsUncomposable (x y : X) (u : Uncomposable) : Type 0 where

@@ -5,10 +5,10 @@ ghost use Rattle.model_grammar.specs.Syntax as plain;
 ghost use Rattle.model_grammar.specs.declared.Op2.TheVariants.{Compose};
 ghost use Rattle.fast_syntax.specs.Plain.{plain_item, plain_x, plain_claim};
 ghost use Rattle.model_run.specs.Plain.{IsPlain, IsLinear};
-ghost use Rattle.model_run.specs.Items.{IsComposable};
+ghost use Rattle.model_run.specs.Items.{IsComposable, AreComposable};
 ghost use Rattle.program_check.specs.Tells.{IsChecked};
 ghost use Rattle.fast_build.specs.Items.{items_of};
-ghost use Rattle.fast_compose.specs.Composed.{stated, AreNamesDeclared, AreComposable, StopsPair, StopsIn};
+ghost use Rattle.fast_compose.specs.Composed.{stated, AreNamesDeclared, StopsPair, StopsIn};
 ghost use Rattle.fast_compose.specs.Stops.{IsComposeCause};
 
 use crate::copying::first_copying;

@@ -5,7 +5,7 @@ use Rattle.model_grammar.specs.declared.Op1.TheVariants.{Complement, Minimize, D
 use Rattle.model_grammar.specs.Syntax.{X, named, one, two, literal, DefItem, AssertItem, Body, def, assertion, Item}
 use Rattle.model_meaning.specs.Values.{Printed}
 use Rattle.model_meaning.specs.Truth.{Shows}
-use Rattle.model_run.specs.Built.{is_built_expression}
+use Rattle.meaning_laws.specs.Shapes.{has_automaton_shape}
 use Rattle.model_run.specs.Items.{expressions_in, has_classes, claim_has_classes, judged_claim, by_expressions, in_expression, IsComposable, AreAllComposable}
 use Rattle.model_run.specs.Causes.{AreAllLarge, HasCause, too_large}
 use Rattle.model_run.specs.Outcomes.{IsDefLine}
@@ -20,7 +20,7 @@ pub each_composable : (items : List Item) (body : Body) → IsComposable items b
 each_composable items body can e at x y is = can x y (in_expression body e at is)
 
 -- the outcome of a definition of a language by an expression that can be evaluated, by the count that it asks for
-pub def_outcome : (items : List Item) (trees : List Printed) (d : DefItem) (x : X) → is_built_expression x ≡ true → (count : Option ℕ) → IsCounted items x count → IsDefLine items trees d x (outcome_of d.name.text count)
+pub def_outcome : (items : List Item) (trees : List Printed) (d : DefItem) (x : X) → has_automaton_shape x ≡ true → (count : Option ℕ) → IsCounted items x count → IsDefLine items trees d x (outcome_of d.name.text count)
 def_outcome items trees d (named n) form count is = ap (outcome_of d.name.text) is
 def_outcome items trees d (one Complement place x) form count is = ap (outcome_of d.name.text) is
 def_outcome items trees d (one Minimize place x) form None is = absurd is

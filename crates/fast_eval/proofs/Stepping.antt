@@ -16,7 +16,7 @@ use Rattle.model_checks.specs.Expressions.{is_known_later, expected_as, place_of
 use Rattle.model_checks.specs.Programs.{is_tree, body_failures, claim_failures}
 use Rattle.model_checks.specs.Sound.{IsSound, StandsIn}
 use Rattle.model_checks.proofs.Soundness.{empty_first, empty_second, not_false, passed, is_there, found_passes}
-use Rattle.model_run.specs.Built.{is_built_expression}
+use Rattle.meaning_laws.specs.Shapes.{has_automaton_shape}
 use Rattle.model_run.specs.Parts.{IsOn, IsFrom}
 use Rattle.meaning_laws.proofs.Kinded.{IsTypedAs, IsKinded, kinded, kind_needed, named_kind, through, from_declared, into_declared}
 use Rattle.meaning_laws.proofs.Known.{IsKnown, has_name, names_known, found_of}
@@ -81,7 +81,7 @@ module _ (items : List Item) (whole : IsSound items) where
   empty_inside before x e = empty_first (x_failures items before 0 None x) _ e
 
   -- a language or a transformation
-  pub empty_made : (before : List Item) (x : X) → is_empty (claim_failures items before (empty x)) ≡ true → is_built_expression x ≡ true → AreComposable items x → (type : List ℕ) × IsMadeAt items type x
+  pub empty_made : (before : List Item) (x : X) → is_empty (claim_failures items before (empty x)) ≡ true → has_automaton_shape x ≡ true → AreComposable items x → (type : List ℕ) × IsMadeAt items type x
   empty_made before x e form can =
       let inside = empty_inside before x e in
       let k = kinded items whole before 0 None x inside in
@@ -99,7 +99,7 @@ module _ (items : List Item) (whole : IsSound items) where
     pub first : IsMadeOn items type x
     pub second : IsMadeOn items type y
 
-  pub equal_made : (before : List Item) (x y : X) → is_empty (claim_failures items before (equal x y)) ≡ true → is_built_expression x ≡ true → is_built_expression y ≡ true → AreComposable items x → AreComposable items y → AreMadeOnOne x y
+  pub equal_made : (before : List Item) (x y : X) → is_empty (claim_failures items before (equal x y)) ≡ true → has_automaton_shape x ≡ true → has_automaton_shape y ≡ true → AreComposable items x → AreComposable items y → AreMadeOnOne x y
   equal_made before x y e form_x form_y can_x can_y =
       let wx = whole_failures items before None language x in
       let wanted = type_as items before language x in
@@ -144,7 +144,7 @@ module _ (items : List Item) (whole : IsSound items) where
     pub fine : is_empty (x_failures items before 0 None f) ≡ true
     pub second_fine : is_empty (x_failures items before 0 None y) ≡ true
 
-  pub check_made : (before : List Item) (x f y : X) → is_empty (claim_failures items before (type_check x f y)) ≡ true → is_built_expression x ≡ true → is_built_expression f ≡ true → is_built_expression y ≡ true
+  pub check_made : (before : List Item) (x f y : X) → is_empty (claim_failures items before (type_check x f y)) ≡ true → has_automaton_shape x ≡ true → has_automaton_shape f ≡ true → has_automaton_shape y ≡ true
       → AreComposable items x → AreComposable items f → AreComposable items y → AreMadeToCheck before x f y
   check_made before x f y e form_x form_f form_y can_x can_f can_y =
       let wx = whole_failures items before None language x in
@@ -273,22 +273,22 @@ module _ (items : List Item) (whole : IsSound items) where
     begins : type_of items d.value ≡ Some d.from.text
     begins = (value_has items whole item at d is).1 ∙ from_declared items whole item at d is
 
-    def_made_from : (n : Name) → d.into ≡ Some n → is_built_expression d.value ≡ true → AreComposable items d.value → IsMadeFrom items d.from.text n.text d.value
+    def_made_from : (n : Name) → d.into ≡ Some n → has_automaton_shape d.value ≡ true → AreComposable items d.value → IsMadeFrom items d.from.text n.text d.value
     def_made_from n e form can =
         let has = value_has items whole item at d is in
         let output = ap (option_and_then (declared_type items)) e ∙ into_declared items whole item at d n is e in
         made_from_form items whole at.before 0 wanted d.value d.from.text n.text form can (checked items whole item at d is).inside (has.0 ∙ ap (λ o. Some (defined_kind o)) e, begins, has.2 ∙ output)
 
-    def_made : d.into ≡ None → is_built_expression d.value ≡ true → AreComposable items d.value → IsMadeOn items d.from.text d.value
+    def_made : d.into ≡ None → has_automaton_shape d.value ≡ true → AreComposable items d.value → IsMadeOn items d.from.text d.value
     def_made e form can =
         let has = value_has items whole item at d is in
         made_of_form items whole at.before 0 wanted d.value d.from.text form can (checked items whole item at d is).inside (has.0 ∙ ap (λ o. Some (defined_kind o)) e, begins)
 
-    def_made_as : (into : Option Name) → d.into ≡ into → is_built_expression d.value ≡ true → AreComposable items d.value → IsMadeInto items into d.value
+    def_made_as : (into : Option Name) → d.into ≡ into → has_automaton_shape d.value ≡ true → AreComposable items d.value → IsMadeInto items into d.value
     def_made_as None e form can = (d.from.text, def_made e form can)
     def_made_as (Some n) e form can = (d.from.text, n.text, def_made_from n e form can)
 
-    pub def_made_into : is_built_expression d.value ≡ true → AreComposable items d.value → IsMadeInto items d.into d.value
+    pub def_made_into : has_automaton_shape d.value ≡ true → AreComposable items d.value → IsMadeInto items d.into d.value
     def_made_into = def_made_as d.into refl
 
     module _ (b : Built) (P : List ℕ → Type 0) (defined : AreDefinedOf P b at.before) (named_in : (m : List ℕ) → IsNamedIn d.value m → P m) where

@@ -12,7 +12,7 @@ use Rattle.model_checks.specs.Rules.{differ}
 use Rattle.model_checks.specs.Expressions.{nesting_failures, expected_as, wanted_second, needs_be, x_failures}
 use Rattle.model_checks.specs.Sound.{IsSound}
 use Rattle.model_checks.proofs.Soundness.{empty_first, empty_second}
-use Rattle.model_run.specs.Built.{is_built_expression, is_built_one, is_built_two}
+use Rattle.meaning_laws.specs.Shapes.{has_automaton_shape, gives_automaton_one, gives_automaton_two}
 use Rattle.model_run.specs.Parts.{IsOn, IsFrom}
 use Rattle.meaning_laws.proofs.Kinded.{IsTypedAs, kinded, kind_needed, through}
 use Rattle.meaning_laws.proofs.Valued.{same_types, not_other}
@@ -76,11 +76,11 @@ module _ (items : List Item) (whole : IsSound items) where
   said_back : (kind : Kind) (x : X) (o : Option (List ℕ)) (type : List ℕ) → kind_of items x ≡ Some kind → o ≡ Some type → if_kind kind (kind_of items x) o ≡ Some type
   said_back kind x o type is e = through kind (kind_of items x) o is ∙ e
 
-  form_one : (op : Op1) (place : Pos) (x : X) → is_built_expression (one op place x) ≡ true → is_built_expression x ≡ true
-  form_one op place x form = (and_parts (is_built_one op) (is_built_expression x) form).1
+  form_one : (op : Op1) (place : Pos) (x : X) → has_automaton_shape (one op place x) ≡ true → has_automaton_shape x ≡ true
+  form_one op place x form = (and_parts (gives_automaton_one op) (has_automaton_shape x) form).1
 
-  forms_two : (op : Op2) (place : Pos) (x y : X) → is_built_expression (two op place x y) ≡ true → (is_built_expression x ≡ true) × (is_built_expression y ≡ true)
-  forms_two op place x y form = and_parts (is_built_expression x) (is_built_expression y) (and_parts (is_built_two op) (is_built_expression x && is_built_expression y) form).1
+  forms_two : (op : Op2) (place : Pos) (x y : X) → has_automaton_shape (two op place x y) ≡ true → (has_automaton_shape x ≡ true) × (has_automaton_shape y ≡ true)
+  forms_two op place x y form = and_parts (has_automaton_shape x) (has_automaton_shape y) (and_parts (gives_automaton_two op) (has_automaton_shape x && has_automaton_shape y) form).1
 
   -- two languages on the type of the first
   both_on : (before : List Item) (around : ℕ) (op : Op2) (x y : X) (type : List ℕ) → taken_first op ≡ language → taken_second op ≡ language → wanted_second items before op x ≡ if_kind language (kind_of items x) (type_of items x)
@@ -92,7 +92,7 @@ module _ (items : List Item) (whole : IsSound items) where
 
   mutual
     -- an expression of a form that can be evaluated is made of languages and transformations, where it is a language and what it composes can be composed
-    pub made_of_form : (before : List Item) (around : ℕ) (expected : Option (List ℕ)) (x : X) (type : List ℕ) → is_built_expression x ≡ true → AreComposable items x → is_empty (x_failures items before around expected x) ≡ true → IsOn items x type → IsMadeOn items type x
+    pub made_of_form : (before : List Item) (around : ℕ) (expected : Option (List ℕ)) (x : X) (type : List ℕ) → has_automaton_shape x ≡ true → AreComposable items x → is_empty (x_failures items before around expected x) ≡ true → IsOn items x type → IsMadeOn items type x
     made_of_form before around expected (named n) type form can e on = on
     made_of_form before around expected (literal name labels xs) type form can e on = absurd (cc)
     made_of_form before around expected (one Complement place x) type form can e on =
@@ -136,7 +136,7 @@ module _ (items : List Item) (whole : IsSound items) where
     made_of_form before around expected (two Apply place x y) type form can e on = absurd (cc)
 
     -- the same where it is a transformation
-    pub made_from_form : (before : List Item) (around : ℕ) (expected : Option (List ℕ)) (x : X) (from into : List ℕ) → is_built_expression x ≡ true → AreComposable items x → is_empty (x_failures items before around expected x) ≡ true → IsFrom items x from into → IsMadeFrom items from into x
+    pub made_from_form : (before : List Item) (around : ℕ) (expected : Option (List ℕ)) (x : X) (from into : List ℕ) → has_automaton_shape x ≡ true → AreComposable items x → is_empty (x_failures items before around expected x) ≡ true → IsFrom items x from into → IsMadeFrom items from into x
     made_from_form before around expected (named n) from into form can e goes = goes
     made_from_form before around expected (literal name labels xs) from into form can e goes = absurd (cc)
     made_from_form before around expected (one Complement place x) from into form can e goes = let no : Some language ≡ Some transformation = goes.0 in absurd (cc)

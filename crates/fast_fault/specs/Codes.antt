@@ -1,7 +1,7 @@
 -- The number and the name of each code.
 use Rattle.std.specs.Prelude.{ℕ, List, codes}
 use Rattle.fast_fault.specs.declared.code.Code.{Code}
-use Rattle.fast_fault.specs.declared.code.Code.TheVariants.{TooLong, NotUtf8, Token, Syntax, Nested, NotYet, DuplicateType, NoLeaf, DuplicateName, UnknownName, WrongKind, WrongType, WrongRank, DuplicateVariable, UnknownField, WrongSort, NotLinear, BadModulus, NumberRange, UsedTooEarly, TooMany, Classes, Width, FormRange, LabelRange, NotComposable, EmptyLanguage, OutputCount, Outputs, TreeSize}
+use Rattle.fast_fault.specs.declared.code.Code.TheVariants.{TooLong, NotUtf8, Token, Syntax, Nested, DuplicateType, NoLeaf, DuplicateName, UnknownName, WrongKind, WrongType, WrongRank, DuplicateVariable, UnknownField, WrongSort, NotLinear, BadModulus, NumberRange, UsedTooEarly, TooMany, Classes, Width, FormRange, LabelRange, NotComposable, EmptyLanguage, OutputCount, Outputs, TreeSize}
 
 abbrev pub number_of : Code → ℕ
 number_of TooLong = 1
@@ -9,7 +9,6 @@ number_of NotUtf8 = 2
 number_of Token = 3
 number_of Syntax = 4
 number_of Nested = 5
-number_of NotYet = 9
 number_of DuplicateType = 10
 number_of NoLeaf = 11
 number_of DuplicateName = 12
@@ -41,7 +40,6 @@ name_of NotUtf8 = codes "NotUtf8"
 name_of Token = codes "Token"
 name_of Syntax = codes "Syntax"
 name_of Nested = codes "Nested"
-name_of NotYet = codes "NotYet"
 name_of DuplicateType = codes "DuplicateType"
 name_of NoLeaf = codes "NoLeaf"
 name_of DuplicateName = codes "DuplicateName"

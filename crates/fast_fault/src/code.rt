@@ -16,8 +16,6 @@ pub enum Code {
     Syntax,
     /// Parentheses are nested too deep.
     Nested,
-    /// The item cannot be run yet.
-    NotYet,
     /// A type's name was declared before.
     DuplicateType,
     /// A type has no constructor without children.
@@ -79,7 +77,6 @@ impl Code {
             Code::Token => 3,
             Code::Syntax => 4,
             Code::Nested => 5,
-            Code::NotYet => 9,
             Code::DuplicateType => 10,
             Code::NoLeaf => 11,
             Code::DuplicateName => 12,
@@ -117,7 +114,6 @@ impl Code {
             Code::Token => "Token",
             Code::Syntax => "Syntax",
             Code::Nested => "Nested",
-            Code::NotYet => "NotYet",
             Code::DuplicateType => "DuplicateType",
             Code::NoLeaf => "NoLeaf",
             Code::DuplicateName => "DuplicateName",

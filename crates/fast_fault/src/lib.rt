@@ -22,7 +22,7 @@ pub use memory::Memory;
 pub use place::Pos;
 pub use range::{LABEL_BITS, LabelInt};
 pub use refusal::Refusal;
-pub use sink::{MemSink, PutFault, Sink, SureSink};
+pub use sink::{CutAt, MemSink, PutFault, Sink, SureSink};
 pub use status::Status;
 pub use text::Text;
 pub use texts::{Held, MemTexts, SureTexts, TakeFault, TextSource};

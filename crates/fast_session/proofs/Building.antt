@@ -18,7 +18,8 @@ use Rattle.model_meaning.specs.Reached.{definition_of}
 use Rattle.model_meaning.proofs.Members.{one_of, none_of}
 use Rattle.meaning_laws.proofs.Kinded.{IsKinded, kinded}
 use Rattle.meaning_laws.proofs.Known.{has_name}
-use Rattle.model_run.specs.Built.{is_built, is_built_expression, is_built_body}
+use Rattle.meaning_laws.proofs.Shaped.{item_shape}
+use Rattle.meaning_laws.specs.Shapes.{has_automaton_shape, has_body_shape}
 use Rattle.model_run.specs.Items.{expressions_in, IsComposable, AreComposable}
 use Rattle.model_run.specs.Causes.{HasCause, more_classes, too_wide, form_number}
 use Rattle.model_run.specs.Report.{named_x}
@@ -57,9 +58,9 @@ use Rattle.fast_session.proofs.Following.{value_found}
 
 -- ---- the form of a definition
 
-module _ (items : List Item) (item : Item) (built : is_built item ≡ true) (d : DefItem) (is : item.body ≡ def d) where
-  pub form : is_built_expression d.value ≡ true
-  form = subst (λ b. is_built_body b ≡ true) is built
+module _ (items : List Item) (whole : IsSound items) (item : Item) (at : StandsIn items item) (d : DefItem) (is : item.body ≡ def d) where
+  pub form : has_automaton_shape d.value ≡ true
+  form = subst (λ b. has_body_shape b ≡ true) is (item_shape items whole item at)
 
 -- ---- a definition with one of the names
 
@@ -75,7 +76,7 @@ module _ (a : Around) (names : List (List ℕ)) (item : Item) (k : Kept) (b : Is
     value_can = each_composable (items_in a) item.body composable d.value (subst (λ b. Contains (expressions_in b) d.value) (sym is) (first_in d.value []))
 
     pub value_made : IsMadeInto (items_in a) d.into d.value
-    value_made = def_made_into (items_in a) whole item b.at d is (form (items_in a) item b.is_built d is) value_can
+    value_made = def_made_into (items_in a) whole item b.at d is (form (items_in a) whole item b.at d is) value_can
 
     pub value_known : Contains names d.name.text → AreKnownInto (items_in a) k.built d.into d.value
     value_known there = def_known_into (items_in a) whole item b.at d is k.built (Contains names) b.defined (λ m named_at. b.closed item b.at d (omega arith) is there m named_at) value_made

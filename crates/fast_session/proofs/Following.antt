@@ -14,7 +14,7 @@ use Rattle.model_checks.specs.Sound.{IsSound, StandsIn}
 use Rattle.model_checks.proofs.Soundness.{not_false}
 use Rattle.model_meaning.specs.Reached.{IsNamedIn, DependsOn, itself, on_name, by_definition, own_value, definition_of}
 use Rattle.model_meaning.proofs.Members.{one_of, none_of}
-use Rattle.model_run.specs.Built.{is_built_expression, is_built_one, is_built_two}
+use Rattle.meaning_laws.specs.Shapes.{has_automaton_shape, gives_automaton_one, gives_automaton_two}
 use Rattle.model_run.specs.Report.{named_x}
 use Rattle.meaning_laws.proofs.Known.{names_known, found_of, stands_earlier}
 use Rattle.meaning_laws.proofs.Valued.{checked}
@@ -26,13 +26,13 @@ use Rattle.fast_session.specs.Needed.{own_def, names_in, IsFollowed, AreClosedFr
 
 -- ---- the names in an expression of a language
 
-pub in_names : (x : X) → is_built_expression x ≡ true → (m : List ℕ) → IsNamedIn x m → Contains (names_in x) m
+pub in_names : (x : X) → has_automaton_shape x ≡ true → (m : List ℕ) → IsNamedIn x m → Contains (names_in x) m
 in_names (named n) form m is = subst (Contains (n.text ∷ [])) is (first_in n.text [])
-in_names (one op place x) form m is = in_names x (second_true (is_built_one op) (is_built_expression x) form) m is
+in_names (one op place x) form m is = in_names x (second_true (gives_automaton_one op) (has_automaton_shape x) form) m is
 in_names (two op place x y) form m (inl is) =
-    Contains-append_left (names_in x) (names_in y) m (in_names x (first_true (is_built_expression x) (is_built_expression y) (second_true (is_built_two op) (is_built_expression x && is_built_expression y) form)) m is)
+    Contains-append_left (names_in x) (names_in y) m (in_names x (first_true (has_automaton_shape x) (has_automaton_shape y) (second_true (gives_automaton_two op) (has_automaton_shape x && has_automaton_shape y) form)) m is)
 in_names (two op place x y) form m (inr is) =
-    Contains-append_right (names_in x) (names_in y) m (in_names y (second_true (is_built_expression x) (is_built_expression y) (second_true (is_built_two op) (is_built_expression x && is_built_expression y) form)) m is)
+    Contains-append_right (names_in x) (names_in y) m (in_names y (second_true (has_automaton_shape x) (has_automaton_shape y) (second_true (gives_automaton_two op) (has_automaton_shape x && has_automaton_shape y) form)) m is)
 in_names (literal name labels xs) form m is = absurd (cc)
 
 pub of_names : (x : X) (m : List ℕ) → Contains (names_in x) m → IsNamedIn x m
@@ -54,13 +54,13 @@ is_def (assertion a) d e = absurd (cc)
 pub is_no_def : (b : Body) → None ≡ own_def b → (d : DefItem) → ¬ (b ≡ def d)
 is_no_def b none d is = let no : None ≡ Some d = none ∙ ap own_def is in cc
 
-pub inside_form : (e : X) (op : _) (place : _) (x : X) → e ≡ one op place x → is_built_expression e ≡ true → is_built_expression x ≡ true
-inside_form e op place x is form = second_true (is_built_one op) (is_built_expression x) (subst (λ y. is_built_expression y ≡ true) is form)
+pub inside_form : (e : X) (op : _) (place : _) (x : X) → e ≡ one op place x → has_automaton_shape e ≡ true → has_automaton_shape x ≡ true
+inside_form e op place x is form = second_true (gives_automaton_one op) (has_automaton_shape x) (subst (λ y. has_automaton_shape y ≡ true) is form)
 
-pub both_forms : (e : X) (op : _) (place : _) (x y : X) → e ≡ two op place x y → is_built_expression e ≡ true → (is_built_expression x ≡ true) × (is_built_expression y ≡ true)
+pub both_forms : (e : X) (op : _) (place : _) (x y : X) → e ≡ two op place x y → has_automaton_shape e ≡ true → (has_automaton_shape x ≡ true) × (has_automaton_shape y ≡ true)
 both_forms e op place x y is form =
-    let inner = second_true (is_built_two op) (is_built_expression x && is_built_expression y) (subst (λ z. is_built_expression z ≡ true) is form) in
-    (first_true (is_built_expression x) (is_built_expression y) inner, second_true (is_built_expression x) (is_built_expression y) inner)
+    let inner = second_true (gives_automaton_two op) (has_automaton_shape x && has_automaton_shape y) (subst (λ z. has_automaton_shape z ≡ true) is form) in
+    (first_true (has_automaton_shape x) (has_automaton_shape y) inner, second_true (has_automaton_shape x) (has_automaton_shape y) inner)
 
 -- ---- one item
 
@@ -77,7 +77,7 @@ module _ (body : Body) (old new : List (List ℕ)) where
   }
 
   -- a definition with one of them
-  pub def_followed : (d : DefItem) → body ≡ def d → is_built_expression d.value ≡ true → Contains old d.name.text → IsGrown old new (names_in d.value) → IsFollowed body old new
+  pub def_followed : (d : DefItem) → body ≡ def d → has_automaton_shape d.value ≡ true → Contains old d.name.text → IsGrown old new (names_in d.value) → IsFollowed body old new
   def_followed d is form at grown = record {
     kept = λ m own. subst (λ l. Contains l m) (sym grown.is) (Contains-append_left old grown.added m own);
     added = λ m own. elim (Contains-append_cases old grown.added m (subst (λ l. Contains l m) grown.is own)) [

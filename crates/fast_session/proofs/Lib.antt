@@ -4,7 +4,7 @@ pub mod Silent
 pub mod Judging
 pub mod Printing
 pub mod Members
-pub mod Next
+pub mod Starts
 pub mod Stepping
 pub mod Following
 pub mod Building

@@ -3,7 +3,7 @@ use Rattle.std.proofs.Common.{◌≡◌, inl, ℕ, true, false, not, ◌&&◌, L
 use Rattle.model_tree.specs.Signature.{HasType}
 use Rattle.model_grammar.specs.Syntax.{X, Claim, equal, member, empty, type_check, AssertItem, assertion, Item}
 use Rattle.model_meaning.specs.Meaning.{input_type}
-use Rattle.model_run.specs.Built.{is_built_expression, is_built_tree, is_built_claim}
+use Rattle.meaning_laws.specs.Shapes.{has_automaton_shape, has_tree_shape, has_claim_shape}
 use Rattle.model_run.specs.Items.{used_in, claimed, AreComposable, AreAllComposable, IsComposable}
 use Rattle.model_run.specs.Outcomes.{Outcome, tree_verdict, claim_type, trees_in, IsShownWith, IsVerdict}
 use Rattle.sta_theory.proofs.Lists.{first_in, in_left, in_right}
@@ -29,14 +29,14 @@ use Rattle.fast_session.proofs.Printing.{stopped_value_cause}
 use Rattle.fast_session.proofs.Ready.{whole, claim_built, claim_can, IsClaimReady, assertion_ready}
 
 module _ (a : Around) (item : Item) (old : Kept) (ready : IsReady a item old) (composable : IsComposable (items_in a) item.body) (s : AssertItem) (is : item.body ≡ assertion s) (x y : X) (same : s.claim ≡ member x y) where
-  built_member : (is_built_tree x && is_built_expression y) ≡ true
-  built_member = subst (λ c. is_built_claim c ≡ true) same (claim_built a item old ready composable s is)
+  built_member : (has_tree_shape x && has_automaton_shape y) ≡ true
+  built_member = subst (λ c. has_claim_shape c ≡ true) same (claim_built a item old ready composable s is)
 
-  form_x : is_built_tree x ≡ true
-  form_x = first_true (is_built_tree x) (is_built_expression y) built_member
+  form_x : has_tree_shape x ≡ true
+  form_x = first_true (has_tree_shape x) (has_automaton_shape y) built_member
 
-  form_y : is_built_expression y ≡ true
-  form_y = second_true (is_built_tree x) (is_built_expression y) built_member
+  form_y : has_automaton_shape y ≡ true
+  form_y = second_true (has_tree_shape x) (has_automaton_shape y) built_member
 
   -- what its expressions compose can be composed
   all_can : AreAllComposable (items_in a) (claimed (member x y))

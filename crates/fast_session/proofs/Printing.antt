@@ -8,7 +8,8 @@ use Rattle.model_names.specs.Declared.{same_text}
 use Rattle.model_meaning.specs.Meaning.{signature_named}
 use Rattle.model_meaning.specs.Values.{IsValue}
 use Rattle.model_checks.proofs.Soundness.{same_from_test}
-use Rattle.model_run.specs.Built.{is_built_body, is_built_tree}
+use Rattle.meaning_laws.proofs.Shaped.{item_shape}
+use Rattle.meaning_laws.specs.Shapes.{has_body_shape, has_tree_shape}
 use Rattle.model_run.specs.Items.{used_in, expressions_in, AreAllComposable, IsComposable}
 use Rattle.model_run.specs.Outcomes.{Outcome, tree_line, trees_in, IsOutcomeOf}
 use Rattle.fast_build.proofs.Naming.{same_itself}
@@ -60,8 +61,8 @@ module _ (a : Around) (item : Item) (old : Kept) (ready : IsReady a item old) (c
   abbrev type : PlainSignature
   type = signature_named (items_in a) (Some t.of.text)
 
-  tree_form : is_built_tree t.value ≡ true
-  tree_form = subst (λ b. is_built_body b ≡ true) is ready.is_built
+  tree_form : has_tree_shape t.value ≡ true
+  tree_form = subst (λ b. has_body_shape b ≡ true) is (item_shape (items_in a) (whole a item old ready composable) item ready.at)
 
   tree_can : AreAllComposable (items_in a) (used_in t.value)
   tree_can = subst (λ b. AreAllComposable (items_in a) (expressions_in b)) is (each_composable (items_in a) item.body composable)

@@ -11,7 +11,8 @@ use Rattle.model_checks.specs.Sound.{IsSound}
 use Rattle.model_checks.proofs.Soundness.{empty_first, empty_second}
 use Rattle.model_checks.proofs.SoundWhole.{sound}
 use Rattle.model_meaning.specs.Reached.{own_value, definition_of}
-use Rattle.model_run.specs.Built.{is_built_expression, is_built_claim, is_built_body}
+use Rattle.meaning_laws.proofs.Shaped.{item_shape}
+use Rattle.meaning_laws.specs.Shapes.{has_automaton_shape, has_claim_shape, has_body_shape}
 use Rattle.model_run.specs.Items.{claimed, expressions_in, AreAllComposable, IsComposable}
 use Rattle.model_layers.proofs.Chosen.{first_of, second_of}
 use Rattle.sta_theory.proofs.Lists.{first_in, later_in}
@@ -43,8 +44,8 @@ module _ (a : Around) (item : Item) (k : Kept) (ready : IsReady a item k) (compo
   -- ---- definitions
 
   module _ (d : DefItem) (is : item.body ≡ def d) where
-    pub def_form : is_built_expression d.value ≡ true
-    def_form = subst (λ b. is_built_body b ≡ true) is ready.is_built
+    pub def_form : has_automaton_shape d.value ≡ true
+    def_form = subst (λ b. has_body_shape b ≡ true) is (item_shape (items_in a) whole item ready.at)
 
     pub def_is : definition_of (items_in a) d.name.text ≡ Some d.value
     def_is = ap (option_and_then (λ (i : Item). own_value i.body)) (whole.found_item item d.name ready.at (ap own_name is)) ∙ ap own_value is
@@ -61,8 +62,8 @@ module _ (a : Around) (item : Item) (k : Kept) (ready : IsReady a item k) (compo
     pub claim_fine : is_empty (claim_failures (items_in a) before s.claim) ≡ true
     claim_fine = subst (λ b. is_empty (body_failures (items_in a) before b) ≡ true) is (whole.each item ready.at)
 
-    pub claim_built : is_built_claim s.claim ≡ true
-    claim_built = subst (λ b. is_built_body b ≡ true) is ready.is_built
+    pub claim_built : has_claim_shape s.claim ≡ true
+    claim_built = subst (λ b. has_body_shape b ≡ true) is (item_shape (items_in a) whole item ready.at)
 
     pub claim_can : AreAllComposable (items_in a) (claimed s.claim)
     claim_can = subst (λ b. AreAllComposable (items_in a) (expressions_in b)) is can
@@ -73,10 +74,10 @@ module _ (a : Around) (item : Item) (k : Kept) (ready : IsReady a item k) (compo
     pub on : IsClaimOn (items_in a) type claim
     pub known : IsClaimKnown (items_in a) k.built claim
 
-  claim_ready : (claim : Claim) → is_member claim ≡ false → is_empty (claim_failures (items_in a) before claim) ≡ true → is_built_claim claim ≡ true → AreAllComposable (items_in a) (claimed claim) → IsClaimReady claim
+  claim_ready : (claim : Claim) → is_member claim ≡ false → is_empty (claim_failures (items_in a) before claim) ≡ true → has_claim_shape claim ≡ true → AreAllComposable (items_in a) (claimed claim) → IsClaimReady claim
   claim_ready (equal x y) of fine built each =
-      let form_x = first_true (is_built_expression x) (is_built_expression y) built in
-      let form_y = second_true (is_built_expression x) (is_built_expression y) built in
+      let form_x = first_true (has_automaton_shape x) (has_automaton_shape y) built in
+      let form_y = second_true (has_automaton_shape x) (has_automaton_shape y) built in
       let wanted = type_as (items_in a) before language x in
       let fx = x_failures (items_in a) before 0 None x in
       let bx = needs_be (items_in a) before None language x in
@@ -97,8 +98,8 @@ module _ (a : Around) (item : Item) (k : Kept) (ready : IsReady a item k) (compo
         known = known_at (items_in a) whole k.built before (item ∷ ready.at.behind) ready.at.is ready.kept.defined m.0 x (empty_first (x_failures (items_in a) before 0 None x) _ fine) m.1;
       }
   claim_ready (type_check x f y) of fine built each =
-      let rest = second_true (is_built_expression x) (is_built_expression f && is_built_expression y) built in
-      let m = check_made (items_in a) whole before x f y fine (first_true (is_built_expression x) (is_built_expression f && is_built_expression y) built) (first_true (is_built_expression f) (is_built_expression y) rest) (second_true (is_built_expression f) (is_built_expression y) rest)
+      let rest = second_true (has_automaton_shape x) (has_automaton_shape f && has_automaton_shape y) built in
+      let m = check_made (items_in a) whole before x f y fine (first_true (has_automaton_shape x) (has_automaton_shape f && has_automaton_shape y) built) (first_true (has_automaton_shape f) (has_automaton_shape y) rest) (second_true (has_automaton_shape f) (has_automaton_shape y) rest)
       (each x (first_of x (f ∷ y ∷ []))) (each f (later_in x f (f ∷ y ∷ []) (first_of f (y ∷ [])))) (each y (later_in x y (f ∷ y ∷ []) (second_of f y))) in
       record {
         type = m.type;

@@ -2,7 +2,6 @@
 use Rattle.std.proofs.Common.{◌≡◌, ◌≤◌, ◌<◌, ◌+◌, ℕ, suc, true, List, ◌∷◌, Option, Some, None, map, take, length, get_or, add-one, refl, sym, ap, subst, ◌∙◌, arith}
 use Rattle.std.specs.List.{list_all}
 use Rattle.model_grammar.specs.Syntax.{Item}
-use Rattle.model_run.specs.Built.{is_built}
 use Rattle.model_run.specs.Outcomes.{Outcome}
 use Rattle.program_check.specs.Tells.{IsChecked}
 use Rattle.program_check.specs.declared.programs.Checked.{Checked}
@@ -41,7 +40,6 @@ module _ (old : Session) (done : List Outcome) (at : IsAt old done) (item : Item
     at_next o did = record {
       over = record {
         checked = subst IsChecked (sym same) at.over.checked;
-        built = subst (λ c. list_all is_built (items_of c) ≡ true) (sym same) at.over.built;
         shallow = subst (λ n. n ≤ 2000) (sym limited) at.over.shallow;
       };
       running = running;

@@ -2,7 +2,6 @@
 use Rattle.std.specs.Prelude.{◌≡◌, ◌≤◌, true, List}
 use Rattle.model_grammar.specs.Syntax.{Item}
 use Rattle.model_checks.specs.Sound.{StandsIn}
-use Rattle.model_run.specs.Built.{is_built}
 use Rattle.model_run.specs.Outcomes.{Outcome, trees_in}
 use Rattle.program_check.specs.Tells.{IsChecked}
 use Rattle.fast_build.specs.Items.{items_of}
@@ -27,7 +26,6 @@ pub record IsKept (items done : List Item) (k : Kept) : Type 0 where
 pub record IsReady (a : Around) (item : Item) (k : Kept) : Type 0 where
   pub checked : IsChecked a.checked.now
   pub at : StandsIn (items_in a) item
-  pub is_built : is_built item ≡ true
   pub kept : IsKept (items_in a) at.before k
   pub outcomes : List Outcome
   pub told : Tells k.trees (trees_in outcomes)

@@ -7,7 +7,6 @@ use Rattle.model_grammar.specs.Syntax.{X, named, one, two, literal, DefItem, Bod
 use Rattle.model_checks.specs.Sound.{StandsIn}
 use Rattle.model_meaning.specs.Reached.{IsNamedIn, DependsOn}
 use Rattle.model_names.specs.Declared.{own_name}
-use Rattle.model_run.specs.Built.{is_built}
 use Rattle.model_run.specs.Items.{IsComposable}
 use Rattle.model_run.specs.Causes.{HasCause, TreeHasCause}
 use Rattle.model_run.specs.Report.{named_x, IsNeeded}
@@ -59,7 +58,6 @@ pub record AreNeeded (items : List Item) (name : List ℕ) (names : List (List �
 pub record IsBuildable (a : Around) (names : List (List ℕ)) (item : Item) (k : Kept) : Type 0 where
   pub checked : IsChecked a.checked.now
   pub at : StandsIn (items_in a) item
-  pub is_built : is_built item ≡ true
   pub built : AreBuilt (items_in a) k.built
   pub closed : AreClosedFrom (items_in a) 0 names
   pub defined : AreDefinedOf (Contains names) k.built at.before

@@ -1,8 +1,6 @@
 -- How far a session is, and what a step does.
 use Rattle.std.specs.Prelude.{◌≡◌, ◌⊎◌, ◌≤◌, ◌<◌, ℕ, true, List, ◌∷◌, None, length, take, get_or, is_some}
-use Rattle.std.specs.List.{list_all}
 use Rattle.model_grammar.specs.Syntax.{Item}
-use Rattle.model_run.specs.Built.{is_built}
 use Rattle.model_run.specs.Causes.{HasCause}
 use Rattle.model_names.specs.Kinds.{Kind}
 use Rattle.model_run.specs.Texts.{IsNameOf}
@@ -24,10 +22,9 @@ use Rattle.fast_session.specs.Items.{HaveScalars, IsTyped}
 abbrev pub items_in : Session → List Item
 items_in s = items_of s.checked
 
--- what is so of each session of a program that is built
+-- what is so of each session
 pub record IsOver (s : Session) : Type 0 where
   pub checked : IsChecked s.checked
-  pub built : list_all is_built (items_in s) ≡ true
   pub shallow : s.limit ≤ 2000
 
 -- it hasn't ended, and its items that are done had these outcomes, the last one first

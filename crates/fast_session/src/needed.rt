@@ -1,13 +1,12 @@
 //! The names that a name needs.
 
 ghost use Rattle.std.specs.Prelude.{◌≡◌, true, [], ◌∷◌, OnOk, IfOk};
-ghost use Rattle.std.specs.List.{list_all};
 ghost use Rattle.std.specs.Option.{option_map};
 ghost use Rattle.fast_syntax.specs.Plain.{plain_x, plain_def, plain_item};
 ghost use Rattle.model_grammar.specs.Syntax as plain;
 ghost use Rattle.model_program.specs.Syntax.{Name};
 ghost use Rattle.model_names.specs.Declared.{own_name};
-ghost use Rattle.model_run.specs.Built.{is_built, is_built_expression};
+ghost use Rattle.meaning_laws.specs.Shapes.{has_automaton_shape};
 ghost use Rattle.program_check.specs.Tells.{IsChecked};
 ghost use Rattle.fast_build.specs.Items.{items_of};
 ghost use Rattle.fast_build.specs.Reached.{IsGrown};
@@ -31,7 +30,7 @@ fn add_name(alloc: Global, name: &Text, names: &mut IndexSet<Text>) -> Result<()
 
 /// Adds the names in the expression.
 fn add_names(alloc: Global, x: &X, names: &mut IndexSet<Text>) -> Result<(), Memory>
-    requires { is_built_expression (plain_x x.now) ≡ true }
+    requires { has_automaton_shape (plain_x x.now) ≡ true }
     ensures { OnOk result (IsGrown names.old.keys names.new.keys (names_in (plain_x x.now))) }
 {
     match x {
@@ -70,7 +69,7 @@ pub fn own_def(item: &Item) -> Option<&DefItem>
 
 /// Adds the names in the item's expression, if it is a definition whose name is there.
 fn follow(alloc: Global, item: &Item, names: &mut IndexSet<Text>) -> Result<(), Memory>
-    requires { (d : plain.DefItem) → (plain_item item.now).body ≡ plain.def d → is_built_expression d.value ≡ true }
+    requires { (d : plain.DefItem) → (plain_item item.now).body ≡ plain.def d → has_automaton_shape d.value ≡ true }
     ensures { OnOk result (IsFollowed (plain_item item.now).body names.old.keys names.new.keys) }
 {
     let Some(own) = own_def(item) else {
@@ -85,7 +84,6 @@ fn follow(alloc: Global, item: &Item, names: &mut IndexSet<Text>) -> Result<(), 
 /// The name, and the names on which it depends as far as definitions lead.
 pub fn names_for(alloc: Global, checked: &Checked, name: &Text) -> Result<IndexSet<Text>, Memory>
     requires checked { IsChecked checked.now }
-    requires built { list_all is_built (items_of checked.now) ≡ true }
     ensures { IfOk result (λ names. AreNeeded (items_of checked.now) name.now names.keys) }
 {
     let items = checked.program().items.as_slice();

@@ -1,14 +1,13 @@
 //! What a name needs, built in the order of the items.
 
 ghost use Rattle.std.specs.Prelude.{◌≡◌, ◌≤◌, true, Some, IfErr, OnOk};
-ghost use Rattle.std.specs.List.{list_all, Contains};
+ghost use Rattle.std.specs.List.{Contains};
 ghost use Rattle.std.specs.Str.{chars};
 ghost use Rattle.fast_syntax.specs.Plain.{plain_item};
 ghost use Rattle.model_grammar.specs.Syntax as plain;
 ghost use Rattle.model_names.specs.Kinds.{Kind};
 ghost use Rattle.model_program.specs.Syntax.{Name};
 ghost use Rattle.model_names.specs.Declared.{own_name};
-ghost use Rattle.model_run.specs.Built.{is_built};
 ghost use Rattle.model_run.specs.Items.{IsComposable};
 ghost use Rattle.model_run.specs.Report.{AreNeededComposable};
 ghost use Rattle.model_run.specs.Texts.{IsNameOf};
@@ -73,7 +72,6 @@ fn build_each(
     names: &IndexSet<Text>,
 ) -> Result<(), Halt>
     requires checked { IsChecked around.now.checked.now }
-    requires is_built { list_all is_built (items_in around.now) ≡ true }
     requires shallow { around.now.limit ≤ 2000 }
     requires built { AreBuilt (items_in around.now) kept.old.built }
     requires closed { AreClosedFrom (items_in around.now) 0 names.now.keys }
@@ -92,7 +90,6 @@ fn build_each(
 /// Builds what the name needs.
 pub fn prepare(alloc: Global, around: &Around, kept: &mut Kept, name: &str) -> Result<(), Halt>
     requires checked { IsChecked around.now.checked.now }
-    requires is_built { list_all is_built (items_in around.now) ≡ true }
     requires shallow { around.now.limit ≤ 2000 }
     requires built { AreBuilt (items_in around.now) kept.old.built }
     ensures more { IsBuiltMore (items_in around.now) kept.old kept.new }

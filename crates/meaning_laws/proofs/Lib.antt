@@ -8,3 +8,4 @@ pub mod Valued
 pub mod Deep
 pub mod Fitting
 pub mod Whole
+pub mod Shaped

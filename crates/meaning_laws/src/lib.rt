@@ -6,6 +6,7 @@
 
 ghost use Rattle.meaning_laws.specs.Reaching.{ReachedByLangs, ReachedByTrans};
 ghost use Rattle.meaning_laws.specs.Laws.{ProgramsHaveMeaning};
+ghost use Rattle.meaning_laws.specs.Shapes.{ExpressionsHaveShapes};
 
 /// In a well-formed program names mean what their rules or their expressions do.
 pub fn programs_have_meaning()
@@ -16,4 +17,9 @@ pub fn programs_have_meaning()
 pub fn reached_have_types()
     ensures languages { ReachedByLangs }
     ensures transformations { ReachedByTrans }
+{}
+
+/// In a well-formed program each expression is made of what its place needs.
+pub fn expressions_have_shapes()
+    ensures { ExpressionsHaveShapes }
 {}

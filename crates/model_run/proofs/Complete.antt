@@ -23,9 +23,9 @@ use Rattle.model_meaning.specs.Meaning.{input_type}
 use Rattle.model_refusals.proofs.Once.{none_refused}
 use Rattle.model_run.specs.Words.{CommandForm, check_form, run_form, apply_form, accepts_form, self_form, limit_of}
 use Rattle.model_run.specs.Texts.{IsRefused, IsNameRefused, IsNameOf, PlacedTree, StandsFor, StandFor, AreTreesOf, IsFileOf, IsFileRefused, trees_failures}
-use Rattle.model_run.specs.Built.{unbuilt_at}
+use Rattle.model_run.specs.Generator.{self_text}
 use Rattle.model_run.specs.Scripts.{Comes, Ending, whole, Writes, IsLine}
-use Rattle.model_run.specs.Report.{Work, items_script, trees_script, ItemsEnd, named_x, IsTextRefused, BuiltReport, ProgramReport, TreesReport, NameReport, CheckReport, RunReport, self_name, CommandReport, StatusReport, IsReport, IsFree, AreHeld, IsDoableOver, IsDoable, IsDoneOrStopped}
+use Rattle.model_run.specs.Report.{Work, items_script, trees_script, ItemsEnd, named_x, IsTextRefused, ProgramReport, TreesReport, NameReport, CheckReport, RunReport, self_name, SelfReport, CommandReport, StatusReport, IsReport, IsFree, AreHeld, IsDoableOver, IsDoable, IsDoneOrStopped}
 use Rattle.model_run.proofs.Forms.{one_form}
 
 -- ---- texts
@@ -119,11 +119,6 @@ module _ (signature : PlainSignature) where
 
 -- ---- forms
 
-built_done : (name : List ℕ) (items : List Item) (Reported : Ending → List ℕ → Type 0) (status : Status) (report : List ℕ) → unbuilt_at items ≡ None → (Reported (whole status) report → IsDoneOrStopped status)
-    → BuiltReport name items Reported (whole status) report → IsDoneOrStopped status
-built_done name items Reported status report built done (inl (place, at, line)) = absurd (let bad : None ≡ Some place = sym built ∙ at in cc)
-built_done name items Reported status report built done (inr (same, reported)) = done reported
-
 -- the program that the text is is the one that is reported of
 program_done : (name bytes : List ℕ) (items : List Item) (Reported : List Item → Ending → List ℕ → Type 0) (status : Status) (report : List ℕ) → IsText IsProgram bytes items → is_well_formed items ≡ true
     → (Reported items (whole status) report → IsDoneOrStopped status) → ProgramReport name bytes Reported (whole status) report → IsDoneOrStopped status
@@ -140,14 +135,13 @@ named_twice items kind name UnknownName named refused = let bad : None ≡ Some 
 named_twice items kind name WrongKind named (item, found, other) = other (ap (option_and_then (λ i. own_kind i.body)) (sym found) ∙ named)
 named_twice items kind name code named refused = absurd refused
 
-module _ (items : List Item) (name text trees : List ℕ) (kind : Kind) (named : IsNameOf items kind text) (built : unbuilt_at items ≡ None) (bytes : List ℕ) (placed : List PlacedTree)
+module _ (items : List Item) (name text trees : List ℕ) (kind : Kind) (named : IsNameOf items kind text) (bytes : List ℕ) (placed : List PlacedTree)
     (are : IsFileOf (input_type items (named_x text)) bytes placed) (free : IsFree (trees_script items name text trees kind placed)) where
   trees_done : (status : Status) (report : List ℕ) → TreesReport items name text trees kind bytes (whole status) report → IsDoneOrStopped status
   trees_done status report (inl refused) = absurd (accepted_file (input_type items (named_x text)) bytes placed refused.code refused.place are refused.refused)
   trees_done status report (inr (other, others, reported)) =
       let same = one_file (input_type items (named_x text)) bytes placed other are others in
-      built_done name items (Writes (trees_script items name text trees kind other)) status report built
-      (λ writes. trees_ends items name text trees kind placed report status free (subst (λ ps. Writes (trees_script items name text trees kind ps) (whole status) report) (sym same) writes)) reported
+      trees_ends items name text trees kind placed report status free (subst (λ ps. Writes (trees_script items name text trees kind ps) (whole status) report) (sym same) reported)
 
   name_done : (held : Option (List ℕ)) → held ≡ Some bytes → (status : Status) (report : List ℕ) → NameReport name text trees kind held items (whole status) report → IsDoneOrStopped status
   name_done held told status report (inl (code, refused, line)) = absurd (named_twice items kind text code named refused)
@@ -162,7 +156,7 @@ given_done : (held : List ℕ → Option (List ℕ)) (name text trees : List ℕ
 given_done held name text trees kind status report are reported =
     held_done (held name) are.program.bytes (λ bytes. ProgramReport name bytes (NameReport name text trees kind (held trees)) (whole status) report) status are.program.told
     (program_done name are.program.bytes are.items (NameReport name text trees kind (held trees)) status report are.program.text are.program.well_formed
-    (name_done are.items name text trees kind are.named are.built are.bytes are.placed are.are are.free (held trees) are.told status report)) reported
+    (name_done are.items name text trees kind are.named are.bytes are.placed are.are are.free (held trees) are.told status report)) reported
 
 self_status : (n : ℕ) (items : List Item) (status : Status) (work : Work) (before last : List ℕ) → Comes (items_script items (limit_of None) self_name) work before → IsFree (items_script items (limit_of None) self_name)
     → ItemsEnd items (limit_of None) self_name work status last → IsDoneOrStopped status
@@ -171,15 +165,15 @@ self_status n items status work before last come free ends = items_done items (l
 form_done : (form : CommandForm) (held : List ℕ → Option (List ℕ)) (status : Status) (report : List ℕ) → IsDoableOver held form → CommandReport form held (whole status) report → IsDoneOrStopped status
 form_done (check_form name) held status report (items, program) reported =
     held_done (held name) program.bytes (λ bytes. ProgramReport name bytes CheckReport (whole status) report) status program.told (program_done name program.bytes items CheckReport status report program.text program.well_formed (check_done items status report)) reported
-form_done (run_form name limit) held status report (items, program, built, free) reported =
+form_done (run_form name limit) held status report (items, program, free) reported =
     held_done (held name) program.bytes (λ bytes. ProgramReport name bytes (RunReport name (limit_of limit)) (whole status) report) status program.told
     (program_done name program.bytes items (RunReport name (limit_of limit)) status report program.text program.well_formed
-    (built_done name items (Writes (items_script items (limit_of limit) name)) status report built (items_done items (limit_of limit) name report status free))) reported
+    (items_done items (limit_of limit) name report status free)) reported
 form_done (apply_form name text trees) held status report are reported = given_done held name text trees transformation status report are reported
 form_done (accepts_form name text trees) held status report are reported = given_done held name text trees language status report are reported
-form_done (self_form n) held status report (items, text, well, built, free) r =
-    let same : items ≡ r.items = r.program.text.only items text in
-    subst IsDoneOrStopped (sym r.is.0) (self_status n r.items r.status r.work r.before r.last r.comes (subst (λ xs. IsFree (items_script xs (limit_of None) self_name)) same free) r.ends)
+form_done (self_form n) held status report (items, text, well, free) reported =
+    program_done self_name (self_text n) items (SelfReport n) status report text well
+    (λ r. subst IsDoneOrStopped (sym r.is.0) (self_status n items r.status r.work r.before r.last r.comes free r.ends)) reported
 
 status_done : (form : CommandForm) (held : List ℕ → Option (List ℕ)) (status : Status) (report : List ℕ) → IsDoableOver held form → StatusReport (CommandReport form held) status report → IsDoneOrStopped status
 status_done form held Hold report d r = tt
@@ -194,6 +188,6 @@ status_done form held Memory report d r = tt
 -- a legal report of words with which nothing stands in the way is done, or was stopped
 pub completes : (words : List (List ℕ)) (held : List ℕ → Option (List ℕ)) (status : Status) (report : List ℕ) (form : CommandForm) → IsReport words held status report → IsDoable words held form → IsDoneOrStopped status
 completes words held status report form (inl (other, is, reported)) d =
-    let same = one_form words other form is.0 d.is.0 in
+    let same = one_form words other form is d.is in
     status_done form held status report d.doable (subst (λ f. StatusReport (CommandReport f held) status report) same reported)
 completes words held status report form (inr (none, usage)) d = absurd (none form d.is)

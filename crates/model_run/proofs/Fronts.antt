@@ -7,7 +7,8 @@ use Rattle.model_grammar.specs.Syntax.{Item}
 use Rattle.model_names.specs.Kinds.{Kind, language, transformation}
 use Rattle.model_run.specs.Words.{CommandForm, check_form, run_form, apply_form, accepts_form, self_form, limit_of}
 use Rattle.model_run.specs.Scripts.{Script, Comes, begun, more, Ending, whole, unfinished, Writes, IsLine}
-use Rattle.model_run.specs.Report.{IsTextRefused, BuiltReport, ProgramReport, TreesReport, NameReport, items_script, trees_script, CheckReport, RunReport, CommandReport}
+use Rattle.model_run.specs.Report.{IsTextRefused, ProgramReport, TreesReport, NameReport, items_script, trees_script, CheckReport, RunReport, self_name, SelfReport, CommandReport}
+use Rattle.model_run.specs.Generator.{self_text}
 
 -- where one list is cut in two ways
 pub data IsCutAgain (front back a b : List ℕ) : Type 0 where
@@ -54,10 +55,6 @@ line_cuts status line other front back (same, is) = (back, is)
 text_cuts : (Refused : Code → Pos → Type 0) (file : List ℕ) → Cuts (IsTextRefused Refused file)
 text_cuts Refused file status front back r = record { code = r.code; place = r.place; refused = r.refused; is = line_cuts _ _ status front back r.is }
 
-built_cuts : (file : List ℕ) (items : List Item) (Reported : Ending → List ℕ → Type 0) → Cuts Reported → Cuts (BuiltReport file items Reported)
-built_cuts file items Reported cuts status front back (inl (place, at, line)) = inl (place, at, line_cuts _ _ status front back line)
-built_cuts file items Reported cuts status front back (inr (built, reported)) = inr (built, cuts status front back reported)
-
 program_cuts : (file bytes : List ℕ) (Reported : List Item → Ending → List ℕ → Type 0) → ((items : List Item) → Cuts (Reported items)) → Cuts (ProgramReport file bytes Reported)
 program_cuts file bytes Reported cuts status front back (inl refused) = inl (text_cuts _ file status front back refused)
 program_cuts file bytes Reported cuts status front back (inr (items, checked, reported)) = inr (items, checked, cuts items status front back reported)
@@ -65,7 +62,7 @@ program_cuts file bytes Reported cuts status front back (inr (items, checked, re
 trees_cuts : (items : List Item) (file name trees : List ℕ) (kind : Kind) (bytes : List ℕ) → Cuts (TreesReport items file name trees kind bytes)
 trees_cuts items file name trees kind bytes status front back (inl refused) = inl (text_cuts _ trees status front back refused)
 trees_cuts items file name trees kind bytes status front back (inr (placed, are, reported)) =
-    (let script = trees_script items file name trees kind placed in inr (placed, are, built_cuts file items (Writes script) (script_cuts script) status front back reported))
+    inr (placed, are, script_cuts (trees_script items file name trees kind placed) status front back reported)
 
 name_cuts : (file name trees : List ℕ) (kind : Kind) (held : Option (List ℕ)) (items : List Item) → Cuts (NameReport file name trees kind held items)
 name_cuts file name trees kind held items status front back (inl (code, refused, line)) = inl (code, refused, line_cuts _ _ status front back line)
@@ -76,26 +73,18 @@ told_cuts : (held : Option (List ℕ)) (Reported : List ℕ → Ending → List 
 told_cuts None Reported cuts status front back reported = reported
 told_cuts (Some bytes) Reported cuts status front back reported = cuts bytes status front back reported
 
+self_cuts : (n : ℕ) (items : List Item) → Cuts (SelfReport n items)
+self_cuts n items status front back r = record { work = r.work; before = r.before; comes = r.comes; status = r.status; last = r.last; ends = r.ends; is = line_cuts _ _ status front back r.is }
+
 pub form_cuts : (form : CommandForm) (held : List ℕ → Option (List ℕ)) (status : Status) (front back : List ℕ) → CommandReport form held (whole status) (front ++ back) → CommandReport form held unfinished front
 form_cuts (check_form file) held status front back r = told_cuts (held file) (λ bytes. ProgramReport file bytes CheckReport) (λ bytes. program_cuts file bytes CheckReport (λ items. line_cuts _ _)) status front back r
 form_cuts (run_form file limit) held status front back r =
     told_cuts (held file) (λ bytes. ProgramReport file bytes (RunReport file (limit_of limit)))
-    (λ bytes. program_cuts file bytes (RunReport file (limit_of limit)) (λ items. (let script = items_script items (limit_of limit) file in built_cuts file items (Writes script) (script_cuts script)))) status front back r
+    (λ bytes. program_cuts file bytes (RunReport file (limit_of limit)) (λ items. script_cuts (items_script items (limit_of limit) file))) status front back r
 form_cuts (apply_form file name trees) held status front back r =
     told_cuts (held file) (λ bytes. ProgramReport file bytes (NameReport file name trees transformation (held trees)))
     (λ bytes. program_cuts file bytes (NameReport file name trees transformation (held trees)) (name_cuts file name trees transformation (held trees))) status front back r
 form_cuts (accepts_form file name trees) held status front back r =
     told_cuts (held file) (λ bytes. ProgramReport file bytes (NameReport file name trees language (held trees)))
     (λ bytes. program_cuts file bytes (NameReport file name trees language (held trees)) (name_cuts file name trees language (held trees))) status front back r
-form_cuts (self_form n) held status front back r = record {
-  items = r.items;
-  program = r.program;
-  built = r.built;
-  work = r.work;
-  before = r.before;
-  comes = r.comes;
-  status = r.status;
-  last = r.last;
-  ends = r.ends;
-  is = line_cuts _ _ status front back r.is;
-}
+form_cuts (self_form n) held status front back r = program_cuts self_name (self_text n) (SelfReport n) (self_cuts n) status front back r

@@ -10,7 +10,6 @@ pub mod Causes
 pub mod Words
 pub mod Outcomes
 pub mod Texts
-pub mod Built
 pub mod Generator
 pub mod Scripts
 pub mod Lines

@@ -4,7 +4,6 @@ use Rattle.std.specs.List.{All, Contains, sum_by}
 use Rattle.std.specs.declared.cmp.Ordering.TheVariants.{Less}
 use Rattle.fast_fault.specs.declared.place.Pos.{Pos}
 use Rattle.fast_fault.specs.declared.code.Code.{Code}
-use Rattle.fast_fault.specs.declared.code.Code.TheVariants.{NotYet}
 use Rattle.fast_fault.specs.declared.status.Status.{Status}
 use Rattle.fast_fault.specs.declared.status.Status.TheVariants.{Hold, Fails, Words, TextRefused, RunRefused, TextFault, SinkFault, Memory}
 use Rattle.fast_fault.specs.Written.{Appends}
@@ -27,7 +26,6 @@ use Rattle.model_run.specs.Items.{IsComposable}
 use Rattle.model_run.specs.Printable.{IsPrintable}
 use Rattle.model_run.specs.Outcomes.{Outcome, IsOutcome, line_of, trees_in, has_failed}
 use Rattle.model_run.specs.Texts.{IsChecked, IsRefused, IsNameRefused, IsNameOf, PlacedTree, IsFileOf, IsFileRefused}
-use Rattle.model_run.specs.Built.{unbuilt_at, is_built_command}
 use Rattle.model_run.specs.Generator.{self_text}
 use Rattle.model_run.specs.Lines.{refusal_line, name_line, stop_line, checked_line, outputs_lines, inside_line, outside_line, self_line}
 use Rattle.model_run.specs.Scripts.{Script, Comes, Ending, whole, unfinished, Writes, IsLine}
@@ -157,12 +155,6 @@ pub record IsTextRefused (Refused : Code → Pos → Type 0) (file : List ℕ) (
   pub refused : Refused code place
   pub is : IsLine TextRefused (refusal_line code file place) ending report
 
--- a well-formed program is run where all its items are built; else the line says where the first one stands that isn't
-abbrev pub BuiltReport : List ℕ → List Item → (Ending → List ℕ → Type 0) → Ending → List ℕ → Type 0
-BuiltReport file items Reported ending report =
-    ((place : Pos) × (unbuilt_at items ≡ Some place) × IsLine TextRefused (refusal_line NotYet file place) ending report)
-    ⊎ ((unbuilt_at items ≡ None) × Reported ending report)
-
 -- a text is refused, or is a well-formed program, and what is reported of that
 abbrev pub ProgramReport : List ℕ → List ℕ → (List Item → Ending → List ℕ → Type 0) → Ending → List ℕ → Type 0
 ProgramReport file bytes Reported ending report = IsTextRefused (IsRefused bytes) file ending report ⊎ ((items : List Item) × IsChecked bytes items × Reported items ending report)
@@ -172,7 +164,7 @@ abbrev pub TreesReport : List Item → List ℕ → List ℕ → List ℕ → Ki
 TreesReport items file name trees kind bytes ending report =
     IsTextRefused (IsFileRefused (input_type items (named_x name)) bytes) trees ending report
     ⊎ ((placed : List PlacedTree) × IsFileOf (input_type items (named_x name)) bytes placed
-    × BuiltReport file items (Writes (trees_script items file name trees kind placed)) ending report)
+    × Writes (trees_script items file name trees kind placed) ending report)
 
 -- the name is refused, or is of this kind
 abbrev pub NameReport : List ℕ → List ℕ → List ℕ → Kind → Option (List ℕ) → List Item → Ending → List ℕ → Type 0
@@ -184,7 +176,7 @@ abbrev pub CheckReport : List Item → Ending → List ℕ → Type 0
 CheckReport items ending report = IsLine Hold (checked_line items) ending report
 
 abbrev pub RunReport : List ℕ → ℕ → List Item → Ending → List ℕ → Type 0
-RunReport file limit items ending report = BuiltReport file items (Writes (items_script items limit file)) ending report
+RunReport file limit items ending report = Writes (items_script items limit file) ending report
 
 abbrev pub self_name : List ℕ
 self_name = codes "self"
@@ -194,10 +186,8 @@ abbrev pub self_last : ℕ → List Item → Work → Status → List ℕ → Li
 self_last n items work RunRefused last = last
 self_last n items work status last = self_line n items work.done
 
-pub record SelfReport (n : ℕ) (ending : Ending) (report : List ℕ) : Type 0 where
-  pub items : List Item
-  pub program : IsChecked (self_text n) items
-  pub built : unbuilt_at items ≡ None
+-- the program that is made from the number is run, and the last line of its report, or its summary, is all that is told
+pub record SelfReport (n : ℕ) (items : List Item) (ending : Ending) (report : List ℕ) : Type 0 where
   pub work : Work
   pub before : List ℕ
   pub comes : Comes (items_script items (limit_of None) self_name) work before
@@ -214,7 +204,7 @@ CommandReport (apply_form file name trees) held ending report =
     IfSome (held file) (λ bytes. ProgramReport file bytes (NameReport file name trees transformation (held trees)) ending report)
 CommandReport (accepts_form file name trees) held ending report =
     IfSome (held file) (λ bytes. ProgramReport file bytes (NameReport file name trees language (held trees)) ending report)
-CommandReport (self_form n) held ending report = SelfReport n ending report
+CommandReport (self_form n) held ending report = ProgramReport self_name (self_text n) (SelfReport n) ending report
 
 -- With each status: after a fault of the sink or for want of memory a report is nothing or an unfinished one; where a text
 -- couldn't be taken nothing is written.
@@ -225,10 +215,6 @@ StatusReport Reported SinkFault report = (report ≡ []) ⊎ Reported unfinished
 StatusReport Reported Memory report = (report ≡ []) ⊎ Reported unfinished report
 StatusReport Reported status report = Reported (whole status) report
 
--- words that are a form that is built
-abbrev pub IsWords : List (List ℕ) → CommandForm → Type 0
-IsWords words form = AreWordsOf words form × (is_built_command form ≡ true)
-
 -- a legal report of these words over what is held; words that are no form are answered by the usage line
 abbrev pub UsageReport : Status → List ℕ → Type 0
 UsageReport Words report = report ≡ usage_line
@@ -238,8 +224,8 @@ UsageReport status report = ⊥
 
 abbrev pub IsReport : List (List ℕ) → (List ℕ → Option (List ℕ)) → Status → List ℕ → Type 0
 IsReport words held status report =
-    ((form : CommandForm) × IsWords words form × StatusReport (CommandReport form held) status report)
-    ⊎ (((form : CommandForm) → ¬ (IsWords words form)) × UsageReport status report)
+    ((form : CommandForm) × AreWordsOf words form × StatusReport (CommandReport form held) status report)
+    ⊎ (((form : CommandForm) → ¬ (AreWordsOf words form)) × UsageReport status report)
 
 -- What this call appended is, with its status, legal.
 abbrev pub Reports : (Status → List ℕ → Type 0) → Status → Option (List ℕ) → Option (List ℕ) → Type 0
@@ -262,7 +248,6 @@ pub record IsHeld (held : List ℕ → Option (List ℕ)) (file : List ℕ) (ite
 pub record AreHeld (held : List ℕ → Option (List ℕ)) (file name trees : List ℕ) (kind : Kind) : Type 0 where
   pub items : List Item
   pub program : IsHeld held file items
-  pub built : unbuilt_at items ≡ None
   pub named : IsNameOf items kind name
   pub bytes : List ℕ
   pub told : held trees ≡ Some bytes
@@ -273,15 +258,15 @@ pub record AreHeld (held : List ℕ → Option (List ℕ)) (file name trees : Li
 -- The texts of a form are accepted, and no item or tree that it works on has a cause.
 abbrev pub IsDoableOver : (List ℕ → Option (List ℕ)) → CommandForm → Type 0
 IsDoableOver held (check_form file) = (items : List Item) × IsHeld held file items
-IsDoableOver held (run_form file limit) = (items : List Item) × IsHeld held file items × (unbuilt_at items ≡ None) × IsFree (items_script items (limit_of limit) file)
+IsDoableOver held (run_form file limit) = (items : List Item) × IsHeld held file items × IsFree (items_script items (limit_of limit) file)
 IsDoableOver held (apply_form file name trees) = AreHeld held file name trees transformation
 IsDoableOver held (accepts_form file name trees) = AreHeld held file name trees language
 IsDoableOver held (self_form n) =
-    (items : List Item) × IsText IsProgram (self_text n) items × (is_well_formed items ≡ true) × (unbuilt_at items ≡ None) × IsFree (items_script items (limit_of None) self_name)
+    (items : List Item) × IsText IsProgram (self_text n) items × (is_well_formed items ≡ true) × IsFree (items_script items (limit_of None) self_name)
 
 -- nothing stands in the way of a whole report
 pub record IsDoable (words : List (List ℕ)) (held : List ℕ → Option (List ℕ)) (form : CommandForm) : Type 0 where
-  pub is : IsWords words form
+  pub is : AreWordsOf words form
   pub doable : IsDoableOver held form
 
 -- the whole report came, or a fault or want of memory stopped it

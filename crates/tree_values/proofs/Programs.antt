@@ -1,5 +1,5 @@
 -- What an item of a well-formed program brings to the evaluation of its trees, once the items before it are done.
-use Rattle.model_run.specs.Built.{are_built_trees, is_built_expression, is_built_tree}
+use Rattle.meaning_laws.specs.Shapes.{have_tree_shapes, has_automaton_shape, has_tree_shape}
 use Rattle.std.proofs.Common.{◌≡◌, ◌<◌, ◌++◌, ℕ, suc, ℤ, Bool, true, false, ◌&&◌, not, cond, List, [], ◌∷◌, map, length, get_or, Option, Some, None, find, Contains, refl, sym, ap, subst, ◌∙◌, arith}
 use Rattle.std.specs.Prelude.{◌==◌, is_some, pos, negsuc}
 use Rattle.std.proofs.lemmas.Bool.Decides.{nat_tests}
@@ -163,7 +163,7 @@ module _ (items : List Item) (whole : IsSound items) where
       let same = one_type type is.0.of.text (type_of items (named n)) type_is (not_other items whole before a_tree (Some type) (named n) own.0 be) in
       sym (ap (λ s. signature_named items (Some s)) same ∙ (ap (signature_named items) (sym type_is) ∙ input_type_of_name items n))
 
-  found_on : (before : List Item) (around : ℕ) (type : List ℕ) (place : Pos) (x : X) → is_built_expression x ≡ true → AreComposable items x → is_empty (x_failures items before around (Some type) (one GetWitness place x)) ≡ true → is_empty (needs_be items before (Some type) a_tree (one GetWitness place x)) ≡ true
+  found_on : (before : List Item) (around : ℕ) (type : List ℕ) (place : Pos) (x : X) → has_automaton_shape x ≡ true → AreComposable items x → is_empty (x_failures items before around (Some type) (one GetWitness place x)) ≡ true → is_empty (needs_be items before (Some type) a_tree (one GetWitness place x)) ≡ true
       → (is_empty (x_failures items before (suc around) None x) ≡ true) × IsMadeOn items type x
   found_on before around type place x form can fine be =
       let inner = empty_second (nesting_failures around place) (x_failures items before (suc around) None x ++ needs_be items before None language x) fine in
@@ -184,7 +184,7 @@ module _ (items : List Item) (whole : IsSound items) where
     inside : is_empty (x_failures items before (suc around) (Some from) x) ≡ true
     be : is_empty (needs_be items before (Some from) a_tree x) ≡ true
 
-  applied_on : (before : List Item) (around : ℕ) (type : List ℕ) (place : Pos) (f x : X) → is_built_expression f ≡ true → AreComposable items f → is_empty (x_failures items before around (Some type) (two Apply place f x)) ≡ true
+  applied_on : (before : List Item) (around : ℕ) (type : List ℕ) (place : Pos) (f x : X) → has_automaton_shape f ≡ true → AreComposable items f → is_empty (x_failures items before around (Some type) (two Apply place f x)) ≡ true
       → is_empty (needs_be items before (Some type) a_tree (two Apply place f x)) ≡ true → IsApplication before around type f x
   applied_on before around type place f x form can fine be =
       let wanted = wanted_second items before Apply f in
@@ -210,7 +210,7 @@ module _ (items : List Item) (whole : IsSound items) where
 
   mutual
     -- an expression of a form that can be evaluated, of which a tree of a declared type is expected
-    pub tree_on : (before : List Item) (around : ℕ) (type : List ℕ) (t : TypeItem) → find_type items type ≡ Some t → IsSoundType t → (x : X) → is_built_tree x ≡ true → AreAllComposable items (used_in x)
+    pub tree_on : (before : List Item) (around : ℕ) (type : List ℕ) (t : TypeItem) → find_type items type ≡ Some t → IsSoundType t → (x : X) → has_tree_shape x ≡ true → AreAllComposable items (used_in x)
         → is_empty (x_failures items before around (Some type) x) ≡ true → is_empty (needs_be items before (Some type) a_tree x) ≡ true → IsTreeOn items type x
     tree_on before around type t found sound (named n) form can fine be = named_on before around type n fine be
     tree_on before around type t found sound (one Complement place x) form can fine be = absurd (cc)
@@ -218,7 +218,7 @@ module _ (items : List Item) (whole : IsSound items) where
     tree_on before around type t found sound (one Domain place x) form can fine be = absurd (cc)
     tree_on before around type t found sound (one GetWitness place x) form can fine be = (found_on before around type place x form (can x (first_in x [])) fine be).1
     tree_on before around type t found sound (two Apply place f x) form can fine be =
-        let forms = both (is_built_expression f) (is_built_tree x) form in
+        let forms = both (has_automaton_shape f) (has_tree_shape x) form in
         let a = applied_on before around type place f x forms.0 (can f (first_in f (used_in x))) fine be in
         let d = (types_there items a.from type f a.made).0 in
         (a.from, a.made, tree_on before (suc around) a.from d.item d.found (sound_of a.from d.item d.found) x forms.1 (λ e at. can e (later_in f e (used_in x) at)) a.inside a.be)
@@ -239,10 +239,10 @@ module _ (items : List Item) (whole : IsSound items) where
           trees_on before around type t found sound xs form can (empty_second (labels_failures (Some []) (fields_of (Some t)) labels) _ later),
         )
 
-    trees_on : (before : List Item) (around : ℕ) (type : List ℕ) (t : TypeItem) → find_type items type ≡ Some t → IsSoundType t → (xs : Xs) → are_built_trees xs ≡ true → AreAllComposable items (used_in_all xs) → is_empty (xs_failures items before around (Some type) xs) ≡ true → AreTreesOn items type xs
+    trees_on : (before : List Item) (around : ℕ) (type : List ℕ) (t : TypeItem) → find_type items type ≡ Some t → IsSoundType t → (xs : Xs) → have_tree_shapes xs ≡ true → AreAllComposable items (used_in_all xs) → is_empty (xs_failures items before around (Some type) xs) ≡ true → AreTreesOn items type xs
     trees_on before around type t found sound no_x form can fine = tt
     trees_on before around type t found sound (and_x x xs) form can fine =
-        let forms = both (is_built_tree x) (are_built_trees xs) form in
+        let forms = both (has_tree_shape x) (have_tree_shapes xs) form in
         let behind = empty_second (x_failures items before around (Some type) x) _ fine in (
           tree_on before around type t found sound x forms.0 (λ e at. can e (in_left (used_in x) (used_in_all xs) e at)) (empty_first (x_failures items before around (Some type) x) _ fine) (empty_first (needs_be items before (Some type) a_tree x) _ behind),
           trees_on before around type t found sound xs forms.1 (λ e at. can e (in_right (used_in x) (used_in_all xs) e at)) (empty_second (needs_be items before (Some type) a_tree x) _ behind),
@@ -266,7 +266,7 @@ module _ (items : List Item) (whole : IsSound items) where
         subst (λ name. is_some (tree_at trees name) ≡ true) name_is (printed first is.0 (found_there (declares n.text) before first at) body_is)
 
     mutual
-      pub tree_known : (around : ℕ) (type : List ℕ) (x : X) → is_built_tree x ≡ true → AreAllComposable items (used_in x) → is_empty (x_failures items before around (Some type) x) ≡ true → is_empty (needs_be items before (Some type) a_tree x) ≡ true → IsTreeKnown items trees b x
+      pub tree_known : (around : ℕ) (type : List ℕ) (x : X) → has_tree_shape x ≡ true → AreAllComposable items (used_in x) → is_empty (x_failures items before around (Some type) x) ≡ true → is_empty (needs_be items before (Some type) a_tree x) ≡ true → IsTreeKnown items trees b x
       tree_known around type (named n) form can fine be = named_known around type n fine be
       tree_known around type (one Complement place x) form can fine be = absurd (cc)
       tree_known around type (one Minimize place x) form can fine be = absurd (cc)
@@ -275,7 +275,7 @@ module _ (items : List Item) (whole : IsSound items) where
           let made = found_on before around type place x form (can x (first_in x [])) fine be in
           known_of items whole b before from split defined (suc around) None type x made.0 made.1
       tree_known around type (two Apply place f x) form can fine be =
-          let forms = both (is_built_expression f) (is_built_tree x) form in
+          let forms = both (has_automaton_shape f) (has_tree_shape x) form in
           let a = applied_on before around type place f x forms.0 (can f (first_in f (used_in x))) fine be in
           (trans_known_of items whole b before from split defined (suc around) None a.from type f a.fine a.made, tree_known (suc around) a.from x forms.1 (λ e at. can e (later_in f e (used_in x) at)) a.inside a.be)
       tree_known around type (two Intersect place x y) form can fine be = absurd (cc)
@@ -291,10 +291,10 @@ module _ (items : List Item) (whole : IsSound items) where
           let later = empty_second (label_count_failures o name (length labels)) _ behind in
           trees_known around type xs form can (empty_second (labels_failures (Some []) (fields_of o) labels) _ later)
 
-      trees_known : (around : ℕ) (type : List ℕ) (xs : Xs) → are_built_trees xs ≡ true → AreAllComposable items (used_in_all xs) → is_empty (xs_failures items before around (Some type) xs) ≡ true → AreTreesKnown items trees b xs
+      trees_known : (around : ℕ) (type : List ℕ) (xs : Xs) → have_tree_shapes xs ≡ true → AreAllComposable items (used_in_all xs) → is_empty (xs_failures items before around (Some type) xs) ≡ true → AreTreesKnown items trees b xs
       trees_known around type no_x form can fine = tt
       trees_known around type (and_x x xs) form can fine =
-          let forms = both (is_built_tree x) (are_built_trees xs) form in
+          let forms = both (has_tree_shape x) (have_tree_shapes xs) form in
           let behind = empty_second (x_failures items before around (Some type) x) _ fine in (
             tree_known around type x forms.0 (λ e at. can e (in_left (used_in x) (used_in_all xs) e at)) (empty_first (x_failures items before around (Some type) x) _ fine) (empty_first (needs_be items before (Some type) a_tree x) _ behind),
             trees_known around type xs forms.1 (λ e at. can e (in_right (used_in x) (used_in_all xs) e at)) (empty_second (needs_be items before (Some type) a_tree x) _ behind),
@@ -317,13 +317,13 @@ module _ (items : List Item) (whole : IsSound items) where
       }
 
   -- the expression of a tree can be evaluated
-  pub tree_made : (item : Item) (at : StandsIn items item) (t : TreeItem) → item.body ≡ tree t → is_built_tree t.value ≡ true → AreAllComposable items (used_in t.value) → IsTreeOn items t.of.text t.value
+  pub tree_made : (item : Item) (at : StandsIn items item) (t : TreeItem) → item.body ≡ tree t → has_tree_shape t.value ≡ true → AreAllComposable items (used_in t.value) → IsTreeOn items t.of.text t.value
   tree_made item at t is form can =
       let c = checked_tree item at t is in
       let h = tree_type item at t is in
       tree_on at.before 0 t.of.text h.type h.found (sound_of t.of.text h.type h.found) t.value form can c.inside c.be
 
-  pub tree_is_known : (item : Item) (at : StandsIn items item) (t : TreeItem) → item.body ≡ tree t → is_built_tree t.value ≡ true → AreAllComposable items (used_in t.value) → (b : Built) (trees : Trees) → AreDefined b at.before → ArePrinted trees at.before → IsTreeKnown items trees b t.value
+  pub tree_is_known : (item : Item) (at : StandsIn items item) (t : TreeItem) → item.body ≡ tree t → has_tree_shape t.value ≡ true → AreAllComposable items (used_in t.value) → (b : Built) (trees : Trees) → AreDefined b at.before → ArePrinted trees at.before → IsTreeKnown items trees b t.value
   tree_is_known item at t is form can b trees defined printed =
       let c = checked_tree item at t is in
       tree_known b trees at.before (item ∷ at.behind) at.is defined printed 0 t.of.text t.value form can c.inside c.be
@@ -372,14 +372,14 @@ module _ (items : List Item) (whole : IsSound items) where
   member_fine : (item : Item) (at : StandsIn items item) (a : AssertItem) (x y : X) → item.body ≡ assertion a → a.claim ≡ member x y → is_empty (claim_failures items at.before (member x y)) ≡ true
   member_fine item at a x y is same = subst (λ c. is_empty (claim_failures items at.before c) ≡ true) same (subst (λ b. is_empty (body_failures items at.before b) ≡ true) is (whole.each item at))
 
-  pub member_made : (item : Item) (at : StandsIn items item) (a : AssertItem) (x y : X) → item.body ≡ assertion a → a.claim ≡ member x y → is_built_tree x ≡ true → is_built_expression y ≡ true → AreAllComposable items (used_in x) → AreComposable items y → AreSides x y
+  pub member_made : (item : Item) (at : StandsIn items item) (a : AssertItem) (x y : X) → item.body ≡ assertion a → a.claim ≡ member x y → has_tree_shape x ≡ true → has_automaton_shape y ≡ true → AreAllComposable items (used_in x) → AreComposable items y → AreSides x y
   member_made item at a x y is same form_x form_y can_x can_y =
       let c = checked_member at.before x y (member_fine item at a x y is same) in
       let made = made_of_form items whole at.before 0 None y c.type form_y can_y c.language_inside c.on in
       let d = type_there items c.type y made in
       record { type = c.type; right = made; left = tree_on at.before 0 c.type d.item d.found (sound_of c.type d.item d.found) x form_x can_x c.value.inside c.value.be }
 
-  pub member_known : (item : Item) (at : StandsIn items item) (a : AssertItem) (x y : X) → item.body ≡ assertion a → a.claim ≡ member x y → is_built_tree x ≡ true → is_built_expression y ≡ true → AreAllComposable items (used_in x) → AreComposable items y
+  pub member_known : (item : Item) (at : StandsIn items item) (a : AssertItem) (x y : X) → item.body ≡ assertion a → a.claim ≡ member x y → has_tree_shape x ≡ true → has_automaton_shape y ≡ true → AreAllComposable items (used_in x) → AreComposable items y
       → (b : Built) (trees : Trees) → AreDefined b at.before → ArePrinted trees at.before → IsTreeKnown items trees b x × AreKnown items b y
   member_known item at a x y is same form_x form_y can_x can_y b trees defined printed =
       let c = checked_member at.before x y (member_fine item at a x y is same) in

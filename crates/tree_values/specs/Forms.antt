@@ -1,5 +1,4 @@
 -- The expressions of trees that can be evaluated.
-use Rattle.model_run.specs.Built.{is_built_expression}
 use Rattle.std.specs.Prelude.{◌≡◌, ◌<◌, ℕ, Bool, true, false, ◌&&◌, List, [], Some, get_or, is_some, length}
 use Rattle.model_tree.specs.Label.{row}
 use Rattle.model_tree.specs.Kept.{is_kept_label}

@@ -9,7 +9,8 @@ use Rattle.fast_syntax.specs.Slices.{plain_children}
 use Rattle.fast_syntax.proofs.Rows.{plain_literal}
 use Rattle.fast_build.specs.Items.{items_of}
 use Rattle.fast_eval.proofs.Keeping.{on_err}
-use Rattle.fast_compose.specs.Composed.{AreNamesDeclared, AreComposable, StopsIn}
+use Rattle.model_run.specs.Items.{AreComposable}
+use Rattle.fast_compose.specs.Composed.{AreNamesDeclared, StopsIn}
 use Rattle.fast_compose.proofs.Parts.{weight, weight_at, first_declared, second_declared, child_declared, two_composable, children_composable, child_stops, one_more_child}
 use Rattle.fast_compose.proofs.checks.+composed.Goals as goal
 

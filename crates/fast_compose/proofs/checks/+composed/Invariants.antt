@@ -1,7 +1,7 @@
 use Rattle.std.proofs.Common.{All, take}
 use Rattle.fast_syntax.specs.Plain.{plain_x}
 use Rattle.fast_build.specs.Items.{items_of}
-use Rattle.fast_compose.specs.Composed.{AreComposable}
+use Rattle.model_run.specs.Items.{AreComposable}
 use Rattle.fast_compose.proofs.Parts.{weight}
 use Rattle.fast_compose.proofs.checks.+composed.Given as goal
 

@@ -4,7 +4,8 @@ use Rattle.model_grammar.specs.Syntax.{X}
 use Rattle.fast_syntax.specs.Plain.{plain_x, plain_claim}
 use Rattle.fast_build.specs.Items.{items_of}
 use Rattle.fast_eval.proofs.Keeping.{on_err}
-use Rattle.fast_compose.specs.Composed.{stated, AreComposable, StopsIn}
+use Rattle.model_run.specs.Items.{AreComposable}
+use Rattle.fast_compose.specs.Composed.{stated, StopsIn}
 use Rattle.fast_compose.proofs.Declared.{of_one, of_two, of_three, second_stated, third_stated}
 use Rattle.fast_compose.proofs.checks.composed_in.Goals as goal
 

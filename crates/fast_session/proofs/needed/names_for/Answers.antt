@@ -6,7 +6,6 @@ use Rattle.fast_build.specs.Items.{items_of}
 use Rattle.fast_build.specs.Reached.{IsGrown}
 use Rattle.fast_session.proofs.Following.{AreSoFar, none_yet, one_followed, all_needed}
 use Rattle.fast_eval.proofs.Labels.{splits_next}
-use Rattle.fast_session.proofs.Next.{built_next}
 use Rattle.fast_session.proofs.Building.{form}
 use Rattle.fast_session.proofs.Stepping.{item_there}
 use Rattle.fast_session.proofs.needed.names_for.Goals as goal
@@ -30,7 +29,7 @@ follow-requires c = λ d is.
     let n = c.items.left - 1 in
     let item = plain_item c.index-items-left.result in
     let w = item_there c.args.checked.now c.program.result.now c.as_slice-items.result.now n (length c.as_slice-items.result.now) c.index-items-left.result c.program.ensures c.as_slice-items.ensures.value (omega (arith, c.items-test.true, c.items.invariant.low)) refl c.index-items-left.is in
-    form items item (built_next items n item w.0 w.1 c.requires.built) d is)
+    form items (sound items c.requires.checked.well_formed) item (record { before = take n items; behind = drop (suc n) items; is = splits_next items n item w.0 w.1 }) d is)
 
 pub items-preserved : goal.items-preserved
 items-preserved c =

@@ -5,7 +5,6 @@ use Rattle.fast_eval.specs.Defined.{AreDefinedOf}
 use Rattle.fast_session.specs.Kept.{items_in}
 use Rattle.fast_session.specs.Needed.{AreComposableOf}
 use Rattle.fast_eval.proofs.Labels.{splits_next, done_next}
-use Rattle.fast_session.proofs.Next.{built_next}
 use Rattle.fast_session.proofs.Building.{none_defined, one_defined, none_composable, one_composable, more_twice}
 use Rattle.fast_session.proofs.Silent.{nothing_more}
 use Rattle.fast_session.proofs.Stepping.{item_there}
@@ -27,7 +26,6 @@ build-requires c =
     record {
       checked = c.requires.checked;
       at = record { before = take n items; behind = drop (suc n) items; is = splits_next items n item w.0 w.1 };
-      is_built = built_next items n item w.0 w.1 c.requires.is_built;
       built = c.items.invariant.more.built;
       closed = c.requires.closed;
       defined = c.items.invariant.defined;

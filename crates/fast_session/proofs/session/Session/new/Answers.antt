@@ -1,13 +1,13 @@
 use Rattle.std.proofs.Common.{arith, refl}
 use Rattle.fast_build.specs.Items.{items_of}
-use Rattle.fast_session.proofs.Next.{all_built, nothing_kept}
+use Rattle.fast_session.proofs.Starts.{nothing_kept}
 use Rattle.fast_session.proofs.session.Session.new.Goals as goal
 
 pub returns-clause-at : goal.returns-clause-at
 returns-clause-at c =
     let items = items_of c.args.checked in
     record {
-      over = record { checked = c.requires.checked; built = all_built items c.requires.built; shallow = c.requires.shallow };
+      over = record { checked = c.requires.checked; shallow = c.requires.shallow };
       running = refl;
       count = refl;
       low = omega arith;

@@ -4,7 +4,6 @@ use Rattle.fast_syntax.specs.Plain.{plain_item}
 use Rattle.fast_session.specs.Answers.{given}
 use Rattle.fast_session.specs.Sessions.{items_in, IsHalt, IsStep}
 use Rattle.fast_eval.proofs.Labels.{splits_next}
-use Rattle.fast_session.proofs.Next.{built_next}
 use Rattle.fast_session.proofs.Stepping.{item_there, halt_is, at_next, step_is}
 use Rattle.fast_session.proofs.session.Session.step.Goals as goal
 
@@ -19,7 +18,6 @@ do_item-requires c =
         | inl s ↦ record {
           checked = s.1.over.checked;
           at = record { before = take n items; behind = drop (suc n) items; is = splits_next items n item w.0 w.1 };
-          is_built = built_next items n item w.0 w.1 s.1.over.built;
           kept = s.1.kept;
           outcomes = s.0;
           told = s.1.told;
