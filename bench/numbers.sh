@@ -1,6 +1,7 @@
 #!/usr/bin/env bash
 # Measures the decision of conjunctions over whole numbers, each the guard of one rule: K fields with small coefficients,
-# a remainder by K, remainders by 4096 nested K deep, K values that a field is not, and an equation with the coefficient K.
+# a remainder by K, remainders by 4096 nested K deep, K values that a field is not, an equation with the coefficient
+# K, and 24 half-spaces of K fields: with no numbers in them, with some, and with few.
 . "$(dirname "${BASH_SOURCE[0]}")/common.sh"
 
 # A program that asks whether a label of these many fields satisfies the guard.
@@ -49,9 +50,38 @@ unequal() {
 
 equation() { asks 1 "$1 * x1 = 5"; }
 
+# 24 half-spaces with coefficients up to 9: of K fields, and by how much each is past a drawn point at most (0: no point).
+drawn() {
+  asks "$1" "$(awk -v count="$1" -v slack="$2" '
+    function draw(many) { seed = (seed * 1103 + 12345) % 65536; return int(seed / 7) % many }
+    function term(number, own) { return number " * x" own }
+    BEGIN {
+      for (own = 1; own <= count; own++) point[own] = draw(41) - 20
+      for (row = 1; row <= 24; row++) {
+        left = ""; right = ""; sum = 0
+        for (own = 1; own <= count; own++) {
+          number = draw(19) - 9; sum += number * point[own]
+          if (number > 0) left = left (left == "" ? "" : " + ") term(number, own)
+          if (number < 0) right = right (right == "" ? "" : " + ") term(-number, own)
+        }
+        constant = slack ? draw(slack + 1) - sum : draw(201) - 100
+        if (constant > 0) left = left (left == "" ? "" : " + ") constant
+        if (constant < 0) right = right (right == "" ? "" : " + ") (-constant)
+        printf "%s%s >= %s", (row > 1 ? " and " : ""), (left == "" ? 0 : left), (right == "" ? 0 : right)
+      }
+    }')"
+}
+
+half_spaces() { drawn "$1" 0; }
+half_spaces_met() { drawn "$1" 100; }
+half_spaces_thin() { drawn "$1" 12; }
+
 table run fields 2 3 4 5 6 7 8
 table run met 2 3 4 5 6 7 8
 table run remainder 16 64 256 1024 4096
 table run nested 1 2 3
 table run unequal 2 4 8 16
 table run equation 7 2147483647
+for kind in half_spaces half_spaces_met half_spaces_thin; do
+  table run "$kind" 4 5 6 7 8
+done

@@ -6,14 +6,23 @@ use std::alloc::Global;
 // How often the lines are gone through.
 const TURNS: usize = 64;
 
-/// The value of the line.
-pub(crate) fn value_of(line: &Line, values: &[i128]) -> Result<i128, Stop> {
-    let mut sum = line.constant;
-    for i in 0..line.coefficients.len() {
+/// The sum of a constant and of coefficients times values.
+pub(crate) fn plain_sum(
+    constant: i128,
+    coefficients: &[i128],
+    values: &[i128],
+) -> Result<i128, Stop> {
+    let mut sum = constant;
+    for i in 0..coefficients.len() {
         let own = values.get(i).copied().unwrap_or(0);
-        sum = plus_times(sum, line.coefficients[i], own)?;
+        sum = plus_times(sum, coefficients[i], own)?;
     }
     Ok(sum)
+}
+
+/// The value of the line.
+pub(crate) fn value_of(line: &Line, values: &[i128]) -> Result<i128, Stop> {
+    plain_sum(line.constant, &line.coefficients, values)
 }
 
 // The next variable of the line behind a place, or the first one.

@@ -1,14 +1,18 @@
 //! The search over remainders.
 
-ghost use Rattle.std.specs.Prelude.{◌≡◌, ℕ, ℤ, List, MatchResult, IfOk, IsTrue, OnOk};
+ghost use Rattle.std.specs.Prelude.{◌≡◌, ℕ, ℤ, List, length, MatchResult, IfOk, IsTrue, OnOk};
 ghost use Rattle.math_cooper.specs.System.{IsSolvable, Solves};
-ghost use Rattle.lin_reduce.specs.Parts.{AnySolvable, IsPartSolvable, TellsNever};
+ghost use Rattle.lin_reduce.specs.Parts.{AnySolvable, IsPartSolvable, IsWithin, TellsLook, TellsNever};
 
+use crate::certificate::refutes;
+use crate::cut::{Bound, Cut};
 use crate::dive::dived;
 use crate::line::{Stop, plus_times};
 use crate::moves::Scale;
 use crate::residues::{Split, copy_each, scaled, scaled_each, split_of};
+use crate::rows::Rows;
 use crate::search::sketch;
+use crate::space::{Space, cut_of, space_of};
 use cooper_solve::{Constraint, is_hopeless, is_refuted};
 use fast_fault::{LabelInt, Memory};
 use std::alloc::Global;
@@ -18,6 +22,15 @@ const MOST: usize = 6000;
 
 const MOST_ENDS: usize = 10;
 
+// How many conditions are summed before a linear program is tried.
+const MOST_SUMMED: usize = 12;
+
+// How many linear programs are solved to find values of one system.
+const MOST_TRIED: usize = 60;
+
+// How often a variable is said to be small or great.
+const MOST_CUTS: usize = 200;
+
 /// What is found of a system: that no values meet it, values of the first eight variables that may, or nothing.
 #[derive(Drop)]
 pub enum Explored {
@@ -26,11 +39,23 @@ pub enum Explored {
     Open,
 }
 
-// A system, and what its first eight variables stand for.
+// What is found of a node: that no values meet its system, values that may, which variable is to be split or to be small or
+// great, or nothing.
+#[derive(Drop)]
+enum Look {
+    Lost,
+    Maybe(Vec<LabelInt>),
+    Split(Split),
+    Cut(Cut),
+    Open,
+}
+
+// A system, what its first eight variables stand for, and how often one was said to be small or great.
 #[derive(Drop)]
 struct Node {
     system: Vec<Constraint>,
     parts: Vec<Scale>,
+    cuts: usize,
 }
 
 // The values of the first eight variables, from those of what they stand for.
@@ -62,7 +87,11 @@ impl Node {
                 rest: 0,
             })?;
         }
-        Ok(Node { system: own, parts })
+        Ok(Node {
+            system: own,
+            parts,
+            cuts: 0,
+        })
     }
 
     // What the first eight variables stand for after one is split.
@@ -108,7 +137,11 @@ impl Node {
         let system = scaled_each(alloc, &self.system, scale)?;
         if !is_refuted(&system) {
             let parts = self.parts_after(alloc, scale)?;
-            pending.push(Node { system, parts })?;
+            pending.push(Node {
+                system,
+                parts,
+                cuts: self.cuts,
+            })?;
         }
         Ok(())
     }
@@ -140,38 +173,165 @@ impl Node {
         Ok(())
     }
 
-    // Values that may be so where no variable is split any more.
-    fn ended(&self, alloc: Global, count: usize) -> Result<Option<Vec<LabelInt>>, Stop> {
-        if let Some(given) = dived(alloc, &self.system, count)? {
-            return Ok(Some(values(alloc, &self.parts, &given)?));
+    // The system with a bound.
+    fn bounded(&self, alloc: Global, count: usize, bound: Bound) -> Result<Node, Stop>
+        ensures { MatchResult result (λ n. (vs : List ℤ) → length vs ≡ count → IsWithin bound vs → Solves vs self.now.system.items → Solves vs n.system.items) (λ _. Unit {0}) }
+    {
+        let mut system = copy_each(alloc, &self.system)?;
+        system.push(bound.condition(alloc, count)?)?;
+        Ok(Node {
+            system,
+            parts: Vec::from_slice(alloc, &self.parts)?,
+            cuts: self.cuts.saturating_add(1),
+        })
+    }
+
+    // The system with a bound, at the end.
+    fn push_bounded(
+        &self,
+        alloc: Global,
+        count: usize,
+        bound: Bound,
+        pending: &mut Vec<Node>,
+    ) -> Result<(), Stop>
+        ensures part { OnOk result ((vs : List ℤ) → length vs ≡ count → IsWithin bound vs → Solves vs self.now.system.items → AnySolvable count pending.new.items) }
+        ensures kept { OnOk result (AnySolvable count pending.old.items → AnySolvable count pending.new.items) }
+    {
+        pending.push(self.bounded(alloc, count, bound)?)?;
+        Ok(())
+    }
+
+    // The systems where the variable is at most the number, and where it is more, at the end.
+    fn push_cut(
+        &self,
+        alloc: Global,
+        cut: Cut,
+        count: usize,
+        pending: &mut Vec<Node>,
+    ) -> Result<(), Stop>
+        ensures parts { OnOk result (IsSolvable count self.now.system.items → AnySolvable count pending.new.items) }
+        ensures kept { OnOk result (AnySolvable count pending.old.items → AnySolvable count pending.new.items) }
+    {
+        self.push_bounded(alloc, count, cut.below(), pending)?;
+        self.push_bounded(alloc, count, cut.above()?, pending)?;
+        Ok(())
+    }
+
+    // Values of the first eight variables, if there are some of the node's own.
+    fn shown(&self, alloc: Global, given: Option<Vec<i128>>) -> Result<Look, Stop>
+        ensures { MatchResult result (TellsLook self.now.system.items) (λ _. Unit {0}) }
+    {
+        match given {
+            Some(given) => Ok(Look::Maybe(values(alloc, &self.parts, &given)?)),
+            None => Ok(Look::Open),
         }
+    }
+
+    // What sums of inequalities tell, by which one variable after another is left out.
+    fn by_sums(&self, alloc: Global, count: usize) -> Result<Look, Stop>
+        ensures { MatchResult result (TellsLook self.now.system.items) (λ _. Unit {0}) }
+    {
+        if is_hopeless(alloc, &self.system, count)? {
+            return Ok(Look::Lost);
+        }
+        self.shown(alloc, dived(alloc, &self.system, count)?)
+    }
+
+    // What a linear program tells of the inequalities.
+    fn by_program(&self, alloc: Global, count: usize) -> Result<Look, Stop>
+        ensures { MatchResult result (TellsLook self.now.system.items) (λ _. Unit {0}) }
+    {
+        let rows = Rows::of_system(alloc, &self.system, count);
+        let space = space_of(alloc, rows, self.system.len())?;
+        if let Space::Empty(times) = &space {
+            if refutes(alloc, &self.system, times, count)? {
+                return Ok(Look::Lost);
+            }
+        }
+        let most = if self.cuts == 0 { MOST_TRIED } else { 0 };
+        self.shown(alloc, space.whole(alloc, most)?)
+    }
+
+    // What is found where equations are solved first.
+    fn by_equations(&self, alloc: Global, count: usize) -> Result<Look, Stop>
+        ensures { MatchResult result (TellsLook self.now.system.items) (λ _. Unit {0}) }
+    {
         let Some(given) = sketch(alloc, &self.system, count)? else {
-            return Ok(None);
+            return Ok(Look::Open);
         };
         let mut wide = Vec::new(alloc);
         for value in &given {
             wide.push(*value as i128)?;
         }
-        Ok(Some(values(alloc, &self.parts, &wide)?))
+        self.shown(alloc, Some(wide))
     }
-}
 
-// Whether sums of inequalities show that no values meet the system. Where one condition is to be settled by one variable, that
-// is done before.
-fn is_lost(
-    alloc: Global,
-    system: &[Constraint],
-    count: usize,
-    split: Option<Split>,
-) -> Result<bool, Memory>
-    ensures { IfOk result (λ lost. IsTrue lost → (vs : List ℤ) → Solves vs system.now → ⊥) }
-{
-    if let Some(next) = split {
-        if next.alone {
-            return Ok(false);
+    // A variable that may be cut, by the linear program, which may have no room.
+    fn by_cut(&self, alloc: Global, count: usize, flat: bool) -> Result<Look, Stop>
+        ensures { MatchResult result (TellsLook self.now.system.items) (λ _. Unit {0}) }
+    {
+        let rows = Rows::of_system(alloc, &self.system, count);
+        match cut_of(alloc, rows, flat)? {
+            Some(cut) => Ok(Look::Cut(cut)),
+            None => Ok(Look::Open),
         }
     }
-    is_hopeless(alloc, system, count)
+
+    // What a linear program tells, or which variable may be cut by it.
+    fn by_space(&self, alloc: Global, count: usize, flat: bool) -> Result<Look, Stop>
+        ensures { MatchResult result (TellsLook self.now.system.items) (λ _. Unit {0}) }
+    {
+        match self.by_program(alloc, count)? {
+            Look::Open => self.by_cut(alloc, count, flat),
+            found => Ok(found),
+        }
+    }
+
+    // What is found where no variable was cut: of many conditions first by the linear program.
+    fn uncut(&self, alloc: Global, count: usize) -> Result<Look, Stop>
+        ensures { MatchResult result (TellsLook self.now.system.items) (λ _. Unit {0}) }
+    {
+        if self.system.len() > MOST_SUMMED {
+            match self.by_space(alloc, count, false)? {
+                Look::Open => {}
+                found => return Ok(found),
+            }
+        }
+        match self.by_sums(alloc, count)? {
+            Look::Open => {}
+            found => return Ok(found),
+        }
+        match self.by_equations(alloc, count)? {
+            Look::Open => self.by_space(alloc, count, true),
+            found => Ok(found),
+        }
+    }
+
+    // What is found where no variable is split any more.
+    fn ended(&self, alloc: Global, count: usize) -> Result<Look, Stop>
+        ensures { MatchResult result (TellsLook self.now.system.items) (λ _. Unit {0}) }
+    {
+        if self.cuts == 0 {
+            self.uncut(alloc, count)
+        } else {
+            self.by_space(alloc, count, true)
+        }
+    }
+
+    // What is found of the system. Where one condition is to be settled by one variable, that is done before sums are made.
+    fn look(&self, alloc: Global, count: usize) -> Result<Look, Stop>
+        ensures { MatchResult result (TellsLook self.now.system.items) (λ _. Unit {0}) }
+    {
+        match split_of(&self.system) {
+            None => self.ended(alloc, count),
+            Some(next) => {
+                if !next.alone && is_hopeless(alloc, &self.system, count)? {
+                    return Ok(Look::Lost);
+                }
+                Ok(Look::Split(next))
+            }
+        }
+    }
 }
 
 fn run(alloc: Global, system: &[Constraint], count: usize) -> Result<Explored, Stop>
@@ -180,6 +340,7 @@ fn run(alloc: Global, system: &[Constraint], count: usize) -> Result<Explored, S
     let mut pending = Vec::new(alloc);
     pending.push(Node::first(alloc, system)?)?;
     let mut ends: usize = 0;
+    let mut cuts: usize = 0;
     for _ in 0..MOST {
         let Some(node) = pending.pop() else {
             return Ok(if ends == 0 {
@@ -188,21 +349,23 @@ fn run(alloc: Global, system: &[Constraint], count: usize) -> Result<Explored, S
                 Explored::Open
             });
         };
-        let split = split_of(&node.system);
-        if is_lost(alloc, &node.system, count, split)? {
-            continue;
-        }
-        match split {
-            None => {
-                if let Some(values) = node.ended(alloc, count)? {
-                    return Ok(Explored::Maybe(values));
+        match node.look(alloc, count)? {
+            Look::Lost => {}
+            Look::Maybe(values) => return Ok(Explored::Maybe(values)),
+            Look::Split(next) => node.push_parts(alloc, next, count, &mut pending)?,
+            Look::Cut(cut) => {
+                cuts = cuts.saturating_add(1);
+                if cuts > MOST_CUTS {
+                    return Ok(Explored::Open);
                 }
+                node.push_cut(alloc, cut, count, &mut pending)?;
+            }
+            Look::Open => {
                 ends = ends.saturating_add(1);
                 if ends >= MOST_ENDS {
                     return Ok(Explored::Open);
                 }
             }
-            Some(next) => node.push_parts(alloc, next, count, &mut pending)?,
         }
     }
     Ok(Explored::Open)

@@ -5,6 +5,8 @@ use crate::fit::{fitted, value_of};
 use crate::line::{Kind, Line, Stop, lines_of};
 use crate::moves::{Shear, release, scale_all, shear_all};
 use crate::pairs::paired;
+use crate::rows::Rows;
+use crate::space::space_of;
 use cooper_solve::Constraint;
 use fast_fault::{LabelInt, Memory};
 use std::alloc::Global;
@@ -13,6 +15,9 @@ use std::alloc::Global;
 const ROUNDS: usize = 400;
 
 const TURNS: usize = 300;
+
+// How many linear programs are solved.
+const MOST_TRIED: usize = 60;
 
 // The place of a line that says of its value that it is a multiple.
 fn first_multiple(lines: &[Line]) -> Option<usize> {
@@ -120,12 +125,36 @@ fn shown(alloc: Global, lines: &[Line], values: &[i128]) -> Result<Vec<LabelInt>
     Ok(out)
 }
 
+// How many lines are solved, of which nothing is said any more.
+fn released(lines: &[Line]) -> usize {
+    let mut many: usize = 0;
+    for line in lines {
+        if matches!(line.kind, Kind::Free) {
+            many = many.saturating_add(1);
+        }
+    }
+    many
+}
+
+// Values of the variables, found by linear programs, where some lines beside the first eight are solved: else they were tried.
+fn spacious(alloc: Global, lines: &[Line], count: usize) -> Result<Option<Vec<i128>>, Stop> {
+    if released(lines) <= 8 {
+        return Ok(None);
+    }
+    let space = space_of(alloc, Rows::of_lines(alloc, lines, count), 0)?;
+    Ok(space.whole(alloc, MOST_TRIED)?)
+}
+
 fn run(alloc: Global, system: &[Constraint], count: usize) -> Result<Option<Vec<LabelInt>>, Stop> {
     let lines = lines_of(alloc, system, count)?;
     let Some(solved) = solve_each(alloc, lines)? else {
         return Ok(None);
     };
-    match fitted(alloc, &solved, count)? {
+    let found = match fitted(alloc, &solved, count)? {
+        Some(values) => Some(values),
+        None => spacious(alloc, &solved, count)?,
+    };
+    match found {
         Some(values) => Ok(Some(shown(alloc, &solved, &values)?)),
         None => Ok(None),
     }
