@@ -1,23 +1,23 @@
 -- The lines of trees that are answered, and what that makes of the report at each end.
-use Rattle.std.proofs.Common.{ℕ, ◌≡◌, ◌<◌, ◌≤◌, ◌+◌, suc, List, [], ◌∷◌, ◌++◌, Option, Some, None, Result, Ok, Err, OnOk, IfErr, Bool, true, false, ◌↔◌, length, map, get_or, drop, append-nil, add-one, refl, sym, ap, ◌∙◌, subst, inl, inr, arith}
+use Rattle.std.proofs.Common.{ℕ, ◌≡◌, ◌<◌, ◌+◌, suc, List, [], ◌∷◌, ◌++◌, Option, Result, Ok, Err, OnOk, IfErr, Bool, true, false, ◌↔◌, length, map, get_or, drop, append-nil, add-one, refl, sym, ap, ◌∙◌, subst, inl, inr, arith}
 use Rattle.std.specs.Prelude.{is_some}
 use Rattle.std.proofs.Math.Seq.{drop-cons}
 use Rattle.std.proofs.lemmas.List.{get_or-map, length-map}
 use Rattle.std.proofs.lemmas.List.Elements.{All-get_or}
 use Rattle.fast_fault.specs.declared.status.Status.{Status}
 use Rattle.fast_fault.specs.declared.status.Status.TheVariants.{Hold, RunRefused, Memory}
-use Rattle.fast_fault.specs.Written.{Appends, AppendsPrefix}
+use Rattle.fast_fault.specs.Written.{Appends}
 use Rattle.model_tree.specs.Tree.{LabelTree}
 use Rattle.model_tree.specs.Signature.{PlainSignature}
 use Rattle.model_grammar.specs.Syntax.{Item}
 use Rattle.model_names.specs.Kinds.{Kind, language, transformation, a_tree}
-use Rattle.model_meaning.specs.Meaning.{IsInLanguage, input_type}
+use Rattle.model_meaning.specs.Meaning.{IsInLanguage}
 use Rattle.fast_fault.specs.declared.place.Pos.{Pos}
 use Rattle.model_run.specs.Causes.{Stop, HasCause}
 use Rattle.model_run.specs.Outcomes.{Outcome}
 use Rattle.model_run.specs.Lines.{stop_line}
 use Rattle.model_run.specs.Report.{Given, named_x, IsNeeded, AreNeededComposable, AreLinesOf, IsTreeDone, StopsAtNeeded, StopsAtTree, TreesEnd, trees_script, StatusReport, Reports}
-use Rattle.model_run.specs.Scripts.{begun, more, unfinished, Writes}
+use Rattle.model_run.specs.Scripts.{begun, more, Writes}
 use Rattle.model_run.specs.Texts.{PlacedTree}
 use Rattle.fast_build.specs.Items.{items_of}
 use Rattle.fast_session.specs.Sessions.{items_in, IsAt, IsReadyFor, IsSameProgram}
@@ -25,8 +25,8 @@ use Rattle.fast_session.specs.Sessions as of
 use Rattle.fast_session.specs.declared.session.Session.{Session}
 use Rattle.tree_files.specs.declared.PlacedTree as code
 use Rattle.tree_files.specs.Placed.{plain_placed, IsOfType, AreOfType}
-use Rattle.fast_tool.specs.Runs.{IsFault, EndsWith, IsRefusal}
-use Rattle.fast_tool.specs.Answers.{answer_line, IsPrepared, IsNeededCause, IsCutLine, IsUnprepared, IsAnswered, IsTreeCause, IsUnanswered, Answered}
+use Rattle.fast_tool.specs.Runs.{EndsWith, IsRefusal}
+use Rattle.fast_tool.specs.Answers.{answer_line, IsPrepared, IsCutLine, IsUnprepared, IsAnswered, IsTreeCause, IsUnanswered, Answered}
 use Rattle.fast_tool.proofs.Runs.{appends_both, appends_none}
 use Rattle.fast_tool.proofs.Texts.{fault_of}
 

@@ -1,6 +1,8 @@
 pub mod Texts
-pub mod AllBuilt
+pub mod Typed
 pub mod Runs
+pub mod Tallies
+pub mod Generated
 pub mod Numerals
 pub mod Answering
 pub mod Lookups

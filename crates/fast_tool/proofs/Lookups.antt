@@ -1,20 +1,19 @@
 -- What a checked program tells of a name, and what that makes of the name in a command line.
-use Rattle.std.proofs.Common.{◌≡◌, ℕ, Bool, true, false, List, Option, Some, None, refl, sym, ap, ◌∙◌, subst}
+use Rattle.std.proofs.Common.{◌≡◌, ℕ, true, false, List, Option, Some, None, refl, sym, ap, ◌∙◌, subst}
 use Rattle.std.specs.Option.{option_map, option_map_or, option_and_then}
 use Rattle.fast_fault.specs.declared.code.Code.TheVariants.{UnknownName, WrongKind}
 use Rattle.model_tree.specs.Signature.{PlainSignature}
 use Rattle.model_program.specs.Syntax.{Name, TypeItem}
 use Rattle.model_grammar.specs.Syntax.{Body, sorts, tree, lang, trans, def, assertion, Item}
 use Rattle.model_names.specs.Declared.{find_type, find_item, declares}
-use Rattle.model_names.specs.Kinds.{Kind, language, transformation, a_tree, defined_kind, declared_type, own_kind, own_type, own_output, type_of, output_of}
+use Rattle.model_names.specs.Kinds.{Kind, language, transformation, declared_type, own_kind, own_type, own_output, type_of, output_of}
 use Rattle.model_meaning.specs.Types.{signature_of, no_signature}
 use Rattle.model_meaning.specs.Meaning.{signature_named, input_type, output_type}
 use Rattle.model_checks.specs.Programs.{is_well_formed}
 use Rattle.model_checks.proofs.Soundness.{found_passes}
 use Rattle.model_checks.proofs.SoundParts.{HasType, found_named, declared_as}
 use Rattle.model_checks.proofs.SoundWhole.{sound}
-use Rattle.program_check.specs.Tells.{Told, kind_view, stands_for}
-use Rattle.program_check.specs.declared.checked.Kind3.{Kind3}
+use Rattle.program_check.specs.Tells.{Told, stands_for}
 use Rattle.model_run.specs.Report.{named_x}
 use Rattle.model_run.specs.Texts.{IsNameRefused, IsNameOf}
 use Rattle.fast_session.proofs.Building.{name_made, trans_name_made}

@@ -1,16 +1,9 @@
 -- Words that are numbers.
-use Rattle.std.proofs.Common.{◌≡◌, ◌≤◌, ◌<◌, ◌+◌, ◌/◌, ◌%◌, ◌^◌, ℕ, List, [], ◌∷◌, ◌++◌, Option, Some, None, IfSome, Result, Ok, length, refl, sym, ap, ◌∙◌, arith}
+use Rattle.std.proofs.Common.{◌≡◌, ◌≤◌, ◌<◌, ◌+◌, ◌/◌, ◌%◌, ◌^◌, ℕ, List, [], ◌∷◌, ◌++◌, Result, Ok, length, refl, sym, ap, ◌∙◌, arith}
 use Rattle.std.specs.Prelude.{decimal}
 use Rattle.std.specs.Str.Parse.{ParsesUnsigned}
 use Rattle.std.proofs.lemmas.Fmt.{decimal_digit, decimal_step, decimal_by_steps, decimal_nonempty, parse-decimal}
-use Rattle.model_run.specs.Words.{run_form}
-use Rattle.model_run.specs.Report.{IsWords}
-use Rattle.fast_tool.specs.Commands.{IsLimit}
-
--- a command line asks for no more than may be asked for
-pub few_classes : (words : List (List ℕ)) (file : List ℕ) (limit : Option ℕ) → IsWords words (run_form file limit) → IfSome limit (λ n. n ≤ 2000)
-few_classes words file None is = tt
-few_classes words file (Some n) is = is.0.2
+use Rattle.fast_tool.specs.Commands.{IsNumber}
 
 -- lists with one more behind them are one where both parts are
 nothing_longer : (ys : List ℕ) (b : ℕ) → ¬ ([] ≡ ys ++ b ∷ [])
@@ -51,7 +44,7 @@ none_by_length [] e = refl
 none_by_length (x ∷ xs) e = absurd (omega (arith, e))
 
 -- a number that may stand there is parsed as what it is
-pub parsed : {E : Type 0} (word : List ℕ) (r : Result ℕ E) (n : ℕ) → IsLimit word n → ParsesUnsigned 32 10 word r → r ≡ Ok n
-parsed word r n is parses = parse-decimal 32 n word r (omega (arith, is.1)) (omega (arith, is.1)) is.2 parses
+pub parsed : {E : Type 0} (word : List ℕ) (r : Result ℕ E) (most n : ℕ) → most < 2 ^ 32 → IsNumber most word n → ParsesUnsigned 32 10 word r → r ≡ Ok n
+parsed word r most n low is parses = parse-decimal 32 n word r (omega (arith, is.1, low)) (omega (arith, is.1, low)) is.2 parses
 
 pub ruleset on_digits = (decimal_digit, decimal_step, decimal_nonempty)

@@ -1,5 +1,5 @@
 -- What was appended so far, and what that makes of the report at each end.
-use Rattle.std.proofs.Common.{ℕ, ◌≡◌, ◌+◌, List, [], ◌∷◌, ◌++◌, Option, Some, None, Bool, true, false, ◌||◌, length, drop, append_assoc, append-nil, add-one, suc, ap, ◌∙◌, sym, subst, inl, inr, refl}
+use Rattle.std.proofs.Common.{ℕ, ◌≡◌, ◌⊎◌, ◌+◌, List, [], ◌∷◌, ◌++◌, Option, Some, None, Bool, true, false, ◌||◌, length, drop, append_assoc, append-nil, add-one, suc, ap, ◌∙◌, sym, subst, inl, inr, refl}
 use Rattle.std.proofs.Math.Seq.{drop-cons}
 use Rattle.fast_fault.specs.Written.{Appends, AppendsPrefix}
 use Rattle.fast_fault.specs.declared.place.Pos.{Pos}
@@ -30,9 +30,13 @@ or_other true false = refl
 or_other false true = refl
 or_other false false = refl
 
-drop_all : (items : List Item) → drop (length items) items ≡ []
+pub drop_all : (items : List Item) → drop (length items) items ≡ []
 drop_all [] = refl
 drop_all (x ∷ xs) = drop_all xs
+
+-- the next item, as the session counts
+pub next_at : (items : List Item) (k : ℕ) (s : Session) (outcomes : List Outcome) → items_in s ≡ items → length outcomes ≡ k → (item : Item) → IsItemAt (items_in s) (length outcomes) item → IsItemAt items k item
+next_at items k s outcomes program counted item is = subst (λ n. IsItemAt items n item) counted (subst (λ its. IsItemAt its (length outcomes) item) program is)
 
 module _ (file : List ℕ) (items : List Item) (limit : ℕ) where
   abbrev Reported : Status → List ℕ → Type 0
@@ -41,11 +45,11 @@ module _ (file : List ℕ) (items : List Item) (limit : ℕ) where
   left_is : (k : ℕ) (item : Item) → IsItemAt items k item → drop k items ≡ item ∷ drop (k + 1) items
   left_is k item (low, is) = drop-cons items k item low ∙ ap (λ x. x ∷ drop (suc k) items) (sym is) ∙ ap (λ j. item ∷ drop j items) (sym (add-one k))
 
-  next_is : (k : ℕ) (outcomes : List Outcome) (item : Item) (outcome : Outcome) (line : List ℕ) → IsItemAt items k item → IsOutcome items (trees_in outcomes) item outcome → line ≡ line_of outcome
+  pub next_is : (k : ℕ) (outcomes : List Outcome) (item : Item) (outcome : Outcome) (line : List ℕ) → IsItemAt items k item → IsOutcome items (trees_in outcomes) item outcome → line ≡ line_of outcome
       → IsItemDone items (record { left = drop k items; done = outcomes }) line (record { left = drop (k + 1) items; done = outcome ∷ outcomes })
   next_is k outcomes item outcome line is may line_is = record { item = item; left = left_is k item is; outcome = outcome; done = refl; may = may; is = line_is }
 
-  stops_here : (k : ℕ) (outcomes : List Outcome) (item : Item) (stop : Stop) (last : List ℕ) → IsItemAt items k item → HasCause items limit (trees_in outcomes) item.body stop → last ≡ stop_line stop file item.place
+  pub stops_here : (k : ℕ) (outcomes : List Outcome) (item : Item) (stop : Stop) (last : List ℕ) → IsItemAt items k item → HasCause items limit (trees_in outcomes) item.body stop → last ≡ stop_line stop file item.place
       → StopsAtItem items limit file (record { left = drop k items; done = outcomes }) last
   stops_here k outcomes item stop last is cause last_is = record { item = item; later = drop (k + 1) items; left = left_is k item is; stop = stop; cause = cause; is = last_is }
 
@@ -54,9 +58,8 @@ module _ (file : List ℕ) (items : List Item) (limit : ℕ) where
   fault_report status report (inr e) u = rw e (inr u)
 
   module _ (k : ℕ) (s : Session) (failed : Bool) (before now : Option (List ℕ)) (past : Past file items limit k s failed before now) where
-    -- the next item, as the session counts
     here : (item : Item) → IsItemAt (items_in s) (length past.outcomes) item → IsItemAt items k item
-    here item is = subst (λ n. IsItemAt items n item) past.counted (subst (λ its. IsItemAt its (length past.outcomes) item) past.program is)
+    here item is = next_at items k s past.outcomes past.program past.counted item is
 
     -- an item more
     pub item_done : (new : Session) (fails : Bool) (after : Option (List ℕ)) → IsSameProgram s new → IsDone s new past.outcomes now after fails → Past file items limit (k + 1) new (failed || fails) before after
@@ -136,8 +139,12 @@ pub ruleset on_runs = (begin, holds, fails_some)
 
 -- an item that is refused
 module _ (file : List ℕ) (s : Session) (done : List Outcome) (Shown : Type 0) (place : Pos) (stop : Stop) (before after : Option (List ℕ)) (status : Status) where
+  pub item_ended : (item : Item) → IsItemAt (items_in s) (length done) item → place ≡ item.place → (Shown → HasCause (items_in s) s.limit (trees_in done) item.body stop) → IsRefusal Shown before after (stop_line stop file place) status
+      → ((status ≡ Memory) × (after ≡ before)) ⊎ IsEnded file s done before after status
+  item_ended item is at cause (inl none) = inl none
+  item_ended item is at cause (inr (shown, ends)) =
+      inr (record { item = item; is = is; stop = stop; cause = cause shown; ends = subst (λ p. EndsWith before after (stop_line stop file p) RunRefused status) at ends })
+
   pub item_refused : (item : Item) → IsItemAt (items_in s) (length done) item → place ≡ item.place → (Shown → HasCause (items_in s) s.limit (trees_in done) item.body stop) → IsRefusal Shown before after (stop_line stop file place) status
       → IsStopped file s done before after status
-  item_refused item is at cause (inl none) = inl none
-  item_refused item is at cause (inr (shown, ends)) =
-      inr (inr (record { item = item; is = is; stop = stop; cause = cause shown; ends = subst (λ p. EndsWith before after (stop_line stop file p) RunRefused status) at ends }))
+  item_refused item is at cause refusal = elim (item_ended item is at cause refusal) [ inl none ↦ inl none | inr end ↦ inr (inr end) ]

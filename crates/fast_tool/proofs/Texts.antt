@@ -5,7 +5,7 @@ use Rattle.fast_fault.specs.Codes.{number_of, name_of}
 use Rattle.fast_fault.specs.Taken.{IsGiven}
 use Rattle.fast_fault.specs.declared.place.Pos.{Pos}
 use Rattle.fast_fault.specs.declared.code.Code.{Code}
-use Rattle.fast_fault.specs.declared.code.Code.TheVariants.{TooLong, NotYet}
+use Rattle.fast_fault.specs.declared.code.Code.TheVariants.{TooLong}
 use Rattle.fast_fault.specs.declared.refusal.Refusal.{Refusal}
 use Rattle.fast_fault.specs.declared.status.Status.{Status}
 use Rattle.fast_fault.specs.declared.status.Status.TheVariants.{Hold, Fails, Words, TextRefused, RunRefused, TextFault, SinkFault, Memory}
@@ -16,13 +16,12 @@ use Rattle.model_meaning.specs.Meaning.{input_type}
 use Rattle.model_grammar.specs.Grammar.{IsProgram}
 use Rattle.model_grammar.specs.Texts.{IsText}
 use Rattle.model_checks.specs.Programs.{is_well_formed, refusal_of}
-use Rattle.model_run.specs.Words.{CommandForm, usage_line}
+use Rattle.model_run.specs.Words.{CommandForm, AreWordsOf, usage_line}
 use Rattle.model_run.specs.Lines.{refusal_line, name_line, checked_line}
-use Rattle.model_run.specs.Built.{unbuilt_at}
 use Rattle.model_run.specs.Scripts.{Ending, whole, unfinished, Writes}
 use Rattle.model_refusals.specs.Refusals.{start}
 use Rattle.model_run.specs.Texts.{IsChecked, IsRefused, IsNameRefused, IsNameOf, PlacedTree, IsFileOf, IsFileRefused}
-use Rattle.model_run.specs.Report.{IsTextRefused, BuiltReport, TreesReport, NameReport, named_x, trees_script, CheckReport, RunReport, CommandReport, StatusReport, UsageReport, IsWords, IsReport, Reports, items_script}
+use Rattle.model_run.specs.Report.{IsTextRefused, TreesReport, NameReport, named_x, trees_script, CheckReport, RunReport, CommandReport, StatusReport, UsageReport, IsReport, Reports, items_script}
 use Rattle.text_reader.specs.Answers.{IfRefused}
 use Rattle.text_reader.specs.declared.texts.ReadStop.{ReadStop}
 use Rattle.text_reader.specs.declared.texts.ReadStop.TheVariants.{Refused}
@@ -144,16 +143,11 @@ pub checked_report : (items : List Item) (status : Status) (before after : Optio
 checked_report items status before after (inl (e, a)) = rw e (checked_line items, (refl, refl), a)
 checked_report items status before after (inr (fault, (front, back, joined, a))) = (front, fault_of (CheckReport items) status front fault (back, joined), a)
 
-pub unbuilt_report : (file : List ℕ) (items : List Item) (Reported : Ending → List ℕ → Type 0) (place : Pos) (status : Status) (before after : Option (List ℕ)) → unbuilt_at items ≡ Some place → EndsWith before after (refusal_line NotYet file place) TextRefused status
-    → Reports (StatusReport (BuiltReport file items Reported)) status before after
-unbuilt_report file items Reported place status before after at (inl (e, a)) = rw e (refusal_line NotYet file place, inl (place, at, (refl, refl)), a)
-unbuilt_report file items Reported place status before after at (inr (fault, (front, back, joined, a))) = (front, fault_of (BuiltReport file items Reported) status front fault (inl (place, at, (back, joined))), a)
-
-pub built_report : (file : List ℕ) (limit : ℕ) (items : List Item) (s : Session) (status : Status) (before after : Option (List ℕ)) → items_in s ≡ items → s.limit ≡ limit → unbuilt_at items ≡ None → Reports (ItemsReport file s) status before after
+-- what a session over the items reports
+pub ran_report : (file : List ℕ) (limit : ℕ) (items : List Item) (s : Session) (status : Status) (before after : Option (List ℕ)) → items_in s ≡ items → s.limit ≡ limit → Reports (ItemsReport file s) status before after
     → Reports (StatusReport (RunReport file limit items)) status before after
-built_report file limit items s status before after program limited built r =
-    reports_map (Writes (items_script items limit file)) (RunReport file limit items) (λ ending report w. inr (built, w)) status before after
-    (subst (λ n. Reports (StatusReport (Writes (items_script items n file))) status before after) limited (subst (λ its. Reports (StatusReport (Writes (items_script its s.limit file))) status before after) program r))
+ran_report file limit items s status before after program limited r =
+    subst (λ n. Reports (StatusReport (Writes (items_script items n file))) status before after) limited (subst (λ its. Reports (StatusReport (Writes (items_script its s.limit file))) status before after) program r)
 
 -- ---- trees that are given to a name
 
@@ -182,33 +176,32 @@ module _ (file name trees : List ℕ) (kind : Kind) (held : Option (List ℕ)) (
     trees_refused status before after r =
         reports_map (λ ending report. IfSome held (λ bytes. IsTextRefused (IsFileRefused signature bytes) trees ending report)) OfName (λ ending report told. inr (named, of_refused held ending report told)) status before after r
 
-    of_given : (placed : List PlacedTree) (told : Option (List ℕ)) → AreTreesOf signature told placed → (ending : Ending) (report : List ℕ) → BuiltReport file items (Writes (trees_script items file name trees kind placed)) ending report
+    of_given : (placed : List PlacedTree) (told : Option (List ℕ)) → AreTreesOf signature told placed → (ending : Ending) (report : List ℕ) → Writes (trees_script items file name trees kind placed) ending report
         → IfSome told (λ bytes. TreesReport items file name trees kind bytes ending report)
     of_given placed None are ending report r = tt
     of_given placed (Some bytes) are ending report r = inr (placed, subst (λ s. IsFileOf s bytes placed) of are, r)
 
     -- the trees are given to the name
     pub trees_given : (placed : List PlacedTree) (status : Status) (before after : Option (List ℕ)) → AreTreesOf signature held placed
-        → Reports (StatusReport (BuiltReport file items (Writes (trees_script items file name trees kind placed)))) status before after → Reports (StatusReport OfName) status before after
+        → Reports (StatusReport (Writes (trees_script items file name trees kind placed))) status before after → Reports (StatusReport OfName) status before after
     trees_given placed status before after are r =
-        reports_map (BuiltReport file items (Writes (trees_script items file name trees kind placed))) OfName (λ ending report given. inr (named, of_given placed held are ending report given)) status before after r
+        reports_map (Writes (trees_script items file name trees kind placed)) OfName (λ ending report given. inr (named, of_given placed held are ending report given)) status before after r
 
-  pub answered_report : (placed : List PlacedTree) (s : Session) (status : Status) (before after : Option (List ℕ)) → items_in s ≡ items → unbuilt_at items ≡ None → Reports (StatusReport (Writes (trees_script (items_in s) file name trees kind placed))) status before after
-      → Reports (StatusReport (BuiltReport file items (Writes (trees_script items file name trees kind placed)))) status before after
-  answered_report placed s status before after program built r =
-      reports_map (Writes (trees_script items file name trees kind placed)) (BuiltReport file items (Writes (trees_script items file name trees kind placed))) (λ ending report w. inr (built, w)) status before after
-      (subst (λ its. Reports (StatusReport (Writes (trees_script its file name trees kind placed))) status before after) program r)
+  pub answered_report : (placed : List PlacedTree) (s : Session) (status : Status) (before after : Option (List ℕ)) → items_in s ≡ items → Reports (StatusReport (Writes (trees_script (items_in s) file name trees kind placed))) status before after
+      → Reports (StatusReport (Writes (trees_script items file name trees kind placed))) status before after
+  answered_report placed s status before after program r =
+      subst (λ its. Reports (StatusReport (Writes (trees_script its file name trees kind placed))) status before after) program r
 
 -- ---- the words
 
-pub with_form : (words : List (List ℕ)) (held : List ℕ → Option (List ℕ)) (form : CommandForm) (status : Status) (before after : Option (List ℕ)) → IsWords words form → Reports (StatusReport (CommandReport form held)) status before after → Reports (IsReport words held) status before after
+pub with_form : (words : List (List ℕ)) (held : List ℕ → Option (List ℕ)) (form : CommandForm) (status : Status) (before after : Option (List ℕ)) → AreWordsOf words form → Reports (StatusReport (CommandReport form held)) status before after → Reports (IsReport words held) status before after
 with_form words held form status before after i (report, r, a) = (report, inl (form, i, r), a)
 
 fault_usage : (report back : List ℕ) (status : Status) → IsFault status → report ++ back ≡ usage_line → UsageReport status report
 fault_usage report back status (inl f) e = rw f (back, e)
 fault_usage report back status (inr f) e = rw f (back, e)
 
-pub without_form : (words : List (List ℕ)) (held : List ℕ → Option (List ℕ)) (status : Status) (before after : Option (List ℕ)) → ((form : CommandForm) → ¬ (IsWords words form)) → EndsWith before after usage_line Words status → Reports (IsReport words held) status before after
+pub without_form : (words : List (List ℕ)) (held : List ℕ → Option (List ℕ)) (status : Status) (before after : Option (List ℕ)) → ((form : CommandForm) → ¬ (AreWordsOf words form)) → EndsWith before after usage_line Words status → Reports (IsReport words held) status before after
 without_form words held status before after none (inl (e, b)) = rw e (usage_line, inr (none, refl), b)
 without_form words held status before after none (inr (f, (front, back, e, b))) = (front, inr (none, fault_usage front back status f e), b)
 

@@ -1,5 +1,5 @@
 -- Trees that are given to a language or a transformation.
-use Rattle.std.specs.Prelude.{◌≡◌, ◌⊎◌, ◌+◌, ℕ, Bool, List, [], Option, cond, drop, length}
+use Rattle.std.specs.Prelude.{◌≡◌, ◌⊎◌, ℕ, Bool, List, [], Option, cond, drop}
 use Rattle.fast_fault.specs.declared.status.Status.{Status}
 use Rattle.fast_fault.specs.declared.status.Status.TheVariants as ends
 use Rattle.fast_fault.specs.Written.{Appends, AppendsPrefix}

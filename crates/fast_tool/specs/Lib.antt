@@ -2,3 +2,5 @@ pub mod Commands
 pub mod Runs
 pub mod Taken
 pub mod Answers
+pub mod Filled
+pub mod Tallies

@@ -8,24 +8,23 @@ ghost use Rattle.fast_tool.specs.Commands.{kind_asked};
 ghost use Rattle.fast_tool.specs.Taken.{HeldReport};
 ghost use Rattle.model_meaning.specs.Meaning.{input_type};
 ghost use Rattle.program_check.specs.Tells.{IsChecked};
-ghost use Rattle.model_run.specs.Report.{named_x, trees_script, BuiltReport, NameReport, StatusReport, Reports};
+ghost use Rattle.model_run.specs.Report.{named_x, trees_script, NameReport, StatusReport, Reports};
 ghost use Rattle.model_run.specs.Scripts.{Writes};
 ghost use Rattle.model_run.specs.Texts.{IsNameOf};
 ghost use Rattle.tree_files.specs.Placed.{plain_placed, AreOfType};
 
 use crate::answers::{Inquiry, answer_all};
-use crate::built::unbuilt_at;
 use crate::named::{name_of, type_of_trees};
 use crate::reading::{take_checked, take_trees};
-use crate::refusals::{refuse, refuse_name};
+use crate::refusals::refuse_name;
 use crate::words::Asked;
-use fast_fault::{Code, Memory, Refusal, Sink, Status, Text, TextSource};
+use fast_fault::{Memory, Sink, Status, Text, TextSource};
 use fast_session::Session;
 use program_check::Checked;
 use std::alloc::Global;
 use tree_files::PlacedTree;
 
-/// Answers for each of the trees, where each item of the program is built.
+/// Answers for each of the trees.
 fn answer_trees<K: Sink>(
     alloc: Global,
     asked: Asked,
@@ -37,27 +36,21 @@ fn answer_trees<K: Sink>(
     requires checked { IsChecked checked }
     requires named { IsNameOf (plain_program checked.program) (kind_asked asked.question) name.now }
     requires typed { AreOfType (input_type (plain_program checked.program) (named_x name.now)) (map plain_placed placed.now) }
-    ensures report { Reports (StatusReport (BuiltReport asked.entry.file.now (plain_program checked.program) (Writes (trees_script (plain_program checked.program) asked.entry.file.now name.now asked.entry.trees.now (kind_asked asked.entry.question) (map plain_placed placed.now))))) result (K.written sink.old) (K.written sink.new) }
+    ensures report { Reports (StatusReport (Writes (trees_script (plain_program checked.program) asked.entry.file.now name.now asked.entry.trees.now (kind_asked asked.entry.question) (map plain_placed placed.now)))) result (K.written sink.old) (K.written sink.new) }
     ensures later { K.faults sink.old ≤ K.faults sink.new }
     ensures rose { result ≡ SinkFault → Rose (K.faults sink.old) (K.faults sink.new) }
     ensures sure_text { result ≢ TextFault }
 {
-    match unbuilt_at(&checked) {
-        Some(place) => {
-            let code = Code::NotYet;
-            refuse(alloc, sink, asked.file, Refusal { code, place })
+    match Session::new(alloc, checked, 1000) {
+        Ok(mut session) => {
+            let inquiry = Inquiry {
+                question: asked.question,
+                name,
+                trees: asked.trees,
+            };
+            answer_all(alloc, asked.file, &mut session, &inquiry, placed, sink)
         }
-        None => match Session::new(alloc, checked, 1000) {
-            Ok(mut session) => {
-                let inquiry = Inquiry {
-                    question: asked.question,
-                    name,
-                    trees: asked.trees,
-                };
-                answer_all(alloc, asked.file, &mut session, &inquiry, placed, sink)
-            }
-            Err(Memory) => Status::Memory,
-        },
+        Err(Memory) => Status::Memory,
     }
 }
 

@@ -14,10 +14,9 @@ ghost use Rattle.fast_session.specs.Items.{HaveScalars, IsTyped};
 ghost use Rattle.fast_session.specs.Sessions.{items_in, IsAt, IsSession, IsSameProgram};
 ghost use Rattle.fast_tool.specs.Runs.{ItemsReport, IsDone, IsCutShort, IsStopped};
 
-use crate::built::unbuilt_at;
 use crate::lines::line_text;
-use crate::refusals::{put_line, refuse, refuse_item};
-use fast_fault::{Code, Memory, Refusal, Sink, Status};
+use crate::refusals::{put_line, refuse_item};
+use fast_fault::{Memory, Sink, Status};
 use fast_session::{Halt, Line, Session, Step};
 use program_check::Checked;
 use std::alloc::Global;
@@ -102,7 +101,7 @@ fn run_items<K: Sink>(alloc: Global, file: &str, session: &mut Session, sink: &m
     if failed { Status::Fails } else { Status::Hold }
 }
 
-/// Does the items, where each of them is built. `limit` is how many trees may be told apart.
+/// Does the items. `limit` is how many trees may be told apart.
 pub fn run_program<K: Sink>(
     alloc: Global,
     file: &str,
@@ -117,14 +116,8 @@ pub fn run_program<K: Sink>(
     ensures rose { result ≡ SinkFault → Rose (K.faults sink.old) (K.faults sink.new) }
     ensures sure_text { result ≢ TextFault }
 {
-    match unbuilt_at(&checked) {
-        Some(place) => {
-            let code = Code::NotYet;
-            refuse(alloc, sink, file, Refusal { code, place })
-        }
-        None => match Session::new(alloc, checked, limit) {
-            Ok(mut session) => run_items(alloc, file, &mut session, sink),
-            Err(Memory) => Status::Memory,
-        },
+    match Session::new(alloc, checked, limit) {
+        Ok(mut session) => run_items(alloc, file, &mut session, sink),
+        Err(Memory) => Status::Memory,
     }
 }

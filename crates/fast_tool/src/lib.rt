@@ -6,7 +6,8 @@
 mod answers;
 mod applied;
 mod asked;
-mod built;
+mod counted;
+mod generator;
 mod items;
 mod lines;
 mod named;
@@ -16,18 +17,3 @@ mod top;
 mod words;
 
 pub use top::run;
-
-#[cfg(test)]
-mod accept_tests;
-#[cfg(test)]
-mod apply_tests;
-#[cfg(test)]
-mod compose_tests;
-#[cfg(test)]
-mod definition_tests;
-#[cfg(test)]
-mod image_tests;
-#[cfg(test)]
-mod size_tests;
-#[cfg(test)]
-mod tests;

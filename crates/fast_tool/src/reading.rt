@@ -24,7 +24,7 @@ use tree_files::{PlacedTree, read_typed};
 const MOST: u64 = 1_048_576;
 
 /// The well-formed program that the bytes are.
-fn read_checked(alloc: Global, bytes: &[u8]) -> Result<Checked, ReadStop>
+pub fn read_checked(alloc: Global, bytes: &[u8]) -> Result<Checked, ReadStop>
     ensures program { IfOk result (λ checked. IsChecked bytes.now (plain_program checked.program)) }
     ensures checked { IfOk result told.IsChecked }
     ensures refused { IfRefused result (λ refusal. IsRefused bytes.now refusal.code refusal.place) }
@@ -68,7 +68,7 @@ fn take_bytes<T: TextSource, K: Sink>(
 }
 
 /// Tells why a text isn't read.
-fn tell_unread<K: Sink>(alloc: Global, sink: &mut K, file: &str, stop: ReadStop) -> Status
+pub fn tell_unread<K: Sink>(alloc: Global, sink: &mut K, file: &str, stop: ReadStop) -> Status
     ensures told { IsToldOf file.now stop (K.written sink.old) (K.written sink.new) result }
     ensures later { K.faults sink.old ≤ K.faults sink.new }
     ensures rose { result ≡ SinkFault → Rose (K.faults sink.old) (K.faults sink.new) }

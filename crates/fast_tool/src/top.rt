@@ -9,6 +9,7 @@ ghost use Rattle.model_run.specs.Lines.{checked_line};
 ghost use Rattle.model_run.specs.Report.{CheckReport, StatusReport, CommandReport, IsReport, Reports, IsDoable, IsDoneOrStopped};
 
 use crate::asked::answer_file;
+use crate::counted::run_self;
 use crate::items::run_program;
 use crate::reading::take_checked;
 use crate::refusals::put_last;
@@ -94,6 +95,7 @@ fn obey<T: TextSource, K: Sink>(
         Some(Command::Check { file }) => check_file(alloc, file, texts, sink),
         Some(Command::Run { file, limit }) => run_file(alloc, file, limit, texts, sink),
         Some(Command::Answer(asked)) => answer_file(alloc, asked, texts, sink),
+        Some(Command::Generated { number }) => run_self(alloc, number, sink),
     }
 }
 

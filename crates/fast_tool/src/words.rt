@@ -1,9 +1,8 @@
 //! The words of a command line.
 
 ghost use Rattle.std.specs.Prelude.{◌≡◌, ℕ, [], ◌∷◌, true, false, map, decimal, codes, string_bytes, IfSome, IfNone};
-ghost use Rattle.model_run.specs.Words.{CommandForm};
-ghost use Rattle.model_run.specs.Report.{IsWords};
-ghost use Rattle.fast_tool.specs.Commands.{command_form, verb_asked, IsLimit};
+ghost use Rattle.model_run.specs.Words.{CommandForm, AreWordsOf};
+ghost use Rattle.fast_tool.specs.Commands.{command_form, verb_asked, IsNumber};
 
 /// What is asked of trees.
 #[derive(Clone, Copy)]
@@ -31,6 +30,8 @@ pub enum Command<'w> {
     Run { file: &'w str, limit: Option<u32> },
     /// Answer for each of the trees.
     Answer(Asked<'w>),
+    /// Do the items of the program that is made from the number, and count their verdicts.
+    Generated { number: u32 },
 }
 
 /// Whether these are the decimal digits of the number.
@@ -52,27 +53,40 @@ fn is_decimal(number: u32, digits: &[u8]) -> bool
     }
 }
 
-/// The number of trees that may be told apart, where the word is one.
+/// The number from 1 to `most` that the word is, if it is one.
 #[tactic(auto, using(crate::proofs::Numerals::on_digits))]
-fn limit_of(word: &str) -> Option<u32>
-    ensures some { IfSome result (IsLimit word.now) }
-    ensures none { IfNone result ((n : ℕ) → ¬ (IsLimit word.now n)) }
+fn number_of(word: &str, most: u32) -> Option<u32>
+    ensures some { IfSome result (IsNumber most word.now) }
+    ensures none { IfNone result ((n : ℕ) → ¬ (IsNumber most word.now n)) }
 {
     let Ok(number) = word.parse::<u32>() else {
         return None;
     };
-    if number < 1 || number > 2000 || !is_decimal(number, word.as_bytes()) {
+    if number < 1 || number > most || !is_decimal(number, word.as_bytes()) {
         return None;
     }
     Some(number)
 }
 
+/// The command of `self` and a word.
+fn of_self(number: &str) -> Option<Command<'_>>
+    ensures some { IfSome result (λ c. AreWordsOf (codes "self" ∷ number.now ∷ []) (command_form c)) }
+    ensures none { IfNone result ((form : CommandForm) → ¬ (AreWordsOf (codes "self" ∷ number.now ∷ []) form)) }
+{
+    match number_of(number, 200) {
+        Some(number) => Some(Command::Generated { number }),
+        None => None,
+    }
+}
+
 /// The command of two words.
 fn of_two<'w>(verb: &str, file: &'w str) -> Option<Command<'w>>
-    ensures some { IfSome result (λ c. IsWords (verb.now ∷ file.now ∷ []) (command_form c)) }
-    ensures none { IfNone result ((form : CommandForm) → ¬ (IsWords (verb.now ∷ file.now ∷ []) form)) }
+    ensures some { IfSome result (λ c. AreWordsOf (verb.now ∷ file.now ∷ []) (command_form c)) }
+    ensures none { IfNone result ((form : CommandForm) → ¬ (AreWordsOf (verb.now ∷ file.now ∷ []) form)) }
 {
-    if file.is_empty() {
+    if verb == "self" {
+        of_self(file)
+    } else if file.is_empty() {
         None
     } else if verb == "check" {
         Some(Command::Check { file })
@@ -85,13 +99,13 @@ fn of_two<'w>(verb: &str, file: &'w str) -> Option<Command<'w>>
 
 /// The command of `run` and three words.
 fn of_run<'w>(file: &'w str, option: &str, number: &str) -> Option<Command<'w>>
-    ensures some { IfSome result (λ c. IsWords (codes "run" ∷ file.now ∷ option.now ∷ number.now ∷ []) (command_form c)) }
-    ensures none { IfNone result ((form : CommandForm) → ¬ (IsWords (codes "run" ∷ file.now ∷ option.now ∷ number.now ∷ []) form)) }
+    ensures some { IfSome result (λ c. AreWordsOf (codes "run" ∷ file.now ∷ option.now ∷ number.now ∷ []) (command_form c)) }
+    ensures none { IfNone result ((form : CommandForm) → ¬ (AreWordsOf (codes "run" ∷ file.now ∷ option.now ∷ number.now ∷ []) form)) }
 {
     if file.is_empty() || option != "--classes" {
         return None;
     }
-    match limit_of(number) {
+    match number_of(number, 2000) {
         Some(limit) => Some(Command::Run {
             file,
             limit: Some(limit),
@@ -107,8 +121,8 @@ fn of_question<'w>(
     name: &'w str,
     trees: &'w str,
 ) -> Option<Command<'w>>
-    ensures some { IfSome result (λ c. IsWords (verb_asked question ∷ file.now ∷ name.now ∷ trees.now ∷ []) (command_form c)) }
-    ensures none { IfNone result ((form : CommandForm) → ¬ (IsWords (verb_asked question ∷ file.now ∷ name.now ∷ trees.now ∷ []) form)) }
+    ensures some { IfSome result (λ c. AreWordsOf (verb_asked question ∷ file.now ∷ name.now ∷ trees.now ∷ []) (command_form c)) }
+    ensures none { IfNone result ((form : CommandForm) → ¬ (AreWordsOf (verb_asked question ∷ file.now ∷ name.now ∷ trees.now ∷ []) form)) }
 {
     if file.is_empty() || name.is_empty() || trees.is_empty() {
         return None;
@@ -123,8 +137,8 @@ fn of_question<'w>(
 
 /// The command of four words.
 fn of_four<'w>(verb: &str, first: &'w str, second: &'w str, third: &'w str) -> Option<Command<'w>>
-    ensures some { IfSome result (λ c. IsWords (verb.now ∷ first.now ∷ second.now ∷ third.now ∷ []) (command_form c)) }
-    ensures none { IfNone result ((form : CommandForm) → ¬ (IsWords (verb.now ∷ first.now ∷ second.now ∷ third.now ∷ []) form)) }
+    ensures some { IfSome result (λ c. AreWordsOf (verb.now ∷ first.now ∷ second.now ∷ third.now ∷ []) (command_form c)) }
+    ensures none { IfNone result ((form : CommandForm) → ¬ (AreWordsOf (verb.now ∷ first.now ∷ second.now ∷ third.now ∷ []) form)) }
 {
     if verb == "run" {
         of_run(first, second, third)
@@ -139,8 +153,8 @@ fn of_four<'w>(verb: &str, first: &'w str, second: &'w str, third: &'w str) -> O
 
 /// The command that the words are, if they are one.
 pub fn read_words<'w>(words: &'w [String]) -> Option<Command<'w>>
-    ensures some { IfSome result (λ c. IsWords (map string_bytes words.now) (command_form c)) }
-    ensures none { IfNone result ((form : CommandForm) → ¬ (IsWords (map string_bytes words.now) form)) }
+    ensures some { IfSome result (λ c. AreWordsOf (map string_bytes words.now) (command_form c)) }
+    ensures none { IfNone result ((form : CommandForm) → ¬ (AreWordsOf (map string_bytes words.now) form)) }
 {
     match words {
         [verb, file] => of_two(verb.as_str(), file.as_str()),

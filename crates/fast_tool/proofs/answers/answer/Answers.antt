@@ -1,2 +1,0 @@
-use Rattle.std.proofs.Common.{subst}
-use Rattle.fast_tool.proofs.answers.answer.Goals as goal

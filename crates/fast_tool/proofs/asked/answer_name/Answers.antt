@@ -3,7 +3,7 @@ use Rattle.fast_tree.specs.Signatures.{plain_signature}
 use Rattle.fast_syntax.specs.Plain.{plain_program}
 use Rattle.fast_tool.specs.Commands.{kind_asked}
 use Rattle.model_meaning.specs.Meaning.{input_type}
-use Rattle.model_run.specs.Report.{named_x, trees_script, BuiltReport, StatusReport, Reports}
+use Rattle.model_run.specs.Report.{named_x, trees_script, StatusReport, Reports}
 use Rattle.model_run.specs.Scripts.{Writes}
 use Rattle.model_run.specs.Texts.{IsNameOf, IsNameRefused}
 use Rattle.tree_files.specs.Placed.{plain_placed}
@@ -31,10 +31,10 @@ returns-in-Ok-take_trees-clause-report g c =
     let status = c.answer_trees.result in
     let after = g.K.Sink.written c.answer_trees.new.sink in
     let taken = c.in-Ok-take_trees.ensures {u = tt} in
-    let by_name = subst (λ n. Reports (StatusReport (BuiltReport file items (Writes (trees_script items file n trees (kind_asked asked.question) (map plain_placed c.deref.result.now))))) status (g.K.Sink.written c.take_trees.new.sink) after) c.in-Ok.ensures c.answer_trees.ensures.report in
-    let from_start = subst (λ k. Reports (StatusReport (BuiltReport file items (Writes (trees_script items file asked.name.now trees (kind_asked asked.question) (map plain_placed c.deref.result.now))))) status (g.K.Sink.written k) after) taken.untouched by_name in
+    let by_name = subst (λ n. Reports (StatusReport (Writes (trees_script items file n trees (kind_asked asked.question) (map plain_placed c.deref.result.now)))) status (g.K.Sink.written c.take_trees.new.sink) after) c.in-Ok.ensures c.answer_trees.ensures.report in
+    let from_start = subst (λ k. Reports (StatusReport (Writes (trees_script items file asked.name.now trees (kind_asked asked.question) (map plain_placed c.deref.result.now)))) status (g.K.Sink.written k) after) taken.untouched by_name in
     trees_given file asked.name.now trees (kind_asked asked.question) held items signature of named (map plain_placed c.in-Ok-take_trees.placed.items) status (g.K.Sink.written c.args.sink.now) after taken.placed
-    (subst (λ ps. Reports (StatusReport (BuiltReport file items (Writes (trees_script items file asked.name.now trees (kind_asked asked.question) (map plain_placed ps))))) status (g.K.Sink.written c.args.sink.now) after) c.deref.ensures.value from_start)
+    (subst (λ ps. Reports (StatusReport (Writes (trees_script items file asked.name.now trees (kind_asked asked.question) (map plain_placed ps)))) status (g.K.Sink.written c.args.sink.now) after) c.deref.ensures.value from_start)
 
 pub returns-in-Err-take_trees-clause-report : goal.returns-in-Err-take_trees-clause-report
 returns-in-Err-take_trees-clause-report g c =

@@ -22,4 +22,4 @@ answer_all-requires g c =
 pub returns-in-Ok-clause-report : goal.returns-in-Ok-clause-report
 returns-in-Ok-clause-report g c =
     answered_report c.args.asked.file.now c.args.name.now c.args.asked.trees.now (kind_asked c.args.asked.question) None (plain_program c.args.checked.program) (map plain_placed c.args.placed.now) c.in-Ok.session c.answer_all.result _ _
-    (ap items_of c.in-Ok.ensures.program) (sym c.in-None.ensures) c.answer_all.ensures.report
+    (ap items_of c.in-Ok.ensures.program) c.answer_all.ensures.report

@@ -1,6 +1,6 @@
 use Rattle.std.proofs.Common.{sym}
 use Rattle.fast_build.specs.Items.{items_of}
-use Rattle.fast_tool.proofs.AllBuilt.{typed_signature}
+use Rattle.fast_tool.proofs.Typed.{typed_signature}
 use Rattle.fast_tool.proofs.lines.append_tree.Goals as goal
 
 pub unreachable-requires : goal.unreachable-requires

@@ -1,5 +1,0 @@
-use Rattle.fast_session.specs.Sessions.{IsSession}
-use Rattle.fast_tool.proofs.definition_tests.languages_built.Given as goal
-
-abbrev pub invariant-loop : goal.invariant-loop
-invariant-loop l = IsSession l.session

@@ -1,0 +1,146 @@
+use crate::runs::{repeated, words};
+use fast_fault::{Held, Memory, SureSink, SureTexts, Text};
+use fast_tool::run;
+use std::alloc::Global;
+use std::process::Abort;
+use std::test::Fail;
+
+/// Two texts, held under the names F and G.
+pub(crate) fn held_both(alloc: Global, program: &str, trees: &[u8]) -> Result<Vec<Held>, Memory> {
+    let mut entries = Vec::new(alloc);
+    for (name, bytes) in [("F", program.as_bytes()), ("G", trees)] {
+        entries.push(Held {
+            name: Text::of(alloc, name)?,
+            bytes: Vec::from_slice(alloc, bytes)?,
+        })?;
+    }
+    Ok(entries)
+}
+
+/// Runs the words over the program and the trees, and compares the exit code and the report.
+pub(crate) fn answers<R: Abort + AllocGlobal>(
+    rt: &R,
+    line: &str,
+    program: &str,
+    trees: &[u8],
+    expected: (u8, &str),
+) -> Result<(), Memory> {
+    let mut texts = SureTexts::new(held_both(rt.alloc(), program, trees)?);
+    let mut sink = SureSink::new(rt.alloc());
+    let words = words(rt.alloc(), line)?;
+    let status = run(rt.alloc(), &words, &mut texts, &mut sink);
+    let (code, report) = expected;
+    assert!(rt; status.code() == code, "status of {line}");
+    assert!(rt; sink.bytes() == report.as_bytes(), "report of {line}");
+    Ok(())
+}
+
+/// Lists of even and of odd length, and those that aren't of even length.
+const EVEN_ODD: &str = "type L[]{nil(0), cons(1)}
+lang e : L { nil() | cons(x) given (o x) }
+lang o : L { cons(x) given (e x) }
+def other : L := (complement e)
+tree t : L := (get-witness e)
+";
+
+const NUMBERS: &str = "type N[x : Int]{z(0)} lang p : N { z() where x > 0 }";
+
+/// Command lines, programs, trees, exit codes and reports.
+const ANSWERS: [(&str, &str, &str, u8, &str); 9] = [
+    (
+        "accepts F e G",
+        EVEN_ODD,
+        "(nil []) (cons [] (nil []))",
+        0,
+        "input 1 yes\ninput 2 no\n",
+    ),
+    (
+        "accepts F other G",
+        EVEN_ODD,
+        "(nil []) (cons [] (nil []))",
+        0,
+        "input 1 no\ninput 2 yes\n",
+    ),
+    ("accepts F e G", EVEN_ODD, "", 0, ""),
+    (
+        "accepts F f G",
+        EVEN_ODD,
+        "(nil [])",
+        3,
+        "refused 13 UnknownName at word 3\n",
+    ),
+    (
+        "accepts F t G",
+        EVEN_ODD,
+        "(nil [])",
+        3,
+        "refused 14 WrongKind at word 3\n",
+    ),
+    (
+        "accepts F p G",
+        NUMBERS,
+        "(z [1])(z [0])",
+        0,
+        "input 1 yes\ninput 2 no\n",
+    ),
+    (
+        "accepts F p G",
+        NUMBERS,
+        "(z [1]) (z [true])",
+        3,
+        "refused 19 WrongSort at G:1:13\n",
+    ),
+    (
+        "accepts F p G",
+        NUMBERS,
+        "(z [1] (z [1]))",
+        3,
+        "refused 16 WrongRank at G:1:2\n",
+    ),
+    (
+        "accepts F p G",
+        NUMBERS,
+        "(z [9223372036854775808])",
+        3,
+        "refused 22 NumberRange at G:1:5\n",
+    ),
+];
+
+#[test]
+fn answers_for_trees(rt: HostRuntime) -> Result<(), Fail> {
+    for (line, program, trees, code, report) in ANSWERS {
+        answers(&rt, line, program, trees.as_bytes(), (code, report)).map_err(|_| "memory")?;
+    }
+    Ok(())
+}
+
+#[test]
+fn trees_are_nested_so_far(rt: HostRuntime) -> Result<(), Fail> {
+    let deep = repeated(rt.alloc(), "", "(cons [] ", 2001, "").map_err(|_| "memory")?;
+    let refused = "refused 5 Nested at G:1:18001\n";
+    answers(&rt, "accepts F e G", EVEN_ODD, &deep, (3, refused)).map_err(|_| "memory")?;
+    Ok(())
+}
+
+/// A language of labels with a text, and how many bytes a text may have.
+const TEXTS: &str = "type W[s : String]{z(0)} lang p : W { z() where s = \"\" }";
+
+#[test]
+fn texts_of_trees_are_so_long(rt: HostRuntime) -> Result<(), Fail> {
+    let longest = repeated(rt.alloc(), "(z [\"", "e", 4096, "\"])").map_err(|_| "memory")?;
+    answers(&rt, "accepts F p G", TEXTS, &longest, (0, "input 1 no\n")).map_err(|_| "memory")?;
+    let longer = repeated(rt.alloc(), "(z [\"", "e", 4097, "\"])").map_err(|_| "memory")?;
+    let refused = "refused 24 TooMany at G:1:5\n";
+    answers(&rt, "accepts F p G", TEXTS, &longer, (3, refused)).map_err(|_| "memory")?;
+    Ok(())
+}
+
+#[test]
+fn files_of_trees_are_so_long(rt: HostRuntime) -> Result<(), Fail> {
+    let longest = repeated(rt.alloc(), "(z [\"\"])", " ", 1_048_568, "").map_err(|_| "memory")?;
+    answers(&rt, "accepts F p G", TEXTS, &longest, (0, "input 1 yes\n")).map_err(|_| "memory")?;
+    let longer = repeated(rt.alloc(), "(z [\"\"])", " ", 1_048_569, "").map_err(|_| "memory")?;
+    let refused = "refused 1 TooLong at G:1:1\n";
+    answers(&rt, "accepts F p G", TEXTS, &longer, (3, refused)).map_err(|_| "memory")?;
+    Ok(())
+}
