@@ -11,8 +11,6 @@ mod simpler;
 mod stop;
 mod subst;
 mod sum;
-#[cfg(test)]
-mod tests;
 mod value;
 
 pub use form::{FieldTerm, Form, RemTerm};

@@ -24,6 +24,3 @@ pub use chain::{Chain, Choice, Width};
 pub use compare::{Compare, Relation};
 pub use decision::decide;
 pub use ints::Ints;
-
-#[cfg(test)]
-mod tests;

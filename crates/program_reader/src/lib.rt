@@ -14,6 +14,3 @@ mod terms;
 mod types;
 
 pub use items::{ReadItemsStop, read_items};
-
-#[cfg(test)]
-mod tests;

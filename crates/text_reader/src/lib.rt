@@ -14,6 +14,3 @@ pub use nesting::nested;
 pub use programs::read;
 pub use texts::ReadStop;
 pub use trees::read_trees;
-
-#[cfg(test)]
-mod tests;

@@ -21,6 +21,3 @@ pub struct PlacedTree {
     pub place: Pos,
     pub tree: Tree<Label>,
 }
-
-#[cfg(test)]
-mod tests;

@@ -1,5 +1,5 @@
-use crate::{ReadItemsStop, read_items};
 use fast_lex::{Lexed, tokens};
+use program_reader::{ReadItemsStop, read_items};
 use std::alloc::Global;
 use std::test::Fail;
 

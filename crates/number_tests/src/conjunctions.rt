@@ -1,7 +1,7 @@
-use crate::{Compare, Relation, Width, decide};
 use fast_fault::Memory;
 use label_core::{Lit, Verdict};
 use lin_form::{Form, FormStop, Signed};
+use lin_solve::{Compare, Relation, Width, decide};
 use std::alloc::Global;
 use std::test::Fail;
 

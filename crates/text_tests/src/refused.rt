@@ -1,8 +1,8 @@
-use crate::{ReadStop, read, read_trees};
 use fast_fault::{Code, Pos, Refusal};
 use fast_lex::{Lexed, Token, tokens};
 use std::alloc::Global;
 use std::test::Fail;
+use text_reader::{ReadStop, read, read_trees};
 
 /// What reading a text answers, without what was read.
 #[derive(Clone, Copy)]

@@ -1,10 +1,10 @@
-use crate::read_typed;
 use fast_fault::{Code, Memory, Text};
 use fast_tree::{CtorOf, FieldOf, Signature, Sort};
 use std::alloc::Global;
 use std::process::Abort;
 use std::test::Fail;
 use text_reader::ReadStop;
+use tree_files::read_typed;
 
 fn constructor(alloc: Global, name: &str, rank: u32) -> Result<CtorOf, Memory> {
     let name = Text::of(alloc, name)?;

@@ -1,4 +1,4 @@
-use crate::{Form, FormStop, Signed};
+use lin_form::{Form, FormStop, Signed};
 use std::alloc::Global;
 use std::test::Fail;
 

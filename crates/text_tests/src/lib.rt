@@ -1,0 +1,12 @@
+//! Texts that are read and printed: tables of programs and of trees, the places at which others are refused, and the canonical
+//! texts that programs are printed as, which no clause lists.
+#![tactic(auto)]
+
+#[cfg(test)]
+mod items;
+#[cfg(test)]
+mod printed;
+#[cfg(test)]
+mod refused;
+#[cfg(test)]
+mod trees;
