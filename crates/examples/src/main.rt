@@ -9,8 +9,9 @@ use fast_tool::run;
 use std::io;
 use std::rt::Files;
 
-const NAMES: [&str; 9] = [
+const NAMES: [&str; 12] = [
     "access",
+    "compiler",
     "documents",
     "parcels",
     "pipelines",
@@ -18,6 +19,8 @@ const NAMES: [&str; 9] = [
     "sanitiser",
     "sessions",
     "switches",
+    "taggers",
+    "terms",
     "typecheck",
 ];
 
