@@ -1,0 +1,190 @@
+#!/usr/bin/env bash
+# Gives the program what it must withstand, and counts how its runs end: nearly programs and nearly trees (bench/mutate.py);
+# less and less memory; a program and trees that are at all limits at once (bench/limits.py), with a small stack; and an
+# output that can't be written. A run must end with a status from 0 to 7, write nothing on standard error, and end its report
+# with a line feed where the status is 0 to 4; each row says what else it must. The last column counts the runs that don't,
+# and each of them is told. Ends with 0 where there are none.
+#
+# usage: hostile.sh [COUNT [SEED]]; 2,000 texts, if no number is given.
+. "$(dirname "${BASH_SOURCE[0]}")/common.sh"
+count=${1-2000}
+seed=${2-1}
+examples=$here/crates/examples/data
+kept=$(mktemp -d)
+seconds=20
+ulimit -c 0
+declare -A runs
+
+# Runs the words under these limits, and gives the status: `limits` is a command of the shell, as `ulimit -s 1024` or `true`.
+# A run that takes too long has the status 124.
+run() {
+  local limits=$1
+  shift
+  (eval "$limits" && exec timeout "$seconds" "$program" "$@") >"$folder/report" 2>"$folder/errors" </dev/null
+}
+
+# Counts a run of a row, by its status and by whether all is well, and tells one that isn't, by these words.
+note() {
+  local row=$1 status=$2 is_well=$3
+  shift 3
+  runs[$row,$status]=$((${runs[$row,$status]-0} + 1))
+  if [ "$is_well" = no ]; then
+    runs[$row,wrong]=$((${runs[$row,wrong]-0} + 1))
+    echo "wrong: $row: status $status: $*"
+  fi
+}
+
+# Whether the last run ended as each run must, with this status.
+ended_well() {
+  [ ! -s "$folder/errors" ] || return 1
+  case $1 in
+    [0-4]) [ "$(tail -c 1 "$folder/report" | od -An -tx1)" = ' 0a' ] ;;
+    5 | 6 | 7 | 124) true ;;
+    *) false ;;
+  esac
+}
+
+# Whether the report is a front of what stands in the file.
+is_front() {
+  cmp -s -n "$(stat -c %s "$folder/report")" "$folder/report" "$1"
+}
+
+# Runs the words on a changed text, which is kept where the run ends wrongly.
+probe() {
+  local row=$1 text=$2 status
+  shift 2
+  run true "$@"
+  status=$?
+  if ended_well "$status" && [ "$status" != 6 ]; then
+    note "$row" "$status" yes
+  else
+    cp "$text.fast" "$text.trees" "$kept"
+    note "$row" "$status" no "${*//$folder\/changed/$kept} $(head -c 200 "$folder/errors")"
+  fi
+}
+
+changed_texts() {
+  local number lang trans text
+  python3 "$here/bench/mutate.py" "$count" "$seed" "$folder/changed" "$examples"/*.fast >"$folder/names"
+  while read -r number lang trans; do
+    text=$folder/changed/$number
+    probe 'changed: check' "$text" check "$text.fast"
+    probe 'changed: run' "$text" run "$text.fast"
+    probe 'changed: accepts' "$text" accepts "$text.fast" "$lang" "$text.trees"
+    probe 'changed: apply' "$text" apply "$text.fast" "$trans" "$text.trees"
+  done <"$folder/names"
+}
+
+# A program whose report grows line by line, and which needs more memory the longer it runs.
+large_program() {
+  awk 'BEGIN {
+    print "type L[x : Int, s : String]{nil(0), cons(1)}"
+    for (k = 0; k < 60; k++) printf "lang p%d : L { nil() where x = %d | cons(y) where x %% 7 = %d and s != \"%d\" given (p%d y) }\n", k, k, k % 7, k, (k + 1) % 60
+    for (k = 0; k < 60; k++) printf "tree t%d : L := (cons [%d, \"a\"] (nil [%d, \"\"]))\nassert-true t%d in (complement p%d)\n", k, k, k, k, k
+    for (k = 0; k < 1000; k++) printf "def d%d : L := (union p%d p%d)\n", k, k % 60, (k + 7) % 60
+    print "assert-false (is-empty p0)"
+  }'
+}
+
+# Ever less memory, down to what a run without words needs: the whole report, or want of memory with a front of it.
+less_memory() {
+  local limit whole status
+  large_program >"$folder/large"
+  run true run "$folder/large"
+  whole=$?
+  cp "$folder/report" "$folder/whole"
+  for ((limit = 262144; limit > 1024; limit = limit * 15 / 16)); do
+    run "ulimit -v $limit"
+    [ $? = 2 ] || break
+    run "ulimit -v $limit" run "$folder/large"
+    status=$?
+    if ended_well "$status" && { [ "$status" = "$whole" ] && cmp -s "$folder/report" "$folder/whole" ||
+      [ "$status" = 7 ] && is_front "$folder/whole"; }; then
+      note 'less memory: run' "$status" yes
+    else
+      note 'less memory: run' "$status" no "$limit kilobytes: $(head -c 200 "$folder/errors")"
+    fi
+  done
+}
+
+# Runs the words with a small stack: status 0, and the report that they have with the usual one.
+limited() {
+  local row=$1 status
+  shift
+  seconds=600 run true "$@"
+  cp "$folder/report" "$folder/whole"
+  seconds=600 run 'ulimit -s 1024' "$@"
+  status=$?
+  if ended_well "$status" && [ "$status" = 0 ] && cmp -s "$folder/report" "$folder/whole"; then
+    note "$row" "$status" yes
+  else
+    note "$row" "$status" no "$* $(head -c 200 "$folder/report")"
+  fi
+}
+
+all_limits() {
+  local trees
+  python3 "$here/bench/limits.py" "$folder"
+  limited 'all limits: check' check "$folder/program"
+  limited 'all limits: run' run "$folder/program"
+  for trees in deep wide; do
+    limited 'all limits: accepts' accepts "$folder/program" all "$folder/$trees"
+    limited 'all limits: apply' apply "$folder/program" copy "$folder/$trees"
+  done
+}
+
+# A run whose output can't be written must say so by its status.
+refused() {
+  local row=$1 status=$2
+  if [ "$status" = 6 ] && [ ! -s "$folder/errors" ]; then
+    note "$row" "$status" yes
+  else
+    note "$row" "$status" no "$(head -c 200 "$folder/errors")"
+  fi
+}
+
+no_output() {
+  local example
+  for example in "$examples"/*.fast; do
+    "$program" run "$example" >/dev/full 2>"$folder/errors"
+    refused 'full device: run' $?
+    "$program" run "$example" >&- 2>"$folder/errors"
+    refused 'closed output: run' $?
+    # the reader is gone before the first line is written
+    (sleep 0.2 && exec "$program" run "$example" 2>"$folder/errors") | true
+    refused 'closed pipe: run' "${PIPESTATUS[0]}"
+  done
+}
+
+summary() {
+  local row status others
+  printf '\n%-20s' ''
+  printf '%7s' 0 1 2 3 4 5 6 7 late others wrong
+  printf '\n'
+  for row in "$@"; do
+    printf '%-20s' "$row"
+    for status in 0 1 2 3 4 5 6 7 124; do printf '%7s' "${runs[$row,$status]-0}"; done
+    others=0
+    for status in "${!runs[@]}"; do
+      case $status in
+        "$row",[0-7] | "$row",124 | "$row",wrong) ;;
+        "$row",*) others=$((others + runs[$status])) ;;
+      esac
+    done
+    printf '%7s%7s\n' "$others" "${runs[$row,wrong]-0}"
+  done
+}
+
+changed_texts
+less_memory
+all_limits
+no_output
+summary changed:\ {check,run,accepts,apply} 'less memory: run' all\ limits:\ {check,run,accepts,apply} \
+  {full\ device,closed\ output,closed\ pipe}:\ run
+rmdir "$kept" 2>/dev/null
+total=0
+for row in "${!runs[@]}"; do
+  case $row in *,wrong) total=$((total + runs[$row])) ;; esac
+done
+echo "$total runs ended wrongly"
+[ "$total" = 0 ]
