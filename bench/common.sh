@@ -46,13 +46,14 @@ else
 fi
 
 # Runs the command on texts of this kind, for each of these K: the kind is a function that prints the text for a K.
-# Prints bytes and milliseconds, with the ratio to the line before.
+# Prints bytes and milliseconds, with the ratio to the line before, and the refusal where a text has one.
 table() {
   local command=$1 kind=$2 count took previous=
   shift 2
   printf '%-12s %8s %8s %14s %8s\n' "$kind" K bytes milliseconds ratio
   for count in "$@"; do
     "$kind" "$count" >"$folder/text"
+    "$program" "$command" "$folder/text" 2>/dev/null | grep '^refused'
     took=$(milliseconds "$command" "$folder/text")
     awk -v count="$count" -v bytes="$(wc -c <"$folder/text")" -v took="$took" -v previous="$previous" 'BEGIN {
       printf "%-12s %8s %8d %14d", "", count, bytes, took

@@ -41,13 +41,13 @@ forgotten() {
 pipeline() {
   cat <<PROGRAM
 type L[x : Int]{nil(0), cons(1)}
-lang given : L { nil() | cons(y) where x >= 0 and x < 10 * $1 given (given y) }
+lang taken : L { nil() | cons(y) where x >= 0 and x < 10 * $1 given (taken y) }
 lang digits : L { nil() | cons(y) where x >= 0 and x <= 9 given (digits y) }
 trans reduce : L -> L {
     nil() to (nil [0])
   $(each "$1" ' ' '"| cons(y) where x >= " 10 * k " and x < " 10 * k + 10 " to (cons [x - " 10 * k "] (reduce y))"')
 }
-assert-true (type-check given reduce digits)
+assert-true (type-check taken reduce digits)
 PROGRAM
 }
 
