@@ -1,5 +1,5 @@
 -- What was counted so far, and what that makes of the report at each end.
-use Rattle.std.proofs.Common.{ℕ, zero, suc, ◌≡◌, ◌≤◌, ◌+◌, List, [], ◌∷◌, ◌++◌, Option, Some, None, Bool, true, false, length, drop, add-one, ap, ◌∙◌, sym, subst, inl, inr, refl, arith}
+use Rattle.std.proofs.Common.{ℕ, zero, suc, ◌≡◌, ◌≤◌, ◌+◌, List, [], ◌∷◌, ◌++◌, Option, Bool, true, false, length, drop, add-one, ap, ◌∙◌, sym, subst, inl, inr, refl, arith}
 use Rattle.std.specs.Prelude.{codes, decimal}
 use Rattle.fast_fault.specs.declared.status.Status.{Status}
 use Rattle.fast_fault.specs.declared.status.Status.TheVariants.{Hold, Fails, RunRefused, Memory}
@@ -14,55 +14,29 @@ use Rattle.fast_session.specs.declared.session.Session.{Session}
 use Rattle.fast_session.specs.Sessions.{items_in, IsAt, IsSameProgram}
 use Rattle.fast_tool.specs.declared.counted.Tally.{Tally}
 use Rattle.fast_tool.specs.Runs.{EndsWith, IsEnded}
-use Rattle.fast_tool.specs.Tallies.{verdict_in, IsTally, tally_line, status_for, IsTold, IsCounted, IsHalted, Counted}
+use Rattle.fast_tool.specs.Tallies.{IsTally, tally_line, status_for, IsTold, IsCounted, IsHalted, Counted}
 use Rattle.fast_tool.proofs.Runs.{next_at, next_is, stops_here, drop_all}
 use Rattle.fast_tool.proofs.Texts.{fault_of, no_memory_yet}
 
 -- ---- counts of verdicts
 
--- a number of verdicts of this kind, and one more
-abbrev pub with_verdict : Bool → Option Bool → ℕ → ℕ
-with_verdict wanted None n = n
-with_verdict true (Some true) n = suc n
-with_verdict true (Some false) n = n
-with_verdict false (Some true) n = n
-with_verdict false (Some false) n = suc n
-
-verdicts_with : (wanted : Bool) (o : Outcome) (outcomes : List Outcome) → verdicts wanted (o ∷ outcomes) ≡ with_verdict wanted (verdict_in o) (verdicts wanted outcomes)
-verdicts_with wanted silent outcomes = refl
-verdicts_with wanted (tree_line name signature t) outcomes = refl
-verdicts_with wanted (minimal_line name n) outcomes = refl
-verdicts_with true (true_verdict n true) outcomes = refl
-verdicts_with true (true_verdict n false) outcomes = refl
-verdicts_with false (true_verdict n true) outcomes = refl
-verdicts_with false (true_verdict n false) outcomes = refl
-verdicts_with true (tree_verdict n true signature t) outcomes = refl
-verdicts_with true (tree_verdict n false signature t) outcomes = refl
-verdicts_with false (tree_verdict n true signature t) outcomes = refl
-verdicts_with false (tree_verdict n false signature t) outcomes = refl
-
--- an outcome more
-pub tally_more : (t after : Tally) (verdict : Option Bool) (outcomes : List Outcome) (o : Outcome) → IsTally t outcomes → verdict ≡ verdict_in o
-    → after.passed ≡ with_verdict true verdict t.passed → after.failed ≡ with_verdict false verdict t.failed → IsTally after (o ∷ outcomes)
-tally_more t after verdict outcomes o is said passed failed = record {
-  passed = passed ∙ ((λ i. with_verdict true (said i) (is.passed i)) ∙ sym (verdicts_with true o outcomes));
-  failed = failed ∙ ((λ i. with_verdict false (said i) (is.failed i)) ∙ sym (verdicts_with false o outcomes));
-}
-
-with_at_most : (wanted : Bool) (verdict : Option Bool) (n : ℕ) → with_verdict wanted verdict n ≤ suc n
-with_at_most wanted None n = omega arith
-with_at_most true (Some true) n = omega arith
-with_at_most true (Some false) n = omega arith
-with_at_most false (Some true) n = omega arith
-with_at_most false (Some false) n = omega arith
+one_at_most : (wanted : Bool) (o : Outcome) (outcomes : List Outcome) → verdicts wanted (o ∷ outcomes) ≤ suc (verdicts wanted outcomes)
+one_at_most wanted silent outcomes = omega arith
+one_at_most wanted (tree_line name signature t) outcomes = omega arith
+one_at_most wanted (minimal_line name n) outcomes = omega arith
+one_at_most true (true_verdict n true) outcomes = omega arith
+one_at_most true (tree_verdict n true signature t) outcomes = omega arith
+one_at_most true (true_verdict n false) outcomes = omega arith
+one_at_most true (tree_verdict n false signature t) outcomes = omega arith
+one_at_most false (true_verdict n true) outcomes = omega arith
+one_at_most false (tree_verdict n true signature t) outcomes = omega arith
+one_at_most false (true_verdict n false) outcomes = omega arith
+one_at_most false (tree_verdict n false signature t) outcomes = omega arith
 
 -- no more verdicts than outcomes
 pub few_verdicts : (wanted : Bool) (outcomes : List Outcome) → verdicts wanted outcomes ≤ length outcomes
 few_verdicts wanted [] = omega arith
-few_verdicts wanted (o ∷ outcomes) =
-    let others = few_verdicts wanted outcomes in
-    let one = with_at_most wanted (verdict_in o) (verdicts wanted outcomes) in
-    omega (arith, verdicts_with wanted o outcomes, others, one)
+few_verdicts wanted (o ∷ outcomes) = omega (arith, few_verdicts wanted outcomes, one_at_most wanted o outcomes)
 
 -- whether there are some
 abbrev is_some_of : ℕ → Bool
