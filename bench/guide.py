@@ -2,7 +2,7 @@
 """Runs each program of docs/LANGUAGE.md as it stands, and compares its report and its exit status with what stands there.
 
 - A block `fast` is a program. The block `text` that comes next, with no other program between, is the report of `fast run`;
-  without one the program is checked alone. A block with a name is a file for the commands that follow.
+  without one nothing is written. A block with a name is a file for the commands that follow.
 - A block `sh` has commands over such files, and the next block `text` has all that they write.
 - In a table with the columns Example and Line an example is a program, a file of trees, or a command of bash that writes
   one, and the line is what it gets. A second piece of code in the cell is the command.
@@ -41,24 +41,15 @@ def of_blocks(lines):
     """The examples of the blocks, and the files that have names."""
     found, files, waiting = [], {}, None
 
-    def end(report):
-        if waiting and waiting.commands == ["run FILE"] and report is None:
-            waiting.commands = ["check FILE"]
-        if waiting:
-            waiting.report = report
-            found.append(waiting)
-
     for line, words, body in blocks(lines):
-        if words[:1] == ["text"]:
-            end(body) if waiting else None
-            waiting = None
+        if words == ["text"] and waiting:
+            waiting.report, waiting = body, None
         elif words[1:]:
             files[words[1]] = body.encode()
         elif words in (["fast"], ["sh"]):
-            end(None)
             commands = ["run FILE"] if words == ["fast"] else [it.removeprefix("fast ") for it in body.splitlines()]
-            waiting = Example(line, {"FILE": body.encode()} if words == ["fast"] else dict(files), commands, None)
-    end(None)
+            waiting = Example(line, {"FILE": body.encode()} if words == ["fast"] else dict(files), commands, "")
+            found.append(waiting)
     return found, files
 
 
@@ -112,11 +103,7 @@ def main():
     found, wrong = examples(guide), 0
     for example in found:
         report, status = run(program, example)
-        if example.report is None:
-            is_right = status == 0 and re.fullmatch(r"checked \d+ items?\n", report)
-        else:
-            is_right = report == example.report and status == status_of(report)
-        if not is_right:
+        if report != example.report or status != status_of(report):
             wrong += 1
             print(f"line {example.line}: status {status}, and not the report that stands there:\n{report[:1000]}", end="")
     print(f"{len(found)} examples, {wrong} of them wrong")

@@ -1,9 +1,10 @@
 #!/usr/bin/env bash
 # Gives the program what it must withstand, and counts how its runs end: nearly programs and nearly trees (bench/mutate.py);
-# less and less memory; a program and trees that are at all limits at once (bench/limits.py), with a small stack; and an
-# output that can't be written. A run must end with a status from 0 to 7, write nothing on standard error, and end its report
-# with a line feed where the status is 0 to 4; each row says what else it must. The last column counts the runs that don't,
-# and each of them is told. Ends with 0 where there are none.
+# less and less memory; a program and trees that are at all limits at once (bench/limits.py), with the stack that a process
+# usually has; and an output that can't be written. A run must end with a status from 0 to 7, write nothing on standard error,
+# and end its report with a line feed where the status is 0 to 4; each row says what else it must. The last column counts the
+# runs that don't, and each of them is told. Under the table stands the least stack with which the limits do as well. Ends with
+# 0 where no run ends wrongly.
 #
 # usage: hostile.sh [COUNT [SEED]]; 2,000 texts, if no number is given.
 . "$(dirname "${BASH_SOURCE[0]}")/common.sh"
@@ -14,13 +15,15 @@ kept=$(mktemp -d)
 seconds=20
 ulimit -c 0
 declare -A runs
+stacks=()
 
 # Runs the words under these limits, and gives the status: `limits` is a command of the shell, as `ulimit -s 1024` or `true`.
 # A run that takes too long has the status 124.
 run() {
   local limits=$1
   shift
-  (eval "$limits" && exec timeout "$seconds" "$program" "$@") >"$folder/report" 2>"$folder/errors" </dev/null
+  # the shell's own word on a signal is left out
+  { (eval "$limits" && exec timeout "$seconds" "$program" "$@") >"$folder/report" 2>"$folder/errors" </dev/null; } 2>/dev/null
 }
 
 # Counts a run of a row, by its status and by whether all is well, and tells one that isn't, by these words.
@@ -79,9 +82,9 @@ changed_texts() {
 large_program() {
   awk 'BEGIN {
     print "type L[x : Int, s : String]{nil(0), cons(1)}"
-    for (k = 0; k < 60; k++) printf "lang p%d : L { nil() where x = %d | cons(y) where x %% 7 = %d and s != \"%d\" given (p%d y) }\n", k, k, k % 7, k, (k + 1) % 60
-    for (k = 0; k < 60; k++) printf "tree t%d : L := (cons [%d, \"a\"] (nil [%d, \"\"]))\nassert-true t%d in (complement p%d)\n", k, k, k, k, k
-    for (k = 0; k < 1000; k++) printf "def d%d : L := (union p%d p%d)\n", k, k % 60, (k + 7) % 60
+    for (k = 0; k < 20; k++) printf "lang p%d : L { nil() where x = %d | cons(y) where x %% 7 = %d and s != \"%d\" given (p%d y) }\n", k, k, k % 7, k, (k + 1) % 20
+    for (k = 0; k < 20; k++) printf "tree t%d : L := (cons [%d, \"a\"] (nil [%d, \"\"]))\nassert-true t%d in (complement p%d)\n", k, k, k, k, k
+    for (k = 0; k < 200; k++) printf "def d%d : L := (union p%d p%d)\n", k, k % 20, (k + 7) % 20
     print "assert-false (is-empty p0)"
   }'
 }
@@ -107,19 +110,23 @@ less_memory() {
   done
 }
 
-# Runs the words with a small stack: status 0, and the report that they have with the usual one.
+# Runs the words with the usual stack, 8 megabytes: status 0. Then looks for the least one with which the report is the same.
 limited() {
-  local row=$1 status
+  local row=$1 status low=128 high=8192 middle
   shift
-  seconds=600 run true "$@"
-  cp "$folder/report" "$folder/whole"
-  seconds=600 run 'ulimit -s 1024' "$@"
+  seconds=600 run "ulimit -s $high" "$@"
   status=$?
-  if ended_well "$status" && [ "$status" = 0 ] && cmp -s "$folder/report" "$folder/whole"; then
-    note "$row" "$status" yes
-  else
+  cp "$folder/report" "$folder/whole"
+  if ! ended_well "$status" || [ "$status" != 0 ]; then
     note "$row" "$status" no "$* $(head -c 200 "$folder/report")"
+    return
   fi
+  note "$row" "$status" yes
+  while [ $((high - low)) -gt 128 ]; do
+    middle=$(((low + high) / 2))
+    if seconds=600 run "ulimit -s $middle" "$@" && cmp -s "$folder/report" "$folder/whole"; then high=$middle; else low=$middle; fi
+  done
+  stacks+=("${*//$folder\//}: $high kilobytes of stack")
 }
 
 all_limits() {
@@ -181,6 +188,7 @@ all_limits
 no_output
 summary changed:\ {check,run,accepts,apply} 'less memory: run' all\ limits:\ {check,run,accepts,apply} \
   {full\ device,closed\ output,closed\ pipe}:\ run
+printf '%s\n' "${stacks[@]}"
 rmdir "$kept" 2>/dev/null
 total=0
 for row in "${!runs[@]}"; do
