@@ -41,7 +41,9 @@ note() {
 ended_well() {
   [ ! -s "$folder/errors" ] || return 1
   case $1 in
-    [0-4]) [ "$(tail -c 1 "$folder/report" | od -An -tx1)" = ' 0a' ] ;;
+    # a file without trees gives a report without lines
+    0) [ ! -s "$folder/report" ] || [ "$(tail -c 1 "$folder/report" | od -An -tx1)" = ' 0a' ] ;;
+    [1-4]) [ "$(tail -c 1 "$folder/report" | od -An -tx1)" = ' 0a' ] ;;
     5 | 6 | 7 | 124) true ;;
     *) false ;;
   esac
