@@ -2,12 +2,14 @@
 use Rattle.std.proofs.Common.{◌≡◌, List, [], ◌∷◌, ◌++◌, refl, sym, ap, ◌∙◌, subst, append_assoc, append-nil, Option, ◌⊎◌, inl, inr}
 use Rattle.model_program.specs.declared.Word.{Word}
 use Rattle.model_program.specs.Lexeme.{Lexeme}
-use Rattle.model_program.specs.Joined.{◌⌢◌, IsNext, IsOther, Nothing, ◌⊗◌}
+use Rattle.model_program.specs.Joined.{◌⌢◌, IsNext, IsOther, ◌⊗◌}
 use Rattle.read_forms.specs.Reads.{IsRead, Fails, StartsIn, closed}
 use Rattle.model_program.specs.Grammar.{IsSign, sign, Many}
-use Rattle.read_forms.proofs.Forms.{Ends, Makes, HasSample, AllStartIn, as_read, as_fails, then_read, then_fails, first_fails, regroup, starts_joined, stops_next, stops_other, other_than, alternative, remade}
+use Rattle.read_forms.proofs.Forms.{Ends, Makes, HasSample, AllStartIn, as_read, as_fails, then_read, then_fails, first_fails, starts_joined, stops_next, stops_other, other_than, alternative, remade}
 use Rattle.read_forms.proofs.Words.{sign_starts, sample_sign}
-use Rattle.read_forms.proofs.Lists.{IsPartWay}
+use Rattle.read_forms.specs.Fronts.{Leaves, Done, Made, Through}
+use Rattle.read_forms.proofs.Lists.{IsPartWay, to_left, to_right, skip_nothing, put_nothing}
+use Rattle.read_forms.proofs.Fronts.{left_leaves, left_as, left_made, none_left, made_makes, makes_of_made}
 
 -- items and the sign that closes them
 abbrev pub closing_of : {A : Type 0} → (A → List Lexeme → Type 0) → Word → List A × Unit {0} → List Lexeme → Type 0
@@ -18,30 +20,6 @@ pub record IsClosable {A : Type 0} (item : A → List Lexeme → Type 0) (goes_o
   pub apart : AllStartIn (other_than close) item
   pub ends : Ends goes_on (closing_of item close) closed
 
-pub skip_nothing : (p : List Lexeme → Type 0) (ts : List Lexeme) → (Nothing ⌢ p) ts → p ts
-skip_nothing p ts joined = subst p (sym (joined.split ∙ ap (λ l. l ++ joined.back) joined.at_front)) joined.at_back
-
-pub put_nothing : (p : List Lexeme → Type 0) (ts : List Lexeme) → p ts → (Nothing ⌢ p) ts
-put_nothing p ts is_p = record { front = []; back = ts; split = refl; at_front = refl; at_back = is_p }
-
-pub to_left : (p q r : List Lexeme → Type 0) (ts : List Lexeme) → (p ⌢ (q ⌢ r)) ts → ((p ⌢ q) ⌢ r) ts
-to_left p q r ts joined = record {
-  front = joined.front ++ joined.at_back.front;
-  back = joined.at_back.back;
-  split = joined.split ∙ ap (λ l. joined.front ++ l) joined.at_back.split ∙ sym (regroup joined.front joined.at_back.front joined.at_back.back);
-  at_front = record { front = joined.front; back = joined.at_back.front; split = refl; at_front = joined.at_front; at_back = joined.at_back.at_front };
-  at_back = joined.at_back.at_back;
-}
-
-pub to_right : (p q r : List Lexeme → Type 0) (ts : List Lexeme) → ((p ⌢ q) ⌢ r) ts → (p ⌢ (q ⌢ r)) ts
-to_right p q r ts joined = record {
-  front = joined.at_front.front;
-  back = joined.at_front.back ++ joined.back;
-  split = joined.split ∙ ap (λ l. l ++ joined.back) joined.at_front.split ∙ regroup joined.at_front.front joined.at_front.back joined.back;
-  at_front = joined.at_front.at_front;
-  at_back = record { front = joined.at_front.back; back = joined.back; split = refl; at_front = joined.at_front.at_back; at_back = joined.at_back };
-}
-
 closing_ends : {A : Type 0} {goes_on : Word → Type 0} (item : A → List Lexeme → Type 0) (close : Word) → IsClosable item goes_on close → (tokens : List Lexeme) → IsNext close tokens → Makes (IsSign close) (closing_of item close) (λ _. ([], tt)) closed tokens
 closing_ends {A} item close closable tokens is_next = alternative (other_than close) tokens (λ _ ts is_sign. put_nothing (sign close) ts is_sign) (λ b ts spelled. back b ts spelled) (stops_next close (other_than close) tokens is_next (λ h. h refl))
   where
@@ -49,7 +27,7 @@ closing_ends {A} item close closable tokens is_next = alternative (other_than cl
     back ([], u) ts spelled = inr (tt, skip_nothing (sign close) ts spelled, refl)
     back (x ∷ xs, u) ts spelled = inl (starts_joined _ (item x ⌢ Many item xs) (sign close) ts (λ l joined. starts_joined _ (item x) (Many item xs) l (closable.apart.starts x) joined) spelled)
 
-closing_goes_on : {A : Type 0} (item : A → List Lexeme → Type 0) (close : Word) (tokens : List Lexeme) → IsOther close tokens → Makes (item ⊗ closing_of item close) (closing_of item close) (λ v. (v.0 ∷ v.1.0, tt)) closed tokens
+pub closing_goes_on : {A : Type 0} (item : A → List Lexeme → Type 0) (close : Word) (tokens : List Lexeme) → IsOther close tokens → Makes (item ⊗ closing_of item close) (closing_of item close) (λ v. (v.0 ∷ v.1.0, tt)) closed tokens
 closing_goes_on {A} item close tokens is_other = alternative (λ w. w ≡ close) tokens (λ v ts spelled. to_left (item v.0) (Many item v.1.0) (sign close) ts spelled) (λ b ts spelled. back b ts spelled) (stops_other close tokens is_other)
   where
     back : (b : List A × Unit {0}) (ts : List Lexeme) → closing_of item close b ts → StartsIn (λ w. w ≡ close) ts ⊎ ((v : A × (List A × Unit {0})) × (item ⊗ closing_of item close) v ts × (b ≡ (v.0 ∷ v.1.0, tt)))
@@ -101,3 +79,27 @@ closing_begins {A} item close tokens none is_none = subst (λ (l : List A). IsPa
 
 pub sample_to_close : {A : Type 0} (item : A → List Lexeme → Type 0) (close : Word) → HasSample (to_close item close)
 sample_to_close item close = let s = sample_sign close in record { value = []; tokens = s.tokens; spelled = put_nothing (sign close) s.tokens s.spelled }
+
+-- What is left of an open node behind some children: further ones and the closing sign.
+abbrev pub Row : {A X : Type 0} → (A → List Lexeme → Type 0) → Word → (List A → X) → List A → X → List Lexeme → Type 0
+Row item close node xs = Made (λ more. node (xs ++ more)) (to_close item close)
+
+row_makes : {A X : Type 0} (item : A → List Lexeme → Type 0) (close : Word) (node : List A → X) (xs : List A) (tokens : List Lexeme) → Makes (closing_of item close) (Row item close node xs) (λ v. node (xs ++ v.0)) closed tokens
+row_makes item close node xs tokens = makes_of_made (to_close_makes item close tokens) (made_makes (λ more. node (xs ++ more)) (to_close item close))
+
+row_part_way : {A X : Type 0} (item : A → List Lexeme → Type 0) (close : Word) (node : List A → X) (xs : List A) (tokens : List Lexeme) → IsPartWay (Row item close node xs) (closing_of item close) closed (λ v. node (xs ++ v.0)) tokens tokens
+row_part_way item close node xs tokens = record { read = λ b end more. as_read (row_makes item close node xs tokens) more; fails = λ bad more. as_fails bad (row_makes item close node xs tokens) more }
+
+-- the closing sign comes
+pub row_ends : {A X : Type 0} {goes_on : Word → Type 0} (item : A → List Lexeme → Type 0) (close : Word) (node : List A → X) (xs : List A) {tokens rest : List Lexeme} → IsClosable item goes_on close → IsNext close tokens → IsRead (IsSign close) closed tokens tt rest → Leaves (Row item close node xs) (Done (node xs)) closed tokens rest
+row_ends item close node xs {tokens} closable is_next end = none_left (closing_read item close node xs closable (row_part_way item close node xs tokens) is_next end)
+
+-- one more child comes
+pub row_goes_on : {A X : Type 0} (item : A → List Lexeme → Type 0) (close : Word) (node : List A → X) (xs : List A) {tokens : List Lexeme} → IsOther close tokens → Leaves (Row item close node xs) (Through item (λ x. Row item close node (xs ++ x ∷ []))) closed tokens tokens
+row_goes_on item close node xs {tokens} is_other = left_leaves (left_made (makes_of_made (closing_goes_on item close tokens is_other) (row_makes item close node xs tokens))) (left_as
+    (λ a ts through.
+    let s = through.joined in let row = s.at_back in
+    record { of = (through.middle, (row.of, tt)); spelled = record { front = s.front; back = s.back; split = s.split; at_front = s.at_front; at_back = row.spelled }; is = row.is ∙ ap node (append_assoc xs (through.middle ∷ []) row.of) })
+    (λ a ts made.
+    let s = made.spelled in
+    record { middle = made.of.0; joined = record { front = s.front; back = s.back; split = s.split; at_front = s.at_front; at_back = record { of = made.of.1.0; spelled = s.at_back; is = made.is ∙ ap node (sym (append_assoc xs (made.of.0 ∷ []) made.of.1.0)) } } }))

@@ -1,4 +1,4 @@
-//! Numbers and texts.
+//! Numbers and texts: each is read with the value that it stands for, and a number with more than 38 digits is refused.
 
 ghost use Rattle.std.specs.Prelude.{◌≡◌, ◌∷◌, [], MatchOption, IfOk, pos, ◌<◌, ◌^◌, Some, None};
 ghost use Rattle.std.specs.Str.{chars};

@@ -1,4 +1,4 @@
-//! Which tokens are operators.
+//! Operators: whether one comes next, and which one, exactly as the grammar has them.
 
 ghost use Rattle.std.specs.Prelude.{◌≡◌, ◌∷◌, true, false, MatchOption};
 ghost use Rattle.model_grammar.specs.Operators.{IsSignOf, IsMany, rel_word, is_marking};

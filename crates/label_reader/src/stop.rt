@@ -1,4 +1,4 @@
-//! Why a reader of tokens stops.
+//! Why nothing was read: memory ran out, or a token is refused. Want of memory is never taken for a wrong token.
 
 ghost use Rattle.std.specs.Prelude.{◌≡◌};
 

@@ -1,4 +1,4 @@
-//! Single tokens: signs, keywords, names and numbers.
+//! Single tokens: each reader takes the token that it asks for, or refuses the tokens from the first one on.
 
 ghost use Rattle.std.specs.Prelude.{◌≡◌, ◌∷◌, true, false, MatchOption};
 ghost use Rattle.model_program.specs.Joined.{IsNext, IsOther};

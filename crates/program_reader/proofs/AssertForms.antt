@@ -12,7 +12,7 @@ use Rattle.model_grammar.specs.Syntax.{Expr, X, named, literal, xs_of, Claim, eq
 use Rattle.model_grammar.specs.Terms.{IsX, name, AreLabels}
 use Rattle.model_grammar.specs.Grammar.{IsIn, IsA, IsB}
 use Rattle.label_reader.proofs.Names.{name_starts}
-use Rattle.label_reader.proofs.Closings.{to_left, to_right}
+use Rattle.read_forms.proofs.Lists.{to_left, to_right}
 use Rattle.program_reader.specs.Nodes.{IsXInside, on_one, on_two, new, AreXsToClose}
 use Rattle.program_reader.specs.Assertions.{IsRelation, IsRight, related, IsBInside, no_trees, checked, compared, IsAInside, IsBehindName}
 use Rattle.program_reader.proofs.XForms.{x_begins, x_cases, x_opened, inside_begins, inside_no_open, inside_no_empty, inside_no_check, op_no_name, sample_x}

@@ -8,3 +8,4 @@ pub mod AssertForms
 pub mod Rows
 pub mod ItemForms
 pub mod Texts
+pub mod Growing

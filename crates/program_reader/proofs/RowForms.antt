@@ -18,7 +18,8 @@ use Rattle.label_reader.specs.Levels.{strength, reach, GoesOn, BeginsAt}
 use Rattle.label_reader.proofs.Joins.{Without}
 use Rattle.label_reader.proofs.LevelForms.{level_begins, sample_level}
 use Rattle.label_reader.proofs.Primaries.{missing}
-use Rattle.label_reader.proofs.Closings.{closing_of, IsClosable, sample_closing, put_nothing, skip_nothing, to_left, to_right}
+use Rattle.read_forms.proofs.Lists.{put_nothing, skip_nothing, to_left, to_right}
+use Rattle.label_reader.proofs.Closings.{closing_of, IsClosable, sample_closing}
 
 -- By their first words items are told apart from the closing sign and a comma, and what stands behind one ends it.
 pub record IsRowItem {A : Type 0} (form : A → List Lexeme → Type 0) (goes_on : Word → Type 0) : Type 0 where

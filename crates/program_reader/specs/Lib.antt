@@ -4,3 +4,4 @@ pub mod Nodes
 pub mod Assertions
 pub mod Items
 pub mod Refusals
+pub mod Growing

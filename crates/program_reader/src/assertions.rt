@@ -1,4 +1,4 @@
-//! Assertions.
+//! Assertions, whose parentheses may be left out: which of the readings applies is seen from the next tokens alone.
 
 ghost use Rattle.std.specs.Prelude.{◌≡◌};
 ghost use Rattle.model_program.specs.declared.Word.TheVariants.{Id};

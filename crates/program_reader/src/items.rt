@@ -1,4 +1,4 @@
-//! Items, and whole programs.
+//! Items, and whole programs: all tokens are read, or the first wrong one is told.
 
 ghost use Rattle.std.specs.Prelude.{◌≡◌, map, [], List, IfOk};
 ghost use Rattle.read_forms.specs.Reads.{closed, anything};

@@ -1,4 +1,4 @@
-//! The labels of a node.
+//! The labels of a node. Commas between them may be left out where the next label doesn't begin with `-`.
 
 ghost use Rattle.std.specs.Prelude.{map};
 ghost use Rattle.read_forms.specs.Reads.{closed};

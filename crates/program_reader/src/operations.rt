@@ -1,4 +1,4 @@
-//! Which keywords are operations.
+//! Operations: whether one comes next, and which one, exactly as the grammar has them.
 
 ghost use Rattle.std.specs.Prelude.{◌≡◌, ◌∷◌, MatchOption};
 ghost use Rattle.model_grammar.specs.Operators.{op1_word, op2_word};

@@ -1,4 +1,4 @@
-//! Output terms.
+//! Output terms: behind the first name in parentheses, another name makes a call, and labels make a new node.
 
 ghost use Rattle.std.specs.Prelude.{map, []};
 ghost use Rattle.read_forms.specs.Reads.{closed};

@@ -1,4 +1,4 @@
-//! The rules of languages and transformations.
+//! Rules: each part that may be left out is read wherever it stands.
 
 ghost use Rattle.std.specs.Prelude.{map};
 ghost use Rattle.read_forms.specs.Reads.{closed};

@@ -1,4 +1,4 @@
-//! Types of trees.
+//! Types of trees. A sort has its name with a capital, however it is written.
 
 ghost use Rattle.std.specs.Prelude.{◌≡◌, map};
 ghost use Rattle.std.specs.Str.{chars};

@@ -1,3 +1,4 @@
 pub mod Forms
 pub mod Lists
 pub mod Words
+pub mod Fronts

@@ -29,7 +29,7 @@ pub record IsListed {A : Type 0} (between : Unit {0} → List Lexeme → Type 0)
   pub item_ends : Ends goes_on (tail_of between form close) closed
   pub between_ends : Ends between_goes_on (form ⊗ tail_of between form close) closed
 
-to_left : (p q r : List Lexeme → Type 0) (ts : List Lexeme) → (p ⌢ (q ⌢ r)) ts → ((p ⌢ q) ⌢ r) ts
+pub to_left : (p q r : List Lexeme → Type 0) (ts : List Lexeme) → (p ⌢ (q ⌢ r)) ts → ((p ⌢ q) ⌢ r) ts
 to_left p q r ts joined = record {
   front = joined.front ++ joined.at_back.front;
   back = joined.at_back.back;
@@ -38,7 +38,7 @@ to_left p q r ts joined = record {
   at_back = joined.at_back.at_back;
 }
 
-to_right : (p q r : List Lexeme → Type 0) (ts : List Lexeme) → ((p ⌢ q) ⌢ r) ts → (p ⌢ (q ⌢ r)) ts
+pub to_right : (p q r : List Lexeme → Type 0) (ts : List Lexeme) → ((p ⌢ q) ⌢ r) ts → (p ⌢ (q ⌢ r)) ts
 to_right p q r ts joined = record {
   front = joined.at_front.front;
   back = joined.at_front.back ++ joined.back;
@@ -48,10 +48,10 @@ to_right p q r ts joined = record {
 }
 
 -- nothing in front
-skip_nothing : (p : List Lexeme → Type 0) (ts : List Lexeme) → (Nothing ⌢ p) ts → p ts
+pub skip_nothing : (p : List Lexeme → Type 0) (ts : List Lexeme) → (Nothing ⌢ p) ts → p ts
 skip_nothing p ts joined = subst p (sym (joined.split ∙ ap (λ l. l ++ joined.back) joined.at_front)) joined.at_back
 
-put_nothing : (p : List Lexeme → Type 0) (ts : List Lexeme) → p ts → (Nothing ⌢ p) ts
+pub put_nothing : (p : List Lexeme → Type 0) (ts : List Lexeme) → p ts → (Nothing ⌢ p) ts
 put_nothing p ts is_p = record { front = []; back = ts; split = refl; at_front = refl; at_back = is_p }
 
 -- before the closing sign there are no more items

@@ -1,4 +1,4 @@
-//! Programs.
+//! The program that a text is, or its first refusal, with the code and the place that the definitions give it.
 
 ghost use Rattle.std.specs.Prelude.{◌≡◌, List, IfOk};
 ghost use Rattle.model_grammar.specs.Syntax as plain;

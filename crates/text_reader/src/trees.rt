@@ -1,4 +1,4 @@
-//! Tree files.
+//! The trees that a file is, or its first refusal, with the code and the place that the definitions give it.
 
 ghost use Rattle.std.specs.Prelude.{◌≡◌, List, map, IfOk};
 ghost use Rattle.model_grammar.specs.TreeFiles.{IsTreeFile};

@@ -1,3 +1,4 @@
 pub mod ConstantForms
 pub mod TreeForms
 pub mod Rows
+pub mod Growing

@@ -1,4 +1,4 @@
-//! Labels: numbers, texts and truth values.
+//! Labels, each with the place and the value that its tokens spell. A `-` before a number belongs to it.
 
 ghost use Rattle.std.specs.Prelude.{map};
 ghost use Rattle.read_forms.specs.Reads.{closed};
