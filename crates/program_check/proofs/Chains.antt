@@ -6,13 +6,13 @@ use Rattle.model_tree.specs.Signature.{Sort, wholes}
 use Rattle.model_form.specs.Form.{Form}
 use Rattle.model_form.specs.Sums.{Part}
 use Rattle.model_grammar.specs.Syntax.{Expr, Parts, no_parts, part}
-use Rattle.model_checks.specs.Failures.{first_among}
 use Rattle.model_checks.specs.Sorts.{Scope, needs_sort}
 use Rattle.model_checks.specs.Forms.{has_field, have_field, form_in_range, added, with_part, form_behind}
 use Rattle.model_checks.specs.Labels.{label_failures, sorted_failures, operands_failures, steps_failures}
 use Rattle.program_check.specs.Known.{joined, next_failures, step_failures, step_form}
 use Rattle.program_check.specs.Notes.{Notes}
-use Rattle.program_check.proofs.Noting.{more, done}
+use Rattle.program_check.specs.declared.checker.Checker.{Checker}
+use Rattle.program_check.proofs.Noting.{Left, more, done}
 
 pub or_false : (a : Bool) → (a || false) ≡ a
 or_false true = refl
@@ -24,33 +24,33 @@ or_assoc false b c = refl
 
 -- ---- failing conditions
 
-pub sorted_more : (s : Scope) (sort : Sort) (e : Expr) (m : Bool) (all rest : Parts) (a b whole : Option Refusal) → all ≡ part m e rest → Notes a b (sorted_failures s sort e)
-    → first_among a (operands_failures s sort all) ≡ whole → first_among b (operands_failures s sort rest) ≡ whole
-sorted_more s sort e m all rest a b whole split noted left =
-    more (operands_failures s sort all) (operands_failures s sort rest) whole noted (ap (operands_failures s sort) split ∙ sym (append_assoc (label_failures s e) (needs_sort s sort e) (operands_failures s sort rest))) left
+pub sorted_more : (s : Scope) (sort : Sort) (e : Expr) (m : Bool) (all rest : Parts) (whole : List Refusal) (a b c : Checker) → all ≡ part m e rest → Notes b c (sorted_failures s sort e)
+    → Left a b whole (operands_failures s sort all) → Left a c whole (operands_failures s sort rest)
+sorted_more s sort e m all rest whole a b c split noted left =
+    more (λ _. sorted_failures s sort e) (operands_failures s sort rest) noted (ap (operands_failures s sort) split ∙ sym (append_assoc (label_failures s e) (needs_sort s sort e) (operands_failures s sort rest))) left
 
-pub sorted_done : (s : Scope) (sort : Sort) (all none : Parts) (a b : Option Refusal) → none ≡ no_parts → first_among b (operands_failures s sort none) ≡ first_among a (operands_failures s sort all) → Notes a b (operands_failures s sort all)
-sorted_done s sort all none a b empty left = done a b (operands_failures s sort all) (operands_failures s sort none) (ap (operands_failures s sort) empty) left
+pub sorted_done : (s : Scope) (sort : Sort) (none : Parts) (whole : List Refusal) (a b : Checker) → none ≡ no_parts → Left a b whole (operands_failures s sort none) → Notes a b whole
+sorted_done s sort none whole a b empty left = done (ap (operands_failures s sort) empty) left
 
 steps_split : (s : Scope) (place : Pos) (has : Bool) (before : Option Form) (m : Bool) (e : Expr) (rest : Parts)
     → steps_failures s place has before (part m e rest) ≡ step_failures s place has before m e ++ steps_failures s place (has || has_field s e) (step_form s has before m e) rest
 steps_split s place has before m e rest =
-    let next = next_failures s place has before m e in
+    let next = next_failures place has before m (has_field s e) (form_in_range s e) e in
     let last = steps_failures s place (has || has_field s e) (step_form s has before m e) rest in
     split m ∙ ap (λ l. label_failures s e ++ l) (sym (append_assoc (needs_sort s wholes e) next last)) ∙ sym (append_assoc (label_failures s e) (needs_sort s wholes e ++ next) last)
   where
-    split : (m : Bool) → steps_failures s place has before (part m e rest) ≡ label_failures s e ++ (needs_sort s wholes e ++ (next_failures s place has before m e ++ steps_failures s place (has || has_field s e) (step_form s has before m e) rest))
+    split : (m : Bool) → steps_failures s place has before (part m e rest) ≡ label_failures s e ++ (needs_sort s wholes e ++ (next_failures place has before m (has_field s e) (form_in_range s e) e ++ steps_failures s place (has || has_field s e) (step_form s has before m e) rest))
     split true = refl
     split false = refl
 
-pub steps_more : (s : Scope) (place : Pos) (e : Expr) (m : Bool) (all rest : Parts) (has has2 : Bool) (form form2 : Option Form) (a b whole : Option Refusal) → all ≡ part m e rest → has2 ≡ (has || has_field s e) → form2 ≡ step_form s has form m e
-    → Notes a b (step_failures s place has form m e) → first_among a (steps_failures s place has form all) ≡ whole → first_among b (steps_failures s place has2 form2 rest) ≡ whole
-steps_more s place e m all rest has has2 form form2 a b whole split has_is form_is noted left =
-    more (steps_failures s place has form all) (steps_failures s place has2 form2 rest) whole noted
+pub steps_more : (s : Scope) (place : Pos) (e : Expr) (m : Bool) (all rest : Parts) (has has2 : Bool) (form form2 : Option Form) (whole : List Refusal) (a b c : Checker) → all ≡ part m e rest → has2 ≡ (has || has_field s e) → form2 ≡ step_form s has form m e
+    → Notes b c (step_failures s place has form m e) → Left a b whole (steps_failures s place has form all) → Left a c whole (steps_failures s place has2 form2 rest)
+steps_more s place e m all rest has has2 form form2 whole a b c split has_is form_is noted left =
+    more (λ _. step_failures s place has form m e) (steps_failures s place has2 form2 rest) noted
     (ap (steps_failures s place has form) split ∙ steps_split s place has form m e rest ∙ ap₂ (λ h f. step_failures s place has form m e ++ steps_failures s place h f rest) (sym has_is) (sym form_is)) left
 
-pub steps_done : (s : Scope) (place : Pos) (all none : Parts) (has has2 : Bool) (form form2 : Option Form) (a b : Option Refusal) → none ≡ no_parts → first_among b (steps_failures s place has2 form2 none) ≡ first_among a (steps_failures s place has form all) → Notes a b (steps_failures s place has form all)
-steps_done s place all none has has2 form form2 a b empty left = done a b (steps_failures s place has form all) (steps_failures s place has2 form2 none) (ap (steps_failures s place has2 form2) empty) left
+pub steps_done : (s : Scope) (place : Pos) (none : Parts) (has : Bool) (form : Option Form) (whole : List Refusal) (a b : Checker) → none ≡ no_parts → Left a b whole (steps_failures s place has form none) → Notes a b whole
+steps_done s place none has form whole a b empty left = done (ap (steps_failures s place has form) empty) left
 
 -- ---- fields
 

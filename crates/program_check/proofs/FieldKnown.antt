@@ -4,7 +4,6 @@ use Rattle.std.specs.Prelude.{is_some}
 use Rattle.std.specs.Option.{option_map, option_and_then}
 use Rattle.fast_fault.specs.declared.code.Code.TheVariants.{UnknownField}
 use Rattle.fast_fault.specs.declared.place.Pos.{Pos}
-use Rattle.fast_fault.specs.declared.refusal.Refusal.{Refusal}
 use Rattle.model_tree.specs.Signature.{wholes}
 use Rattle.model_label.specs.Fields.{same_sort, number_at}
 use Rattle.model_form.specs.Form.{Form}
@@ -18,11 +17,12 @@ use Rattle.model_names.specs.Sorts.{sort_named}
 use Rattle.model_checks.specs.Sorts.{find_field, field_sort, plain_fields}
 use Rattle.model_checks.specs.Forms.{form_numbered, form_of_field, is_field}
 use Rattle.model_checks.specs.Labels.{unknown_field}
+use Rattle.program_check.specs.declared.checker.Checker.{Checker}
 use Rattle.program_check.specs.declared.labels.Scope.{Scope}
 use Rattle.program_check.specs.Known.{plain_scope, IsKnown}
 use Rattle.program_check.specs.Notes.{Notes}
 
-element_at : {A : Type 0} (xs : List A) (i : ℕ) → i < length xs → (x : A) × (x ≡ get_or xs i x)
+pub element_at : {A : Type 0} (xs : List A) (i : ℕ) → i < length xs → (x : A) × (x ≡ get_or xs i x)
 element_at [] i low = absurd (omega (arith, low))
 element_at (x ∷ xs) zero low = (x, refl)
 element_at (x ∷ xs) (suc i) low = element_at xs i (omega (arith, low))
@@ -48,7 +48,7 @@ known_field scope fields name place i sort form scope_some low found sorted form
     }
 
 -- nothing fails at the name of a field
-pub field_there : (scope : Scope) (fields : Bor (List FieldItem)) (name : List ℕ) (place : Pos) (i : ℕ) (known : Option Refusal) → scope.fields ≡ Some fields → i < length fields.now → ((x : FieldItem) → x ≡ get_or fields.now i x → find_field (map plain_field fields.now) name ≡ Some (plain_field x)) → Notes known known (unknown_field (plain_scope scope) name place)
+pub field_there : (scope : Scope) (fields : Bor (List FieldItem)) (name : List ℕ) (place : Pos) (i : ℕ) (known : Checker) → scope.fields ≡ Some fields → i < length fields.now → ((x : FieldItem) → x ≡ get_or fields.now i x → find_field (map plain_field fields.now) name ≡ Some (plain_field x)) → Notes known known (unknown_field (plain_scope scope) name place)
 field_there scope fields name place i known scope_some low found =
     let at = element_at fields.now i low in
-    record { is = sym (ap (λ s. first_among known (unknown_field s name place)) (scope_is scope fields scope_some) ∙ ap (λ o. first_among known (fails_if (not (is_some o)) UnknownField place)) (found at.0 at.1)) }
+    record { same = refl; is = sym (ap (λ s. first_among known.known (unknown_field s name place)) (scope_is scope fields scope_some) ∙ ap (λ o. first_among known.known (fails_if (not (is_some o)) UnknownField place)) (found at.0 at.1)) }

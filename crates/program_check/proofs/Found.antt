@@ -9,9 +9,9 @@ use Rattle.model_grammar.specs.Syntax.{Body, sorts, tree, lang, trans, def, asse
 use Rattle.model_names.specs.Declared.{same_text, types_of, own_types, find_type, find_item, declares}
 use Rattle.model_meaning.specs.Types.{signature_of}
 use Rattle.program_check.specs.Signed.{own_signature, signature_in}
-use Rattle.program_check.specs.Contexts.{place_by, is_below, own_type_item, declares_type}
+use Rattle.program_check.specs.Numbered.{place_by, is_below, own_type_item, declares_type, type_there, own_ctors, ctor_place}
 
-at_next : {A : Type 0} (x : A) (xs : List A) (o : Option ℕ) → option_and_then (slice_get (x ∷ xs)) (option_map (λ n. suc n) o) ≡ option_and_then (slice_get xs) o
+pub at_next : {A : Type 0} (x : A) (xs : List A) (o : Option ℕ) → option_and_then (slice_get (x ∷ xs)) (option_map (λ n. suc n) o) ≡ option_and_then (slice_get xs) o
 at_next x xs None = refl
 at_next x xs (Some n) = refl
 
@@ -23,9 +23,6 @@ item_by_number name (x ∷ xs) = by (declares name x) (at_next x xs (place_by (d
         → option_and_then (slice_get (x ∷ xs)) (cond b (Some 0) (option_map (λ n. suc n) (place_by (declares name) xs))) ≡ cond b (Some x) (find_item xs name)
     by true later = refl
     by false later = later
-
-abbrev pub type_there : List Item → Option ℕ → Option TypeItem
-type_there items place = option_and_then (λ item. own_type_item item.body) (option_and_then (slice_get items) place)
 
 step_over : (x : Item) (xs : List Item) (o : Option ℕ) → type_there (x ∷ xs) (option_map (λ n. suc n) o) ≡ type_there xs o
 step_over x xs o = ap (option_and_then (λ item. own_type_item item.body)) (at_next x xs o)
@@ -61,16 +58,27 @@ item_found name items place n found is some at = at ∙ ap (option_and_then (sli
 pub item_missing : (name : List ℕ) (items : List Item) (place : Option ℕ) → place ≡ place_by (declares name) items → place ≡ None → None ≡ find_item items name
 item_missing name items place is none = ap (option_and_then (slice_get items)) (sym none ∙ is) ∙ item_by_number name items
 
-pub type_found : (name : List ℕ) (items : List Item) (place : Option ℕ) (n : ℕ) (found : Option Item) (x : Item) (own : Option TypeItem) → place ≡ place_by (declares_type name) items → place ≡ Some n → found ≡ slice_get items n → found ≡ Some x → own ≡ own_type_item x.body → own ≡ find_type items name
-type_found name items place n found x own is some at found_is own_is =
-    own_is ∙ ap (option_and_then (λ item. own_type_item item.body)) (sym found_is ∙ at ∙ ap (option_and_then (slice_get items)) (sym some ∙ is)) ∙ type_by_number name items
-
-pub type_past : (name : List ℕ) (items : List Item) (place : Option ℕ) (n : ℕ) (found : Option Item) → place ≡ place_by (declares_type name) items → place ≡ Some n → found ≡ slice_get items n → found ≡ None → None ≡ find_type items name
-type_past name items place n found is some at none =
-    ap (option_and_then (λ item. own_type_item item.body)) (sym none ∙ at ∙ ap (option_and_then (slice_get items)) (sym some ∙ is)) ∙ type_by_number name items
+pub type_found : (name : List ℕ) (items : List Item) (place : Option ℕ) (n : ℕ) → place ≡ place_by (declares_type name) items → place ≡ Some n → type_there items (Some n) ≡ find_type items name
+type_found name items place n is some = ap (type_there items) (sym some ∙ is) ∙ type_by_number name items
 
 pub type_missing : (name : List ℕ) (items : List Item) (place : Option ℕ) → place ≡ place_by (declares_type name) items → place ≡ None → None ≡ find_type items name
 type_missing name items place is none = ap (type_there items) (sym none ∙ is) ∙ type_by_number name items
+
+-- the constructors of an item are at its number
+pub ctors_found : {A : Type 0} (f : A → List ℕ → Option ℕ) (names : A) (all : List A) (items : List Item) (n : ℕ) (item : Item) → map f all ≡ map (λ item. ctor_place (own_ctors item)) items
+    → Some (f names) ≡ slice_get (map f all) n → Some item ≡ slice_get items n → f names ≡ ctor_place (own_ctors item)
+ctors_found f names all items n item are at there i name =
+    option_and_then_at ((at ∙ ap (λ xs. slice_get xs n) are ∙ slice_get-map (λ item. ctor_place (own_ctors item)) items n ∙ ap (option_map (λ item. ctor_place (own_ctors item))) (sym there)) i)
+  where
+    option_and_then_at : Option (List ℕ → Option ℕ) → Option ℕ
+    option_and_then_at = option_and_then (λ g. g name)
+
+pub ctors_missing : {A : Type 0} (f : A → List ℕ → Option ℕ) (all : List A) (items : List Item) (n : ℕ) → map f all ≡ map (λ item. ctor_place (own_ctors item)) items → None ≡ slice_get (map f all) n → None ≡ type_there items (Some n)
+ctors_missing f all items n are at = by (slice_get items n) (at ∙ ap (λ xs. slice_get xs n) are ∙ slice_get-map (λ item. ctor_place (own_ctors item)) items n)
+  where
+    by : (o : Option Item) → None ≡ option_map (λ item. ctor_place (own_ctors item)) o → None ≡ option_and_then (λ item. own_type_item item.body) o
+    by None e = refl
+    by (Some item) e = ap (option_and_then (λ _. own_type_item item.body)) e
 
 nowhere_below : (o : Option ℕ) → is_below o 0 ≡ false
 nowhere_below None = refl

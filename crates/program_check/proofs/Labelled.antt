@@ -1,53 +1,91 @@
 -- What is noted and known of a label expression, from what is so of its parts.
-use Rattle.std.proofs.Common.{◌≡◌, Bool, true, false, List, Option, Some, None, sym, ap, ap₂, ◌∙◌, subst, append_assoc}
+use Rattle.std.proofs.Common.{◌≡◌, Bool, true, false, List, Option, Some, None, sym, ap, ap₂, ◌∙◌, subst, append_assoc, ◌++◌}
 use Rattle.std.specs.Prelude.{negsuc, Result, Ok, Err, IfOk}
 use Rattle.std.specs.Option.{option_map}
-use Rattle.fast_fault.specs.declared.code.Code.TheVariants.{NumberRange}
+use Rattle.fast_fault.specs.declared.code.Code.TheVariants.{NumberRange, WrongSort}
 use Rattle.fast_fault.specs.declared.place.Pos.{Pos}
 use Rattle.fast_fault.specs.declared.refusal.Refusal.{Refusal}
 use Rattle.fast_fault.specs.declared.memory.Memory.{Memory}
-use Rattle.model_tree.specs.Signature.{wholes, truths}
+use Rattle.model_tree.specs.Signature.{Sort, wholes, truths}
 use Rattle.model_form.specs.Form.{Form}
 use Rattle.model_form.specs.Sums.{Part, sum_form, product_form}
 use Rattle.model_grammar.specs.declared.Chain.TheVariants.{Disjunction, Conjunction, Sum}
 use Rattle.model_grammar.specs.declared.Rel.{Rel}
+use Rattle.model_grammar.specs.declared.Rel.TheVariants.{Equal, NotEqual, Less, AtMost, Greater, AtLeast}
 use Rattle.model_grammar.specs.Syntax.{Expr, compare, minus, chain, Parts}
-use Rattle.fast_tree.specs.declared.signature.Sort.TheVariants as code
+use Rattle.fast_tree.specs.declared.signature.Sort.TheVariants as sorts
 use Rattle.fast_tree.specs.Signatures.{plain_sort}
 use Rattle.model_checks.specs.Failures.{fails_if}
 use Rattle.model_checks.specs.Sorts as model
-use Rattle.model_checks.specs.Sorts.{needs_sort}
+use Rattle.model_checks.specs.Sorts.{needs_sort, is_other_sort, differ_in_sort, place_of}
+use Rattle.model_names.specs.Sorts.{sort_named}
+use Rattle.model_program.specs.Syntax.{FieldItem}
+use Rattle.fast_syntax.specs.declared.expressions.Expr as code
+use Rattle.fast_syntax.specs.Plain.{plain_expr}
+use Rattle.program_check.specs.declared.labels.Side.{Side}
+use Rattle.program_check.proofs.Places.{place_is}
 use Rattle.model_checks.specs.Forms.{is_out_of_range, has_field, form_in_range, added}
-use Rattle.model_checks.specs.Labels.{label_failures, sorted_failures, operands_failures, compared, multiplied, divided}
+use Rattle.model_checks.specs.Labels.{label_failures, sorted_failures, operands_failures, compared, needs_sort_of}
 use Rattle.program_check.specs.declared.labels.Scope.{Scope}
 use Rattle.program_check.specs.declared.labels.Known.{Known}
-use Rattle.program_check.specs.Known.{plain_scope, IsKnown, AreTruths, next_failures, step_failures}
+use Rattle.program_check.specs.Known.{plain_scope, IsKnown, AreTruths, sort_failures, sides_failures, field_sort_failures, next_failures, step_failures}
 use Rattle.program_check.specs.Notes.{Notes}
-use Rattle.program_check.proofs.Noting.{then, same}
+use Rattle.program_check.specs.declared.checker.Checker.{Checker}
+use Rattle.program_check.proofs.Noting.{next, same}
 
-pub minus_noted : (s : model.Scope) (e : Expr) (place : Pos) (form : Option Form) (a b c : Option Refusal) → form ≡ form_in_range s e → Notes a b (sorted_failures s wholes e)
+pub minus_noted : (s : model.Scope) (e : Expr) (place : Pos) (form : Option Form) (a b c : Checker) → form ≡ form_in_range s e → Notes a b (sorted_failures s wholes e)
     → Notes b c (fails_if (is_out_of_range (option_map (product_form (negsuc 0)) form)) NumberRange place) → Notes a c (label_failures s (minus place e))
 minus_noted s e place form a b c is one two =
     same (append_assoc (label_failures s e) (needs_sort s wholes e) (fails_if (is_out_of_range (option_map (product_form (negsuc 0)) (form_in_range s e))) NumberRange place))
-    (then one (same (ap (λ f. fails_if (is_out_of_range (option_map (product_form (negsuc 0)) f)) NumberRange place) is) two))
+    (next one (same (ap (λ f. fails_if (is_out_of_range (option_map (product_form (negsuc 0)) f)) NumberRange place) is) two))
 
-pub sum_noted : (s : model.Scope) (parts : Parts) (place : Pos) (acc : Option (List Part)) (a b c : Option Refusal) → acc ≡ added s parts → Notes a b (operands_failures s wholes parts)
+pub sum_noted : (s : model.Scope) (parts : Parts) (place : Pos) (acc : Option (List Part)) (a b c : Checker) → acc ≡ added s parts → Notes a b (operands_failures s wholes parts)
     → Notes b c (fails_if (is_out_of_range (option_map sum_form acc)) NumberRange place) → Notes a c (label_failures s (chain Sum place parts))
-sum_noted s parts place acc a b c is one two = then one (same (ap (λ x. fails_if (is_out_of_range (option_map sum_form x)) NumberRange place) is) two)
+sum_noted s parts place acc a b c is one two = next one (same (ap (λ x. fails_if (is_out_of_range (option_map sum_form x)) NumberRange place) is) two)
 
-pub compare_noted : (s : model.Scope) (rel : Rel) (place : Pos) (x x1 x3 y y2 y4 : Expr) (a b c d : Option Refusal) → x1 ≡ x → y2 ≡ y → x3 ≡ x → y4 ≡ y
-    → Notes a b (label_failures s x1) → Notes b c (label_failures s y2) → Notes c d (compared s rel x3 y4) → Notes a d (label_failures s (compare place rel x y))
-compare_noted s rel place x x1 x3 y y2 y4 a b c d p q r t one two three =
-    then (same (ap (label_failures s) p) one) (then (same (ap (label_failures s) q) two) (same (ap₂ (compared s rel) r t) three))
+-- what is known of a side of a comparison
+pub record IsSide (s : model.Scope) (e : Expr) (side : Side) : Type 0 where
+  pub sort : option_map plain_sort side.sort ≡ model.sort_of s e
+  pub place : side.place ≡ place_of e
 
-pub step_noted : (s : model.Scope) (place : Pos) (has : Bool) (form : Option Form) (m : Bool) (e : Expr) (a b c : Option Refusal) → Notes a b (sorted_failures s wholes e) → Notes b c (next_failures s place has form m e) → Notes a c (step_failures s place has form m e)
-step_noted s place has form m e a b c one two = same (append_assoc (label_failures s e) (needs_sort s wholes e) (next_failures s place has form m e)) (then one two)
+pub side_is : (scope : Scope) (e : code.Expr) (known : Known) (side : Side) → side ≡ record { sort = known.sort; place = e.place } → IsKnown scope (plain_expr e) known → IsSide (plain_scope scope) (plain_expr e) side
+side_is scope e known side is h = record {
+  sort = ap (λ (x : Side). option_map plain_sort x.sort) is ∙ h.sort;
+  place = ap (λ (x : Side). x.place) is ∙ sym (place_is e);
+}
 
-pub next_divided : (s : model.Scope) (place : Pos) (has : Bool) (form : Option Form) (m : Bool) (e : Expr) → m ≡ true → divided e ≡ next_failures s place has form m e
-next_divided s place has form m e is = ap (λ m. next_failures s place has form m e) (sym is)
+abbrev side_of : Known → code.Expr → Side
+side_of known e = record { sort = known.sort; place = e.place }
 
-pub next_multiplied : (s : model.Scope) (place : Pos) (has has2 : Bool) (form form2 : Option Form) (m : Bool) (e : Expr) → m ≡ false → has2 ≡ has_field s e → form2 ≡ form_in_range s e → multiplied place has form has2 form2 ≡ next_failures s place has form m e
-next_multiplied s place has has2 form form2 m e is has_is form_is = ap₂ (multiplied place has form) has_is form_is ∙ ap (λ m. next_failures s place has form m e) (sym is)
+pub side_at : (scope : Scope) (e e1 e2 : code.Expr) (known : Known) (side : Side) → e1 ≡ e → e2 ≡ e → side ≡ record { sort = known.sort; place = e2.place } → IsKnown scope (plain_expr e1) known → IsSide (plain_scope scope) (plain_expr e) side
+side_at scope e e1 e2 known side p q is h = side_is scope e known side (is ∙ ap (side_of known) q) (subst (λ (x : code.Expr). IsKnown scope (plain_expr x) known) p h)
+
+pub sort_are : (s : model.Scope) (sort : Sort) (e : Expr) (side : Side) → IsSide s e side → sort_failures sort side ≡ needs_sort s sort e
+sort_are s sort e side h = ap₂ (λ o p. fails_if (is_other_sort sort o) WrongSort p) h.sort h.place
+
+pub field_sort_are : (s : model.Scope) (f : FieldItem) (e : Expr) (side : Side) → IsSide s e side → field_sort_failures f side ≡ needs_sort_of s f e
+field_sort_are s f e side h = ap₂ (λ o p. fails_if (differ_in_sort (sort_named f.sort.text) o) WrongSort p) h.sort h.place
+
+same_sorts : (s : model.Scope) (x y : Expr) (l r : Side) → IsSide s x l → IsSide s y r → fails_if (differ_in_sort (option_map plain_sort l.sort) (option_map plain_sort r.sort)) WrongSort r.place ≡ fails_if (differ_in_sort (model.sort_of s x) (model.sort_of s y)) WrongSort (place_of y)
+same_sorts s x y l r h g = λ i. fails_if (differ_in_sort (h.sort i) (g.sort i)) WrongSort (g.place i)
+
+pub sides_are : (s : model.Scope) (rel : Rel) (x y : Expr) (l r : Side) → IsSide s x l → IsSide s y r → sides_failures rel l r ≡ compared s rel x y
+sides_are s Equal x y l r h g = same_sorts s x y l r h g
+sides_are s NotEqual x y l r h g = same_sorts s x y l r h g
+sides_are s Less x y l r h g = ap₂ (λ a b. a ++ b) (sort_are s wholes x l h) (sort_are s wholes y r g)
+sides_are s AtMost x y l r h g = ap₂ (λ a b. a ++ b) (sort_are s wholes x l h) (sort_are s wholes y r g)
+sides_are s Greater x y l r h g = ap₂ (λ a b. a ++ b) (sort_are s wholes x l h) (sort_are s wholes y r g)
+sides_are s AtLeast x y l r h g = ap₂ (λ a b. a ++ b) (sort_are s wholes x l h) (sort_are s wholes y r g)
+
+pub compare_noted : (s : model.Scope) (rel : Rel) (place : Pos) (x x1 y y2 : Expr) (l r : Side) (a b c d : Checker) → x1 ≡ x → y2 ≡ y → IsSide s x l → IsSide s y r
+    → Notes a b (label_failures s x1) → Notes b c (label_failures s y2) → Notes c d (sides_failures rel l r) → Notes a d (label_failures s (compare place rel x y))
+compare_noted s rel place x x1 y y2 l r a b c d p q h g one two three =
+    next (same (ap (label_failures s) p) one) (next (same (ap (label_failures s) q) two) (same (sides_are s rel x y l r h g) three))
+
+pub step_noted : (s : model.Scope) (place : Pos) (has : Bool) (form : Option Form) (m : Bool) (e : Expr) (also : Bool) (factor : Option Form) (a b c : Checker) → also ≡ has_field s e → factor ≡ form_in_range s e
+    → Notes a b (sorted_failures s wholes e) → Notes b c (next_failures place has form m also factor e) → Notes a c (step_failures s place has form m e)
+step_noted s place has form m e also factor a b c also_is factor_is one two =
+    same (append_assoc (label_failures s e) (needs_sort s wholes e) (next_failures place has form m (has_field s e) (form_in_range s e) e)) (next one (same (ap₂ (λ h f. next_failures place has form m h f e) also_is factor_is) two))
 
 -- truth values are one, in a disjunction and in a conjunction
 pub or_known : (scope : Scope) (place : Pos) (parts : Parts) (known : Known) → AreTruths scope parts known → IsKnown scope (chain Disjunction place parts) known
@@ -56,7 +94,7 @@ or_known scope place parts known are = record { sort = are.sort; has = are.has; 
 pub and_known : (scope : Scope) (place : Pos) (parts : Parts) (known : Known) → AreTruths scope parts known → IsKnown scope (chain Conjunction place parts) known
 and_known scope place parts known are = record { sort = are.sort; has = are.has; form = are.form }
 
-pub truth_known : (scope : Scope) (e : Expr) (known : Known) (has : Bool) → known ≡ record { sort = Some code.Bool; has_field = has; form = None } → Some truths ≡ model.sort_of (plain_scope scope) e → has ≡ has_field (plain_scope scope) e → None ≡ form_in_range (plain_scope scope) e → IsKnown scope e known
+pub truth_known : (scope : Scope) (e : Expr) (known : Known) (has : Bool) → known ≡ record { sort = Some sorts.Bool; has_field = has; form = None } → Some truths ≡ model.sort_of (plain_scope scope) e → has ≡ has_field (plain_scope scope) e → None ≡ form_in_range (plain_scope scope) e → IsKnown scope e known
 truth_known scope e known has is sort_is has_is form_is = record {
   sort = ap (λ (k : Known). option_map plain_sort k.sort) is ∙ sort_is;
   has = ap (λ (k : Known). k.has_field) is ∙ has_is;

@@ -16,5 +16,6 @@ pub mod NodeLabels
 pub mod Searching
 pub mod NodeParts
 pub mod Stands
+pub mod Standing
 pub mod XParts
 pub mod Numbering

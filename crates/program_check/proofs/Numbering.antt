@@ -1,19 +1,17 @@
 -- Items that are numbered, and items that are looked at, one after another.
-use Rattle.std.proofs.Common.{◌≡◌, ℕ, suc, ◌+◌, ◌<◌, ◌≤◌, Bool, true, false, cond, List, [], ◌∷◌, ◌++◌, length, map, take, drop, get_or, Option, Some, None, refl, sym, ap, ap₂, ◌∙◌, arith}
+use Rattle.std.proofs.Common.{◌≡◌, ℕ, zero, suc, ◌+◌, ◌<◌, ◌≤◌, Bool, true, false, cond, List, [], ◌∷◌, ◌++◌, length, map, take, drop, get_or, Option, Some, None, refl, sym, ap, ap₂, ◌∙◌, arith}
 use Rattle.std.specs.Option.{option_map}
 use Rattle.std.proofs.lemmas.List.{take_all, get_or-map, length-map, length-take-le}
 use Rattle.fast_fault.specs.declared.refusal.Refusal.{Refusal}
-use Rattle.model_grammar.specs.Syntax.{Item}
 use Rattle.model_checks.specs.Failures.{first_among}
 use Rattle.model_checks.specs.Programs.{body_failures, failures_behind}
 use Rattle.fast_syntax.specs.declared.items.Item as code
 use Rattle.fast_syntax.specs.Plain.{plain_item}
 use Rattle.fast_syntax.proofs.Appending.{drop_at}
 use Rattle.program_check.specs.declared.names.Names.{Names}
-use Rattle.program_check.specs.Naming.{place_in, or_else, Grows}
-use Rattle.program_check.specs.Contexts.{place_by}
-use Rattle.program_check.specs.Notes.{Notes}
-use Rattle.program_check.proofs.Noting.{more}
+use Rattle.program_check.specs.Naming.{place_in, or_else}
+use Rattle.program_check.specs.Numbered.{place_by}
+use Rattle.program_check.proofs.Noting.{first_among-append}
 use Rattle.program_check.proofs.Repeating.{take_at}
 
 moved : (a : Option ℕ) (b : Bool) (n : ℕ) → option_map (λ k. suc k) (or_else a (cond b (Some n) None)) ≡ or_else (option_map (λ k. suc k) a) (cond b (Some (suc n)) None)
@@ -31,29 +29,37 @@ place_behind p (y ∷ xs) x = by (p y) (ap (option_map (λ k. suc k)) (place_beh
     by true later = refl
     by false later = later
 
-pub take_mapped : (xs : List code.Item) (i : ℕ) (x : code.Item) → i < length xs → x ≡ get_or xs i x → take (i + 1) (map plain_item xs) ≡ take i (map plain_item xs) ++ plain_item x ∷ []
-take_mapped xs i x low is = take_at (map plain_item xs) i (plain_item x) (rw length-map low) (ap plain_item is ∙ sym (get_or-map plain_item xs i x (plain_item x) low))
+pub take_mapped : {A B : Type 0} (plain : A → B) (xs : List A) (i : ℕ) (x : A) → i < length xs → x ≡ get_or xs i x → take (i + 1) (map plain xs) ≡ take i (map plain xs) ++ plain x ∷ []
+take_mapped plain xs i x low is = take_at (map plain xs) i (plain x) (rw length-map low) (ap plain is ∙ sym (get_or-map plain xs i x (plain x) low))
 
 length_taken : {A : Type 0} (xs : List A) (i : ℕ) → i ≤ length xs → length (take i xs) ≡ i
 length_taken xs i low = length-take-le i xs low
 
 -- the names so far
-pub numbered_more : (has : List ℕ → Item → Bool) (xs : List code.Item) (i : ℕ) (x : code.Item) (old new : Names) → i < length xs → x ≡ get_or xs i x → Grows old new (λ name. has name (plain_item x)) i
-    → ((name : List ℕ) → place_in old name ≡ place_by (has name) (take i (map plain_item xs))) → (name : List ℕ) → place_in new name ≡ place_by (has name) (take (i + 1) (map plain_item xs))
-numbered_more has xs i x old new low is grows so_far name =
-    let n : length (take i (map plain_item xs)) ≡ i = length_taken (map plain_item xs) i (rw length-map (omega arith)) in
-    grows.same name ∙ ap₂ (λ o k. or_else o (cond (has name (plain_item x)) (Some k) None)) (so_far name) (sym n)
-    ∙ sym (place_behind (has name) (take i (map plain_item xs)) (plain_item x)) ∙ ap (place_by (has name)) (sym (take_mapped xs i x low is))
+pub numbered_more : {A B : Type 0} (plain : A → B) (has : List ℕ → B → Bool) (xs : List A) (i : ℕ) (x : A) (old new : Names) → i < length xs → x ≡ get_or xs i x → ((other : List ℕ) → place_in new other ≡ or_else (place_in old other) (cond (has other (plain x)) (Some i) None))
+    → ((name : List ℕ) → place_in old name ≡ place_by (has name) (take i (map plain xs))) → (name : List ℕ) → place_in new name ≡ place_by (has name) (take (i + 1) (map plain xs))
+numbered_more plain has xs i x old new low is grows so_far name =
+    let n : length (take i (map plain xs)) ≡ i = length_taken (map plain xs) i (rw length-map (omega arith)) in
+    grows name ∙ ap₂ (λ o k. or_else o (cond (has name (plain x)) (Some k) None)) (so_far name) (sym n)
+    ∙ sym (place_behind (has name) (take i (map plain xs)) (plain x)) ∙ ap (place_by (has name)) (sym (take_mapped plain xs i x low is))
 
-pub numbered_all : (has : List ℕ → Item → Bool) (xs : List code.Item) (i : ℕ) (names : Names) → length xs ≤ i → ((name : List ℕ) → place_in names name ≡ place_by (has name) (take i (map plain_item xs))) → (name : List ℕ) → place_in names name ≡ place_by (has name) (map plain_item xs)
-numbered_all has xs i names end so_far name = so_far name ∙ ap (place_by (has name)) (take_all i (map plain_item xs) (rw length-map end))
+pub numbered_all : {A B : Type 0} (plain : A → B) (has : List ℕ → B → Bool) (xs : List A) (i : ℕ) (names : Names) → length xs ≤ i → ((name : List ℕ) → place_in names name ≡ place_by (has name) (take i (map plain xs))) → (name : List ℕ) → place_in names name ≡ place_by (has name) (map plain xs)
+numbered_all plain has xs i names end so_far name = so_far name ∙ ap (place_by (has name)) (take_all i (map plain xs) (rw length-map end))
+
+-- an element that is there doesn't depend on what stands for a missing one
+pub same_element : {A : Type 0} (xs : List A) (i : ℕ) (d e : A) → i < length xs → get_or xs i d ≡ get_or xs i e
+same_element [] i d e low = absurd (omega (arith, low))
+same_element (x ∷ xs) zero d e low = refl
+same_element (x ∷ xs) (suc i) d e low = same_element xs i d e (omega (arith, low))
 
 -- one more item
 pub item_more : (xs : List code.Item) (i : ℕ) (x : code.Item) (a b whole : Option Refusal) → i < length xs → x ≡ get_or xs i x
-    → Notes a b (body_failures (map plain_item xs) (take i (map plain_item xs)) (plain_item x).body)
+    → b ≡ first_among a (body_failures (map plain_item xs) (take i (map plain_item xs)) (plain_item x).body)
     → first_among a (failures_behind (map plain_item xs) (take i (map plain_item xs)) (map plain_item (drop i xs))) ≡ whole → first_among b (failures_behind (map plain_item xs) (take (i + 1) (map plain_item xs)) (map plain_item (drop (i + 1) xs))) ≡ whole
 item_more xs i x a b whole low is noted left =
     let all = map plain_item xs in
-    more (failures_behind all (take i all) (map plain_item (drop i xs))) (failures_behind all (take (i + 1) all) (map plain_item (drop (i + 1) xs))) whole noted
-    (ap (λ l. failures_behind all (take i all) (map plain_item l)) (drop_at xs i x low is)
-    ∙ ap (λ l. body_failures all (take i all) (plain_item x).body ++ failures_behind all l (map plain_item (drop (i + 1) xs))) (sym (take_mapped xs i x low is))) left
+    let rest = failures_behind all (take (i + 1) all) (map plain_item (drop (i + 1) xs)) in
+    let own = body_failures all (take i all) (plain_item x).body in
+    ap (λ k. first_among k rest) noted ∙ sym (first_among-append a own rest)
+    ∙ ap (first_among a) (sym (ap (λ l. failures_behind all (take i all) (map plain_item l)) (drop_at xs i x low is)
+    ∙ ap (λ l. own ++ failures_behind all l (map plain_item (drop (i + 1) xs))) (sym (take_mapped plain_item xs i x low is)))) ∙ left

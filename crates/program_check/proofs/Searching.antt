@@ -1,29 +1,38 @@
--- What a search from the front finds, and what a rule is made of.
-use Rattle.std.proofs.Common.{◌≡◌, ℕ, ◌<◌, Bool, true, cond, List, ◌∷◌, Option, Some, map, drop, length, get_or, sym, ap, ◌∙◌, suc, find}
-use Rattle.std.proofs.Math.Seq.{drop-cons}
-use Rattle.std.specs.Prelude.{Result, Ok, Err, OnOk}
+-- What is found by its number, and what a rule is made of.
+use Rattle.std.proofs.Common.{◌≡◌, ℕ, Bool, true, false, cond, List, [], ◌∷◌, Option, Some, None, length, refl, sym, ap, ap₂, ◌∙◌, suc, find}
+use Rattle.std.specs.Prelude.{MatchOption, slice_get}
+use Rattle.std.specs.Option.{option_map, option_and_then}
 use Rattle.std.specs.List.{flat_map}
 use Rattle.fast_fault.specs.declared.code.Code.TheVariants.{DuplicateVariable}
-use Rattle.fast_fault.specs.declared.refusal.Refusal.{Refusal}
 use Rattle.model_program.specs.Syntax.{Name, TypeItem}
-use Rattle.model_grammar.specs.Syntax.{Rule, Item}
+use Rattle.model_grammar.specs.Syntax.{Rule}
 use Rattle.model_checks.specs.Sorts.{Scope}
 use Rattle.model_checks.specs.Types.{repeated}
 use Rattle.model_checks.specs.Rules.{constructor_failures, scope_of, guard_failures, type_at, demand_failures, rule_failures}
+use Rattle.program_check.specs.declared.checker.Checker.{Checker}
+use Rattle.program_check.specs.Contexts.{items_of}
 use Rattle.program_check.specs.Notes.{Notes}
-use Rattle.program_check.proofs.Noting.{then, same}
+use Rattle.program_check.specs.Numbered.{place_by}
+use Rattle.program_check.proofs.Found.{at_next}
+use Rattle.program_check.proofs.Noting.{next, same}
 
-pub found_at : {A B : Type 0} (p : B → Bool) (f : A → B) (xs : List A) (i : ℕ) (x : A) → x ≡ get_or xs i x → i < length xs → p (f x) ≡ true
-    → find p (map f xs) ≡ find p (map f (drop i xs)) → find p (map f xs) ≡ Some (f x)
-found_at p f xs i x e h t so_far =
-    so_far ∙ ap (λ ys. find p (map f ys)) (drop-cons xs i x h ∙ (λ j. sym e j ∷ drop (suc i) xs)) ∙ ap (λ b. cond b (Some (f x)) (find p (map f (drop (suc i) xs)))) t
+-- what is found by its number is what is found by its test
+pub found_by : {A : Type 0} (p : A → Bool) (xs : List A) → option_and_then (slice_get xs) (place_by p xs) ≡ find p xs
+found_by p [] = refl
+found_by p (x ∷ xs) = by (p x) (at_next x xs (place_by p xs) ∙ found_by p xs)
+  where
+    by : (b : Bool) → option_and_then (slice_get (x ∷ xs)) (option_map (λ n. suc n) (place_by p xs)) ≡ find p xs
+        → option_and_then (slice_get (x ∷ xs)) (cond b (Some 0) (option_map (λ n. suc n) (place_by p xs))) ≡ cond b (Some x) (find p xs)
+    by true later = refl
+    by false later = later
 
-pub on_ok1 : {T E : Type 0} {P Q : Type 0} (r : Result T E) → (P → Q) → OnOk r P → OnOk r Q
-on_ok1 (Ok x) into p = into p
-on_ok1 (Err e) into p = tt
+pub either_way : {A B : Type 0} (f : A → B) (r : Option A) (o : Option B) → option_map f r ≡ o → MatchOption r (o ≡ None) (λ x. o ≡ Some (f x))
+either_way f None o e = sym e
+either_way f (Some x) o e = sym e
 
-pub rule_noted : (items : List Item) (of : Name) (r : Rule) (t : Option TypeItem) (s : Scope) (vars : List Name) (a b c d e : Option Refusal) → t ≡ type_at items of → s ≡ scope_of t → vars ≡ r.vars
-    → Notes a b (constructor_failures t r.ctor (length r.vars)) → Notes b c (repeated DuplicateVariable r.vars) → Notes c d (guard_failures s r.guard) → Notes d e (flat_map (demand_failures items of vars) r.given) → Notes a e (rule_failures items of r)
-rule_noted items of r t s vars a b c d e t_is s_is vars_are one two three four =
-    then (same (ap (λ o. constructor_failures o r.ctor (length r.vars)) t_is) one)
-    (then two (then (same (ap (λ x. guard_failures x r.guard) (s_is ∙ ap scope_of t_is)) three) (same (ap (λ vs. flat_map (demand_failures items of vs) r.given) vars_are) four)))
+pub rule_noted : (of : Name) (r : Rule) (t : Option TypeItem) (s : Scope) (vars : List Name) (a b c d e : Checker) → t ≡ type_at (items_of a.context) of → s ≡ scope_of t → vars ≡ r.vars
+    → Notes a b (constructor_failures t r.ctor (length r.vars)) → Notes b c (repeated DuplicateVariable r.vars) → Notes c d (guard_failures s r.guard) → Notes d e (flat_map (demand_failures (items_of d.context) of vars) r.given) → Notes a e (rule_failures (items_of a.context) of r)
+rule_noted of r t s vars a b c d e t_is s_is vars_are one two three four =
+    next (same (ap (λ o. constructor_failures o r.ctor (length r.vars)) t_is) one)
+    (next two (next (same (ap (λ x. guard_failures x r.guard) (s_is ∙ ap scope_of t_is)) three)
+    (same (ap₂ (λ c vs. flat_map (demand_failures (items_of c) of vs) r.given) (three.same ∙ two.same ∙ one.same) vars_are) four)))

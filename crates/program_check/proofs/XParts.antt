@@ -9,13 +9,13 @@ use Rattle.model_grammar.specs.Syntax.{Expr, X, one, two, literal, Xs, and_x, It
 use Rattle.model_names.specs.Kinds.{Kind, language, transformation, a_tree, taken_by_one, taken_first, taken_second}
 use Rattle.fast_syntax.specs.declared.items.X as code
 use Rattle.fast_syntax.specs.Slices.{plain_children}
-use Rattle.model_checks.specs.Failures.{first_among}
 use Rattle.model_checks.specs.Labels.{labels_failures}
 use Rattle.model_checks.specs.Rules.{constructor_failures, label_count_failures, fields_of}
 use Rattle.model_checks.specs.Expressions.{nesting_failures, count_xs, type_called, needs_be, wanted_second, expected_as, x_failures, xs_failures}
 use Rattle.program_check.specs.Standings.{as_failures, literal_failures}
 use Rattle.program_check.specs.Notes.{Notes}
-use Rattle.program_check.proofs.Noting.{then, same, more}
+use Rattle.program_check.specs.declared.checker.Checker.{Checker}
+use Rattle.program_check.proofs.Noting.{Left, next, same, more}
 
 pub xs_counted : (xs : List code.X) → length xs ≡ count_xs (plain_children xs)
 xs_counted [] = refl
@@ -37,12 +37,12 @@ module _ (items before : List Item) where
       → k ≡ m → x ≡ y → as_failures items before deep None k x ≡ x_failures items before (suc around) None y ++ needs_be items before None m y
   first_is around deep k m x y deep_is q r = operand_is around deep None None k m x y deep_is refl q r ∙ ap (λ n. x_failures items before (suc around) n y ++ needs_be items before None m y) (expected_none m)
 
-  pub one_noted : (op : Op1) (place : Pos) (around deep : ℕ) (e : Option (List ℕ)) (x x1 : X) (k : Kind) (a b c : Option Refusal) → x1 ≡ x → k ≡ taken_by_one op
+  pub one_noted : (op : Op1) (place : Pos) (around deep : ℕ) (e : Option (List ℕ)) (x x1 : X) (k : Kind) (a b c : Checker) → x1 ≡ x → k ≡ taken_by_one op
       → ((n : Option (List ℕ)) (z : X) → x_failures items before deep n z ≡ x_failures items before (suc around) n z)
       → Notes a b (nesting_failures around place) → Notes b c (as_failures items before deep None k x1) → Notes a c (x_failures items before around e (one op place x))
-  one_noted op place around deep e x x1 k a b c is k_is deep_is p q = then p (same (first_is around deep k (taken_by_one op) x1 x deep_is k_is is) q)
+  one_noted op place around deep e x x1 k a b c is k_is deep_is p q = next p (same (first_is around deep k (taken_by_one op) x1 x deep_is k_is is) q)
 
-  pub two_noted : (op : Op2) (place : Pos) (around deep : ℕ) (e wanted : Option (List ℕ)) (x x1 x2 y y1 : X) (k l : Kind) (a b c d : Option Refusal)
+  pub two_noted : (op : Op2) (place : Pos) (around deep : ℕ) (e wanted : Option (List ℕ)) (x x1 x2 y y1 : X) (k l : Kind) (a b c d : Checker)
       → x1 ≡ x → x2 ≡ x → y1 ≡ y → k ≡ taken_first op → l ≡ taken_second op → wanted ≡ wanted_second items before op x2
       → ((n : Option (List ℕ)) (z : X) → x_failures items before deep n z ≡ x_failures items before (suc around) n z)
       → Notes a b (nesting_failures around place) → Notes b c (as_failures items before deep None k x1) → Notes c d (as_failures items before deep wanted l y1)
@@ -52,10 +52,10 @@ module _ (items before : List Item) where
       let first = x_failures items before (suc around) None x in
       let be = needs_be items before None (taken_first op) x in
       same (ap (λ xs. nesting_failures around place ++ xs) (append_assoc first be (as_failures items before (suc around) want (taken_second op) y)))
-      (then p (then (same (first_is around deep k (taken_first op) x1 x deep_is k_is is) q)
+      (next p (next (same (first_is around deep k (taken_first op) x1 x deep_is k_is is) q)
       (same (operand_is around deep wanted want l (taken_second op) y1 y deep_is (wanted_is ∙ ap (wanted_second items before op) is2) l_is js) r)))
 
-  pub literal_noted : (around n : ℕ) (e : Option (List ℕ)) (t : Option TypeItem) (name : Name) (labels : List Expr) (xs : Xs) (a b c : Option Refusal) → t ≡ type_called items before e → n ≡ count_xs xs
+  pub literal_noted : (around n : ℕ) (e : Option (List ℕ)) (t : Option TypeItem) (name : Name) (labels : List Expr) (xs : Xs) (a b c : Checker) → t ≡ type_called items before e → n ≡ count_xs xs
       → Notes a b (literal_failures t name labels n) → Notes b c (xs_failures items before around e xs) → Notes a c (x_failures items before around e (literal name labels xs))
   literal_noted around n e t name labels xs a b c t_is counted p q =
       let t2 = type_called items before e in
@@ -63,10 +63,10 @@ module _ (items before : List Item) where
       let count = label_count_failures t2 name (length labels) in
       let own = labels_failures (Some []) (fields_of t2) labels in
       let rest = xs_failures items before around e xs in
-      same (append_assoc ctor (count ++ own) rest ∙ ap (λ l. ctor ++ l) (append_assoc count own rest)) (then (same (ap₂ (λ u m. literal_failures u name labels m) t_is counted) p) q)
+      same (append_assoc ctor (count ++ own) rest ∙ ap (λ l. ctor ++ l) (append_assoc count own rest)) (next (same (ap₂ (λ u m. literal_failures u name labels m) t_is counted) p) q)
 
-  pub child_more : (around : ℕ) (e : Option (List ℕ)) (x : X) (all rest : Xs) (a b whole : Option Refusal) → all ≡ and_x x rest → Notes a b (as_failures items before around e a_tree x)
-      → first_among a (xs_failures items before around e all) ≡ whole → first_among b (xs_failures items before around e rest) ≡ whole
-  child_more around e x all rest a b whole split p left =
-      more (xs_failures items before around e all) (xs_failures items before around e rest) whole p
+  pub child_more : (around : ℕ) (e : Option (List ℕ)) (x : X) (all rest : Xs) (whole : List Refusal) (a b c : Checker) → all ≡ and_x x rest → Notes b c (as_failures items before around e a_tree x)
+      → Left a b whole (xs_failures items before around e all) → Left a c whole (xs_failures items before around e rest)
+  child_more around e x all rest whole a b c split p left =
+      more (λ _. as_failures items before around e a_tree x) (xs_failures items before around e rest) p
       (ap (xs_failures items before around e) split ∙ sym (append_assoc (x_failures items before around e x) (needs_be items before e a_tree x) (xs_failures items before around e rest))) left

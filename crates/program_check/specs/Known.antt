@@ -1,9 +1,13 @@
 -- What is known of a label expression once it is checked.
 use Rattle.std.specs.Prelude.{◌≡◌, Bool, true, false, List, ◌++◌, Option, Some, None, Result, Ok, Err, map}
 use Rattle.std.specs.Option.{option_map}
+use Rattle.fast_fault.specs.declared.code.Code.TheVariants.{WrongSort}
 use Rattle.fast_fault.specs.declared.place.Pos.{Pos}
 use Rattle.fast_fault.specs.declared.refusal.Refusal.{Refusal}
-use Rattle.model_tree.specs.Signature.{wholes, truths}
+use Rattle.model_program.specs.Syntax.{FieldItem}
+use Rattle.model_grammar.specs.declared.Rel.{Rel}
+use Rattle.model_grammar.specs.declared.Rel.TheVariants.{Equal, NotEqual, Less, AtMost, Greater, AtLeast}
+use Rattle.model_tree.specs.Signature.{Sort, wholes, truths}
 use Rattle.model_form.specs.Form.{Form}
 use Rattle.model_form.specs.Sums.{Part}
 use Rattle.model_grammar.specs.Syntax.{Expr, Parts}
@@ -15,11 +19,14 @@ use Rattle.fast_tree.specs.Signatures.{plain_sort}
 use Rattle.fast_syntax.specs.View.{plain_field}
 use Rattle.std.specs.Global.{Vec}
 use Rattle.model_checks.specs.Sorts as model
-use Rattle.model_checks.specs.Sorts.{sort_of, needs_sort}
+use Rattle.model_names.specs.Sorts.{sort_named}
+use Rattle.model_checks.specs.Failures.{fails_if}
+use Rattle.model_checks.specs.Sorts.{sort_of, needs_sort, is_other_sort, differ_in_sort}
 use Rattle.model_checks.specs.Forms.{has_field, have_field, form_in_range, kept, product_of, remainder_of, divisor_of}
 use Rattle.model_checks.specs.Labels.{label_failures, multiplied, divided}
 use Rattle.program_check.specs.declared.labels.Scope.{Scope}
 use Rattle.program_check.specs.declared.labels.Known.{Known}
+use Rattle.program_check.specs.declared.labels.Side.{Side}
 
 abbrev pub plain_scope : Scope → model.Scope
 plain_scope scope = option_map (λ fields. map plain_field fields.now) scope.fields
@@ -56,18 +63,38 @@ pub record AreTruths (scope : Scope) (parts : Parts) (known : Known) : Type 0 wh
   pub has : known.has_field ≡ have_field (plain_scope scope) parts
   pub form : known.form ≡ None
 
--- what fails where a product goes on, to a remainder or by a factor
-abbrev pub next_failures : model.Scope → Pos → Bool → Option Form → Bool → Expr → List Refusal
-next_failures scope place has before true e = divided e
-next_failures scope place has before false e = multiplied place has before (has_field scope e) (form_in_range scope e)
+-- what fails where something is to be of a sort
+abbrev pub sort_failures : Sort → Side → List Refusal
+sort_failures sort side = fails_if (is_other_sort sort (option_map plain_sort side.sort)) WrongSort side.place
+
+-- what fails at the sides of a comparison
+abbrev pub sides_failures : Rel → Side → Side → List Refusal
+sides_failures Equal left right = fails_if (differ_in_sort (option_map plain_sort left.sort) (option_map plain_sort right.sort)) WrongSort right.place
+sides_failures NotEqual left right = fails_if (differ_in_sort (option_map plain_sort left.sort) (option_map plain_sort right.sort)) WrongSort right.place
+sides_failures Less left right = sort_failures wholes left ++ sort_failures wholes right
+sides_failures AtMost left right = sort_failures wholes left ++ sort_failures wholes right
+sides_failures Greater left right = sort_failures wholes left ++ sort_failures wholes right
+sides_failures AtLeast left right = sort_failures wholes left ++ sort_failures wholes right
+
+-- what fails where a label isn't of its field's sort
+abbrev pub field_sort_failures : FieldItem → Side → List Refusal
+field_sort_failures f label = fails_if (differ_in_sort (sort_named f.sort.text) (option_map plain_sort label.sort)) WrongSort label.place
+
+-- what fails where a product goes on, to a remainder or by a factor of which this is known
+abbrev pub next_failures : Pos → Bool → Option Form → Bool → Bool → Option Form → Expr → List Refusal
+next_failures place has before true also factor e = divided e
+next_failures place has before false also factor e = multiplied place has before also factor
+
+abbrev pub next_form : Bool → Option Form → Bool → Bool → Option Form → Expr → Option Form
+next_form has before true also factor e = remainder_of before (divisor_of e)
+next_form has before false also factor e = kept (product_of has before also factor)
 
 -- a step of a product, behind what stands before it
 abbrev pub step_failures : model.Scope → Pos → Bool → Option Form → Bool → Expr → List Refusal
-step_failures scope place has before rem e = label_failures scope e ++ (needs_sort scope wholes e ++ next_failures scope place has before rem e)
+step_failures scope place has before rem e = label_failures scope e ++ (needs_sort scope wholes e ++ next_failures place has before rem (has_field scope e) (form_in_range scope e) e)
 
 abbrev pub step_form : model.Scope → Bool → Option Form → Bool → Expr → Option Form
-step_form scope has before true e = remainder_of before (divisor_of e)
-step_form scope has before false e = kept (product_of has before (has_field scope e) (form_in_range scope e))
+step_form scope has before rem e = next_form has before rem (has_field scope e) (form_in_range scope e) e
 
 -- a form was made, or a number was out of range
 abbrev pub IsMade : Result Form FormStop → Type 0

@@ -1,5 +1,7 @@
 pub mod Notes
 pub mod Naming
+pub mod Numbered
+pub mod Typed
 pub mod Known
 pub mod Contexts
 pub mod Variables

@@ -6,7 +6,7 @@ use Rattle.model_program.specs.Syntax.{FieldItem, CtorItem}
 use Rattle.model_grammar.specs.Syntax.{Item}
 use Rattle.model_names.specs.Sorts.{own_sort}
 use Rattle.model_meaning.specs.Types.{rank_of, signature_of}
-use Rattle.program_check.specs.Contexts.{own_type_item}
+use Rattle.program_check.specs.Numbered.{own_type_item}
 
 abbrev pub field_of : FieldItem → PlainField
 field_of f = record { name = f.name.text; sort = own_sort f }

@@ -1,38 +1,35 @@
 -- What an expression stands for, as the code keeps it.
 use Rattle.std.specs.Prelude.{◌≡◌, ℕ, ◌++◌, List, [], Option, Some, None, cond, length}
 use Rattle.std.specs.Option.{option_map, option_and_then}
-use Rattle.std.specs.Borrow.{Bor}
 use Rattle.fast_fault.specs.declared.refusal.Refusal.{Refusal}
 use Rattle.model_program.specs.Syntax.{Name}
 use Rattle.model_program.specs.Syntax as model
 use Rattle.model_grammar.specs.Syntax.{X, Item}
 use Rattle.model_grammar.specs.Syntax as plain
+use Rattle.model_grammar.specs.declared.Op1.{Op1}
+use Rattle.model_grammar.specs.declared.Op1.TheVariants.{Complement, Minimize, GetWitness, Domain}
 use Rattle.model_grammar.specs.declared.Op2.{Op2}
 use Rattle.model_grammar.specs.declared.Op2.TheVariants.{Intersect, Union, Difference, PreImage, Compose, Restrict, RestrictOut, Apply}
 use Rattle.model_names.specs.Declared.{find_type}
 use Rattle.model_names.specs.Kinds.{language, transformation, a_tree, same_kind, kind_of, type_of, output_of}
 use Rattle.model_names.specs.Kinds as model_kinds
-use Rattle.fast_syntax.specs.declared.TypeItem.{TypeItem}
-use Rattle.fast_syntax.specs.View.{plain_type}
 use Rattle.model_checks.specs.Labels.{labels_failures}
 use Rattle.model_checks.specs.Rules.{constructor_failures, label_count_failures, fields_of}
 use Rattle.model_checks.specs.Expressions.{expected_as, needs_be, x_failures}
 use Rattle.program_check.specs.declared.expressions.Kind.{Kind}
 use Rattle.program_check.specs.declared.expressions.Kind.TheVariants.{Language, Transformation, Tree}
+use Rattle.program_check.specs.declared.declared_type.DeclaredType.{DeclaredType}
 use Rattle.program_check.specs.declared.expressions.Standing.{Standing}
+use Rattle.program_check.specs.Typed.{plain_option, type_name}
 
 abbrev pub plain_kind : Kind → model_kinds.Kind
 plain_kind Language = language
 plain_kind Transformation = transformation
 plain_kind Tree = a_tree
 
--- the name of a type
-abbrev pub type_name : Option (Bor TypeItem) → Option (List ℕ)
-type_name = option_map (λ t. t.now.name.text)
-
 -- a type is the one that its name finds
-pub record IsDeclared (items : List Item) (t : Option (Bor TypeItem)) : Type 0 where
-  pub is : option_map (λ t. plain_type t.now) t ≡ option_and_then (find_type items) (type_name t)
+pub record IsDeclared (items : List Item) (t : Option DeclaredType) : Type 0 where
+  pub is : plain_option t ≡ option_and_then (find_type items) (type_name t)
 
 -- the kind and the types of an expression
 pub record IsStanding (items : List Item) (x : X) (s : Standing) : Type 0 where
@@ -43,7 +40,7 @@ pub record IsStanding (items : List Item) (x : X) (s : Standing) : Type 0 where
   pub declared_output : IsDeclared items s.output
 
 -- the type, where something is of this kind
-abbrev pub only_as : Kind → Option Kind → Option (Bor TypeItem) → Option (Bor TypeItem)
+abbrev pub only_as : Kind → Option Kind → Option DeclaredType → Option DeclaredType
 only_as kind None t = None
 only_as kind (Some found) t = cond (same_kind (plain_kind found) (plain_kind kind)) t None
 
@@ -56,7 +53,7 @@ abbrev pub literal_failures : Option model.TypeItem → Name → List plain.Expr
 literal_failures t name labels count = constructor_failures t name count ++ (label_count_failures t name (length labels) ++ labels_failures (Some []) (fields_of t) labels)
 
 -- the types of what an operation on two operands gives
-abbrev pub input_of_two : Op2 → Standing → Option (Bor TypeItem)
+abbrev pub input_of_two : Op2 → Standing → Option DeclaredType
 input_of_two Intersect s = only_as Language s.kind s.input
 input_of_two Union s = only_as Language s.kind s.input
 input_of_two Difference s = only_as Language s.kind s.input
@@ -66,7 +63,7 @@ input_of_two Restrict s = only_as Transformation s.kind s.input
 input_of_two RestrictOut s = only_as Transformation s.kind s.input
 input_of_two Apply s = only_as Transformation s.kind s.output
 
-abbrev pub output_of_two : Op2 → Standing → Standing → Option (Bor TypeItem)
+abbrev pub output_of_two : Op2 → Standing → Standing → Option DeclaredType
 output_of_two Intersect s t = None
 output_of_two Union s t = None
 output_of_two Difference s t = None
@@ -75,3 +72,44 @@ output_of_two Compose s t = only_as Transformation t.kind t.output
 output_of_two Restrict s t = only_as Transformation s.kind s.output
 output_of_two RestrictOut s t = only_as Transformation s.kind s.output
 output_of_two Apply s t = None
+
+-- the type that the second operand is to have
+abbrev pub second_wanted : Op2 → Standing → Option DeclaredType
+second_wanted Intersect s = only_as Language s.kind s.input
+second_wanted Union s = only_as Language s.kind s.input
+second_wanted Difference s = only_as Language s.kind s.input
+second_wanted PreImage s = only_as Transformation s.kind s.output
+second_wanted Compose s = only_as Transformation s.kind s.output
+second_wanted Restrict s = only_as Transformation s.kind s.input
+second_wanted RestrictOut s = only_as Transformation s.kind s.output
+second_wanted Apply s = only_as Transformation s.kind s.input
+
+-- the kind that an operation takes, and the kinds that operations give
+abbrev pub kind_taken : Op1 → Kind
+kind_taken Complement = Language
+kind_taken Minimize = Language
+kind_taken GetWitness = Language
+kind_taken Domain = Transformation
+
+abbrev pub kind_given : Op1 → Kind
+kind_given Complement = Language
+kind_given Minimize = Language
+kind_given GetWitness = Tree
+kind_given Domain = Language
+
+abbrev pub kind_given_by_two : Op2 → Kind
+kind_given_by_two Intersect = Language
+kind_given_by_two Union = Language
+kind_given_by_two Difference = Language
+kind_given_by_two PreImage = Language
+kind_given_by_two Compose = Transformation
+kind_given_by_two Restrict = Transformation
+kind_given_by_two RestrictOut = Transformation
+kind_given_by_two Apply = Tree
+
+-- what an operation stands for, from what its operands do
+abbrev pub standing_of_one : Op1 → Standing → Standing
+standing_of_one op s = record { kind = Some (kind_given op); input = only_as (kind_taken op) s.kind s.input; output = None }
+
+abbrev pub standing_of_two : Op2 → Standing → Standing → Standing
+standing_of_two op s t = record { kind = Some (kind_given_by_two op); input = input_of_two op s; output = output_of_two op s t }

@@ -9,7 +9,7 @@ use Rattle.program_check.specs.declared.checked.Kind3.{Kind3}
 use Rattle.program_check.specs.declared.checked.Kind3.TheVariants.{Language, Transformation, Tree}
 use Rattle.program_check.specs.declared.programs.Checked.{Checked}
 use Rattle.fast_tree.specs.Signatures.{plain_signature}
-use Rattle.program_check.specs.Contexts.{AreNumbered}
+use Rattle.program_check.specs.Numbered.{AreNumbered}
 use Rattle.program_check.specs.Signed.{own_signature}
 
 -- a kind, the name of the type, and the name of the type of the outputs
@@ -36,5 +36,5 @@ stands_for (assertion a) = None
 -- the program is well-formed, its names have their numbers, and its types their signatures
 pub record IsChecked (c : Checked) : Type 0 where
   pub well_formed : is_well_formed (plain_program c.program) ≡ true
-  pub numbered : AreNumbered (plain_program c.program) c.types c.names
+  pub numbered : AreNumbered (plain_program c.program) c.declared
   pub signed : map (option_map plain_signature) c.signatures.items ≡ map own_signature (plain_program c.program)

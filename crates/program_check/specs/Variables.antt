@@ -8,14 +8,6 @@ use Rattle.model_grammar.specs.Syntax.{Item}
 use Rattle.model_names.specs.Kinds.{declared_type}
 use Rattle.model_checks.specs.Failures.{failure, fails_if}
 use Rattle.model_checks.specs.Rules.{differ, own_lang, own_trans}
-use Rattle.fast_syntax.specs.View.{plain_name}
-use Rattle.model_checks.specs.Types.{is_among}
-use Rattle.program_check.specs.declared.rules.Vars.{Vars}
-use Rattle.program_check.specs.Naming.{place_in}
-
--- the names are those of the variables
-pub record IsVars (vars : Vars) : Type 0 where
-  pub there : (text : List ℕ) → is_some (place_in vars.names text) ≡ is_among (map plain_name vars.all.now) text
 
 -- what fails where this item is named as a language, or as a transformation
 abbrev pub lang_failures_of : List Item → Name → Name → Item → List Refusal

@@ -48,7 +48,7 @@ impl Checked {
         requires { IsChecked self.now }
         ensures { option_map (λ s. plain_signature s.now) result ≡ option_map signature_of (find_type (plain_program self.now.program) name.now) }
     {
-        match self.types.place(name) {
+        match self.declared.types.place(name) {
             Some(place) => signature_at(&self.signatures, place),
             None => None,
         }
@@ -59,7 +59,7 @@ impl Checked {
         requires { IsChecked self.now }
         ensures { option_map (λ item. plain_item item.now) result ≡ find_item (plain_program self.now.program) name.now }
     {
-        match self.names.place(name) {
+        match self.declared.names.place(name) {
             Some(place) => item_at(&self.program.items, place),
             None => None,
         }

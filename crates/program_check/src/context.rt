@@ -1,49 +1,62 @@
-//! What a program declares, found by name.
+//! The program that is checked, as one of its items sees it.
+//!
+//! What a name stands for is found in constant time, and so is whether it stands before the item.
 
-ghost use Rattle.std.specs.Prelude.{◌≡◌, ℕ, List, Some, None, OnOk, IfOk, map, is_some, slice_get};
+ghost use Rattle.std.specs.Prelude.{◌≡◌, ℕ, List, Some, None, map, is_some, slice_get};
 ghost use Rattle.std.specs.Option.{option_map};
-ghost use Rattle.model_grammar.specs.Syntax as plain;
+ghost use Rattle.std.proofs.Props.{props};
 ghost use Rattle.model_names.specs.Declared.{find_type, find_item};
-ghost use Rattle.fast_syntax.specs.View.{plain_name, plain_type};
 ghost use Rattle.fast_syntax.specs.Plain.{plain_item};
-ghost use Rattle.program_check.specs.Contexts.{items_of, before_of, is_below, own_type_item, IsContext};
+ghost use Rattle.program_check.specs.Naming.{place_in};
+ghost use Rattle.program_check.specs.Numbered.{is_below, own_type_item, own_ctors, ctor_place, type_there, AreNumbered};
+ghost use Rattle.program_check.specs.Typed.{plain_option};
 
+use crate::declarations::Declarations;
+use crate::declared_type::DeclaredType;
 use crate::names::Names;
 use fast_fault::Text;
-use fast_syntax::TypeItem;
 use fast_syntax::items::{Body, Item};
 
-/// The items of a program, with the numbers of those that declare a type or another name first, and how many items stand
-/// before the one that is looked at.
+/// The items of a program with their declarations, and how many items stand before the one that is looked at.
 #[derive(Clone, Copy)]
 pub(crate) struct Context<'p> {
     pub(crate) items: &'p [Item],
-    pub(crate) types: &'p Names,
-    pub(crate) names: &'p Names,
+    pub(crate) declared: &'p Declarations,
     pub(crate) before: usize,
+    ghost numbered: { AreNumbered (map plain_item items.now) declared.now } by { Prim.hlevel props },
 }
 
 impl<'p> Context<'p> {
+    ghost use Rattle.program_check.specs.Contexts.{items_of, before_of};
+
     /// The first type of this name.
-    pub(crate) fn find_type(&self, name: &Text) -> Option<&'p TypeItem>
-        requires { IsContext self.now }
-        ensures { option_map (λ t. plain_type t.now) result ≡ find_type (items_of self.now) name.now }
+    pub(crate) fn find_type(&self, name: &Text) -> Option<DeclaredType<'p>>
+        ensures { plain_option result ≡ find_type (items_of self.now) name.now }
     {
-        let Some(place) = self.types.place(name) else {
-            return None;
-        };
-        match item_at(self.items, place) {
-            Some(item) => own_type(item),
+        match self.declared.types.place(name) {
+            Some(place) => self.type_at(place),
+            None => None,
+        }
+    }
+
+    /// The type that the item of this number is.
+    fn type_at(&self, place: usize) -> Option<DeclaredType<'p>>
+        ensures { plain_option result ≡ type_there (items_of self.now) (Some place) }
+    {
+        match names_at(&self.declared.ctors, place) {
+            Some(ctors) => match item_at(self.items, place) {
+                Some(item) => as_type(item, ctors),
+                None => None,
+            },
             None => None,
         }
     }
 
     /// The first item that declares this name of a language, transformation, definition or tree.
     pub(crate) fn find_item(&self, name: &Text) -> Option<&'p Item>
-        requires { IsContext self.now }
         ensures { option_map (λ item. plain_item item.now) result ≡ find_item (items_of self.now) name.now }
     {
-        match self.names.place(name) {
+        match self.declared.names.place(name) {
             Some(place) => item_at(self.items, place),
             None => None,
         }
@@ -51,18 +64,16 @@ impl<'p> Context<'p> {
 
     /// Whether a type of this name stands before.
     pub(crate) fn has_type_before(&self, name: &Text) -> bool
-        requires { IsContext self.now }
         ensures { result ≡ is_some (find_type (before_of self.now) name.now) }
     {
-        is_below(self.types.place(name), self.before)
+        is_below(self.declared.types.place(name), self.before)
     }
 
     /// Whether the name of a language, transformation, definition or tree stands before.
     pub(crate) fn has_item_before(&self, name: &Text) -> bool
-        requires { IsContext self.now }
         ensures { result ≡ is_some (find_item (before_of self.now) name.now) }
     {
-        is_below(self.names.place(name), self.before)
+        is_below(self.declared.names.place(name), self.before)
     }
 }
 
@@ -85,12 +96,23 @@ pub(crate) fn item_at(items: &[Item], place: usize) -> Option<&Item>
     }
 }
 
+fn names_at(all: &[Names], place: usize) -> Option<&Names>
+    ensures { option_map (λ names. place_in names.now) result ≡ slice_get (map place_in all.now) place }
+{
+    if place < all.len() {
+        Some(&all[place])
+    } else {
+        None
+    }
+}
+
 /// The type that an item is.
-pub(crate) fn own_type(item: &Item) -> Option<&TypeItem>
-    ensures { option_map (λ t. plain_type t.now) result ≡ own_type_item (plain_item item.now).body }
+fn as_type<'p>(item: &'p Item, ctors: &'p Names) -> Option<DeclaredType<'p>>
+    requires { place_in ctors.now ≡ ctor_place (own_ctors (plain_item item.now)) }
+    ensures { plain_option result ≡ own_type_item (plain_item item.now).body }
 {
     match &item.body {
-        Body::Sorts(own) => Some(own),
+        Body::Sorts(own) => Some(DeclaredType { item: own, ctors }),
         _ => None,
     }
 }

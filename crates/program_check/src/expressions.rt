@@ -1,4 +1,4 @@
-//! Expressions of languages, transformations and trees.
+//! What may fail in an expression of a language, a transformation or a tree, and what one stands for.
 
 ghost use Rattle.std.specs.Prelude.{◌≡◌, ◌<◌, ◌≤◌, ◌+◌, ◌++◌, ◌&&◌, not, List, [], OnOk, IfOk, Some, None, map, length, is_some};
 ghost use Rattle.std.specs.Option.{option_map, option_and_then, option_map_or};
@@ -10,22 +10,24 @@ ghost use Rattle.model_names.specs.Kinds.{taken_by_one, given_by_one, taken_firs
 ghost use Rattle.fast_syntax.specs.View.{plain_name, plain_field, plain_type};
 ghost use Rattle.fast_syntax.specs.Plain.{plain_expr, plain_x, plain_item, plain_into};
 ghost use Rattle.fast_syntax.specs.Slices.{plain_children};
-ghost use Rattle.model_checks.specs.Expressions.{place_of_x, is_other_kind, is_known_later, expected_as, nesting_failures, name_failures, needs_kind, needs_type, needs_be, wanted_second, x_failures};
+ghost use Rattle.model_checks.specs.Expressions.{place_of_x, is_other_kind, is_known_later, expected_as, nesting_failures, name_failures, needs_kind, needs_type, needs_be, x_failures, xs_failures};
 ghost use Rattle.program_check.specs.Notes.{Notes};
-ghost use Rattle.program_check.specs.Contexts.{items_of, before_of, IsContext};
-ghost use Rattle.program_check.specs.Standings.{plain_kind, type_name, IsDeclared, IsStanding, only_as, as_failures, input_of_two, output_of_two, literal_failures};
+ghost use Rattle.program_check.specs.Typed.{plain_option, type_name};
+ghost use Rattle.program_check.specs.Contexts.{items_of, before_of};
+ghost use Rattle.program_check.specs.Standings.{plain_kind, IsDeclared, IsStanding, only_as, as_failures, input_of_two, output_of_two, second_wanted, kind_taken, kind_given, kind_given_by_two, standing_of_one, standing_of_two, literal_failures};
 
+use crate::checker::Checker;
 use crate::context::Context;
+use crate::declared_type::DeclaredType;
 use crate::labels::{Scope, both};
-use crate::least::Least;
-use crate::outputs::{check_labels, fields_of};
-use crate::rules::{check_constructor, check_label_count, differ};
+use crate::limits::MOST_AROUND;
+use crate::outputs::fields_of;
+use crate::rules::differ;
 use fast_fault::{Code, Memory, Pos};
+use fast_syntax::Name;
 use fast_syntax::expressions::Expr;
 use fast_syntax::items::{Body, Item, X};
-use fast_syntax::{Name, TypeItem};
 use model_grammar::{Op1, Op2};
-use std::alloc::Global;
 
 /// What an expression stands for.
 #[derive(Clone, Copy, PartialEq, Eq)]
@@ -39,12 +41,12 @@ pub(crate) enum Kind {
 #[derive(Clone, Copy)]
 pub(crate) struct Standing<'p> {
     pub(crate) kind: Option<Kind>,
-    pub(crate) input: Option<&'p TypeItem>,
-    pub(crate) output: Option<&'p TypeItem>,
+    pub(crate) input: Option<DeclaredType<'p>>,
+    pub(crate) output: Option<DeclaredType<'p>>,
 }
 
 fn taken_by_one(op: Op1) -> Kind
-    ensures { plain_kind result ≡ taken_by_one op }
+    ensures { result ≡ kind_taken op }
 {
     match op {
         Op1::Complement | Op1::Minimize | Op1::GetWitness => Kind::Language,
@@ -53,7 +55,7 @@ fn taken_by_one(op: Op1) -> Kind
 }
 
 fn given_by_one(op: Op1) -> Kind
-    ensures { plain_kind result ≡ given_by_one op }
+    ensures { result ≡ kind_given op }
 {
     match op {
         Op1::Complement | Op1::Minimize | Op1::Domain => Kind::Language,
@@ -88,7 +90,7 @@ fn taken_second(op: Op2) -> Kind
 }
 
 fn given_by_two(op: Op2) -> Kind
-    ensures { plain_kind result ≡ given_by_two op }
+    ensures { result ≡ kind_given_by_two op }
 {
     match op {
         Op2::Intersect | Op2::Union | Op2::Difference | Op2::PreImage => Kind::Language,
@@ -122,8 +124,8 @@ fn is_other_kind(kind: Kind, known: &Option<Kind>) -> bool
 pub(crate) fn only_as<'p>(
     kind: Kind,
     known: &Option<Kind>,
-    item: &Option<&'p TypeItem>,
-) -> Option<&'p TypeItem>
+    item: &Option<DeclaredType<'p>>,
+) -> Option<DeclaredType<'p>>
     ensures { result ≡ only_as kind known.now item.now }
 {
     match known {
@@ -133,7 +135,7 @@ pub(crate) fn only_as<'p>(
 }
 
 /// A type is expected of a tree alone.
-fn expected_as<'p>(kind: Kind, item: &Option<&'p TypeItem>) -> Option<&'p TypeItem>
+fn expected_as<'p>(kind: Kind, item: &Option<DeclaredType<'p>>) -> Option<DeclaredType<'p>>
     ensures name { type_name result ≡ expected_as (plain_kind kind) (type_name item.now) }
     ensures declared { (items : _) → IsDeclared items item.now → IsDeclared items result }
 {
@@ -143,65 +145,35 @@ fn expected_as<'p>(kind: Kind, item: &Option<&'p TypeItem>) -> Option<&'p TypeIt
     }
 }
 
-/// The expression is of this kind and this type.
-pub(crate) fn check_be(
-    context: &Context,
-    least: &mut Least,
-    item: &Option<&TypeItem>,
-    kind: Kind,
-    x: &X,
-    standing: &Standing,
-)
-    requires { IsStanding (items_of context.now) (plain_x x.now) standing.now }
-    ensures { Notes least.old.known least.new.known (needs_be (items_of context.now) (before_of context.now) (type_name item.now) (plain_kind kind) (plain_x x.now)) }
-{
-    let place = place_of(x);
-    let other = is_other_kind(kind, &standing.kind);
-    least.note_if(other, Code::WrongKind, place);
-    let found = only_as(kind, &standing.kind, &standing.input);
-    least.note_if(differ(item, &found), Code::WrongType, place);
-}
-
-/// The type that the second operand is to have.
-fn wanted_second<'p>(
-    context: &Context,
-    op: Op2,
-    x: &X,
-    standing: &Standing<'p>,
-) -> Option<&'p TypeItem>
-    requires { IsStanding (items_of context.now) (plain_x x.now) standing.now }
-    ensures name { type_name result ≡ wanted_second (items_of context.now) (before_of context.now) op (plain_x x.now) }
-    ensures declared { IsDeclared (items_of context.now) result }
-{
-    let kind = taken_first(op);
-    match op {
-        Op2::Intersect | Op2::Union | Op2::Difference | Op2::Restrict | Op2::Apply => {
-            only_as(kind, &standing.kind, &standing.input)
-        }
-        Op2::PreImage | Op2::Compose | Op2::RestrictOut => {
-            only_as(kind, &standing.kind, &standing.output)
-        }
-    }
-}
-
-/// A 65th operation, inside so many others.
-fn check_nested(least: &mut Least, around: usize, place: Pos)
-    ensures { Notes least.old.known least.new.known (nesting_failures around place) }
-{
-    least.note_if(around >= 64, Code::TooMany, place);
-}
-
-/// One operation more around; where there are 64 already, it doesn't matter how many.
+/// One operation more around; where there are too many already, it doesn't matter how many.
 fn deeper(around: usize) -> usize
     ensures few { around < 64 → result ≡ around + 1 }
     ensures many { 64 ≤ around → result ≡ around }
 {
-    if around < 64 { around + 1 } else { around }
+    if around < MOST_AROUND {
+        around + 1
+    } else {
+        around
+    }
 }
 
-fn of_one<'p>(context: &Context, op: Op1, place: Pos, x: &X, operand: Standing<'p>) -> Standing<'p>
-    requires { IsStanding (items_of context.now) (plain_x x.now) operand }
-    ensures { IsStanding (items_of context.now) (plain.one op place (plain_x x.now)) result }
+/// The type that the second operand is to have.
+fn wanted_second<'p>(op: Op2, first: &Standing<'p>) -> Option<DeclaredType<'p>>
+    ensures { result ≡ second_wanted op first.now }
+{
+    let kind = taken_first(op);
+    match op {
+        Op2::Intersect | Op2::Union | Op2::Difference | Op2::Restrict | Op2::Apply => {
+            only_as(kind, &first.kind, &first.input)
+        }
+        Op2::PreImage | Op2::Compose | Op2::RestrictOut => {
+            only_as(kind, &first.kind, &first.output)
+        }
+    }
+}
+
+fn of_one<'p>(op: Op1, operand: &Standing<'p>) -> Standing<'p>
+    ensures { result ≡ standing_of_one op operand.now }
 {
     let taken = taken_by_one(op);
     Standing {
@@ -211,28 +183,18 @@ fn of_one<'p>(context: &Context, op: Op1, place: Pos, x: &X, operand: Standing<'
     }
 }
 
-fn of_two<'p>(
-    context: &Context,
-    op: Op2,
-    place: Pos,
-    x: &X,
-    y: &X,
-    first: Standing<'p>,
-    second: Standing<'p>,
-) -> Standing<'p>
-    requires first { IsStanding (items_of context.now) (plain_x x.now) first }
-    requires second { IsStanding (items_of context.now) (plain_x y.now) second }
-    ensures { IsStanding (items_of context.now) (plain.two op place (plain_x x.now) (plain_x y.now)) result }
+fn of_two<'p>(op: Op2, first: &Standing<'p>, second: &Standing<'p>) -> Standing<'p>
+    ensures { result ≡ standing_of_two op first.now second.now }
 {
     Standing {
         kind: Some(given_by_two(op)),
-        input: input_of_two(op, &first),
-        output: output_of_two(op, &first, &second),
+        input: input_of_two(op, first),
+        output: output_of_two(op, first, second),
     }
 }
 
 /// The type of what an operation gives.
-fn input_of_two<'p>(op: Op2, first: &Standing<'p>) -> Option<&'p TypeItem>
+fn input_of_two<'p>(op: Op2, first: &Standing<'p>) -> Option<DeclaredType<'p>>
     ensures { result ≡ input_of_two op first.now }
 {
     let taken = taken_first(op);
@@ -249,7 +211,11 @@ fn input_of_two<'p>(op: Op2, first: &Standing<'p>) -> Option<&'p TypeItem>
 }
 
 /// The type of the outputs of what an operation gives.
-fn output_of_two<'p>(op: Op2, first: &Standing<'p>, second: &Standing<'p>) -> Option<&'p TypeItem>
+fn output_of_two<'p>(
+    op: Op2,
+    first: &Standing<'p>,
+    second: &Standing<'p>,
+) -> Option<DeclaredType<'p>>
     ensures { result ≡ output_of_two op first.now second.now }
 {
     match op {
@@ -262,8 +228,7 @@ fn output_of_two<'p>(op: Op2, first: &Standing<'p>, second: &Standing<'p>) -> Op
 }
 
 /// The type of this name.
-pub(crate) fn declared<'p>(context: &Context<'p>, name: &Option<&Name>) -> Option<&'p TypeItem>
-    requires { IsContext context.now }
+pub(crate) fn declared<'p>(context: &Context<'p>, name: &Option<&Name>) -> Option<DeclaredType<'p>>
     ensures name { type_name result ≡ option_and_then (declared_type (items_of context.now)) (option_map (λ n. plain_name n.now) name.now) }
     ensures declared { IsDeclared (items_of context.now) result }
 {
@@ -331,8 +296,7 @@ fn is_known_later(item: &Item) -> bool
 
 /// What a name stands for that an item declares.
 fn standing_of<'p>(context: &Context<'p>, name: &Name, item: &Item) -> Standing<'p>
-    requires context { IsContext context.now }
-    requires found { find_item (items_of context.now) name.now.text ≡ Some (plain_item item.now) }
+    requires { find_item (items_of context.now) name.now.text ≡ Some (plain_item item.now) }
     ensures { IsStanding (items_of context.now) (plain.named (plain_name name.now)) result }
 {
     let input = own_type(item);
@@ -356,142 +320,149 @@ fn standing_of_nothing<'p>(context: &Context<'p>, name: &Name) -> Standing<'p>
     }
 }
 
-/// A name of a definition or a tree is known from the next item on.
-fn check_known(context: &Context, least: &mut Least, name: &Name, item: &Item)
-    requires { IsContext context.now }
-    ensures { Notes least.old.known least.new.known (fails_if (is_known_later (plain_item item.now).body && not (is_some (find_item (before_of context.now) name.now.text))) code.UsedTooEarly name.now.place) }
-{
-    let known = context.has_item_before(&name.text);
-    least.note_if(
-        both(is_known_later(item), !known),
-        Code::UsedTooEarly,
-        name.place,
-    );
-}
+impl<'p> Checker<'p> {
+    /// The expression is of this kind and this type.
+    fn check_be(&mut self, item: &Option<DeclaredType>, kind: Kind, x: &X, standing: &Standing)
+        requires { IsStanding (items_of self.old.context) (plain_x x.now) standing.now }
+        ensures { Notes self.old self.new (needs_be (items_of self.old.context) (before_of self.old.context) (type_name item.now) (plain_kind kind) (plain_x x.now)) }
+    {
+        let place = place_of(x);
+        self.note_if(is_other_kind(kind, &standing.kind), Code::WrongKind, place);
+        let found = only_as(kind, &standing.kind, &standing.input);
+        self.note_if(differ(item, &found), Code::WrongType, place);
+    }
 
-fn check_word<'p>(context: &Context<'p>, least: &mut Least, name: &Name) -> Standing<'p>
-    requires { IsContext context.now }
-    ensures noted { Notes least.old.known least.new.known (name_failures (items_of context.now) (before_of context.now) (plain_name name.now)) }
-    ensures standing { IsStanding (items_of context.now) (plain.named (plain_name name.now)) result }
-{
-    match context.find_item(&name.text) {
-        Some(item) => {
-            check_known(context, least, name, item);
-            standing_of(context, name, item)
-        }
-        None => {
-            least.note(Code::UnknownName, name.place);
-            standing_of_nothing(context, name)
+    /// An operation that is inside too many others.
+    fn check_nested(&mut self, around: usize, place: Pos)
+        ensures { Notes self.old self.new (nesting_failures around place) }
+    {
+        self.note_if(around >= MOST_AROUND, Code::TooMany, place);
+    }
+
+    /// A name of a definition or a tree is known from the next item on.
+    fn check_known(&mut self, name: &Name, item: &Item)
+        ensures { Notes self.old self.new (fails_if (is_known_later (plain_item item.now).body && not (is_some (find_item (before_of self.old.context) name.now.text))) code.UsedTooEarly name.now.place) }
+    {
+        let known = self.context.has_item_before(&name.text);
+        self.note_if(
+            both(is_known_later(item), !known),
+            Code::UsedTooEarly,
+            name.place,
+        );
+    }
+
+    fn check_word(&mut self, name: &Name) -> Standing<'p>
+        ensures noted { Notes self.old self.new (name_failures (items_of self.old.context) (before_of self.old.context) (plain_name name.now)) }
+        ensures standing { IsStanding (items_of self.old.context) (plain.named (plain_name name.now)) result }
+    {
+        let found = self.context.find_item(&name.text);
+        match found {
+            Some(item) => {
+                let standing = standing_of(&self.context, name, item);
+                self.check_known(name, item);
+                standing
+            }
+            None => {
+                let standing = standing_of_nothing(&self.context, name);
+                self.note(Code::UnknownName, name.place);
+                standing
+            }
         }
     }
-}
 
-/// The constructor of a literal of this type, and its labels, which have no names of fields.
-fn check_literal(
-    alloc: Global,
-    least: &mut Least,
-    item: &Option<&TypeItem>,
-    name: &Name,
-    children: &[X],
-    labels: &[Expr],
-) -> Result<(), Memory>
-    ensures { OnOk result (Notes least.old.known least.new.known (literal_failures (option_map (λ t. plain_type t.now) item.now) (plain_name name.now) (map plain_expr labels.now) (length children.now))) }
-{
-    check_constructor(least, item, name, children.len());
-    check_label_count(least, item, name, labels.len());
-    let scope = Scope { fields: Some(&[]) };
-    check_labels(alloc, least, &scope, fields_of(item), labels)
-}
+    /// The constructor of a literal of this type, and its labels, which have no names of fields.
+    fn check_literal(
+        &mut self,
+        item: &Option<DeclaredType>,
+        name: &Name,
+        labels: &[Expr],
+        count: usize,
+    ) -> Result<(), Memory>
+        ensures { OnOk result (Notes self.old self.new (literal_failures (plain_option item.now) (plain_name name.now) (map plain_expr labels.now) count)) }
+    {
+        self.check_constructor(item, name, count);
+        self.check_label_count(item, name, labels.len());
+        let scope = Scope { fields: Some(&[]) };
+        self.check_labels(&scope, fields_of(item), labels)
+    }
 
-/// Notes what fails in an expression inside so many operations, and tells what it stands for. A literal has the type that
-/// is expected of it.
-#[cycle(check_x)]
-pub(crate) fn check_x<'p>(
-    alloc: Global,
-    context: &Context<'p>,
-    least: &mut Least,
-    around: usize,
-    expected: &Option<&'p TypeItem>,
-    x: &X,
-) -> Result<Standing<'p>, Memory>
-    requires context { IsContext context.now }
-    requires expected { IsDeclared (items_of context.now) expected.now }
-    ensures noted { OnOk result (Notes least.old.known least.new.known (x_failures (items_of context.now) (before_of context.now) around (type_name expected.now) (plain_x x.now))) }
-    ensures standing { IfOk result (IsStanding (items_of context.now) (plain_x x.now)) }
-{
-    match x {
-        X::Named(name) => Ok(check_word(context, least, name)),
-        X::One(op, place, inside) => {
-            check_nested(least, around, *place);
-            let deep = deeper(around);
-            let kind = taken_by_one(*op);
-            let operand = check_as(alloc, context, least, deep, &None, kind, inside)?;
-            Ok(of_one(context, *op, *place, inside, operand))
-        }
-        X::Two(op, place, first, second) => {
-            check_nested(least, around, *place);
-            let deep = deeper(around);
-            let kind = taken_first(*op);
-            let left = check_as(alloc, context, least, deep, &None, kind, first)?;
-            let wanted = wanted_second(context, *op, first, &left);
-            let kind = taken_second(*op);
-            let right = check_as(alloc, context, least, deep, &wanted, kind, second)?;
-            Ok(of_two(context, *op, *place, first, second, left, right))
-        }
-        X::Literal(name, labels, children) => {
-            check_made(
-                alloc, context, least, around, expected, name, children, labels,
-            )?;
-            Ok(Standing {
-                kind: Some(Kind::Tree),
-                input: None,
-                output: None,
-            })
+    /// Notes what fails in an expression inside so many operations, and tells what it stands for. A literal has the type
+    /// that is expected of it.
+    #[cycle(check_x)]
+    pub(crate) fn check_x(
+        &mut self,
+        around: usize,
+        expected: &Option<DeclaredType<'p>>,
+        x: &X,
+    ) -> Result<Standing<'p>, Memory>
+        requires { IsDeclared (items_of self.old.context) expected.now }
+        ensures noted { OnOk result (Notes self.old self.new (x_failures (items_of self.old.context) (before_of self.old.context) around (type_name expected.now) (plain_x x.now))) }
+        ensures standing { IfOk result (IsStanding (items_of self.old.context) (plain_x x.now)) }
+    {
+        match x {
+            X::Named(name) => Ok(self.check_word(name)),
+            X::One(op, place, inside) => {
+                self.check_nested(around, *place);
+                let deep = deeper(around);
+                let kind = taken_by_one(*op);
+                let operand = self.check_as(deep, &None, kind, inside)?;
+                Ok(of_one(*op, &operand))
+            }
+            X::Two(op, place, first, second) => {
+                self.check_nested(around, *place);
+                let deep = deeper(around);
+                let kind = taken_first(*op);
+                let left = self.check_as(deep, &None, kind, first)?;
+                let wanted = wanted_second(*op, &left);
+                let kind = taken_second(*op);
+                let right = self.check_as(deep, &wanted, kind, second)?;
+                Ok(of_two(*op, &left, &right))
+            }
+            X::Literal(name, labels, children) => {
+                self.check_literal(expected, name, labels, children.len())?;
+                self.check_children(around, expected, children)?;
+                Ok(Standing {
+                    kind: Some(Kind::Tree),
+                    input: None,
+                    output: None,
+                })
+            }
         }
     }
-}
 
-/// An expression, inside so many operations, that is to be of this kind and this type.
-#[cycle(check_x)]
-pub(crate) fn check_as<'p>(
-    alloc: Global,
-    context: &Context<'p>,
-    least: &mut Least,
-    around: usize,
-    item: &Option<&'p TypeItem>,
-    kind: Kind,
-    x: &X,
-) -> Result<Standing<'p>, Memory>
-    requires context { IsContext context.now }
-    requires item { IsDeclared (items_of context.now) item.now }
-    ensures noted { OnOk result (Notes least.old.known least.new.known (as_failures (items_of context.now) (before_of context.now) around (type_name item.now) (plain_kind kind) (plain_x x.now))) }
-    ensures standing { IfOk result (IsStanding (items_of context.now) (plain_x x.now)) }
-{
-    let expected = expected_as(kind, item);
-    let standing = check_x(alloc, context, least, around, &expected, x)?;
-    check_be(context, least, item, kind, x, &standing);
-    Ok(standing)
-}
-
-/// A literal of this type, and its children.
-#[cycle(check_x)]
-fn check_made<'p>(
-    alloc: Global,
-    context: &Context<'p>,
-    least: &mut Least,
-    around: usize,
-    expected: &Option<&'p TypeItem>,
-    name: &Name,
-    children: &[X],
-    labels: &[Expr],
-) -> Result<(), Memory>
-    requires context { IsContext context.now }
-    requires expected { IsDeclared (items_of context.now) expected.now }
-    ensures { OnOk result (Notes least.old.known least.new.known (x_failures (items_of context.now) (before_of context.now) around (type_name expected.now) (plain.literal (plain_name name.now) (map plain_expr labels.now) (plain_children children.now)))) }
-{
-    check_literal(alloc, least, expected, name, children, labels)?;
-    'children: for child in children {
-        check_as(alloc, context, least, around, expected, Kind::Tree, child)?;
+    /// An expression, inside so many operations, that is to be of this kind and this type.
+    #[cycle(check_x)]
+    pub(crate) fn check_as(
+        &mut self,
+        around: usize,
+        item: &Option<DeclaredType<'p>>,
+        kind: Kind,
+        x: &X,
+    ) -> Result<Standing<'p>, Memory>
+        requires { IsDeclared (items_of self.old.context) item.now }
+        ensures noted { OnOk result (Notes self.old self.new (as_failures (items_of self.old.context) (before_of self.old.context) around (type_name item.now) (plain_kind kind) (plain_x x.now))) }
+        ensures standing { IfOk result (IsStanding (items_of self.old.context) (plain_x x.now)) }
+    {
+        let expected = expected_as(kind, item);
+        let standing = self.check_x(around, &expected, x)?;
+        self.check_be(item, kind, x, &standing);
+        Ok(standing)
     }
-    Ok(())
+
+    /// The children of a literal of this type.
+    #[cycle(check_x)]
+    fn check_children(
+        &mut self,
+        around: usize,
+        expected: &Option<DeclaredType<'p>>,
+        children: &[X],
+    ) -> Result<(), Memory>
+        requires { IsDeclared (items_of self.old.context) expected.now }
+        ensures { OnOk result (Notes self.old self.new (xs_failures (items_of self.old.context) (before_of self.old.context) around (type_name expected.now) (plain_children children.now))) }
+    {
+        'children: for child in children {
+            self.check_as(around, expected, Kind::Tree, child)?;
+        }
+        Ok(())
+    }
 }

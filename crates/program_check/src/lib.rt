@@ -5,11 +5,14 @@
 #![tactic(auto)]
 
 mod checked;
+mod checker;
 mod context;
+mod declarations;
+mod declared_type;
 mod expressions;
 mod items;
 mod labels;
-mod least;
+mod limits;
 mod named;
 mod names;
 mod outputs;
@@ -17,6 +20,7 @@ mod programs;
 mod rules;
 mod signatures;
 mod types;
+mod vars;
 
 pub use checked::Kind3;
 pub use programs::{CheckStop, Checked, check};

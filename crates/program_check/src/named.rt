@@ -8,11 +8,10 @@ ghost use Rattle.model_checks.specs.Types.{is_among, repeated};
 ghost use Rattle.program_check.specs.Notes.{Notes};
 ghost use Rattle.program_check.specs.Naming.{place_in, Adds};
 
-use crate::least::Least;
+use crate::checker::Checker;
 use crate::names::Names;
 use fast_fault::{Code, Memory};
 use fast_syntax::{CtorItem, FieldItem, Name};
-use std::alloc::Global;
 
 /// What has a name.
 pub(crate) trait Named {
@@ -52,35 +51,35 @@ impl Named for CtorItem {
     }
 }
 
-/// Notes a name that is there already, and adds it otherwise.
-fn check_name(
-    alloc: Global,
-    least: &mut Least,
-    code: Code,
-    names: &mut Names,
-    name: &Name,
-    place: usize,
-) -> Result<(), Memory>
-    ensures noted { OnOk result (Notes least.old.known least.new.known (fails_if (is_some (place_in names.old name.now.text)) code name.now.place)) }
-    ensures names { OnOk result (Adds names.old names.new name.now.text place) }
-{
-    least.note_if(names.place(&name.text).is_some(), code, name.place);
-    names.add(alloc, &name.text, place)
-}
-
-/// Notes each name that stood before. The names come back for look-ups.
-pub(crate) fn check_repeated<N: Named>(
-    alloc: Global,
-    least: &mut Least,
-    code: Code,
-    all: &[N],
-) -> Result<Names, Memory>
-    ensures noted { OnOk result (Notes least.old.known least.new.known (repeated code (map N.name_of all.now))) }
-    ensures names { IfOk result (λ names. (text : List ℕ) → is_some (place_in names text) ≡ is_among (map N.name_of all.now) text) }
-{
-    let mut names = Names::new(alloc);
-    'all: for (place, one) in all.iter().enumerate() {
-        check_name(alloc, least, code, &mut names, one.name(), place)?;
+impl Checker<'_> {
+    /// Notes a name that is there already, and adds it otherwise.
+    fn add_name(
+        &mut self,
+        code: Code,
+        names: &mut Names,
+        name: &Name,
+        place: usize,
+    ) -> Result<(), Memory>
+        ensures noted { OnOk result (Notes self.old self.new (fails_if (is_some (place_in names.old name.now.text)) code name.now.place)) }
+        ensures names { OnOk result (Adds names.old names.new name.now.text place) }
+    {
+        self.note_if(names.place(&name.text).is_some(), code, name.place);
+        names.add(self.alloc, &name.text, place)
     }
-    Ok(names)
+
+    /// Notes each name that stood before. The names come back for look-ups.
+    pub(crate) fn check_repeated<N: Named>(
+        &mut self,
+        code: Code,
+        all: &[N],
+    ) -> Result<Names, Memory>
+        ensures noted { OnOk result (Notes self.old self.new (repeated code (map N.name_of all.now))) }
+        ensures names { IfOk result (λ names. (text : List ℕ) → is_some (place_in names text) ≡ is_among (map N.name_of all.now) text) }
+    {
+        let mut names = Names::new(self.alloc);
+        'all: for (place, one) in all.iter().enumerate() {
+            self.add_name(code, &mut names, one.name(), place)?;
+        }
+        Ok(names)
+    }
 }

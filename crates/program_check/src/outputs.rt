@@ -1,4 +1,4 @@
-//! The labels of nodes, and output terms.
+//! What may fail in the labels of a node and in an output term, whose labels speak of the input.
 
 ghost use Rattle.std.specs.Prelude.{◌≡◌, ◌++◌, List, [], OnOk, IfOk, Some, None, map, length, slice_get};
 ghost use Rattle.std.specs.List.{flat_map};
@@ -10,169 +10,148 @@ ghost use Rattle.fast_syntax.specs.Slices.{plain_outputs};
 ghost use Rattle.model_checks.specs.Labels.{labels_failures, needs_sort_of};
 ghost use Rattle.model_checks.specs.Rules.{fields_of, count_outs, out_failures, outs_failures, out_rule_failures};
 ghost use Rattle.program_check.specs.Notes.{Notes};
-ghost use Rattle.program_check.specs.Contexts.{items_of, IsContext};
-ghost use Rattle.program_check.specs.Known.{plain_scope, IsKnown};
-ghost use Rattle.program_check.specs.Variables.{IsVars};
+ghost use Rattle.program_check.specs.Contexts.{items_of};
+ghost use Rattle.program_check.specs.Known.{plain_scope, field_sort_failures};
+ghost use Rattle.program_check.specs.Typed.{plain_option};
 ghost use Rattle.program_check.specs.Nodes.{field_at, label_at, node_failures};
 
-use crate::context::Context;
-use crate::labels::{Known, Scope, check_label, differ_in_sort};
-use crate::least::Least;
-use crate::rules::{
-    Vars, check_constructor, check_label_count, check_rule, check_transformation, check_variable,
-    scope_of, types_differ,
-};
+use crate::checker::Checker;
+use crate::declared_type::DeclaredType;
+use crate::labels::{Scope, Side, differ_in_sort};
+use crate::rules::{Between, scope_of, types_differ};
 use crate::types::sort_named;
+use crate::vars::Vars;
 use fast_fault::{Code, Memory};
 use fast_syntax::expressions::Expr;
 use fast_syntax::items::{Out, OutRule};
-use fast_syntax::{FieldItem, Name, TypeItem};
-use std::alloc::Global;
+use fast_syntax::{FieldItem, Name};
 
 /// The fields of a type, or none where it isn't declared.
-pub(crate) fn fields_of<'p>(item: &Option<&'p TypeItem>) -> &'p [FieldItem]
-    ensures { map plain_field result.now ≡ fields_of (option_map (λ t. plain_type t.now) item.now) }
+pub(crate) fn fields_of<'p>(of: &Option<DeclaredType<'p>>) -> &'p [FieldItem]
+    ensures { map plain_field result.now ≡ fields_of (plain_option of.now) }
 {
-    match item {
-        Some(item) => &item.fields,
+    match of {
+        Some(of) => &of.item.fields,
         None => &[],
     }
 }
 
-/// A label is of its field's sort.
-fn check_field_sort(least: &mut Least, scope: &Scope, field: &FieldItem, e: &Expr, known: &Known)
-    requires { IsKnown scope.now (plain_expr e.now) known.now }
-    ensures { Notes least.old.known least.new.known (needs_sort_of (plain_scope scope.now) (plain_field field.now) (plain_expr e.now)) }
-{
-    let sort = sort_named(&field.sort.text);
-    least.note_if(differ_in_sort(&sort, &known.sort), Code::WrongSort, e.place);
-}
-
-/// The label of this number.
-fn check_label_at(
-    alloc: Global,
-    least: &mut Least,
-    scope: &Scope,
-    fields: &[FieldItem],
-    number: usize,
-    e: &Expr,
-) -> Result<(), Memory>
-    ensures { OnOk result (Notes least.old.known least.new.known (label_at (plain_scope scope.now) (field_at (map plain_field fields.now) number) (plain_expr e.now))) }
-{
-    let known = check_label(alloc, least, scope, e)?;
-    if number < fields.len() {
-        check_field_sort(least, scope, &fields[number], e, &known);
-        return Ok(());
+impl Checker<'_> {
+    /// A label is of its field's sort.
+    fn check_field_sort(&mut self, field: &FieldItem, label: Side)
+        ensures { Notes self.old self.new (field_sort_failures (plain_field field.now) label) }
+    {
+        let sort = sort_named(&field.sort.text);
+        self.note_if(
+            differ_in_sort(&sort, &label.sort),
+            Code::WrongSort,
+            label.place,
+        );
     }
-    Ok(())
-}
 
-/// The labels of a node.
-pub(crate) fn check_labels(
-    alloc: Global,
-    least: &mut Least,
-    scope: &Scope,
-    fields: &[FieldItem],
-    labels: &[Expr],
-) -> Result<(), Memory>
-    ensures { OnOk result (Notes least.old.known least.new.known (labels_failures (plain_scope scope.now) (map plain_field fields.now) (map plain_expr labels.now))) }
-{
-    'labels: for (number, label) in labels.iter().enumerate() {
-        check_label_at(alloc, least, scope, fields, number, label)?;
-    }
-    Ok(())
-}
-
-/// An output term of a rule between these types.
-#[cycle(check_out)]
-fn check_out(
-    alloc: Global,
-    context: &Context,
-    least: &mut Least,
-    from: &Name,
-    into: &Name,
-    vars: &Vars,
-    out: &Out,
-) -> Result<(), Memory>
-    requires context { IsContext context.now }
-    requires vars { IsVars vars.now }
-    ensures { OnOk result (Notes least.old.known least.new.known (out_failures (items_of context.now) (plain_name from.now) (plain_name into.now) (map plain_name vars.now.all.now) (plain_out out.now))) }
-{
-    match out {
-        Out::Child(name) => {
-            check_variable(least, vars, name);
-            least.note_if(
-                types_differ(context, from, into),
-                Code::WrongType,
-                name.place,
-            );
-            Ok(())
+    /// The label of this number.
+    fn check_label_at(
+        &mut self,
+        scope: &Scope,
+        fields: &[FieldItem],
+        number: usize,
+        e: &Expr,
+    ) -> Result<(), Memory>
+        ensures { OnOk result (Notes self.old self.new (label_at (plain_scope scope.now) (field_at (map plain_field fields.now) number) (plain_expr e.now))) }
+    {
+        let known = self.check_label(scope, e)?;
+        if number < fields.len() {
+            self.check_field_sort(&fields[number], known.side(e.place));
+            return Ok(());
         }
-        Out::Call(name, child) => {
-            check_transformation(context, least, from, into, name);
-            check_variable(least, vars, child);
-            Ok(())
+        Ok(())
+    }
+
+    /// The labels of a node.
+    pub(crate) fn check_labels(
+        &mut self,
+        scope: &Scope,
+        fields: &[FieldItem],
+        labels: &[Expr],
+    ) -> Result<(), Memory>
+        ensures { OnOk result (Notes self.old self.new (labels_failures (plain_scope scope.now) (map plain_field fields.now) (map plain_expr labels.now))) }
+    {
+        'labels: for (number, label) in labels.iter().enumerate() {
+            self.check_label_at(scope, fields, number, label)?;
         }
-        Out::Node(name, labels, outs) => {
-            check_node(alloc, context, least, from, into, name, labels, outs.len())?;
-            check_outs(alloc, context, least, from, into, vars, outs)
+        Ok(())
+    }
+
+    /// A child that is given as it is: the types of inputs and outputs are the same.
+    fn check_child(&mut self, types: &Between, vars: &Vars, name: &Name)
+        ensures { Notes self.old self.new (out_failures (items_of self.old.context) (plain_name types.now.from.now) (plain_name types.now.into.now) (map plain_name vars.now.all.now) (plain.child (plain_name name.now))) }
+    {
+        let differ = types_differ(&self.context, types.from, types.into);
+        self.check_variable(vars, name);
+        self.note_if(differ, Code::WrongType, name.place);
+    }
+
+    /// A call of a transformation for a child.
+    fn check_call(&mut self, types: &Between, vars: &Vars, name: &Name, child: &Name)
+        ensures { Notes self.old self.new (out_failures (items_of self.old.context) (plain_name types.now.from.now) (plain_name types.now.into.now) (map plain_name vars.now.all.now) (plain.call (plain_name name.now) (plain_name child.now))) }
+    {
+        self.check_transformation(types, name);
+        self.check_variable(vars, child);
+    }
+
+    /// An output term of a rule between these types.
+    #[cycle(check_out)]
+    fn check_out(&mut self, types: &Between, vars: &Vars, out: &Out) -> Result<(), Memory>
+        ensures { OnOk result (Notes self.old self.new (out_failures (items_of self.old.context) (plain_name types.now.from.now) (plain_name types.now.into.now) (map plain_name vars.now.all.now) (plain_out out.now))) }
+    {
+        match out {
+            Out::Child(name) => {
+                self.check_child(types, vars, name);
+                Ok(())
+            }
+            Out::Call(name, child) => {
+                self.check_call(types, vars, name, child);
+                Ok(())
+            }
+            Out::Node(name, labels, outs) => {
+                self.check_node(types, name, labels, outs.len())?;
+                self.check_outs(types, vars, outs)
+            }
         }
     }
-}
 
-#[cycle(check_out)]
-fn check_outs(
-    alloc: Global,
-    context: &Context,
-    least: &mut Least,
-    from: &Name,
-    into: &Name,
-    vars: &Vars,
-    outs: &[Out],
-) -> Result<(), Memory>
-    requires context { IsContext context.now }
-    requires vars { IsVars vars.now }
-    ensures { OnOk result (Notes least.old.known least.new.known (outs_failures (items_of context.now) (plain_name from.now) (plain_name into.now) (map plain_name vars.now.all.now) (plain_outputs outs.now))) }
-{
-    'outs: for out in outs {
-        check_out(alloc, context, least, from, into, vars, out)?;
+    #[cycle(check_out)]
+    fn check_outs(&mut self, types: &Between, vars: &Vars, outs: &[Out]) -> Result<(), Memory>
+        ensures { OnOk result (Notes self.old self.new (outs_failures (items_of self.old.context) (plain_name types.now.from.now) (plain_name types.now.into.now) (map plain_name vars.now.all.now) (plain_outputs outs.now))) }
+    {
+        'outs: for out in outs {
+            self.check_out(types, vars, out)?;
+        }
+        Ok(())
     }
-    Ok(())
-}
 
-/// The constructor of a node, and its labels, which speak of the input.
-fn check_node(
-    alloc: Global,
-    context: &Context,
-    least: &mut Least,
-    from: &Name,
-    into: &Name,
-    name: &Name,
-    labels: &[Expr],
-    count: usize,
-) -> Result<(), Memory>
-    requires { IsContext context.now }
-    ensures { OnOk result (Notes least.old.known least.new.known (node_failures (items_of context.now) (plain_name from.now) (plain_name into.now) (plain_name name.now) (map plain_expr labels.now) count)) }
-{
-    let item = context.find_type(&into.text);
-    check_constructor(least, &item, name, count);
-    check_label_count(least, &item, name, labels.len());
-    let scope = scope_of(&context.find_type(&from.text));
-    check_labels(alloc, least, &scope, fields_of(&item), labels)
-}
+    /// The constructor of a node, and its labels, which speak of the input.
+    fn check_node(
+        &mut self,
+        types: &Between,
+        name: &Name,
+        labels: &[Expr],
+        count: usize,
+    ) -> Result<(), Memory>
+        ensures { OnOk result (Notes self.old self.new (node_failures (items_of self.old.context) (plain_name types.now.from.now) (plain_name types.now.into.now) (plain_name name.now) (map plain_expr labels.now) count)) }
+    {
+        let from = self.context.find_type(&types.from.text);
+        let into = self.context.find_type(&types.into.text);
+        self.check_constructor(&into, name, count);
+        self.check_label_count(&into, name, labels.len());
+        self.check_labels(&scope_of(&from), fields_of(&into), labels)
+    }
 
-/// A rule of a transformation between these types.
-pub(crate) fn check_out_rule(
-    alloc: Global,
-    context: &Context,
-    least: &mut Least,
-    from: &Name,
-    into: &Name,
-    rule: &OutRule,
-) -> Result<(), Memory>
-    requires { IsContext context.now }
-    ensures { OnOk result (Notes least.old.known least.new.known (out_rule_failures (items_of context.now) (plain_name from.now) (plain_name into.now) (plain_out_rule rule.now))) }
-{
-    let vars = check_rule(alloc, context, least, from, &rule.rule)?;
-    check_out(alloc, context, least, from, into, &vars, &rule.out)
+    /// A rule of a transformation between these types.
+    pub(crate) fn check_out_rule(&mut self, types: &Between, rule: &OutRule) -> Result<(), Memory>
+        ensures { OnOk result (Notes self.old self.new (out_rule_failures (items_of self.old.context) (plain_name types.now.from.now) (plain_name types.now.into.now) (plain_out_rule rule.now))) }
+    {
+        let vars = self.check_rule(types.from, &rule.rule)?;
+        self.check_out(types, &vars, &rule.out)
+    }
 }

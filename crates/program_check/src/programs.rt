@@ -1,25 +1,20 @@
-//! Whole programs.
+//! Whole programs: one passes where none of the conditions on programs fails.
 
-ghost use Rattle.std.specs.Prelude.{◌≡◌, ℕ, List, [], OnOk, IfOk, IfErr, Some, None, true, map};
-ghost use Rattle.std.specs.Option.{option_map};
-ghost use Rattle.model_names.specs.Declared.{own_name, declares};
-ghost use Rattle.fast_syntax.specs.View.{plain_name};
+ghost use Rattle.std.specs.Prelude.{◌≡◌, ◌<◌, OnOk, IfOk, IfErr, Some, None, true, map, take, length, get_or};
+ghost use Rattle.model_checks.specs.Failures.{first_among};
+ghost use Rattle.model_checks.specs.Programs.{item_limit, body_failures, is_well_formed, refusal_of};
 ghost use Rattle.fast_syntax.specs.Plain.{plain_item, plain_program};
-ghost use Rattle.model_checks.specs.Programs.{item_limit, failures_behind, failures, is_well_formed, refusal_of};
-ghost use Rattle.program_check.specs.Notes.{Notes};
-ghost use Rattle.program_check.specs.Naming.{place_in, Grows};
-ghost use Rattle.program_check.specs.Contexts.{place_by, declares_type, AreNumbered};
+ghost use Rattle.program_check.specs.Numbered.{AreNumbered};
 ghost use Rattle.program_check.specs.Stops.{IsStop};
 ghost use Rattle.program_check.specs.Tells.{IsChecked};
 
-use crate::context::{Context, own_type};
-use crate::items::check_body;
-use crate::least::Least;
-use crate::names::Names;
+use crate::checker::Checker;
+use crate::context::{Context, item_at};
+use crate::declarations::{Declarations, number_items};
+use crate::limits::MOST_ITEMS;
 use crate::signatures::signatures_of;
 use fast_fault::{Code, Memory, Refusal};
-use fast_syntax::Name;
-use fast_syntax::items::{Body, Item, Program};
+use fast_syntax::items::{Item, Program};
 use fast_tree::Signature;
 use std::alloc::Global;
 
@@ -27,8 +22,7 @@ use std::alloc::Global;
 #[derive(Drop)]
 pub struct Checked {
     pub(crate) program: Program,
-    pub(crate) types: Names,
-    pub(crate) names: Names,
+    pub(crate) declared: Declarations,
     pub(crate) signatures: Vec<Option<Signature>>,
 }
 
@@ -50,108 +44,71 @@ impl From<Memory> for CheckStop {
     }
 }
 
-// The numbers of the items that declare a name first.
-#[derive(Drop)]
-struct Numbers {
-    types: Names,
-    names: Names,
-}
-
-/// The name of a language, transformation, definition or tree that an item declares.
-fn own_name(item: &Item) -> Option<&Name>
-    ensures { option_map (λ n. plain_name n.now) result ≡ own_name (plain_item item.now).body }
+/// The item that is one too many.
+fn over_limit(items: &[Item]) -> Option<Refusal>
+    ensures { result ≡ first_among None (item_limit (map plain_item items.now)) }
 {
-    match &item.body {
-        Body::Sorts(_) | Body::Assert(_) => None,
-        Body::Tree(own) => Some(&own.name),
-        Body::Lang(own) => Some(&own.name),
-        Body::Trans(own) => Some(&own.name),
-        Body::Def(own) => Some(&own.name),
+    match item_at(items, MOST_ITEMS) {
+        Some(item) => Some(Refusal {
+            code: Code::TooMany,
+            place: item.place,
+        }),
+        None => None,
     }
 }
 
-fn number_type(alloc: Global, types: &mut Names, item: &Item, place: usize) -> Result<(), Memory>
-    ensures { OnOk result (Grows types.old types.new (λ name. declares_type name (plain_item item.now)) place) }
-{
-    match own_type(item) {
-        Some(own) => types.add(alloc, &own.name.text, place),
-        None => Ok(()),
-    }
-}
-
-fn number_name(alloc: Global, names: &mut Names, item: &Item, place: usize) -> Result<(), Memory>
-    ensures { OnOk result (Grows names.old names.new (λ name. declares name (plain_item item.now)) place) }
-{
-    match own_name(item) {
-        Some(own) => names.add(alloc, &own.text, place),
-        None => Ok(()),
-    }
-}
-
-/// The number of the first item that declares each type, and each other name.
-fn number_items(alloc: Global, items: &[Item]) -> Result<Numbers, Memory>
-    ensures { IfOk result (λ numbers. AreNumbered (map plain_item items.now) numbers.types numbers.names) }
-{
-    let mut types = Names::new(alloc);
-    let mut names = Names::new(alloc);
-    'items: for (place, item) in items.iter().enumerate() {
-        number_type(alloc, &mut types, item, place)?;
-        number_name(alloc, &mut names, item, place)?;
-    }
-    Ok(Numbers { types, names })
-}
-
-/// There are 10,000 items at most.
-fn check_item_limit(least: &mut Least, items: &[Item])
-    ensures { Notes least.old.known least.new.known (item_limit (map plain_item items.now)) }
-{
-    if items.len() > 10000 {
-        least.note(Code::TooMany, items[10000].place);
-    }
-}
-
-fn check_items(
+/// The first of what is known and of the conditions that fail in the item behind so many others.
+fn check_item(
     alloc: Global,
-    least: &mut Least,
     items: &[Item],
-    numbers: &Numbers,
-) -> Result<(), Memory>
-    requires { AreNumbered (map plain_item items.now) numbers.now.types numbers.now.names }
-    ensures { OnOk result (Notes least.old.known least.new.known (failures_behind (map plain_item items.now) [] (map plain_item items.now))) }
+    declared: &Declarations,
+    before: usize,
+    known: Option<Refusal>,
+) -> Result<Option<Refusal>, Memory>
+    requires numbered { AreNumbered (map plain_item items.now) declared.now }
+    requires within { before < length items.now }
+    ensures { IfOk result (λ least. (x : _) → x ≡ get_or items.now before x → least ≡ first_among known (body_failures (map plain_item items.now) (take before (map plain_item items.now)) (plain_item x).body)) }
 {
-    'items: for (before, item) in items.iter().enumerate() {
-        let context = Context {
-            items,
-            types: &numbers.types,
-            names: &numbers.names,
-            before,
-        };
-        check_body(alloc, &context, least, &item.body)?;
-    }
-    Ok(())
+    let context = Context {
+        items,
+        declared,
+        before,
+    };
+    let mut checker = Checker {
+        known,
+        alloc,
+        context,
+    };
+    checker.check_body(&items[before].body)?;
+    Ok(checker.known)
 }
 
 /// The first of the failing conditions.
-fn find_refusal(alloc: Global, items: &[Item], numbers: &Numbers) -> Result<Option<Refusal>, Memory>
-    requires { AreNumbered (map plain_item items.now) numbers.now.types numbers.now.names }
+fn find_refusal(
+    alloc: Global,
+    items: &[Item],
+    declared: &Declarations,
+) -> Result<Option<Refusal>, Memory>
+    requires { AreNumbered (map plain_item items.now) declared.now }
     ensures { IfOk result (λ refusal. refusal ≡ refusal_of (map plain_item items.now)) }
 {
-    let mut least = Least::new();
-    check_item_limit(&mut least, items);
-    check_items(alloc, &mut least, items, numbers)?;
-    Ok(least.known)
+    let mut known = over_limit(items);
+    'items: for before in 0..items.len() {
+        known = check_item(alloc, items, declared, before, known)?;
+    }
+    Ok(known)
 }
 
-/// The numbers of the items of a program that passes.
-fn numbers_of(alloc: Global, program: &Program) -> Result<Numbers, CheckStop>
+/// The declarations of a program that passes.
+fn declared_by(alloc: Global, program: &Program) -> Result<Declarations, CheckStop>
     ensures well_formed { OnOk result (is_well_formed (plain_program program.now) ≡ true) }
-    ensures numbered { IfOk result (λ numbers. AreNumbered (plain_program program.now) numbers.types numbers.names) }
+    ensures numbered { IfOk result (AreNumbered (plain_program program.now)) }
     ensures refused { IfErr result (IsStop (refusal_of (plain_program program.now))) }
 {
-    let numbers = number_items(alloc, &program.items)?;
-    match find_refusal(alloc, &program.items, &numbers)? {
+    let declared = number_items(alloc, &program.items)?;
+    match find_refusal(alloc, &program.items, &declared)? {
         Some(refusal) => Err(CheckStop::Refused(refusal)),
-        None => Ok(numbers),
+        None => Ok(declared),
     }
 }
 
@@ -163,12 +120,11 @@ pub fn check(alloc: Global, program: Program) -> Result<Checked, CheckStop>
     ensures checked { IfOk result IsChecked }
     ensures refused { IfErr result (IsStop (refusal_of (plain_program program))) }
 {
-    let numbers = numbers_of(alloc, &program)?;
+    let declared = declared_by(alloc, &program)?;
     let signatures = signatures_of(alloc, &program.items)?;
     Ok(Checked {
         program,
-        types: numbers.types,
-        names: numbers.names,
+        declared,
         signatures,
     })
 }

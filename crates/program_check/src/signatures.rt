@@ -1,4 +1,4 @@
-//! The signatures of the types of a program.
+//! The signature of each type of a program: its fields with their sorts, and its constructors with their ranks.
 
 ghost use Rattle.std.specs.Prelude.{◌≡◌, IfOk, map};
 ghost use Rattle.std.specs.Option.{option_map};
@@ -8,10 +8,11 @@ ghost use Rattle.fast_syntax.specs.View.{plain_type};
 ghost use Rattle.fast_syntax.specs.Plain.{plain_item};
 ghost use Rattle.model_names.specs.Sorts.{own_sort};
 ghost use Rattle.model_meaning.specs.Types.{rank_of, signature_of};
-ghost use Rattle.program_check.specs.Contexts.{own_type_item};
+ghost use Rattle.program_check.specs.Numbered.{own_type_item};
 ghost use Rattle.program_check.specs.Signed.{field_of, constructor_of, own_signature};
 
-use crate::context::own_type;
+use crate::declarations::own_type;
+use crate::limits::MOST_CHILDREN;
 use crate::types::sort_named;
 use fast_fault::Memory;
 use fast_syntax::items::Item;
@@ -38,11 +39,11 @@ fn field_of(alloc: Global, field: &FieldItem) -> Result<FieldOf, Memory>
     })
 }
 
-/// A rank as a number; of a well-formed program each is 8 at most.
+/// A rank as a number; of a well-formed program each is in range.
 fn rank_of(rank: i128) -> Result<u32, Memory>
     ensures { IfOk result (λ made. made ≡ rank_of rank) }
 {
-    if 0 <= rank && rank <= 8 {
+    if 0 <= rank && rank <= MOST_CHILDREN {
         Ok(rank as u32)
     } else {
         Err(Memory)

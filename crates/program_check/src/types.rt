@@ -1,4 +1,5 @@
-//! Types.
+//! What may fail in a type by itself: a leaf that is missing, names that stand twice, unknown sorts, and numbers of fields
+//! and children that are too great.
 
 ghost use Rattle.std.specs.Prelude.{◌≡◌, OnOk, map, not, is_some};
 ghost use Rattle.std.specs.List.{list_any, flat_map};
@@ -10,12 +11,11 @@ ghost use Rattle.model_checks.specs.Types.{is_rank, is_rank_in_range, repeated, 
 ghost use Rattle.fast_fault.specs.declared.code.Code.TheVariants as code;
 ghost use Rattle.program_check.specs.Notes.{Notes};
 
-use crate::least::Least;
-use crate::named::check_repeated;
+use crate::checker::Checker;
+use crate::limits::{MOST_CHILDREN, MOST_FIELDS};
 use fast_fault::{Code, Memory, Text};
 use fast_syntax::{CtorItem, FieldItem, TypeItem};
 use fast_tree::Sort;
-use std::alloc::Global;
 
 /// The sort of this name.
 pub(crate) fn sort_named(name: &Text) -> Option<Sort>
@@ -56,58 +56,60 @@ fn has_leaf(item: &TypeItem) -> bool
 fn is_rank_in_range(rank: i128) -> bool
     ensures { result ≡ is_rank_in_range rank }
 {
-    0 <= rank && rank <= 8
+    0 <= rank && rank <= MOST_CHILDREN
 }
 
-fn check_sort(least: &mut Least, field: &FieldItem)
-    ensures { Notes least.old.known least.new.known (field_failures (plain_field field.now)) }
-{
-    let known = sort_named(&field.sort.text).is_some();
-    least.note_if(!known, Code::UnknownName, field.sort.place);
-}
-
-/// The sorts of the fields are known.
-fn check_sorts(least: &mut Least, item: &TypeItem)
-    ensures { Notes least.old.known least.new.known (flat_map field_failures (plain_type item.now).fields) }
-{
-    'fields: for field in &item.fields {
-        check_sort(least, field);
+impl Checker<'_> {
+    fn check_own_sort(&mut self, field: &FieldItem)
+        ensures { Notes self.old self.new (field_failures (plain_field field.now)) }
+    {
+        let known = sort_named(&field.sort.text).is_some();
+        self.note_if(!known, Code::UnknownName, field.sort.place);
     }
-}
 
-fn check_rank(least: &mut Least, ctor: &CtorItem)
-    ensures { Notes least.old.known least.new.known (ctor_failures (plain_ctor ctor.now)) }
-{
-    least.note_if(!is_rank_in_range(ctor.rank), Code::TooMany, ctor.name.place);
-}
-
-/// The ranks of the constructors are in range.
-fn check_ranks(least: &mut Least, item: &TypeItem)
-    ensures { Notes least.old.known least.new.known (flat_map ctor_failures (plain_type item.now).ctors) }
-{
-    'ctors: for ctor in &item.ctors {
-        check_rank(least, ctor);
+    /// The sorts of the fields are known.
+    fn check_own_sorts(&mut self, item: &TypeItem)
+        ensures { Notes self.old self.new (flat_map field_failures (plain_type item.now).fields) }
+    {
+        'fields: for field in &item.fields {
+            self.check_own_sort(field);
+        }
     }
-}
 
-/// There are eight fields at most.
-fn check_field_limit(least: &mut Least, item: &TypeItem)
-    ensures { Notes least.old.known least.new.known (field_limit (plain_type item.now).fields) }
-{
-    if let Some(ninth) = item.fields.get(8) {
-        least.note(Code::TooMany, ninth.name.place);
+    fn check_rank(&mut self, ctor: &CtorItem)
+        ensures { Notes self.old self.new (ctor_failures (plain_ctor ctor.now)) }
+    {
+        self.note_if(!is_rank_in_range(ctor.rank), Code::TooMany, ctor.name.place);
     }
-}
 
-/// Notes what fails in a type.
-pub(crate) fn check_type(alloc: Global, least: &mut Least, item: &TypeItem) -> Result<(), Memory>
-    ensures { OnOk result (Notes least.old.known least.new.known (type_failures (plain_type item.now))) }
-{
-    least.note_if(!has_leaf(item), Code::NoLeaf, item.name.place);
-    check_repeated(alloc, least, Code::DuplicateName, &item.fields)?;
-    check_sorts(least, item);
-    check_field_limit(least, item);
-    check_repeated(alloc, least, Code::DuplicateName, &item.ctors)?;
-    check_ranks(least, item);
-    Ok(())
+    /// The ranks of the constructors are in range.
+    fn check_ranks(&mut self, item: &TypeItem)
+        ensures { Notes self.old self.new (flat_map ctor_failures (plain_type item.now).ctors) }
+    {
+        'ctors: for ctor in &item.ctors {
+            self.check_rank(ctor);
+        }
+    }
+
+    /// There are not too many fields.
+    fn check_field_limit(&mut self, item: &TypeItem)
+        ensures { Notes self.old self.new (field_limit (plain_type item.now).fields) }
+    {
+        if let Some(ninth) = item.fields.get(MOST_FIELDS) {
+            self.note(Code::TooMany, ninth.name.place);
+        }
+    }
+
+    /// Notes what fails in a type.
+    pub(crate) fn check_type(&mut self, item: &TypeItem) -> Result<(), Memory>
+        ensures { OnOk result (Notes self.old self.new (type_failures (plain_type item.now))) }
+    {
+        self.note_if(!has_leaf(item), Code::NoLeaf, item.name.place);
+        self.check_repeated(Code::DuplicateName, &item.fields)?;
+        self.check_own_sorts(item);
+        self.check_field_limit(item);
+        self.check_repeated(Code::DuplicateName, &item.ctors)?;
+        self.check_ranks(item);
+        Ok(())
+    }
 }

@@ -5,7 +5,7 @@ use Rattle.program_check.proofs.programs.check.Goals as goal
 
 pub returns-clause-checked : goal.returns-clause-checked
 returns-clause-checked c = record {
-  well_formed = c.in_ok-numbers.ensures.well_formed;
-  numbered = c.in_ok-numbers.ensures.numbered;
+  well_formed = c.in_ok-declared.ensures.well_formed;
+  numbered = c.in_ok-declared.ensures.numbered;
   signed = c.in_ok-signatures.ensures ∙ ap (λ xs. map own_signature (map plain_item xs)) c.deref.ensures.value;
 }

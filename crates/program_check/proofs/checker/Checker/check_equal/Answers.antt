@@ -1,0 +1,23 @@
+use Rattle.std.proofs.Common.{◌∙◌, ap}
+use Rattle.fast_syntax.specs.Plain.{plain_x}
+use Rattle.model_checks.specs.Expressions.{whole_failures}
+use Rattle.model_names.specs.Kinds.{language}
+use Rattle.program_check.specs.Contexts.{items_of, before_of}
+use Rattle.program_check.specs.Typed.{type_name}
+use Rattle.program_check.proofs.Noting.{next, same, of_same}
+use Rattle.program_check.proofs.Standing.{declared_in, only_is, only_declared}
+use Rattle.program_check.specs.declared.expressions.Kind.TheVariants.{Language, Transformation}
+use Rattle.program_check.proofs.checker.Checker.check_equal.Goals as goal
+
+pub check_as-requires-2 : goal.check_as-requires-2
+check_as-requires-2 c = declared_in c.only_as-wanted.result (ap items_of c.in_ok-left.ensures.noted.same) (rw c.only_as-wanted.ensures (only_declared (items_of c.args.self.now.context) Language c.in_ok-left.left.kind c.in_ok-left.left.input c.in_ok-left.ensures.standing.declared_input))
+
+pub returns : goal.returns
+returns c =
+    let items = items_of c.args.self.now.context in
+    let before = before_of c.args.self.now.context in
+    let s = c.in_ok-left.left in
+    let is = c.in_ok-left.ensures.standing in
+    let one = c.in_ok-left.ensures.noted in
+    let two = of_same (λ d. whole_failures (items_of d) (before_of d) (type_name c.only_as-wanted.result) language (plain_x c.args.y.now)) one.same c.in_ok-check_as.ensures.noted in
+    next one (same (ap (λ n. whole_failures items before n language (plain_x c.args.y.now)) (ap type_name c.only_as-wanted.ensures ∙ only_is Language s.kind s.input _ _ is.kind is.input)) two)

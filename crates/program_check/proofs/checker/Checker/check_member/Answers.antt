@@ -1,0 +1,23 @@
+use Rattle.std.proofs.Common.{◌∙◌, ap}
+use Rattle.fast_syntax.specs.Plain.{plain_x}
+use Rattle.model_checks.specs.Expressions.{whole_failures}
+use Rattle.model_names.specs.Kinds.{a_tree, language}
+use Rattle.program_check.specs.Contexts.{items_of, before_of}
+use Rattle.program_check.specs.Typed.{type_name}
+use Rattle.program_check.proofs.Noting.{next, same, of_same}
+use Rattle.program_check.proofs.Standing.{declared_in, only_is, only_declared}
+use Rattle.program_check.specs.declared.expressions.Kind.TheVariants.{Language, Transformation}
+use Rattle.program_check.proofs.checker.Checker.check_member.Goals as goal
+
+pub check_as-requires-2 : goal.check_as-requires-2
+check_as-requires-2 c = declared_in c.only_as-wanted.result (ap items_of c.in_ok-language.ensures.noted.same) (rw c.only_as-wanted.ensures (only_declared (items_of c.args.self.now.context) Language c.in_ok-language.language.kind c.in_ok-language.language.input c.in_ok-language.ensures.standing.declared_input))
+
+pub returns : goal.returns
+returns c =
+    let items = items_of c.args.self.now.context in
+    let before = before_of c.args.self.now.context in
+    let s = c.in_ok-language.language in
+    let is = c.in_ok-language.ensures.standing in
+    let one = c.in_ok-language.ensures.noted in
+    let two = of_same (λ d. whole_failures (items_of d) (before_of d) (type_name c.only_as-wanted.result) a_tree (plain_x c.args.x.now)) one.same c.in_ok-check_as.ensures.noted in
+    next one (same (ap (λ n. whole_failures items before n a_tree (plain_x c.args.x.now)) (ap type_name c.only_as-wanted.ensures ∙ only_is Language s.kind s.input _ _ is.kind is.input)) two)

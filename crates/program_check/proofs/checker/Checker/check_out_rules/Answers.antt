@@ -1,0 +1,19 @@
+use Rattle.std.proofs.Common.{ap, map, true, false}
+use Rattle.std.specs.List.{flat_map}
+use Rattle.std.proofs.lemmas.List.{drop_all}
+use Rattle.fast_syntax.specs.View.{plain_name}
+use Rattle.fast_syntax.specs.Plain.{plain_out_rule}
+use Rattle.model_checks.specs.Rules.{out_rule_failures}
+use Rattle.program_check.specs.Contexts.{items_of}
+use Rattle.program_check.proofs.Noting.{more, done, one_of}
+use Rattle.program_check.proofs.checker.Checker.check_out_rules.Goals as goal
+
+pub rules-preserved : goal.rules-preserved
+rules-preserved c =
+    let each = out_rule_failures (items_of c.args.self.now.context) (plain_name c.args.types.now.from.now) (plain_name c.args.types.now.into.now) in
+    more (λ d. out_rule_failures (items_of d) (plain_name c.args.types.now.from.now) (plain_name c.args.types.now.into.now) (plain_out_rule c.rule-item.result)) _ c.in_ok-check_out_rule.ensures (one_of each plain_out_rule c.args.rules.now c.rules.rule-index c.rule-item.result c.rules-test.true c.rule-item.is) c.rules.invariant
+
+pub returns : goal.returns
+returns c =
+    let each = out_rule_failures (items_of c.args.self.now.context) (plain_name c.args.types.now.from.now) (plain_name c.args.types.now.into.now) in
+    done (ap (λ xs. flat_map each (map plain_out_rule xs)) (drop_all c.rules.rule-index c.args.rules.now c.rules-test.false)) c.rules.invariant

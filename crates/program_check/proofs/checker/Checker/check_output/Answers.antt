@@ -1,0 +1,14 @@
+use Rattle.std.proofs.Common.{◌∙◌, ap, ap₂}
+use Rattle.model_checks.specs.Failures.{fails_if}
+use Rattle.model_checks.specs.Rules.{differ}
+use Rattle.program_check.specs.Typed.{type_name}
+use Rattle.program_check.proofs.Noting.{same}
+use Rattle.program_check.proofs.Standing.{only_is}
+use Rattle.program_check.specs.declared.expressions.Kind.TheVariants.{Transformation}
+use Rattle.fast_fault.specs.declared.code.Code.TheVariants.{WrongType}
+use Rattle.program_check.proofs.checker.Checker.check_output.Goals as goal
+
+pub returns : goal.returns
+returns c =
+    let s = c.args.standing.now in
+    same (λ i. fails_if ((c.differ.ensures ∙ ap₂ differ c.output_named-wanted.ensures (ap type_name c.only_as-found.ensures ∙ only_is Transformation s.kind s.output _ _ c.requires.kind c.requires.output)) i) WrongType (c.place_of.ensures i)) c.note_if.ensures

@@ -1,0 +1,18 @@
+use Rattle.std.proofs.Common.{true, false}
+use Rattle.fast_syntax.specs.View.{plain_name}
+use Rattle.program_check.proofs.Repeating.{at_first, one_more, all_noted, all_there}
+use Rattle.program_check.proofs.checker.Checker.check_repeated.Goals as goal
+
+pub all-init : goal.all-init
+all-init g c = at_first g.N.Named.name_of c.args.code c.args.all.now c.args.self.now c.new-names.result c.new-names.ensures
+
+pub all-preserved : goal.all-preserved
+all-preserved g c =
+    one_more g.N.Named.name_of c.args.code c.args.all.now c.all.place c.index-all-place.result (plain_name c.name.result.now) c.args.self.now c.all.self c.add_name.new.self c.all.names c.add_name.new.names
+    c.all-test.true c.index-all-place.is c.name.ensures c.in_ok-add_name.ensures.noted c.in_ok-add_name.ensures.names c.all.invariant
+
+pub returns-clause-noted : goal.returns-clause-noted
+returns-clause-noted g c = all_noted g.N.Named.name_of c.args.code c.args.all.now c.all.place c.args.self.now c.all.self c.all.names c.all-test.false c.all.invariant
+
+pub returns-clause-names : goal.returns-clause-names
+returns-clause-names g c = all_there g.N.Named.name_of c.args.code c.args.all.now c.all.place c.args.self.now c.all.self c.all.names c.all-test.false c.all.invariant

@@ -1,0 +1,5 @@
+use Rattle.program_check.proofs.Repeating.{SoFar}
+use Rattle.program_check.proofs.checker.Checker.check_repeated.Given as goal
+
+abbrev pub invariant-all : goal.invariant-all
+invariant-all g l = SoFar g.N.Named.name_of l.code l.all l.place l.initial.self l.self l.names

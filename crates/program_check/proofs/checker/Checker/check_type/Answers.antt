@@ -1,0 +1,20 @@
+use Rattle.std.proofs.Common.{◌∙◌, sym, ap, map}
+use Rattle.std.specs.Prelude.{not}
+use Rattle.fast_syntax.specs.View.{plain_name, plain_field, plain_ctor}
+use Rattle.model_checks.specs.Failures.{fails_if}
+use Rattle.model_checks.specs.Types.{repeated}
+use Rattle.program_check.proofs.Noting.{next, same}
+use Rattle.std.proofs.lemmas.Simd.{map-map}
+use Rattle.fast_fault.specs.declared.code.Code.TheVariants.{DuplicateName, NoLeaf}
+use Rattle.model_program.specs.Syntax as plain
+use Rattle.model_checks.specs.Types.{is_rank}
+use Rattle.program_check.proofs.Mapped.{list_any_map}
+use Rattle.program_check.proofs.checker.Checker.check_type.Goals as goal
+
+pub returns : goal.returns
+returns c =
+    let item = c.args.item.now in
+    let leaf = same (ap (λ b. fails_if (not b) NoLeaf item.name.place) (c.has_leaf.ensures ∙ sym (list_any_map (λ (c : plain.CtorItem). is_rank 0 c.rank) plain_ctor item.ctors.items))) c.note_if.ensures in
+    let fields = same (ap (repeated DuplicateName) (ap (map (λ f. plain_name f.name)) c.deref.ensures.value ∙ sym (map-map (λ (f : plain.FieldItem). f.name) plain_field item.fields.items))) c.in_ok-check_repeated.ensures.noted in
+    let ctors = same (ap (repeated DuplicateName) (ap (map (λ c. plain_name c.name)) c.deref-2.ensures.value ∙ sym (map-map (λ (c : plain.CtorItem). c.name) plain_ctor item.ctors.items))) c.in_ok-check_repeated-2.ensures.noted in
+    next leaf (next fields (next c.check_own_sorts.ensures (next c.check_field_limit.ensures (next ctors c.check_ranks.ensures))))

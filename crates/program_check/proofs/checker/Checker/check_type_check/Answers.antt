@@ -1,0 +1,34 @@
+use Rattle.std.proofs.Common.{◌∙◌, ap, subst}
+use Rattle.fast_syntax.specs.Plain.{plain_x}
+use Rattle.model_checks.specs.Expressions.{whole_failures}
+use Rattle.model_names.specs.Kinds.{language, transformation}
+use Rattle.program_check.specs.Contexts.{items_of, before_of}
+use Rattle.program_check.specs.Typed.{type_name}
+use Rattle.program_check.specs.Standings.{IsStanding}
+use Rattle.program_check.proofs.Noting.{next, same, of_same}
+use Rattle.program_check.proofs.Standing.{declared_in, only_is, only_declared}
+use Rattle.program_check.specs.declared.expressions.Kind.TheVariants.{Language, Transformation}
+use Rattle.program_check.specs.declared.context.Context.{Context}
+use Rattle.program_check.proofs.checker.Checker.check_type_check.Goals as goal
+
+pub check_as-requires-2 : goal.check_as-requires-2
+check_as-requires-2 c = declared_in c.only_as-input.result (ap items_of c.in_ok-language.ensures.noted.same) (rw c.only_as-input.ensures (only_declared (items_of c.args.self.now.context) Language c.in_ok-language.language.kind c.in_ok-language.language.input c.in_ok-language.ensures.standing.declared_input))
+
+pub check_as-requires-3 : goal.check_as-requires-3
+check_as-requires-3 c = declared_in c.only_as-output.result (ap items_of c.in_ok-standing.ensures.noted.same) (rw c.only_as-output.ensures (only_declared _ Transformation c.in_ok-standing.standing.kind c.in_ok-standing.standing.output c.in_ok-standing.ensures.standing.declared_output))
+
+pub returns : goal.returns
+returns c =
+    let items = items_of c.args.self.now.context in
+    let before = before_of c.args.self.now.context in
+    let s = c.in_ok-language.language in
+    let is = c.in_ok-language.ensures.standing in
+    let t = c.in_ok-standing.standing in
+    let y = plain_x c.args.y.now in
+    let z = plain_x c.args.z.now in
+    let one = c.in_ok-language.ensures.noted in
+    let are = subst (λ (d : Context). IsStanding (items_of d) y t) one.same c.in_ok-standing.ensures.standing in
+    let two = of_same (λ d. whole_failures (items_of d) (before_of d) (type_name c.only_as-input.result) transformation y) one.same c.in_ok-standing.ensures.noted in
+    let three = of_same (λ d. whole_failures (items_of d) (before_of d) (type_name c.only_as-output.result) language z) (two.same ∙ one.same) c.in_ok-check_as.ensures.noted in
+    next one (next (same (ap (λ n. whole_failures items before n transformation y) (ap type_name c.only_as-input.ensures ∙ only_is Language s.kind s.input _ _ is.kind is.input)) two)
+    (same (ap (λ n. whole_failures items before n language z) (ap type_name c.only_as-output.ensures ∙ only_is Transformation t.kind t.output _ _ are.kind are.output)) three))

@@ -1,5 +1,0 @@
-use Rattle.program_check.proofs.Repeating.{SoFar}
-use Rattle.program_check.proofs.named.check_repeated.Given as goal
-
-abbrev pub invariant-all : goal.invariant-all
-invariant-all g l = SoFar g.N.Named.name_of l.code l.all l.place l.initial.least.known l.least.known l.names

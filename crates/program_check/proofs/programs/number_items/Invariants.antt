@@ -1,7 +1,0 @@
-use Rattle.std.proofs.Common.{map, take}
-use Rattle.fast_syntax.specs.Plain.{plain_item}
-use Rattle.program_check.specs.Contexts.{AreNumbered}
-use Rattle.program_check.proofs.programs.number_items.Given as goal
-
-abbrev pub invariant-items : goal.invariant-items
-invariant-items l = AreNumbered (take l.place (map plain_item l.items)) l.types l.names

@@ -1,0 +1,56 @@
+//! What goes through a program: it keeps the first failing condition of those that it noted, in whatever order they were
+//! found.
+
+ghost use Rattle.std.specs.Prelude.{◌≡◌, None, Some};
+ghost use Rattle.model_checks.specs.Failures.{failure, fails_if, goes_before};
+ghost use Rattle.program_check.specs.Notes.{Notes};
+
+use crate::context::Context;
+use fast_fault::{Code, Pos, Refusal};
+use std::alloc::Global;
+
+/// The failing condition that goes before all others that were noted, where some were, and the program.
+#[derive(Drop)]
+pub(crate) struct Checker<'p> {
+    pub(crate) known: Option<Refusal>,
+    pub(crate) alloc: Global,
+    pub(crate) context: Context<'p>,
+}
+
+impl Checker<'_> {
+    /// The condition of this code fails at this place.
+    pub(crate) fn note(&mut self, code: Code, place: Pos)
+        ensures { Notes self.old self.new (failure code place) }
+    {
+        let new = Refusal { code, place };
+        if let Some(known) = &self.known {
+            if !goes_before(&new, known) {
+                return;
+            }
+        }
+        self.known = Some(new);
+    }
+
+    /// It fails where this is so.
+    pub(crate) fn note_if(&mut self, fails: bool, code: Code, place: Pos)
+        ensures { Notes self.old self.new (fails_if fails code place) }
+    {
+        if fails {
+            self.note(code, place);
+        }
+    }
+}
+
+/// Whether a failing condition goes before another.
+fn goes_before(new: &Refusal, known: &Refusal) -> bool
+    ensures { result ≡ goes_before new.now known.now }
+{
+    let (here, there) = (new.place, known.place);
+    if here.line != there.line {
+        return here.line < there.line;
+    }
+    if here.column != there.column {
+        return here.column < there.column;
+    }
+    new.code.number() < known.code.number()
+}

@@ -1,0 +1,126 @@
+//! What a program declares: each name is numbered once, and found in constant time from then on.
+
+ghost use Rattle.std.specs.Prelude.{◌≡◌, ℕ, List, OnOk, IfOk, map};
+ghost use Rattle.std.specs.Option.{option_map};
+ghost use Rattle.model_names.specs.Declared.{own_name, declares};
+ghost use Rattle.fast_syntax.specs.View.{plain_name, plain_ctor, plain_type};
+ghost use Rattle.fast_syntax.specs.Plain.{plain_item};
+ghost use Rattle.program_check.specs.Naming.{place_in, Grows};
+ghost use Rattle.program_check.specs.Numbered.{place_by, declares_type, own_type_item, ctor_place, own_ctors, HasCtors, AreNumbered};
+
+use crate::names::Names;
+use fast_fault::Memory;
+use fast_syntax::items::{Body, Item};
+use fast_syntax::{CtorItem, Name, TypeItem};
+use std::alloc::Global;
+
+/// The number of the first item that declares each type, that of the first that declares each other name, and, for each
+/// item, the numbers of its constructors, where it is a type.
+#[derive(Drop)]
+pub(crate) struct Declarations {
+    pub(crate) types: Names,
+    pub(crate) names: Names,
+    pub(crate) ctors: Vec<Names>,
+}
+
+/// The type that an item is.
+pub(crate) fn own_type(item: &Item) -> Option<&TypeItem>
+    ensures { option_map (λ t. plain_type t.now) result ≡ own_type_item (plain_item item.now).body }
+{
+    match &item.body {
+        Body::Sorts(own) => Some(own),
+        _ => None,
+    }
+}
+
+/// The name of a language, transformation, definition or tree that an item declares.
+fn own_name(item: &Item) -> Option<&Name>
+    ensures { option_map (λ n. plain_name n.now) result ≡ own_name (plain_item item.now).body }
+{
+    match &item.body {
+        Body::Sorts(_) | Body::Assert(_) => None,
+        Body::Tree(own) => Some(&own.name),
+        Body::Lang(own) => Some(&own.name),
+        Body::Trans(own) => Some(&own.name),
+        Body::Def(own) => Some(&own.name),
+    }
+}
+
+fn number_type(alloc: Global, types: &mut Names, item: &Item, place: usize) -> Result<(), Memory>
+    ensures { OnOk result (Grows types.old types.new (λ name. declares_type name (plain_item item.now)) place) }
+{
+    match own_type(item) {
+        Some(own) => types.add(alloc, &own.name.text, place),
+        None => Ok(()),
+    }
+}
+
+fn number_types(alloc: Global, items: &[Item]) -> Result<Names, Memory>
+    ensures { IfOk result (λ types. (name : List ℕ) → place_in types name ≡ place_by (declares_type name) (map plain_item items.now)) }
+{
+    let mut types = Names::new(alloc);
+    'items: for (place, item) in items.iter().enumerate() {
+        number_type(alloc, &mut types, item, place)?;
+    }
+    Ok(types)
+}
+
+fn number_name(alloc: Global, names: &mut Names, item: &Item, place: usize) -> Result<(), Memory>
+    ensures { OnOk result (Grows names.old names.new (λ name. declares name (plain_item item.now)) place) }
+{
+    match own_name(item) {
+        Some(own) => names.add(alloc, &own.text, place),
+        None => Ok(()),
+    }
+}
+
+fn number_names(alloc: Global, items: &[Item]) -> Result<Names, Memory>
+    ensures { IfOk result (λ names. (name : List ℕ) → place_in names name ≡ place_by (declares name) (map plain_item items.now)) }
+{
+    let mut names = Names::new(alloc);
+    'items: for (place, item) in items.iter().enumerate() {
+        number_name(alloc, &mut names, item, place)?;
+    }
+    Ok(names)
+}
+
+/// The numbers of the constructors of a type.
+fn number_ctors(alloc: Global, ctors: &[CtorItem]) -> Result<Names, Memory>
+    ensures { IfOk result (HasCtors (map plain_ctor ctors.now)) }
+{
+    let mut names = Names::new(alloc);
+    'ctors: for (place, ctor) in ctors.iter().enumerate() {
+        names.add(alloc, &ctor.name.text, place)?;
+    }
+    Ok(names)
+}
+
+fn own_ctors(alloc: Global, item: &Item) -> Result<Names, Memory>
+    ensures { IfOk result (λ names. place_in names ≡ ctor_place (own_ctors (plain_item item.now))) }
+{
+    match own_type(item) {
+        Some(own) => number_ctors(alloc, &own.ctors),
+        None => Ok(Names::new(alloc)),
+    }
+}
+
+fn all_ctors(alloc: Global, items: &[Item]) -> Result<Vec<Names>, Memory>
+    ensures { IfOk result (λ made. map place_in made.items ≡ map (λ item. ctor_place (own_ctors item)) (map plain_item items.now)) }
+{
+    let mut made = Vec::new(alloc);
+    'items: for item in items {
+        made.push(own_ctors(alloc, item)?)?;
+    }
+    Ok(made)
+}
+
+/// Numbers what the items declare.
+pub(crate) fn number_items(alloc: Global, items: &[Item]) -> Result<Declarations, Memory>
+    ensures { IfOk result (AreNumbered (map plain_item items.now)) }
+{
+    Ok(Declarations {
+        types: number_types(alloc, items)?,
+        names: number_names(alloc, items)?,
+        ctors: all_ctors(alloc, items)?,
+    })
+}
