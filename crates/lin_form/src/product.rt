@@ -38,14 +38,22 @@ impl Form {
         requires few { by ≤ 4096 }
         ensures { MatchResult result (λ form. form ≡ remainder_form self.now by) (λ stop. stop ≡ FormStop.Memory) }
     {
+        self.copy(alloc)?.into_remainder(alloc, by)
+    }
+
+    /// The form's remainder by a number, in constant time: a chain of remainders is built in linear time by it.
+    pub fn into_remainder(self, alloc: Global, by: u32) -> Result<Form, FormStop>
+        requires some { 0 < by }
+        requires few { by ≤ 4096 }
+        ensures { MatchResult result (λ form. form ≡ remainder_form self by) (λ stop. stop ≡ FormStop.Memory) }
+    {
         if self.fields.is_empty() && self.remainders.is_empty() {
             return Ok(Form::number(alloc, rem(self.constant, by as i128))?);
         }
-        let inner = self.copy(alloc)?;
         let mut remainders = Vec::new(alloc);
         remainders.push(RemTerm {
             coefficient: 1,
-            inner,
+            inner: self,
             divisor: by,
         })?;
         Ok(Form {

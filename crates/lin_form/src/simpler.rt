@@ -50,7 +50,7 @@ impl Sum {
     {
         let sum = self.opened(alloc, by)?;
         let inner = sum.finish(alloc)?;
-        inner.remainder(alloc, by)
+        inner.into_remainder(alloc, by)
     }
 
     // The sum as it stands in a remainder.

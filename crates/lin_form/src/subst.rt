@@ -24,7 +24,7 @@ impl Form {
         put_fields(alloc, &mut sum, &self.fields, forms)?;
         for term in &self.remainders {
             let inner = term.inner.subst(alloc, forms)?;
-            let part = inner.remainder(alloc, term.divisor)?;
+            let part = inner.into_remainder(alloc, term.divisor)?;
             sum.add(alloc, term.coefficient as i128, &part)?;
         }
         sum.finish(alloc)

@@ -31,11 +31,11 @@ returns-in_err-inner-clause-form t c =
     (subst (λ ts. IsOutsideWithin (plain_remainders ts) gs n) c.deref-term-items.ensures.value (within_at items c.loop-term.term-index c.term-item.result gs n c.loop-term-test.true (subst (λ (x : RemTerm). IsOutsideAfter x.inner gs n) c.term-item.is o))) in
     rw (p.1, p.2) (stops_weaker (IsOutsideAfter c.term-item.result.inner gs) (IsOutsideAfter c.args.self.now gs) c.in_err-inner.field-0.0 out h)
 
-pub remainder-requires-clause-some : goal.remainder-requires-clause-some
-remainder-requires-clause-some t c = (remainder_item c.self.inside.remainders.items c.deref-term-items.result.now c.loop-term.term-index c.term-item.result c.self.invariant.2 c.deref-term-items.ensures.value c.term-item.is c.loop-term-test.true).1
+pub into_remainder-requires-clause-some : goal.into_remainder-requires-clause-some
+into_remainder-requires-clause-some t c = (remainder_item c.self.inside.remainders.items c.deref-term-items.result.now c.loop-term.term-index c.term-item.result c.self.invariant.2 c.deref-term-items.ensures.value c.term-item.is c.loop-term-test.true).1
 
-pub remainder-requires-clause-few : goal.remainder-requires-clause-few
-remainder-requires-clause-few t c = (remainder_item c.self.inside.remainders.items c.deref-term-items.result.now c.loop-term.term-index c.term-item.result c.self.invariant.2 c.deref-term-items.ensures.value c.term-item.is c.loop-term-test.true).2
+pub into_remainder-requires-clause-few : goal.into_remainder-requires-clause-few
+into_remainder-requires-clause-few t c = (remainder_item c.self.inside.remainders.items c.deref-term-items.result.now c.loop-term.term-index c.term-item.result c.self.invariant.2 c.deref-term-items.ensures.value c.term-item.is c.loop-term-test.true).2
 
 pub add-requires-clause-by : goal.add-requires-clause-by
 add-requires-clause-by t c =

@@ -6,13 +6,12 @@ use Rattle.model_form.specs.Form.{form, remainder, no_remainders}
 use Rattle.model_form.specs.Sums.{remainder_form}
 use Rattle.lin_form.specs.Terms.{plain_fields, plain_remainders}
 use Rattle.lin_form.proofs.Outside.{remainder_is, fields_none, remainders_none}
-use Rattle.lin_form.proofs.form.Form.remainder.Goals as goal
-use Rattle.lin_form.proofs.form.Form.remainder.Goals.{else-is_empty-via-then-is_empty+else-is_empty-2, else-is_empty-via-else-is_empty}
+use Rattle.lin_form.proofs.form.Form.into_remainder.Goals as goal
+use Rattle.lin_form.proofs.form.Form.into_remainder.Goals.{else-is_empty-via-then-is_empty+else-is_empty-2, else-is_empty-via-else-is_empty}
 
 pub returns : goal.returns
 returns c =
     let items = (c.in_ok-push.ensures {u = tt}).items in
-    let copied = c.in_ok-inner.ensures {u = tt} in
     let n : plain_fields c.self.inside.fields.items ≡ [] → plain_remainders c.self.inside.remainders.items ≡ no_remainders → ⊥ = λ p q. elim c.else-is_empty.branch [
       | else-is_empty-via-then-is_empty+else-is_empty-2 w ↦ (
           let l = remainders_none c.self.inside.remainders.items q in
@@ -23,9 +22,9 @@ returns c =
           let v : vec_len c.self.inside.fields ≡ 0 = omega arith in
           let z : true ≡ false = sym (eq-eqb (vec_len c.self.inside.fields) 0 v) ∙ sym c.is_empty.ensures ∙ w.if-is_empty.false in cc)
     ] in
-    let t : RemTerm = record { coefficient = pos 1; inner = c.in_ok-inner.inner; divisor = c.args.by } in
+    let t : RemTerm = record { coefficient = pos 1; inner = c.args.self; divisor = c.args.by } in
     let made : c.push.new.self.items ≡ t ∷ [] = items ∙ ap (λ ts. ts ++ t ∷ []) c.new-remainders.ensures.items in
     (λ i. form (pos 0) (plain_fields (c.new.ensures.items i)) (plain_remainders (made i)))
-    ∙ (λ i. form (pos 0) [] (remainder (pos 1) ((copied ∙ sym c.self.view_is) i) c.args.by no_remainders))
+    ∙ (λ i. form (pos 0) [] (remainder (pos 1) (sym c.self.view_is i) c.args.by no_remainders))
     ∙ sym (remainder_is c.self.inside.constant (plain_fields c.self.inside.fields.items) (plain_remainders c.self.inside.remainders.items) c.args.by n)
     ∙ ap (λ f. remainder_form f c.args.by) c.self.view_is
