@@ -2,7 +2,7 @@
 use Rattle.std.proofs.Common.{◌≡◌, ℕ, suc, ◌+◌, ◌<◌, ◌≤◌, List, [], ◌∷◌, length, drop, get_or, sym, subst}
 use Rattle.std.proofs.lemmas.List.{at_drop_more, at_drop_all}
 use Rattle.model_form.specs.Form.{Form, form, Term, remainders_of}
-use Rattle.model_form.specs.Over.{IsOver, AreBelow, AreOver}
+use Rattle.model_form.specs.Over.{IsOver, AreBelow, AreOver, IsDivided, AreDivided}
 use Rattle.model_form.specs.Ranges.{AreFields, IsForm}
 use Rattle.model_chain.specs.Literals.{AreLiteralsOver}
 use Rattle.label_core.specs.declared.theory.Lit.{Lit}
@@ -33,3 +33,14 @@ literals_step ls k l h is o q rest =
 
 pub literals_end : (ls : List (Lit Compare)) (k : ℕ) → length ls ≤ k → AreLiteralsOver 8 (plain_literals (drop k ls))
 literals_end ls k h = subst (λ (us : List (Lit Compare)). AreLiteralsOver 8 (plain_literals us)) (sym (at_drop_all (λ us. us) ls k h)) tt
+
+pub whole_divided : (f : Form) (ts : List RemTerm) → plain_remainders ts ≡ remainders_of f → AreDivided (plain_remainders ts) → IsDivided f
+whole_divided (form c us rs) ts e d = subst AreDivided e d
+
+pub divided_step : (ts : List RemTerm) (k : ℕ) (t : RemTerm) → k < length ts → t ≡ get_or ts k t → 0 < t.divisor → IsDivided t.inner → AreDivided (plain_remainders (drop (k + 1) ts)) → AreDivided (plain_remainders (drop k ts))
+divided_step ts k t h is some d rest =
+    let both : AreDivided (plain_remainders (get_or ts k t ∷ drop (k + 1) ts)) = (subst (λ (x : RemTerm). 0 < x.divisor) is some, subst (λ (x : RemTerm). IsDivided x.inner) is d, rest) in
+    subst (λ (us : List RemTerm). AreDivided (plain_remainders us)) (sym (at_drop_more (λ us. us) ts k t h)) both
+
+pub divided_end : (ts : List RemTerm) (k : ℕ) → length ts ≤ k → AreDivided (plain_remainders (drop k ts))
+divided_end ts k h = subst (λ (us : List RemTerm). AreDivided (plain_remainders us)) (sym (at_drop_all (λ us. us) ts k h)) tt

@@ -15,3 +15,5 @@ pub mod Once
 pub mod Labels
 pub mod Saying
 pub mod Gapped
+pub mod Cased
+pub mod Branched

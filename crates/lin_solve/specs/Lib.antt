@@ -7,3 +7,5 @@ pub mod Equal
 pub mod Kept
 pub mod Meaning
 pub mod Sought
+pub mod Cases
+pub mod Branches

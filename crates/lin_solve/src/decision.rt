@@ -8,6 +8,8 @@ ghost use Rattle.lin_solve.specs.Plain.{plain_literals, AreTheirs};
 ghost use Rattle.lin_solve.specs.Shown.{Answers};
 ghost use Rattle.lin_solve.specs.Kept.{AreKept};
 
+use crate::branches::seek_branches;
+use crate::cases::seek_cases;
 use crate::chain::{Chain, Width, chain_of};
 use crate::compare::Compare;
 use crate::found::{Sought, seek};
@@ -101,8 +103,18 @@ pub fn decide(
     if let Some(values) = guess(alloc, literals, literals.len().saturating_add(8))? {
         return Ok(Verdict::Sat(values));
     }
+    match seek_cases(alloc, literals)? {
+        Sought::Values(values) => return Ok(Verdict::Sat(values)),
+        Sought::Never => return Ok(Verdict::Unsat),
+        Sought::Open => {}
+    }
     if let Some(values) = mend(alloc, literals)? {
         return Ok(Verdict::Sat(values));
+    }
+    match seek_branches(alloc, literals)? {
+        Sought::Values(values) => return Ok(Verdict::Sat(values)),
+        Sought::Never => return Ok(Verdict::Unsat),
+        Sought::Open => {}
     }
     match seek(alloc, literals)? {
         Sought::Values(values) => return Ok(Verdict::Sat(values)),

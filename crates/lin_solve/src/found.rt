@@ -32,8 +32,11 @@ pub(crate) enum Sought {
     Open,
 }
 
-// Those that are no negated equalities.
-fn sideless(alloc: Global, literals: &[Lit<Compare>]) -> Result<Vec<Lit<Compare>>, Memory>
+/// Those that are no negated equalities.
+pub(crate) fn sideless(
+    alloc: Global,
+    literals: &[Lit<Compare>],
+) -> Result<Vec<Lit<Compare>>, Memory>
     ensures none { IfOk result (λ r. count_sides (plain_literals r.items) ≡ 0) }
     ensures hold { IfOk result (λ r. (us : List ℤ) → HoldsAll (plain_literals literals.now) us → HoldsAll (plain_literals r.items) us) }
 {
@@ -77,8 +80,8 @@ fn less(alloc: Global, atom: &Compare, turned: bool) -> Result<Lit<Compare>, Mem
     })
 }
 
-// The literals, where at a place one side is the lesser.
-fn sided(
+/// The literals, where at a place one side is the lesser.
+pub(crate) fn sided(
     alloc: Global,
     literals: &[Lit<Compare>],
     place: usize,

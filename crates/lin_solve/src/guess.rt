@@ -82,8 +82,8 @@ pub(crate) fn step_for(missing: Option<i128>, coefficient: i128) -> i128 {
     }
 }
 
-// Moves a field of the literal, so that it may hold.
-fn repair(literal: &Lit<Compare>, values: &mut Vec<LabelInt>)
+// Moves a field of the literal by a multiple of its step, so that it may hold.
+fn repair(literal: &Lit<Compare>, steps: &[u64; 8], values: &mut Vec<LabelInt>)
     ensures { length values.new.items ≡ length values.old.items }
 {
     let left = literal.atom.left.eval(values);
@@ -95,23 +95,24 @@ fn repair(literal: &Lit<Compare>, values: &mut Vec<LabelInt>)
         return;
     };
     let place = field as usize;
-    if place >= values.len() {
+    if place >= values.len() || place >= steps.len() {
         return;
     }
-    let step = step_for(missing(literal, gap), coefficient);
-    let next = (values[place] as i128).saturating_add(step);
+    let step = steps[place] as i128;
+    let times = step_for(missing(literal, gap), coefficient.saturating_mul(step));
+    let next = (values[place] as i128).saturating_add(times.saturating_mul(step));
     if let Ok(value) = LabelInt::try_from(next) {
         values[place] = value;
     }
 }
 
-// Goes once through the literals.
-fn repair_each(literals: &[Lit<Compare>], values: &mut Vec<LabelInt>)
+/// Goes once through the literals: each field is moved by multiples of its step.
+pub(crate) fn repair_each(literals: &[Lit<Compare>], steps: &[u64; 8], values: &mut Vec<LabelInt>)
     ensures { length values.new.items ≡ length values.old.items }
 {
     for literal in literals {
         if literal.atom.holds(values) != literal.sign {
-            repair(literal, values);
+            repair(literal, steps, values);
         }
     }
 }
@@ -129,7 +130,7 @@ pub(crate) fn guess(
         if all_hold(literals, &values) {
             return Ok(Some(values));
         }
-        repair_each(literals, &mut values);
+        repair_each(literals, &[1; 8], &mut values);
     }
     Ok(None)
 }

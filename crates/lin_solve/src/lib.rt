@@ -4,6 +4,8 @@
 //! the literals, each of them once, that passes its width.
 #![tactic(auto)]
 
+mod branches;
+mod cases;
 mod chain;
 mod compare;
 mod decision;

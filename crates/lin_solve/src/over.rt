@@ -1,7 +1,7 @@
 //! That forms are over the eight fields. These calls do nothing but say so.
 
 ghost use Rattle.model_form.specs.Form.{height};
-ghost use Rattle.model_form.specs.Over.{IsOver};
+ghost use Rattle.model_form.specs.Over.{IsOver, IsDivided};
 ghost use Rattle.model_chain.specs.Literals.{AreLiteralsOver};
 ghost use Rattle.lin_solve.specs.Plain.{plain_literals};
 
@@ -16,6 +16,23 @@ fn is_over(form: &Form)
     for term in form.remainders() {
         is_over(&term.inner);
     }
+}
+
+fn is_divided(form: &Form)
+    ensures { IsDivided form.now }
+{
+    for term in form.remainders() {
+        is_divided(&term.inner);
+    }
+}
+
+/// The form is over the eight fields, and each of its divisors is at least 1.
+pub(crate) fn is_whole(form: &Form)
+    ensures over { IsOver 8 form.now }
+    ensures divided { IsDivided form.now }
+{
+    is_over(form);
+    is_divided(form);
 }
 
 /// Each literal is over the eight fields.

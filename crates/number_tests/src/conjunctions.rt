@@ -401,6 +401,90 @@ fn decides_nested_remainders(rt: HostRuntime) -> Result<(), Fail> {
     Ok(())
 }
 
+/// `(a x + b y) % k = r`, or not.
+#[derive(Drop)]
+struct Question {
+    terms: [i64; 2],
+    divisor: u32,
+    rest: i64,
+    sign: bool,
+}
+
+fn told_of_rests(alloc: Global, rests: &[Question]) -> Result<&'static str, FormStop> {
+    let mut literals = Vec::new(alloc);
+    for own in rests {
+        let inner = linear(alloc, 0, &[(own.terms[0], 0), (own.terms[1], 1)])?;
+        push(
+            &mut literals,
+            by_divisor(alloc, &inner, own.divisor)?,
+            Relation::Equal,
+            number(alloc, own.rest)?,
+            own.sign,
+        )?;
+    }
+    Ok(told(alloc, &literals)?)
+}
+
+fn rest(x: i64, y: i64, divisor: u32, rest: i64, sign: bool) -> Question {
+    Question {
+        terms: [x, y],
+        divisor,
+        rest,
+        sign,
+    }
+}
+
+/// By the Chinese remainder theorem, and by going over one period by hand.
+#[test]
+fn decides_remainders_alone(rt: HostRuntime) -> Result<(), Fail> {
+    let cases: &[(&str, &[Question])] = &[
+        ("none", &[rest(1, 0, 6, 1, true), rest(1, 0, 3, 1, false)]),
+        ("values", &[rest(1, 0, 6, 1, true), rest(1, 0, 4, 3, true)]),
+        ("none", &[rest(1, 0, 6, 2, true), rest(1, 0, 4, 3, true)]),
+        ("none", &[rest(1, 0, 2, 0, false), rest(1, 0, 2, 1, false)]),
+        (
+            "values",
+            &[
+                rest(1, 0, 4093, 5, true),
+                rest(1, 0, 4091, 7, true),
+                rest(1, 0, 4079, 11, true),
+            ],
+        ),
+        (
+            "none",
+            &[
+                rest(1, 1, 2, 1, true),
+                rest(1, 0, 2, 0, true),
+                rest(0, 1, 2, 0, true),
+            ],
+        ),
+        (
+            "values",
+            &[
+                rest(1, 1, 2, 1, true),
+                rest(1, 0, 2, 0, true),
+                rest(0, 1, 4, 3, true),
+            ],
+        ),
+        ("none", &[rest(1, 2, 4, 1, true), rest(1, 0, 2, 0, true)]),
+        (
+            "values",
+            &[
+                rest(1, 2, 4, 1, true),
+                rest(1, 0, 4, 3, true),
+                rest(0, 1, 3, 2, false),
+            ],
+        ),
+    ];
+    for (want, rests) in cases {
+        let Ok(found) = told_of_rests(rt.alloc(), rests) else {
+            panic!(rt; "no form");
+        };
+        assert!(rt; found == *want, "{want}: {found}");
+    }
+    Ok(())
+}
+
 fn told_of_deep(alloc: Global, want: i64) -> Result<&'static str, FormStop> {
     let mut literals = Vec::new(alloc);
     let mut form = field(alloc, 0)?;

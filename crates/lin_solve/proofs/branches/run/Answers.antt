@@ -1,0 +1,26 @@
+use Rattle.std.proofs.Common.{⊎_elim, sym, subst, arith, Vec, Global}
+use Rattle.model_chain.specs.Literals.{HoldsAll}
+use Rattle.lin_solve.specs.declared.branches.Branch.{Branch}
+use Rattle.lin_solve.specs.Plain.{plain_literals}
+use Rattle.lin_solve.specs.Branches.{IsHeld, SomeHeld}
+use Rattle.lin_solve.specs.Sought.{TellsExplored}
+use Rattle.lin_solve.proofs.Branched.{held_added, held_popped}
+use Rattle.lin_solve.proofs.branches.run.Goals.{in-Never, in-Maybe+in_ok-values-in-Maybe+else-len-eq8+in_ok-push_next-in-Maybe+else-not-branch}
+use Rattle.lin_solve.proofs.branches.run.Goals as goal
+
+pub loop-init : goal.loop-init
+loop-init c = λ h. held_added _ _ _ (c.in_ok-push.ensures {u = tt}).items (record { values = h.values; eight = h.eight; hold = c.in_ok-sided.ensures {u = tt} h.values h.hold (λ d l. absurd (omega arith)) })
+
+pub loop-preserved : goal.loop-preserved
+loop-preserved c = λ h.
+    let popped = held_popped _ _ c.in-Some.own (c.in-Some.ensures {u = tt}).items (c.loop.invariant h) in
+    elim c.match-branch-4.branch [
+      | in-Never w ↦
+          let gone = subst (TellsExplored (plain_literals c.deref.result.now)) w.in-Never.is (c.in_ok-explore_loosely.ensures {u = tt}) in
+          let after = λ (s : SomeHeld c.pop.new.self.items). subst (λ (v : Vec Branch Global). SomeHeld v.items) (sym w.pending-is) s in
+          ⊎_elim (λ (t : IsHeld c.in-Some.own). absurd (gone t.values t.eight (subst (λ ls. HoldsAll (plain_literals ls) t.values) (sym c.deref.ensures.value) t.hold))) after popped
+      | in-Maybe+in_ok-values-in-Maybe+else-len-eq8+in_ok-push_next-in-Maybe+else-not-branch w ↦
+          let told = w.in_ok-push_next-in-Maybe.ensures {u = tt} in
+          let after = λ (s : SomeHeld w.push_next.new.pending.items). subst (λ (v : Vec Branch Global). SomeHeld v.items) (sym w.pending-is) s in
+          ⊎_elim (λ (t : IsHeld c.in-Some.own). after (told.parts w.if-not-branch.false t)) (λ s. after (told.kept s)) popped
+    ]

@@ -1,0 +1,366 @@
+//! Branches of the fields' values, in which remainders are looked at only where they matter.
+//!
+//! A branch has its own literals, over what is left of the fields: a field is split by its remainders only if values at
+//! which all holds but for remainders break a literal, and then what is put for the field makes the literals simpler. So
+//! remainders that don't matter are never told apart, however many there are.
+
+ghost use Rattle.std.specs.Prelude.{◌≡◌, ◌<◌, ◌≤◌, ◌+ℤ◌, ◌*ℤ◌, ℕ, ℤ, List, IfOk, IfSome, OnOk, IsTrue, true, length, slice_index_or, slice_set, pos};
+ghost use Rattle.label_core.specs.declared.theory.Lit.{Lit as OneLit};
+ghost use Rattle.math_cooper.specs.System.{Solves};
+ghost use Rattle.model_form.specs.Form.{value};
+ghost use Rattle.model_form.specs.Meaning.{values_of, AreFormsLow};
+ghost use Rattle.model_chain.specs.Literals.{HoldsAll, compare_holds, needs_side as needs};
+ghost use Rattle.lin_solve.specs.declared.compare.Compare.{Compare as OneCompare};
+ghost use Rattle.lin_solve.specs.Plain.{plain_compare, plain_literal, plain_literals};
+ghost use Rattle.lin_solve.specs.Sought.{IsSidedAt, TellsExplored, TellsSought};
+ghost use Rattle.lin_solve.specs.Branches.{IsHeld, SomeHeld, ArePut};
+
+use crate::cases::{Case, Turn, divisor_in_common};
+use crate::compare::Compare;
+use crate::found::{Sought, sided, sideless};
+use crate::guess::all_hold;
+use crate::numbering::remainders_of;
+use crate::over::{are_over, is_whole};
+use crate::system::{first_system, needs_side};
+use cooper_solve::{Constraint, Relation as Kind};
+use fast_fault::{LabelInt, Memory};
+use label_core::Lit;
+use lin_form::{Form, FormStop, Signed};
+use lin_reduce::{Explored, explore};
+use std::alloc::Global;
+
+// How many branches are looked at.
+const MOST: usize = 400;
+
+// Literals over what is left of the fields, and what the fields are by it.
+#[derive(Drop)]
+pub(crate) struct Branch {
+    case: Case,
+    literals: Vec<Lit<Compare>>,
+}
+
+// A field that is to be so many times another one, and a number below.
+#[derive(Clone, Copy)]
+pub(crate) struct Split {
+    field: u32,
+    times: u32,
+}
+
+// So many times the field, and a number.
+fn moved(alloc: Global, split: Split, number: u32) -> Result<Form, FormStop>
+    requires { split.field < 8 }
+    ensures { IfOk result (λ f. (vs : List ℤ) → value f vs ≡ (pos split.times *ℤ slice_index_or vs split.field (pos 0)) +ℤ pos number) }
+{
+    let field = Form::field(alloc, split.field)?;
+    let scaled = field.scaled(alloc, i128::from(split.times))?;
+    scaled.constant();
+    let own = Form::number(alloc, i128::from(number))?;
+    own.constant();
+    let mut parts = Vec::new(alloc);
+    parts.push(Signed {
+        minus: false,
+        form: scaled,
+    })?;
+    parts.push(Signed {
+        minus: false,
+        form: own,
+    })?;
+    Form::of_sum(alloc, &parts)
+}
+
+fn form_at(alloc: Global, field: u32, split: Split, number: u32) -> Result<Form, FormStop>
+    requires field { field < 8 }
+    requires split { split.field < 8 }
+    ensures { IfOk result (λ f. (vs : List ℤ) → length vs ≡ 8 → value f vs ≡ slice_index_or (slice_set vs split.field ((pos split.times *ℤ slice_index_or vs split.field (pos 0)) +ℤ pos number)) field (pos 0)) }
+{
+    if field == split.field {
+        return moved(alloc, split, number);
+    }
+    Ok(Form::field(alloc, field)?)
+}
+
+// What is put for the fields where one is so many times itself, and a number.
+fn forms_for(alloc: Global, split: Split, number: u32) -> Result<Vec<Form>, FormStop>
+    requires { split.field < 8 }
+    ensures forms { IfOk result (λ fs. (vs : List ℤ) → length vs ≡ 8 → values_of fs.items vs ≡ slice_set vs split.field ((pos split.times *ℤ slice_index_or vs split.field (pos 0)) +ℤ pos number)) }
+    ensures low { IfOk result (λ fs. AreFormsLow fs.items) }
+{
+    let mut forms = Vec::new(alloc);
+    for field in 0..8 {
+        let form = form_at(alloc, field, split, number)?;
+        form.constant();
+        forms.push(form)?;
+    }
+    Ok(forms)
+}
+
+// The form where these are put for the fields, made simpler.
+fn put(alloc: Global, form: &Form, forms: &[Form]) -> Result<Form, FormStop>
+    requires { AreFormsLow forms.now }
+    ensures { IfOk result (λ f. (vs : List ℤ) → value f vs ≡ value form.now (values_of forms.now vs)) }
+{
+    let put = form.subst(alloc, forms)?;
+    is_whole(&put);
+    put.simpler(alloc)
+}
+
+fn put_literal(
+    alloc: Global,
+    literal: &Lit<Compare>,
+    forms: &[Form],
+) -> Result<Lit<Compare>, FormStop>
+    requires { AreFormsLow forms.now }
+    ensures { IfOk result (λ l. (l.sign ≡ literal.now.sign) × ((vs : List ℤ) → compare_holds (plain_compare l.atom) vs ≡ compare_holds (plain_compare literal.now.atom) (values_of forms.now vs))) }
+{
+    let left = put(alloc, &literal.atom.left, forms)?;
+    let right = put(alloc, &literal.atom.right, forms)?;
+    Ok(Lit {
+        atom: Compare {
+            left,
+            relation: literal.atom.relation,
+            right,
+        },
+        sign: literal.sign,
+    })
+}
+
+fn put_each(
+    alloc: Global,
+    literals: &[Lit<Compare>],
+    forms: &[Form],
+) -> Result<Vec<Lit<Compare>>, FormStop>
+    requires { AreFormsLow forms.now }
+    ensures { IfOk result (λ r. ArePut literals.now forms.now r.items) }
+{
+    let mut out = Vec::new(alloc);
+    for literal in literals {
+        out.push(put_literal(alloc, literal, forms)?)?;
+    }
+    Ok(out)
+}
+
+// The conditions that don't ask for multiples, from the last on.
+fn without_multiples(alloc: Global, mut system: Vec<Constraint>) -> Result<Vec<Constraint>, Memory>
+    ensures { IfOk result (λ r. (vs : List ℤ) → Solves vs system.items → Solves vs r.items) }
+{
+    let mut kept = Vec::new(alloc);
+    while let Some(condition) = system.pop() {
+        if let Kind::AtLeast = condition.relation {
+            kept.push(condition)?;
+        }
+    }
+    Ok(kept)
+}
+
+// What is found of literals where negated equalities are left out, and remainders may be any of their divisor's.
+fn explore_loosely(alloc: Global, literals: &[Lit<Compare>]) -> Result<Explored, Memory>
+    ensures { IfOk result (TellsExplored (plain_literals literals.now)) }
+{
+    let own = sideless(alloc, literals)?;
+    are_over(&own);
+    let known = remainders_of(alloc, &own)?;
+    let system = first_system(alloc, &own, &known, false, &[])?;
+    let conditions = without_multiples(alloc, system.conditions)?;
+    explore(alloc, &conditions, system.count)
+}
+
+// How a field within a remainder of the form is split, the innermost first.
+fn split_in(form: &Form) -> Option<Split> {
+    for term in form.remainders() {
+        if let Some(split) = split_in(&term.inner) {
+            return Some(split);
+        }
+        if let Some(own) = term.inner.fields().first() {
+            let shared = divisor_in_common(term.divisor as u64, own.coefficient.unsigned_abs());
+            let times = (term.divisor as u64).checked_div(shared)?;
+            return Some(Split {
+                field: own.field,
+                times: u32::try_from(times).ok()?,
+            });
+        }
+    }
+    None
+}
+
+fn split_of(literal: &Lit<Compare>) -> Option<Split> {
+    match split_in(&literal.atom.left) {
+        Some(split) => Some(split),
+        None => split_in(&literal.atom.right),
+    }
+}
+
+// Of the literals that these values break, how one is split that leaves the fewest branches.
+fn best_split(literals: &[Lit<Compare>], values: &[LabelInt]) -> Option<Split> {
+    let mut best: Option<Split> = None;
+    for literal in literals {
+        if literal.atom.holds(values) != literal.sign {
+            if let Some(split) = split_of(literal) {
+                let is_first = match best {
+                    None => true,
+                    Some(other) => split.times < other.times,
+                };
+                if is_first {
+                    best = Some(split);
+                }
+            }
+        }
+    }
+    best
+}
+
+// The first negated equality without remainders that these values break.
+fn first_plain_broken(literals: &[Lit<Compare>], values: &[LabelInt]) -> Option<usize>
+    ensures { IfSome result (λ i. (i < length literals.now) × ((d : OneLit OneCompare) → needs (plain_literal (slice_index_or literals.now i d)) ≡ true)) }
+{
+    for i in 0..literals.len() {
+        let literal = &literals[i];
+        if needs_side(literal) && literal.atom.holds(values) && split_of(literal).is_none() {
+            return Some(i);
+        }
+    }
+    None
+}
+
+impl Branch {
+    // The part of the branch in which the field is so many times another, and a number, at the end.
+    fn push_part(
+        &self,
+        alloc: Global,
+        split: Split,
+        number: u32,
+        pending: &mut Vec<Branch>,
+    ) -> Result<bool, FormStop>
+        requires { split.field < 8 }
+        ensures part { IfOk result (λ pushed. IsTrue pushed → (us : List ℤ) (q : ℤ) → length us ≡ 8 → HoldsAll (plain_literals self.now.literals.items) us → slice_index_or us split.field (pos 0) ≡ (pos split.times *ℤ q) +ℤ pos number → SomeHeld pending.new.items) }
+        ensures kept { OnOk result (SomeHeld pending.old.items → SomeHeld pending.new.items) }
+    {
+        let turn = Turn {
+            field: split.field as usize,
+            times: split.times as u64,
+        };
+        let Some(case) = self.case.part(turn, number as u64) else {
+            return Ok(false);
+        };
+        let forms = forms_for(alloc, split, number)?;
+        let literals = put_each(alloc, &self.literals, &forms)?;
+        pending.push(Branch { case, literals })?;
+        Ok(true)
+    }
+
+    // The parts of the branch, at the end; not all, if one has numbers that are too great.
+    fn push_parts(
+        &self,
+        alloc: Global,
+        split: Split,
+        pending: &mut Vec<Branch>,
+    ) -> Result<bool, FormStop>
+        ensures parts { IfOk result (λ pushed. IsTrue pushed → IsHeld self.now → SomeHeld pending.new.items) }
+        ensures kept { OnOk result (SomeHeld pending.old.items → SomeHeld pending.new.items) }
+    {
+        if split.field >= 8 {
+            return Ok(false);
+        }
+        for number in 0..split.times {
+            if !self.push_part(alloc, split, number, pending)? {
+                return Ok(false);
+            }
+        }
+        Ok(split.times > 0)
+    }
+
+    // The branch where at a place one side is the lesser, at the end.
+    fn push_side(
+        &self,
+        alloc: Global,
+        place: usize,
+        turned: bool,
+        pending: &mut Vec<Branch>,
+    ) -> Result<(), Memory>
+        ensures side { OnOk result ((us : List ℤ) → length us ≡ 8 → HoldsAll (plain_literals self.now.literals.items) us → IsSidedAt self.now.literals.items place turned us → SomeHeld pending.new.items) }
+        ensures kept { OnOk result (SomeHeld pending.old.items → SomeHeld pending.new.items) }
+    {
+        let literals = sided(alloc, &self.literals, place, turned)?;
+        pending.push(Branch {
+            case: self.case,
+            literals,
+        })?;
+        Ok(())
+    }
+
+    // The branch with each side of the first negated equality without remainders that the values break, if there is one.
+    fn push_sides(
+        &self,
+        alloc: Global,
+        values: &[LabelInt],
+        pending: &mut Vec<Branch>,
+    ) -> Result<bool, Memory>
+        ensures sides { IfOk result (λ pushed. IsTrue pushed → IsHeld self.now → SomeHeld pending.new.items) }
+        ensures kept { OnOk result (SomeHeld pending.old.items → SomeHeld pending.new.items) }
+    {
+        let Some(place) = first_plain_broken(&self.literals, values) else {
+            return Ok(false);
+        };
+        self.push_side(alloc, place, false, pending)?;
+        self.push_side(alloc, place, true, pending)?;
+        Ok(true)
+    }
+
+    // The branches into which it is parted, as these values break a literal; none, if it can't be.
+    fn push_next(
+        &self,
+        alloc: Global,
+        values: &[LabelInt],
+        pending: &mut Vec<Branch>,
+    ) -> Result<bool, FormStop>
+        ensures parts { IfOk result (λ pushed. IsTrue pushed → IsHeld self.now → SomeHeld pending.new.items) }
+        ensures kept { OnOk result (SomeHeld pending.old.items → SomeHeld pending.new.items) }
+    {
+        if self.push_sides(alloc, values, pending)? {
+            return Ok(true);
+        }
+        match best_split(&self.literals, values) {
+            Some(split) => self.push_parts(alloc, split, pending),
+            None => Ok(false),
+        }
+    }
+}
+
+fn run(alloc: Global, literals: &[Lit<Compare>]) -> Result<Sought, FormStop>
+    ensures { IfOk result (TellsSought (plain_literals literals.now)) }
+{
+    let mut pending = Vec::new(alloc);
+    pending.push(Branch {
+        case: Case::all(),
+        literals: sided(alloc, literals, literals.len(), false)?,
+    })?;
+    for _ in 0..MOST {
+        let Some(own) = pending.pop() else {
+            return Ok(Sought::Never);
+        };
+        match explore_loosely(alloc, &own.literals)? {
+            Explored::Never => {}
+            Explored::Open => return Ok(Sought::Open),
+            Explored::Maybe(left) => {
+                let values = own.case.at(alloc, &left)?;
+                if values.len() == 8 && all_hold(literals, &values) {
+                    return Ok(Sought::Values(values));
+                }
+                if !own.push_next(alloc, &left, &mut pending)? {
+                    return Ok(Sought::Open);
+                }
+            }
+        }
+    }
+    Ok(Sought::Open)
+}
+
+/// Seeks values of the eight fields at which the literals hold, branch by branch.
+pub(crate) fn seek_branches(alloc: Global, literals: &[Lit<Compare>]) -> Result<Sought, Memory>
+    ensures { IfOk result (TellsSought (plain_literals literals.now)) }
+{
+    match run(alloc, literals) {
+        Ok(found) => Ok(found),
+        Err(FormStop::Range(_)) => Ok(Sought::Open),
+        Err(FormStop::Memory) => Err(Memory),
+    }
+}
