@@ -4,3 +4,5 @@ pub mod KeepsExpressions
 pub mod KeepsTerms
 pub mod KeepsItems
 pub mod Needed
+pub mod Conditions
+pub mod Texts

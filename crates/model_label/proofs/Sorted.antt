@@ -1,12 +1,8 @@
--- Fields and tests have values of their sorts.
+-- Fields have values of their sorts.
 use Rattle.std.proofs.Common.{◌≡◌, ℕ, Bool, true, false, cond, List, [], ◌∷◌, Option, Some, map, refl, ◌∙◌}
 use Rattle.model_tree.specs.Label.{Field}
 use Rattle.model_tree.specs.Signature.{Sort, wholes, truths, texts, PlainField, sort_of}
-use Rattle.model_grammar.specs.declared.Chain.TheVariants.{Disjunction, Conjunction, Sum, Product}
-use Rattle.model_grammar.specs.Syntax.{Expr, field, number, text, truth, negation, compare, minus, chain}
 use Rattle.model_label.specs.Fields.{same_name, same_sort, sort_at, is_field_of, has_field, value_at}
-use Rattle.model_label.specs.Meaning.{value_of}
-use Rattle.model_label.specs.Tests.{is_test}
 
 pub one_sort : (s t : Sort) → same_sort s t ≡ true → s ≡ t
 one_sort wholes wholes e = refl
@@ -30,16 +26,3 @@ field_sort (f ∷ fs) (value ∷ values) sort name sorts e =
     let first : sort_of value ≡ f.sort = cc in
     let later : map sort_of values ≡ map (λ g. g.sort) fs = cc in
     at_first (same_name f.name name) sort f.sort value (sort_at fs name) (value_at fs values name) first (field_sort fs values sort name later) e
-
-pub test_sort : (fields : List PlainField) (values : List Field) (e : Expr) → map sort_of values ≡ map (λ f. f.sort) fields → is_test fields e ≡ true → sort_of (value_of fields values e) ≡ truths
-test_sort fields values (field place name) sorts test = field_sort fields values truths name sorts test
-test_sort fields values (number place n) sorts test = cc
-test_sort fields values (text place t) sorts test = cc
-test_sort fields values (truth place b) sorts test = refl
-test_sort fields values (negation place e) sorts test = refl
-test_sort fields values (compare place rel a b) sorts test = refl
-test_sort fields values (minus place e) sorts test = cc
-test_sort fields values (chain Disjunction place parts) sorts test = refl
-test_sort fields values (chain Conjunction place parts) sorts test = refl
-test_sort fields values (chain Sum place parts) sorts test = cc
-test_sort fields values (chain Product place parts) sorts test = cc

@@ -8,7 +8,6 @@ use Rattle.model_grammar.specs.declared.Chain.TheVariants.{Disjunction, Conjunct
 use Rattle.model_grammar.specs.Syntax.{Expr, field, number, negation, compare, minus, chain, Parts, no_parts, part}
 use Rattle.model_grammar.specs.Syntax as syntax
 use Rattle.model_label.specs.Meaning.{value_of}
-use Rattle.model_label.specs.Tests.{is_test}
 
 abbrev here : Pos
 here = record { line = 1; column = 1 }
@@ -55,6 +54,3 @@ pub record HaveValues : Type 0 where
   pub same : value_of fields values is_same ≡ truth true
   pub arithmetic : value_of fields values number_of ≡ whole (pos 11)
   pub less : value_of fields values is_negative ≡ truth true
-  pub tests : is_test fields is_either ≡ true
-  pub test_of_tests : is_test fields is_same ≡ true
-  pub no_test : is_test fields is_negative ≡ false

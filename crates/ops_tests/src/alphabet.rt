@@ -5,13 +5,13 @@ ghost use Rattle.model_tree.specs.Tree.{EveryLabel};
 ghost use Rattle.ops_tests.specs.Over.{IsOver, HasFields, Shows};
 
 use crate::rules::{Line, add_rule};
-use class_tests::checked;
 use fast_tree::Tree;
 use flat_label::{BoolAtom, Bools, Never};
 use sta_classes::ClassStop;
 use sta_core::{Lang, StaRule, accepts};
 use sta_min::{Minimal, minimize};
 use sta_ops::{Found, complement, difference, empty, equal, union};
+use sta_tests::checked;
 use std::alloc::Global;
 use std::test::Fail;
 

@@ -7,7 +7,6 @@ use Rattle.fast_syntax.specs.Plain.{plain_expr}
 use Rattle.fast_tree.specs.declared.signature.FieldOf.{FieldOf}
 use Rattle.fast_tree.specs.Signatures.{plain_sort, plain_field}
 use Rattle.record_label.specs.declared.maps.RowEntry.{RowEntry}
-use Rattle.record_label.specs.Parts.{AreWithin}
 use Rattle.record_label.specs.PlainMaps.{plain_entry}
 use Rattle.record_label.specs.Written.{plain_written, written_for, written_for_each}
 use Rattle.record_label.specs.declared.written.Written.{Written as Kept}
@@ -148,13 +147,3 @@ module _ (fields : List PlainField) (es : List Written) (items : List FieldOf) (
         let few : length (take i (map plain_expr es)) ≡ length (take i sorts) = length-take-le i (map plain_expr es) (omega (arith, among)) ∙ sym (length-take-le i sorts (omega (arith, low))) in
         subst (λ ys. AreEntriesOf fields ys (take (i + 1) sorts) (map plain_entry now)) front (subst (λ ys. AreEntriesOf fields (take i (map plain_expr es) ++ plain_expr e ∷ []) ys (map plain_entry now)) front'
         (subst (AreEntriesOf fields (take i (map plain_expr es) ++ plain_expr e ∷ []) (take i sorts ++ plain_sort f.sort ∷ [])) all (entries_push fields (take i (map plain_expr es)) (take i sorts) (map plain_entry made) (plain_expr e) (plain_sort f.sort) (plain_entry x) few are is)))
-
--- where there are no forms, none is out of range
-pub none_within : (forms : List Form) → forms ≡ [] → AreWithin forms
-none_within [] e n o = let at = o.1 in absurd (omega (arith, at.1))
-none_within (f ∷ forms) e n o = absurd cc
-
-pub no_forms : (fields : List PlainField) (e : Expr) (es : List Expr) → forms_in fields e ≡ [] → forms_in_each fields es ≡ [] → forms_in_each fields (e ∷ es) ≡ []
-no_forms fields e es none rest = λ i. none i ++ rest i
-
-pub ruleset on_no_forms = (none_within, no_forms)

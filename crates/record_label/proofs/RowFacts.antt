@@ -5,9 +5,12 @@ use Rattle.std.specs.Prelude.{FitsSigned}
 use Rattle.std.specs.Int.{w64}
 use Rattle.std.specs.List.{list_all}
 use Rattle.std.proofs.lemmas.Bool.{lt-ltb, ltb-true}
+use Rattle.std.proofs.lemmas.List.{length-map}
 use Rattle.std.proofs.lemmas.List.Elements.{All-nil, All-cons, All-head, All-tail}
 use Rattle.model_tree.specs.Label.{Field, whole, truth, text, Label, row, pair}
 use Rattle.model_tree.specs.Signature.{Sort, wholes, truths, texts, sort_of, have_sorts, HasSorts}
+use Rattle.fast_tree.specs.declared.signature.Sort.{Sort as Coded}
+use Rattle.fast_tree.specs.Signatures.{plain_sort}
 use Rattle.model_tree.proofs.Sorts.{own_sorts, have_these_sorts}
 use Rattle.model_label.specs.Fields.{same_sort}
 use Rattle.model_tree.specs.Kept.{is_kept_field}
@@ -93,6 +96,10 @@ count_few sort (s ∷ sorts) = by (same_sort s sort) (count_few sort sorts)
     by : (b : Bool) → count_of sort sorts ≤ length sorts → cond b (suc (count_of sort sorts)) (count_of sort sorts) ≤ suc (length sorts)
     by true h = omega (arith, h)
     by false h = omega (arith, h)
+
+-- there are no more whole numbers than fields
+pub few_wholes : (fields : List Coded) (sorts : List Sort) → length fields ≤ 8 → map plain_sort fields ≡ sorts → count_of wholes sorts ≤ 8
+few_wholes fields sorts few is = subst (λ seen. count_of wholes seen ≤ 8) is (let all = count_few wholes (map plain_sort fields) in let many = length-map fields plain_sort in omega (arith, all, many, few))
 
 abbrev HasThree : List Sort → Label → Type 0
 HasThree sorts = HasParts (IsWholes (count_of wholes sorts)) (HasParts (IsBools (count_of truths sorts)) (IsTexts (count_of texts sorts)))

@@ -9,7 +9,7 @@ ghost use Rattle.record_label.specs.Maps.{made_by, made, EntryFits, EntriesFit};
 ghost use Rattle.record_label.specs.PlainMaps.{plain_entry, IsMadeField};
 
 use crate::maps::{RowEntry, RowMap};
-use crate::reads::{side_text, wholes};
+use crate::reads::side_text;
 use crate::rows::RowLabels;
 use fast_fault::{LabelInt, Memory};
 use fast_tree::{Label, Value};
@@ -38,10 +38,7 @@ fn made_entry(
     ensures { IfOk result (IsMadeField (made_by (map field_of (entries_of value.now)) (plain_entry entry.now))) }
 {
     match entry {
-        RowEntry::Number(form) => {
-            theory.are_few();
-            Ok(made_number(form.eval(&wholes(value.values()))))
-        }
+        RowEntry::Number(form) => Ok(made_number(form.eval(&theory.numbers(value)))),
         RowEntry::Truth(formula) => {
             let truth = formula.holds(theory, value);
             Ok(Applied::Value(Value::Bool(truth)))

@@ -72,13 +72,13 @@ fn divisor_of(expr: &Expr) -> u32
 }
 
 /// The form by one more part, whose own form is the second one.
-fn step(alloc: Global, before: &Form, part: &ProdPart, own: &Form) -> Result<Form, FormStop>
-    ensures { MatchResult result (λ form. form ≡ step before.now part.now.remainder (plain_expr part.now.part) own.now) (λ stop. StopsAt (IsOutside (step before.now part.now.remainder (plain_expr part.now.part) own.now)) stop) }
+fn step(alloc: Global, before: Form, part: &ProdPart, own: &Form) -> Result<Form, FormStop>
+    ensures { MatchResult result (λ form. form ≡ step before part.now.remainder (plain_expr part.now.part) own.now) (λ stop. StopsAt (IsOutside (step before part.now.remainder (plain_expr part.now.part) own.now)) stop) }
 {
     if part.remainder {
-        return before.remainder(alloc, divisor_of(&part.part));
+        return before.into_remainder(alloc, divisor_of(&part.part));
     }
-    times(alloc, before, own)
+    times(alloc, &before, own)
 }
 
 /// The form of a sum. No text has more than so many parts.
@@ -133,7 +133,7 @@ fn multiplied(alloc: Global, parts: &[ProdPart], signature: &Signature) -> Resul
     let mut form = Form::number(alloc, 1)?;
     for part in parts {
         let own = form_of(alloc, &part.part, signature)?;
-        form = step(alloc, &form, part, &own)?;
+        form = step(alloc, form, part, &own)?;
     }
     Ok(form)
 }

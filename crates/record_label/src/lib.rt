@@ -7,7 +7,6 @@
 #![tactic(auto)]
 
 mod applies;
-mod checks;
 mod copies;
 mod fits;
 mod forms;
@@ -19,11 +18,8 @@ mod merges;
 mod puts;
 mod reads;
 mod rows;
-#[cfg(test)]
-mod tests;
 mod written;
 
-pub use checks::{is_test, is_text};
 pub use forms::form_of;
 pub use guards::guard_of;
 pub use maps::{RowEntry, RowMap, map_of};

@@ -1,11 +1,12 @@
 //! The theory of labels of several fields.
 
-ghost use Rattle.std.specs.Prelude.{◌≡◌, ◌≤◌, ◌↔◌, IsTrue, IfOk, length, map};
+ghost use Rattle.std.specs.Prelude.{◌≡◌, ◌<◌, ◌≤◌, ◌↔◌, ℕ, IsTrue, IfOk, length, map, pos, slice_index_or};
 ghost use Rattle.model_tree.specs.Signature.{wholes, truths, texts};
 ghost use Rattle.model_tree.specs.Signature as model;
 ghost use Rattle.fast_tree.specs.Signatures.{plain_signature};
 ghost use Rattle.model_tree.specs.Label.{pair};
-ghost use Rattle.fast_tree.specs.Entries.{field_of};
+ghost use Rattle.fast_tree.specs.Entries.{entries_of, field_of};
+ghost use Rattle.model_guard.specs.Forms.{wholes_in};
 ghost use Rattle.flat_label.specs.Bools.{bools_label};
 ghost use Rattle.flat_label.specs.Texts.{SideFits, texts_label};
 ghost use Rattle.label_core.specs.declared.pair.PairChain.{PairChain};
@@ -14,7 +15,7 @@ ghost use Rattle.record_label.specs.Rows.{count_of, truths_in, texts_in, flat_ho
 use crate::fits::compare_fits;
 use crate::merges::{count, merge};
 use crate::reads::{side_text, truth_at, wholes};
-use fast_fault::Memory;
+use fast_fault::{LabelInt, Memory};
 use fast_tree::{Label, Signature, Sort, Value};
 use flat_label::{BoolAtom, Bools, Never, TextAtom, TextSide, Texts};
 use label_core::{Lit, Pair, PairAtom, PairChain, Theory, Verdict};
@@ -29,7 +30,7 @@ pub type RowAtom = PairAtom<Compare, PairAtom<BoolAtom, TextAtom>>;
 /// The labels of a type of trees: the sorts of its fields, eight at most.
 #[derive(Drop)]
 pub struct RowLabels {
-    sorts: Vec<Sort>,
+    pub(crate) sorts: Vec<Sort>,
 }
 
 impl Model for RowLabels {
@@ -121,11 +122,14 @@ impl RowLabels {
         }
     }
 
-    /// There are eight whole numbers at most. The call does nothing but say so.
-    pub(crate) fn are_few(&self)
-        ensures { count_of wholes self.now ≤ 8 }
+    /// The whole numbers of a label. These labels have eight at most, and where they have fewer the rest are 0.
+    pub(crate) fn numbers(&self, value: &Label) -> [LabelInt; 8]
+        ensures few { count_of wholes self.now ≤ 8 }
+        ensures numbers { (k : ℕ) → k < 8 → slice_index_or result k (pos 0) ≡ slice_index_or (wholes_in (map field_of (entries_of value.now))) k (pos 0) }
     {
-        count(&self.sorts, Sort::Int);
+        // a look at the fields says how few they are
+        let _ = &self.sorts;
+        wholes(value.values())
     }
 
     /// The theory of the whole numbers.
@@ -184,10 +188,7 @@ impl Theory for RowLabels {
 
     fn holds(&self, atom: &RowAtom, value: &Label) -> bool {
         match atom {
-            PairAtom::Left(compare) => {
-                self.are_few();
-                compare.holds(&wholes(value.values()))
-            }
+            PairAtom::Left(compare) => compare.holds(&self.numbers(value)),
             PairAtom::Right(atom) => flat_holds(atom, value.values()),
         }
     }

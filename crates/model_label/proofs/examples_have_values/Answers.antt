@@ -2,4 +2,4 @@ use Rattle.std.proofs.Common.{refl}
 use Rattle.model_label.proofs.examples_have_values.Goals as goal
 
 pub returns : goal.returns
-returns c = record { equal = refl; not_equal = refl; either = refl; both = refl; same = refl; arithmetic = refl; less = refl; tests = refl; test_of_tests = refl; no_test = refl }
+returns c = record { equal = refl; not_equal = refl; either = refl; both = refl; same = refl; arithmetic = refl; less = refl }

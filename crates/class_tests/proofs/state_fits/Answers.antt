@@ -1,9 +1,0 @@
-use Rattle.sta_core.specs.Fits.{RuleFits}
-use Rattle.class_tests.proofs.Loops.{one_more, at_end}
-use Rattle.class_tests.proofs.state_fits.Goals as goal
-
-pub loop-rule-preserved : goal.loop-rule-preserved
-loop-rule-preserved g c = one_more (RuleFits c.args.ranks.now c.args.states) c.args.rules.now c.loop-rule.rule-index c.rule-item.result c.loop-rule-test.true c.rule-item.is (c.rule_fits.ensures c.if-not-rule_fits.false) c.loop-rule.invariant
-
-pub returns : goal.returns
-returns g c = λ _. at_end (RuleFits c.args.ranks.now c.args.states) c.args.rules.now c.loop-rule.rule-index c.loop-rule-test.false c.loop-rule.invariant
