@@ -1,5 +1,5 @@
 #!/usr/bin/env bash
-# Gives the program what it must withstand, and counts how its runs end: nearly programs and nearly trees (bench/mutate.py);
+# Gives the program what it must withstand, and counts how its runs end: nearly programs and nearly trees (bench/changed.py);
 # less and less memory; a program and trees that are at all limits at once (bench/limits.py), with the stack that a process
 # usually has; and an output that can't be written. A run must end with a status from 0 to 7, write nothing on standard error,
 # and end its report with a line feed where the status is 0 to 4; each row says what else it must. The last column counts the
@@ -52,32 +52,6 @@ ended_well() {
 # Whether the report is a front of what stands in the file.
 is_front() {
   cmp -s -n "$(stat -c %s "$folder/report")" "$folder/report" "$1"
-}
-
-# Runs the words on a changed text, which is kept where the run ends wrongly.
-probe() {
-  local row=$1 text=$2 status
-  shift 2
-  run true "$@"
-  status=$?
-  if ended_well "$status" && [ "$status" != 6 ]; then
-    note "$row" "$status" yes
-  else
-    cp "$text.fast" "$text.trees" "$kept"
-    note "$row" "$status" no "${*//$folder\/changed/$kept} $(head -c 200 "$folder/errors")"
-  fi
-}
-
-changed_texts() {
-  local number lang trans text
-  python3 "$here/bench/mutate.py" "$count" "$seed" "$folder/changed" "$examples"/*.fast >"$folder/names"
-  while read -r number lang trans; do
-    text=$folder/changed/$number
-    probe 'changed: check' "$text" check "$text.fast"
-    probe 'changed: run' "$text" run "$text.fast"
-    probe 'changed: accepts' "$text" accepts "$text.fast" "$lang" "$text.trees"
-    probe 'changed: apply' "$text" apply "$text.fast" "$trans" "$text.trees"
-  done <"$folder/names"
 }
 
 # A program whose report grows line by line, and which needs more memory the longer it runs.
@@ -184,11 +158,12 @@ summary() {
   done
 }
 
-changed_texts
+python3 "$here/bench/changed.py" "$program" "$count" "$seed" "$kept"
+changed=$?
 less_memory
 all_limits
 no_output
-summary changed:\ {check,run,accepts,apply} 'less memory: run' all\ limits:\ {check,run,accepts,apply} \
+summary 'less memory: run' all\ limits:\ {check,run,accepts,apply} \
   {full\ device,closed\ output,closed\ pipe}:\ run
 printf '%s\n' "${stacks[@]}"
 rmdir "$kept" 2>/dev/null
@@ -196,5 +171,5 @@ total=0
 for row in "${!runs[@]}"; do
   case $row in *,wrong) total=$((total + runs[$row])) ;; esac
 done
-echo "$total runs ended wrongly"
-[ "$total" = 0 ]
+echo "$total of these runs ended wrongly"
+[ "$total" = 0 ] && [ "$changed" = 0 ]

@@ -1,19 +1,10 @@
 #!/usr/bin/env python3
-"""Writes texts that are programs or nearly so. Each is an example in which one to three things were changed: bytes are flipped,
-put in, removed or doubled, two tokens change places, a token is another one of its kind or a number at a border, or lines are
-missing. Beside it stands a file of trees, out of the example's report, and changed in the same way every second time. The same
-seed gives the same texts.
-
-Text K is FOLDER/K.fast and its trees are FOLDER/K.trees. For each a line is printed, `K LANG TRANS`: a language and a
-transformation of the example, or any name where it has none.
-
-usage: mutate.py COUNT SEED FOLDER EXAMPLE.fast..
+"""Changes texts into ones that are nearly programs, or nearly trees: bytes are flipped, put in, removed or doubled, two tokens
+change places, a token is another one of its kind or a number at a border, or lines are missing; one to three times. The same
+seed gives the same texts (changed.py).
 """
 
-import os
-import random
 import re
-import sys
 
 TOKEN = re.compile(
     rb'"(?:[^"\\]|\\.)*"|(?:assert|is|type|get|pre|restrict)-(?:true|false|empty|check|witness|image|out)|[A-Za-z_][A-Za-z0-9_.]*'
@@ -120,28 +111,3 @@ def trees_of(report):
 def name_of(chance, word, text):
     """A name that the text declares by this word."""
     return chance.choice(re.findall(word + rb" ([A-Za-z_][A-Za-z0-9_.]*)", text) or [b"none"]).decode()
-
-
-def main():
-    count, seed, folder, files = int(sys.argv[1]), int(sys.argv[2]), sys.argv[3], sys.argv[4:]
-    examples = []
-    for file in files:
-        with open(file, "rb") as text, open(file.removesuffix(".fast") + ".report", "rb") as report:
-            examples.append((text.read(), trees_of(report.read())))
-    os.makedirs(folder, exist_ok=True)
-    for number in range(count):
-        chance = random.Random(f"{seed} {number}")
-        text, trees = chance.choice(examples)
-        if chance.random() < 0.8:
-            # what is changed in a comment changes nothing
-            text = re.sub(rb"//.*", b"", text)
-        names = [name_of(chance, word, text) for word in (rb"\blang", rb"\btrans")]
-        with open(f"{folder}/{number}.fast", "wb") as it:
-            it.write(mutated(chance, text))
-        with open(f"{folder}/{number}.trees", "wb") as it:
-            it.write(mutated(chance, trees) if chance.random() < 0.5 else trees)
-        print(number, *names)
-
-
-if __name__ == "__main__":
-    main()

@@ -1,9 +1,10 @@
 #!/usr/bin/env bash
-# Refuses memory: runs the program on a text again and again, with its first allocation refused, then its second, and so
-# on, until none is. Each run must write the whole report with its status, or a front of it with status 7. The allocator
+# Refuses memory: gives the program a command line again and again, with its first allocation refused, then its second, and
+# so on, until none is. Each run must write the whole report with its status, or a front of it with status 7. The allocator
 # is the C library's with a counter before it, built here and loaded before the program.
 #
-# usage: refused_memory.sh [FILE..]; without files, three programs of its own.
+# usage: refused_memory.sh [FILE..], which are run; without files, programs of its own, among them a transformation that is
+# applied to trees.
 . "$(dirname "${BASH_SOURCE[0]}")/common.sh"
 
 cat >"$folder/refuse.c" <<'C'
@@ -84,15 +85,33 @@ assert-true (is-empty e)
 assert-false (is-empty m)
 T
 
-# Each run on this text.
+cat >"$folder/types" <<'T'
+type B[]{a(0), b(0), c(1)}
+lang all : B { a() | b() | c(x) given (all x) }
+lang odd : B { c(x) given (even x) }
+lang even : B { a() | b() | c(x) given (odd x) }
+trans p : B -> B { a() to (b []) | b() to (a []) | c(x) to (c [] (c [] (p x))) }
+def q : B -> B := (compose p p)
+def twice : B := (pre-image (restrict q even) (minimize even))
+tree t : B := (apply p (get-witness odd))
+assert-true (type-check all p even)
+assert-true all == twice
+T
+cat >"$folder/gives" <<'T'
+type N[x : Int]{z(0)}
+trans f : N -> N { z() where x > 0 to (z [x]) | z() where x >= 1 to (z [x]) | z() to (z [-x]) }
+T
+printf '(z [3]) (z [0])' >"$folder/given"
+
+# Each run of these words.
 refuse_each() {
-  local text=$1 status whole number=0 calls front=0
-  whole=$("$program" run "$text"; echo "status $?")
+  local status whole number=0 calls front=0
+  whole=$("$program" "$@"; echo "status $?")
   printf '%s' "${whole%status *}" >"$folder/whole"
   status=${whole##*status }
   while :; do
     number=$((number + 1))
-    CALLS=$folder/calls REFUSED=$number LD_PRELOAD=$folder/refuse.so "$program" run "$text" >"$folder/report" 2>"$folder/errors"
+    CALLS=$folder/calls REFUSED=$number LD_PRELOAD=$folder/refuse.so "$program" "$@" >"$folder/report" 2>"$folder/errors"
     local got=$?
     calls=$(cat "$folder/calls")
     if [ "$got" = "$status" ] && cmp -s "$folder/report" "$folder/whole"; then
@@ -101,13 +120,16 @@ refuse_each() {
     fi
     if [ "$got" != 7 ] || [ -s "$folder/errors" ] ||
       ! cmp -s -n "$(stat -c %s "$folder/report")" "$folder/report" "$folder/whole"; then
-      echo "$text: allocation $number refused: status $got"
+      echo "$*: allocation $number refused: status $got"
       return 1
     fi
     front=$((front + 1))
   done
-  echo "$(basename "$text"): $((number - 1)) allocations refused one by one, $front runs with status 7 and a front of the report, the others whole"
+  echo "$1 $(basename "$2"), status $status: $((number - 1)) allocations refused one by one, $front runs with status 7 and a front of the report, the others whole"
 }
 
-if [ $# -eq 0 ]; then set -- "$folder/pairs" "$folder/texts" "$folder/numbers"; fi
-for text in "$@"; do refuse_each "$text" || exit 1; done
+if [ $# -eq 0 ]; then
+  set -- "$folder/pairs" "$folder/texts" "$folder/numbers" "$folder/types"
+  refuse_each apply "$folder/gives" f "$folder/given" || exit 1
+fi
+for text in "$@"; do refuse_each run "$text" || exit 1; done
