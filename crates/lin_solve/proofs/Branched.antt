@@ -92,7 +92,7 @@ set_twice [] k x y = refl
 set_twice (u ∷ us) zero x y = refl
 set_twice (u ∷ us) (suc k) x y = ap (λ xs. u ∷ xs) (set_twice us k x y)
 
-set_same : (us : List ℤ) (k : ℕ) → set us k (get_or us k (pos 0)) ≡ us
+pub set_same : (us : List ℤ) (k : ℕ) → set us k (get_or us k (pos 0)) ≡ us
 set_same [] k = refl
 set_same (u ∷ us) zero = refl
 set_same (u ∷ us) (suc k) = ap (λ xs. u ∷ xs) (set_same us k)

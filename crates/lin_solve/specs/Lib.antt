@@ -9,3 +9,4 @@ pub mod Meaning
 pub mod Sought
 pub mod Cases
 pub mod Branches
+pub mod Equations

@@ -9,18 +9,20 @@ ghost use Rattle.label_core.specs.declared.theory.Lit.{Lit as OneLit};
 ghost use Rattle.math_cooper.specs.System.{Solves};
 ghost use Rattle.model_form.specs.Form.{value};
 ghost use Rattle.model_form.specs.Meaning.{values_of, AreFormsLow};
-ghost use Rattle.model_chain.specs.Literals.{HoldsAll, compare_holds, needs_side as needs};
+ghost use Rattle.model_chain.specs.Literals.{HoldsAll, needs_side as needs};
 ghost use Rattle.lin_solve.specs.declared.compare.Compare.{Compare as OneCompare};
-ghost use Rattle.lin_solve.specs.Plain.{plain_compare, plain_literal, plain_literals};
+ghost use Rattle.lin_solve.specs.Plain.{plain_literal, plain_literals};
 ghost use Rattle.lin_solve.specs.Sought.{IsSidedAt, TellsExplored, TellsSought};
-ghost use Rattle.lin_solve.specs.Branches.{IsHeld, SomeHeld, ArePut};
+ghost use Rattle.lin_solve.specs.Branches.{IsHeld, SomeHeld};
 
 use crate::cases::{Case, Turn, divisor_in_common};
 use crate::compare::Compare;
+use crate::equations::equated;
 use crate::found::{Sought, sided, sideless};
 use crate::guess::all_hold;
 use crate::numbering::remainders_of;
-use crate::over::{are_over, is_whole};
+use crate::over::are_over;
+use crate::puts::{forms_with, put_each};
 use crate::system::{first_system, needs_side};
 use cooper_solve::{Constraint, Relation as Kind};
 use fast_fault::{LabelInt, Memory};
@@ -68,75 +70,14 @@ fn moved(alloc: Global, split: Split, number: u32) -> Result<Form, FormStop>
     Form::of_sum(alloc, &parts)
 }
 
-fn form_at(alloc: Global, field: u32, split: Split, number: u32) -> Result<Form, FormStop>
-    requires field { field < 8 }
-    requires split { split.field < 8 }
-    ensures { IfOk result (λ f. (vs : List ℤ) → length vs ≡ 8 → value f vs ≡ slice_index_or (slice_set vs split.field ((pos split.times *ℤ slice_index_or vs split.field (pos 0)) +ℤ pos number)) field (pos 0)) }
-{
-    if field == split.field {
-        return moved(alloc, split, number);
-    }
-    Ok(Form::field(alloc, field)?)
-}
-
 // What is put for the fields where one is so many times itself, and a number.
 fn forms_for(alloc: Global, split: Split, number: u32) -> Result<Vec<Form>, FormStop>
     requires { split.field < 8 }
     ensures forms { IfOk result (λ fs. (vs : List ℤ) → length vs ≡ 8 → values_of fs.items vs ≡ slice_set vs split.field ((pos split.times *ℤ slice_index_or vs split.field (pos 0)) +ℤ pos number)) }
     ensures low { IfOk result (λ fs. AreFormsLow fs.items) }
 {
-    let mut forms = Vec::new(alloc);
-    for field in 0..8 {
-        let form = form_at(alloc, field, split, number)?;
-        form.constant();
-        forms.push(form)?;
-    }
-    Ok(forms)
-}
-
-// The form where these are put for the fields, made simpler.
-fn put(alloc: Global, form: &Form, forms: &[Form]) -> Result<Form, FormStop>
-    requires { AreFormsLow forms.now }
-    ensures { IfOk result (λ f. (vs : List ℤ) → value f vs ≡ value form.now (values_of forms.now vs)) }
-{
-    let put = form.subst(alloc, forms)?;
-    is_whole(&put);
-    put.simpler(alloc)
-}
-
-fn put_literal(
-    alloc: Global,
-    literal: &Lit<Compare>,
-    forms: &[Form],
-) -> Result<Lit<Compare>, FormStop>
-    requires { AreFormsLow forms.now }
-    ensures { IfOk result (λ l. (l.sign ≡ literal.now.sign) × ((vs : List ℤ) → compare_holds (plain_compare l.atom) vs ≡ compare_holds (plain_compare literal.now.atom) (values_of forms.now vs))) }
-{
-    let left = put(alloc, &literal.atom.left, forms)?;
-    let right = put(alloc, &literal.atom.right, forms)?;
-    Ok(Lit {
-        atom: Compare {
-            left,
-            relation: literal.atom.relation,
-            right,
-        },
-        sign: literal.sign,
-    })
-}
-
-fn put_each(
-    alloc: Global,
-    literals: &[Lit<Compare>],
-    forms: &[Form],
-) -> Result<Vec<Lit<Compare>>, FormStop>
-    requires { AreFormsLow forms.now }
-    ensures { IfOk result (λ r. ArePut literals.now forms.now r.items) }
-{
-    let mut out = Vec::new(alloc);
-    for literal in literals {
-        out.push(put_literal(alloc, literal, forms)?)?;
-    }
-    Ok(out)
+    let own = moved(alloc, split, number)?;
+    forms_with(alloc, split.field, &own)
 }
 
 // The conditions that don't ask for multiples, from the last on.
@@ -242,7 +183,8 @@ impl Branch {
             return Ok(false);
         };
         let forms = forms_for(alloc, split, number)?;
-        let literals = put_each(alloc, &self.literals, &forms)?;
+        let put = put_each(alloc, &self.literals, &forms)?;
+        let literals = equated(alloc, put)?;
         pending.push(Branch { case, literals })?;
         Ok(true)
     }
@@ -328,10 +270,11 @@ impl Branch {
 fn run(alloc: Global, literals: &[Lit<Compare>]) -> Result<Sought, FormStop>
     ensures { IfOk result (TellsSought (plain_literals literals.now)) }
 {
+    let copy = sided(alloc, literals, literals.len(), false)?;
     let mut pending = Vec::new(alloc);
     pending.push(Branch {
         case: Case::all(),
-        literals: sided(alloc, literals, literals.len(), false)?,
+        literals: equated(alloc, copy)?,
     })?;
     for _ in 0..MOST {
         let Some(own) = pending.pop() else {

@@ -24,8 +24,8 @@ struct Gap {
     number: i128,
 }
 
-// The difference, where its numbers are in range.
-fn less(alloc: Global, left: &Form, right: &Form) -> Result<Option<Form>, Memory>
+/// The difference, where its numbers are in range.
+pub(crate) fn less(alloc: Global, left: &Form, right: &Form) -> Result<Option<Form>, Memory>
     ensures { IfOk result (λ f. IfSome f (λ f. (us : List ℤ) → value f us ≡ value left.now us -ℤ value right.now us)) }
 {
     left.constant();

@@ -14,7 +14,7 @@ returns-clause-part c = λ _ us q eight h is.
     let low : k < length us = (let l = c.requires in omega arith) in
     let made = c.in_ok-forms.ensures {u = tt} in
     let e : values_of c.deref-2.result.now vs ≡ us = ap (λ gs. values_of gs vs) c.deref-2.ensures.value ∙ made.forms vs same ∙ back us k c.args.split.times c.args.number q low is in
-    held_added _ _ _ (c.in_ok-push.ensures {u = tt}).items (record { values = vs; eight = same; hold = c.in_ok-literals.ensures {u = tt} vs (subst (HoldsAll (plain_literals c.deref.result.now)) (sym e) (subst (λ ls. HoldsAll (plain_literals ls) us) (sym c.deref.ensures.value) h)) })
+    held_added _ _ _ (c.in_ok-push.ensures {u = tt}).items (record { values = vs; eight = same; hold = c.in_ok-literals.ensures {u = tt} vs same (c.in_ok-put.ensures {u = tt} vs (subst (HoldsAll (plain_literals c.deref.result.now)) (sym e) (subst (λ ls. HoldsAll (plain_literals ls) us) (sym c.deref.ensures.value) h))) })
 
 pub returns-clause-kept : goal.returns-clause-kept
 returns-clause-kept c = λ s. held_grown _ _ _ (c.in_ok-push.ensures {u = tt}).items s

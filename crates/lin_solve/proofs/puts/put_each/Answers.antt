@@ -2,7 +2,7 @@ use Rattle.std.proofs.Common.{sym, ◌∙◌}
 use Rattle.model_form.specs.Meaning.{values_of}
 use Rattle.lin_solve.proofs.Gapped.{literal_here}
 use Rattle.lin_solve.proofs.Seeking.{pushed_hold}
-use Rattle.lin_solve.proofs.branches.put_each.Goals as goal
+use Rattle.lin_solve.proofs.puts.put_each.Goals as goal
 
 pub loop-literal-preserved : goal.loop-literal-preserved
 loop-literal-preserved c = λ vs h.

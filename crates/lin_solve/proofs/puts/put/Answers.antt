@@ -3,7 +3,7 @@ use Rattle.model_form.specs.Form.{value}
 use Rattle.model_form.proofs.Simplified.{simpler_form-value}
 use Rattle.model_form.proofs.Values.{subst_form-value}
 use Rattle.lin_solve.proofs.Branched.{ok_weaker}
-use Rattle.lin_solve.proofs.branches.put.Goals as goal
+use Rattle.lin_solve.proofs.puts.put.Goals as goal
 
 pub returns : goal.returns
 returns c =

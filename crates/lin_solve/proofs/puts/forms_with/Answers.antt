@@ -1,10 +1,10 @@
-use Rattle.std.proofs.Common.{sym, ◌∙◌, subst, get_or, arith}
-use Rattle.std.proofs.Math.IntN.{pos, ◌+ℤ◌, ◌*ℤ◌}
+use Rattle.std.proofs.Common.{sym, ◌∙◌, subst, arith}
 use Rattle.std.proofs.Math.ListN.{set, length-set}
 use Rattle.std.proofs.lemmas.List.{take_all}
+use Rattle.model_form.specs.Form.{value}
 use Rattle.model_form.specs.Meaning.{AreFormsLow}
 use Rattle.lin_solve.proofs.Branched.{low_form, low_push, one_more}
-use Rattle.lin_solve.proofs.branches.forms_for.Goals as goal
+use Rattle.lin_solve.proofs.puts.forms_with.Goals as goal
 
 pub loop-field-preserved : goal.loop-field-preserved
 loop-field-preserved c =
@@ -13,7 +13,7 @@ loop-field-preserved c =
     let x = c.in_ok-form.form in
     record {
       forms = λ vs eight.
-          one_more old c.push.new.self.items x vs (set vs c.args.split.field ((pos c.args.split.times *ℤ get_or vs c.args.split.field (pos 0)) +ℤ pos c.args.number)) c.loop-field.field items (let l = c.loop-field-test.true in let e = length-set vs c.args.split.field ((pos c.args.split.times *ℤ get_or vs c.args.split.field (pos 0)) +ℤ pos c.args.number) in omega arith)
+          one_more old c.push.new.self.items x vs (set vs c.args.own (value c.args.form.now vs)) c.loop-field.field items (let l = c.loop-field-test.true in let e = length-set vs c.args.own (value c.args.form.now vs) in omega arith)
           (c.in_ok-form.ensures {u = tt} vs eight) (c.loop-field.invariant.forms vs eight);
       low = subst AreFormsLow (sym items) (low_push old x c.loop-field.invariant.low (low_form x c.constant.ensures.form));
     }
@@ -22,6 +22,6 @@ pub returns-clause-forms : goal.returns-clause-forms
 returns-clause-forms c = λ vs eight.
     let l = c.loop-field-test.false in
     let n = c.loop-field.auto.field-end in
-    let target = set vs c.args.split.field ((pos c.args.split.times *ℤ get_or vs c.args.split.field (pos 0)) +ℤ pos c.args.number) in
-    let e = length-set vs c.args.split.field ((pos c.args.split.times *ℤ get_or vs c.args.split.field (pos 0)) +ℤ pos c.args.number) in
+    let target = set vs c.args.own (value c.args.form.now vs) in
+    let e = length-set vs c.args.own (value c.args.form.now vs) in
     c.loop-field.invariant.forms vs eight ∙ take_all c.loop-field.field target (omega arith)

@@ -1,0 +1,87 @@
+//! Forms that are put for the fields of literals.
+
+ghost use Rattle.std.specs.Prelude.{◌≡◌, ◌<◌, ℤ, List, IfOk, length, slice_index_or, slice_set, pos};
+ghost use Rattle.model_form.specs.Form.{value};
+ghost use Rattle.model_form.specs.Meaning.{values_of, AreFormsLow};
+ghost use Rattle.model_chain.specs.Literals.{compare_holds};
+ghost use Rattle.lin_solve.specs.Plain.{plain_compare};
+ghost use Rattle.lin_solve.specs.Branches.{ArePut};
+
+use crate::compare::Compare;
+use crate::over::is_whole;
+use label_core::Lit;
+use lin_form::{Form, FormStop};
+use std::alloc::Global;
+
+fn form_at(alloc: Global, field: u32, own: u32, form: &Form) -> Result<Form, FormStop>
+    requires field { field < 8 }
+    requires own { own < 8 }
+    ensures { IfOk result (λ f. (vs : List ℤ) → length vs ≡ 8 → value f vs ≡ slice_index_or (slice_set vs own (value form.now vs)) field (pos 0)) }
+{
+    if field == own {
+        return Ok(form.copy(alloc)?);
+    }
+    Ok(Form::field(alloc, field)?)
+}
+
+/// Each field's own form, but for one field.
+pub(crate) fn forms_with(alloc: Global, own: u32, form: &Form) -> Result<Vec<Form>, FormStop>
+    requires { own < 8 }
+    ensures forms { IfOk result (λ fs. (vs : List ℤ) → length vs ≡ 8 → values_of fs.items vs ≡ slice_set vs own (value form.now vs)) }
+    ensures low { IfOk result (λ fs. AreFormsLow fs.items) }
+{
+    let mut forms = Vec::new(alloc);
+    for field in 0..8 {
+        let form = form_at(alloc, field, own, form)?;
+        form.constant();
+        forms.push(form)?;
+    }
+    Ok(forms)
+}
+
+// The form where these are put for the fields, made simpler.
+fn put(alloc: Global, form: &Form, forms: &[Form]) -> Result<Form, FormStop>
+    requires { AreFormsLow forms.now }
+    ensures { IfOk result (λ f. (vs : List ℤ) → value f vs ≡ value form.now (values_of forms.now vs)) }
+{
+    let put = form.subst(alloc, forms)?;
+    is_whole(&put);
+    put.simpler(alloc)
+}
+
+/// The literal where these are put for the fields.
+pub(crate) fn put_literal(
+    alloc: Global,
+    literal: &Lit<Compare>,
+    forms: &[Form],
+) -> Result<Lit<Compare>, FormStop>
+    requires { AreFormsLow forms.now }
+    ensures { IfOk result (λ l. (l.sign ≡ literal.now.sign) × ((vs : List ℤ) → compare_holds (plain_compare l.atom) vs ≡ compare_holds (plain_compare literal.now.atom) (values_of forms.now vs))) }
+{
+    let left = put(alloc, &literal.atom.left, forms)?;
+    let right = put(alloc, &literal.atom.right, forms)?;
+    Ok(Lit {
+        atom: Compare {
+            left,
+            relation: literal.atom.relation,
+            right,
+        },
+        sign: literal.sign,
+    })
+}
+
+/// Each literal where these are put for the fields.
+pub(crate) fn put_each(
+    alloc: Global,
+    literals: &[Lit<Compare>],
+    forms: &[Form],
+) -> Result<Vec<Lit<Compare>>, FormStop>
+    requires { AreFormsLow forms.now }
+    ensures { IfOk result (λ r. ArePut literals.now forms.now r.items) }
+{
+    let mut out = Vec::new(alloc);
+    for literal in literals {
+        out.push(put_literal(alloc, literal, forms)?)?;
+    }
+    Ok(out)
+}
