@@ -1,6 +1,6 @@
 -- Systems of which one has a solution, where one of them is split.
 use Rattle.std.proofs.Common.{◌≡◌, ◌⊎◌, inl, inr, ℕ, zero, suc, ◌<◌, List, [], ◌∷◌, ◌++◌, length, get_or, set, refl, ap, sym, ◌∙◌, subst, arith}
-use Rattle.std.proofs.Math.IntN.{ℤ, pos}
+use Rattle.std.proofs.Math.IntN.{ℤ, pos, neg_ℤ, ◌+ℤ◌, ◌*ℤ◌}
 use Rattle.std.specs.Prelude.{◌<ℤ◌, ◌≤ℤ◌}
 use Rattle.std.specs.Int.{int_rem_euclid, int_div_euclid}
 use Rattle.std.specs.List.{Contains}
@@ -10,8 +10,9 @@ use Rattle.std.proofs.lemmas.List.Elements.{All-cons, All-nil, Contains-append_l
 use Rattle.math_int.proofs.Floors.{euclid, euclid_range}
 use Rattle.math_cooper.specs.System.{Condition, Holds, IsSolvable, Solves}
 use Rattle.lin_reduce.specs.declared.moves.Scale.{Scale}
+use Rattle.lin_reduce.specs.declared.moves.Shear.{Shear}
 use Rattle.lin_reduce.specs.declared.nodes.Node.{Node}
-use Rattle.lin_reduce.specs.Parts.{AnySolvable, IsPart, IsPartSolvable}
+use Rattle.lin_reduce.specs.Parts.{AnySolvable, IsPart, IsPartSolvable, IsSheared}
 
 pub grown : (n : ℕ) (old new : List Node) (x : Node) → new ≡ old ++ x ∷ [] → AnySolvable n old → AnySolvable n new
 grown n old new x e a = record { node = a.node; among = subst (λ xs. Contains xs a.node) (sym e) (Contains-append_left old (x ∷ []) a.node a.among); solvable = a.solvable }
@@ -51,3 +52,18 @@ popped n old rest x e a = by (Contains-append_cases rest (x ∷ []) a.node (subs
 
 pub single_solves : (vs : List ℤ) (x : Condition) (S old : List Condition) → S ≡ old ++ x ∷ [] → old ≡ [] → Holds vs x → Solves vs S
 single_solves vs x S old e n h = subst (Solves vs) (sym (e ∙ ap (λ o. o ++ x ∷ []) n)) (All-cons (Holds vs) x [] h (All-nil (Holds vs)))
+
+-- what holds of the variable holds of the one that it is made of
+pub shear_solvable : (n : ℕ) (s : Shear) (S T : List Condition) → s.of < n → s.by < n → ((vs : List ℤ) (w : ℤ) → IsSheared s vs w → Solves vs S → Solves (set vs s.of w) T) → IsSolvable n S → IsSolvable n T
+shear_solvable n s S T l m h (vs, many, solves) =
+    let a = get_or vs s.of (pos 0) in
+    let b = s.times *ℤ get_or vs s.by (pos 0) in
+    let w = a +ℤ neg_ℤ b in
+    let low : s.of < length vs = omega arith in
+    let high : s.by < length vs = omega arith in
+    let same : a ≡ w +ℤ b = omega (arith, ints) in
+    (set vs s.of w, length-set vs s.of w ∙ many, h vs w (low, high, same) solves)
+
+-- a variable of one value is a part
+pub pin_solvable : (n : ℕ) (s : Scale) (S : List Condition) → ((vs : List ℤ) → length vs ≡ n → Solves vs S → IsPart s vs (pos 0)) → IsSolvable n S → IsPartSolvable n s S
+pin_solvable n s S h (vs, many, solves) = record { values = vs; own = pos 0; many = many; part = h vs many solves; solves = solves }

@@ -4,6 +4,7 @@ use Rattle.std.specs.List.{Contains}
 use Rattle.math_cooper.specs.System.{Condition, IsSolvable, Solves}
 use Rattle.lin_reduce.specs.declared.cut.Bound.{Bound}
 use Rattle.lin_reduce.specs.declared.moves.Scale.{Scale}
+use Rattle.lin_reduce.specs.declared.moves.Shear.{Shear}
 use Rattle.lin_reduce.specs.declared.nodes.Node.{Node}
 use Rattle.lin_reduce.specs.declared.nodes.Look.{Look}
 use Rattle.lin_reduce.specs.declared.nodes.Look.TheVariants as look
@@ -13,6 +14,10 @@ use Rattle.lin_reduce.specs.declared.nodes.Explored.TheVariants.{Never, Maybe, O
 -- the variable of these values is so many times w, and the rest
 abbrev pub IsPart : Scale → List ℤ → ℤ → Type 0
 IsPart s vs w = (s.of < length vs) × (slice_index_or vs s.of (pos 0) ≡ (s.times *ℤ w) +ℤ s.rest)
+
+-- the variable of these values is w, and so many times another one
+abbrev pub IsSheared : Shear → List ℤ → ℤ → Type 0
+IsSheared s vs w = (s.of < length vs) × (s.by < length vs) × (slice_index_or vs s.of (pos 0) ≡ w +ℤ (s.times *ℤ slice_index_or vs s.by (pos 0)))
 
 -- so many times a variable of these values, and the constant, is at least 0
 abbrev pub IsWithin : Bound → List ℤ → Type 0
@@ -44,4 +49,5 @@ TellsLook S look.Lost = (vs : List ℤ) → Solves vs S → ⊥
 TellsLook S (look.Maybe values) = Unit {0}
 TellsLook S (look.Split split) = Unit {0}
 TellsLook S (look.Cut cut) = Unit {0}
+TellsLook S (look.Solve place) = Unit {0}
 TellsLook S look.Open = Unit {0}

@@ -23,8 +23,8 @@ pub(crate) struct Bound {
     pub(crate) constant: i128,
 }
 
-// The coefficients of so many times a variable.
-fn single(alloc: Global, count: usize, of: usize, times: i128) -> Result<Vec<i128>, Stop>
+/// The coefficients of so many times a variable.
+pub(crate) fn single(alloc: Global, count: usize, of: usize, times: i128) -> Result<Vec<i128>, Stop>
     ensures { MatchResult result (λ r. (vs : List ℤ) → length vs ≡ count → dot r.items vs ≡ times *ℤ slice_index_or vs of (pos 0)) (λ _. Unit {0}) }
 {
     let mut row = zeros(alloc, count)?;

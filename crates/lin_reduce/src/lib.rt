@@ -23,10 +23,12 @@ mod line;
 mod moves;
 mod nodes;
 mod pairs;
+mod pins;
 mod program;
 mod residues;
 mod rows;
 mod search;
+mod shears;
 mod space;
 mod tableau;
 

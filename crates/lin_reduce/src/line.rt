@@ -1,4 +1,4 @@
-//! Lines: conditions on the variables, and the forms of the first eight.
+//! Lines: conditions on the variables, and the forms of eight.
 
 ghost use Rattle.std.specs.Prelude.{◌≡◌, ◌+ℤ◌, ◌*ℤ◌, MatchResult};
 
@@ -93,16 +93,31 @@ fn variable(alloc: Global, own: usize, count: usize) -> Result<Line, AllocError>
     })
 }
 
-/// The first eight variables, and then the conditions.
-pub(crate) fn lines_of(
-    alloc: Global,
-    system: &[Constraint],
-    count: usize,
-) -> Result<Vec<Line>, AllocError> {
+/// The first eight variables.
+pub(crate) fn variables(alloc: Global, count: usize) -> Result<Vec<Line>, AllocError> {
     let mut lines = Vec::new(alloc);
     for own in 0..8 {
         lines.push(variable(alloc, own, count)?)?;
     }
+    Ok(lines)
+}
+
+/// The same lines, of which nothing is said.
+pub(crate) fn copy_lines(alloc: Global, lines: &[Line]) -> Result<Vec<Line>, AllocError> {
+    let mut out = Vec::new(alloc);
+    for line in lines {
+        out.push(line.copy_as(alloc, Kind::Free)?)?;
+    }
+    Ok(out)
+}
+
+/// The eight lines, and then the conditions.
+pub(crate) fn lines_of(
+    alloc: Global,
+    parts: &[Line],
+    system: &[Constraint],
+) -> Result<Vec<Line>, AllocError> {
+    let mut lines = copy_lines(alloc, parts)?;
     for condition in system {
         lines.push(line_of(alloc, condition)?)?;
     }

@@ -7,11 +7,14 @@ ghost use Rattle.lin_reduce.specs.Parts.{AnySolvable, IsPartSolvable, IsWithin, 
 use crate::certificate::refutes;
 use crate::cut::{Bound, Cut};
 use crate::dive::dived;
-use crate::line::{Stop, plus_times};
-use crate::moves::Scale;
+use crate::fit::value_of;
+use crate::line::{Line, Stop, copy_lines, variables};
+use crate::moves::{Scale, Shear, scale_all, shear_all};
+use crate::pins::{first_equation, first_multiple, pinned_at};
 use crate::residues::{Split, copy_each, scaled, scaled_each, split_of};
 use crate::rows::Rows;
 use crate::search::sketch;
+use crate::shears::{shear_for, sheared_each};
 use crate::space::{Space, cut_of, space_of};
 use cooper_solve::{Constraint, is_hopeless, is_refuted};
 use fast_fault::{LabelInt, Memory};
@@ -31,6 +34,9 @@ const MOST_TRIED: usize = 60;
 // How often a variable is said to be small or great.
 const MOST_CUTS: usize = 200;
 
+// How many of Euclid's steps bring a condition to one variable.
+const MOST_SHEARS: usize = 300;
+
 /// What is found of a system: that no values meet it, values of the first eight variables that may, or nothing.
 #[derive(Drop)]
 pub enum Explored {
@@ -40,72 +46,121 @@ pub enum Explored {
 }
 
 // What is found of a node: that no values meet its system, values that may, which variable is to be split or to be small or
-// great, or nothing.
+// great, the place of the condition that is to be brought to one variable, or nothing.
 #[derive(Drop)]
 enum Look {
     Lost,
     Maybe(Vec<LabelInt>),
     Split(Split),
     Cut(Cut),
+    Solve(usize),
     Open,
 }
 
-// A system, what its first eight variables stand for, and how often one was said to be small or great.
+// A system, what the first eight variables at the beginning are by its own, and how often one was said to be small or great.
 #[derive(Drop)]
 struct Node {
     system: Vec<Constraint>,
-    parts: Vec<Scale>,
+    parts: Vec<Line>,
     cuts: usize,
 }
 
-// The values of the first eight variables, from those of what they stand for.
-fn values(alloc: Global, parts: &[Scale], given: &[i128]) -> Result<Vec<LabelInt>, Stop> {
+// The values of the parts.
+fn values(alloc: Global, parts: &[Line], given: &[i128]) -> Result<Vec<LabelInt>, Stop> {
     let mut out = Vec::new(alloc);
-    for i in 0..8 {
-        if i < parts.len() && i < given.len() {
-            let part = parts[i];
-            let value = plus_times(part.rest, part.times, given[i])?;
-            match LabelInt::try_from(value) {
-                Ok(value) => out.push(value)?,
-                Err(_) => return Err(Stop::TooWide),
-            }
+    for part in parts {
+        match LabelInt::try_from(value_of(part, given)?) {
+            Ok(value) => out.push(value)?,
+            Err(_) => return Err(Stop::TooWide),
         }
     }
     Ok(out)
 }
 
 impl Node {
-    fn first(alloc: Global, system: &[Constraint]) -> Result<Node, Stop>
+    fn first(alloc: Global, system: &[Constraint], count: usize) -> Result<Node, Stop>
         ensures { MatchResult result (λ n. n.system.items ≡ system.now) (λ _. Unit {0}) }
     {
         let own = copy_each(alloc, system)?;
-        let mut parts = Vec::new(alloc);
-        for of in 0..8 {
-            parts.push(Scale {
-                of,
-                times: 1,
-                rest: 0,
-            })?;
-        }
         Ok(Node {
             system: own,
-            parts,
+            parts: variables(alloc, count)?,
             cuts: 0,
         })
     }
 
-    // What the first eight variables stand for after one is split.
-    fn parts_after(&self, alloc: Global, scale: Scale) -> Result<Vec<Scale>, Stop> {
-        let mut parts = Vec::from_slice(alloc, &self.parts)?;
-        if scale.of < parts.len() {
-            let own = parts[scale.of];
-            parts[scale.of] = Scale {
-                of: scale.of,
-                times: plus_times(0, own.times, scale.times)?,
-                rest: plus_times(own.rest, own.times, scale.rest)?,
-            };
+    // The system with a new variable, which so many times and a rest make the old one.
+    fn part(&self, alloc: Global, scale: Scale) -> Result<Node, Stop>
+        ensures { MatchResult result (λ x. (n : ℕ) → IsPartSolvable n scale self.now.system.items → IsSolvable n x.system.items) (λ _. Unit {0}) }
+    {
+        let system = scaled_each(alloc, &self.system, scale)?;
+        Ok(Node {
+            system,
+            parts: scale_all(alloc, &self.parts, scale)?,
+            cuts: self.cuts,
+        })
+    }
+
+    // The system with a new variable, which is the old one less so many times another.
+    fn sheared(&self, alloc: Global, shear: Shear, count: usize) -> Result<Node, Stop>
+        ensures { MatchResult result (λ x. IsSolvable count self.now.system.items → IsSolvable count x.system.items) (λ _. Unit {0}) }
+    {
+        if shear.of >= count || shear.by >= count {
+            return Err(Stop::TooWide);
         }
-        Ok(parts)
+        let system = sheared_each(alloc, &self.system, shear)?;
+        Ok(Node {
+            system,
+            parts: shear_all(alloc, &self.parts, shear)?,
+            cuts: self.cuts,
+        })
+    }
+
+    // The condition at the place is brought to one variable.
+    fn narrowed(&self, alloc: Global, place: usize, count: usize) -> Result<Node, Stop>
+        ensures { MatchResult result (λ x. IsSolvable count self.now.system.items → IsSolvable count x.system.items) (λ _. Unit {0}) }
+    {
+        let mut node = Node {
+            system: copy_each(alloc, &self.system)?,
+            parts: copy_lines(alloc, &self.parts)?,
+            cuts: self.cuts,
+        };
+        for _ in 0..MOST_SHEARS {
+            if place >= node.system.len() {
+                return Err(Stop::TooWide);
+            }
+            match shear_for(&node.system[place]) {
+                None => return Ok(node),
+                Some(shear) => node = node.sheared(alloc, shear, count)?,
+            }
+        }
+        Err(Stop::TooWide)
+    }
+
+    // The condition at the place is brought to one variable, which is put where it has one value.
+    fn solved(&self, alloc: Global, place: usize, count: usize) -> Result<Node, Stop>
+        ensures { MatchResult result (λ x. IsSolvable count self.now.system.items → IsSolvable count x.system.items) (λ _. Unit {0}) }
+    {
+        let node = self.narrowed(alloc, place, count)?;
+        match pinned_at(alloc, &node.system, place, count)? {
+            Some(scale) => node.part(alloc, scale),
+            None => Ok(node),
+        }
+    }
+
+    // That, at the end.
+    fn push_solved(
+        &self,
+        alloc: Global,
+        place: usize,
+        count: usize,
+        pending: &mut Vec<Node>,
+    ) -> Result<(), Stop>
+        ensures part { OnOk result (IsSolvable count self.now.system.items → AnySolvable count pending.new.items) }
+        ensures kept { OnOk result (AnySolvable count pending.old.items → AnySolvable count pending.new.items) }
+    {
+        pending.push(self.solved(alloc, place, count)?)?;
+        Ok(())
     }
 
     // Whether the condition at the place never holds with this rest of the variable.
@@ -134,14 +189,9 @@ impl Node {
         if self.is_lost_at(alloc, place, scale)? {
             return Ok(());
         }
-        let system = scaled_each(alloc, &self.system, scale)?;
-        if !is_refuted(&system) {
-            let parts = self.parts_after(alloc, scale)?;
-            pending.push(Node {
-                system,
-                parts,
-                cuts: self.cuts,
-            })?;
+        let part = self.part(alloc, scale)?;
+        if !is_refuted(&part.system) {
+            pending.push(part)?;
         }
         Ok(())
     }
@@ -181,7 +231,7 @@ impl Node {
         system.push(bound.condition(alloc, count)?)?;
         Ok(Node {
             system,
-            parts: Vec::from_slice(alloc, &self.parts)?,
+            parts: copy_lines(alloc, &self.parts)?,
             cuts: self.cuts.saturating_add(1),
         })
     }
@@ -256,14 +306,10 @@ impl Node {
     fn by_equations(&self, alloc: Global, count: usize) -> Result<Look, Stop>
         ensures { MatchResult result (TellsLook self.now.system.items) (λ _. Unit {0}) }
     {
-        let Some(given) = sketch(alloc, &self.system, count)? else {
-            return Ok(Look::Open);
-        };
-        let mut wide = Vec::new(alloc);
-        for value in &given {
-            wide.push(*value as i128)?;
+        match sketch(alloc, &self.parts, &self.system, count)? {
+            Some(values) => Ok(Look::Maybe(values)),
+            None => Ok(Look::Open),
         }
-        self.shown(alloc, Some(wide))
     }
 
     // A variable that may be cut, by the linear program, which may have no room.
@@ -302,8 +348,12 @@ impl Node {
             found => return Ok(found),
         }
         match self.by_equations(alloc, count)? {
-            Look::Open => self.by_space(alloc, count, true),
-            found => Ok(found),
+            Look::Open => {}
+            found => return Ok(found),
+        }
+        match first_equation(&self.system) {
+            Some(place) => Ok(Look::Solve(place)),
+            None => self.by_space(alloc, count, true),
         }
     }
 
@@ -323,7 +373,10 @@ impl Node {
         ensures { MatchResult result (TellsLook self.now.system.items) (λ _. Unit {0}) }
     {
         match split_of(&self.system) {
-            None => self.ended(alloc, count),
+            None => match first_multiple(&self.system) {
+                Some(place) => Ok(Look::Solve(place)),
+                None => self.ended(alloc, count),
+            },
             Some(next) => {
                 if !next.alone && is_hopeless(alloc, &self.system, count)? {
                     return Ok(Look::Lost);
@@ -338,7 +391,7 @@ fn run(alloc: Global, system: &[Constraint], count: usize) -> Result<Explored, S
     ensures { MatchResult result (TellsNever count system.now) (λ _. Unit {0}) }
 {
     let mut pending = Vec::new(alloc);
-    pending.push(Node::first(alloc, system)?)?;
+    pending.push(Node::first(alloc, system, count)?)?;
     let mut ends: usize = 0;
     let mut cuts: usize = 0;
     for _ in 0..MOST {
@@ -353,6 +406,7 @@ fn run(alloc: Global, system: &[Constraint], count: usize) -> Result<Explored, S
             Look::Lost => {}
             Look::Maybe(values) => return Ok(Explored::Maybe(values)),
             Look::Split(next) => node.push_parts(alloc, next, count, &mut pending)?,
+            Look::Solve(place) => node.push_solved(alloc, place, count, &mut pending)?,
             Look::Cut(cut) => {
                 cuts = cuts.saturating_add(1);
                 if cuts > MOST_CUTS {

@@ -11,8 +11,11 @@ use cooper_solve::{Constraint, Relation};
 use std::alloc::Global;
 use wide_num::{gcd, mul};
 
-// By how many remainders a variable is split at most.
+// By how many remainders a variable is split at most: where one condition is settled by it, all of them but one are lost at
+// once.
 const MOST: i128 = 64;
+
+const MOST_ALONE: i128 = 5000;
 
 /// The variable that is split, by how many remainders, and the place of the condition for which it is, which may have no other
 /// one that is to be split.
@@ -79,8 +82,8 @@ pub(crate) fn scaled_each(
     Ok(out)
 }
 
-// By how many remainders a variable with this coefficient is to be split.
-fn times_for(coefficient: i128, divisor: i128) -> i128 {
+/// By how many remainders a variable with this coefficient is to be split.
+pub(crate) fn times_for(coefficient: i128, divisor: i128) -> i128 {
     let common = gcd(coefficient, divisor).unwrap_or(1);
     divisor.checked_div(common).unwrap_or(1)
 }
@@ -126,7 +129,8 @@ pub(crate) fn split_of(system: &[Constraint]) -> Option<Split> {
     for (place, condition) in system.iter().enumerate() {
         if let Relation::Divided(divisor) = condition.relation {
             if let Some((split, many)) = unsettled(&condition.coefficients, divisor, place) {
-                if split.times <= MOST && is_better(split, many, best, fewest) {
+                let most = if split.alone { MOST_ALONE } else { MOST };
+                if split.times <= most && is_better(split, many, best, fewest) {
                     best = Some(split);
                     fewest = many;
                 }

@@ -145,8 +145,13 @@ fn spacious(alloc: Global, lines: &[Line], count: usize) -> Result<Option<Vec<i1
     Ok(space.whole(alloc, MOST_TRIED)?)
 }
 
-fn run(alloc: Global, system: &[Constraint], count: usize) -> Result<Option<Vec<LabelInt>>, Stop> {
-    let lines = lines_of(alloc, system, count)?;
+fn run(
+    alloc: Global,
+    parts: &[Line],
+    system: &[Constraint],
+    count: usize,
+) -> Result<Option<Vec<LabelInt>>, Stop> {
+    let lines = lines_of(alloc, parts, system)?;
     let Some(solved) = solve_each(alloc, lines)? else {
         return Ok(None);
     };
@@ -160,13 +165,14 @@ fn run(alloc: Global, system: &[Constraint], count: usize) -> Result<Option<Vec<
     }
 }
 
-/// Values of the first eight of so many variables that may meet the system, if some are found.
-pub fn sketch(
+/// The values of eight lines where so many variables may meet the system, if some are found.
+pub(crate) fn sketch(
     alloc: Global,
+    parts: &[Line],
     system: &[Constraint],
     count: usize,
 ) -> Result<Option<Vec<LabelInt>>, Memory> {
-    match run(alloc, system, count) {
+    match run(alloc, parts, system, count) {
         Ok(found) => Ok(found),
         Err(Stop::TooWide) => Ok(None),
         Err(Stop::Memory) => Err(Memory),

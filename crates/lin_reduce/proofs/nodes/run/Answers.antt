@@ -3,7 +3,7 @@ use Rattle.math_cooper.specs.System.{IsSolvable}
 use Rattle.lin_reduce.specs.declared.nodes.Node.{Node}
 use Rattle.lin_reduce.specs.Parts.{AnySolvable, TellsLook, TellsNever}
 use Rattle.lin_reduce.proofs.Splitting.{added, none_solvable, popped}
-use Rattle.lin_reduce.proofs.nodes.run.Goals.{then-ends-eq0, else-ends-eq0, in-Lost, in-Split+in_ok-push_parts-in-Split, in-Cut+else-cuts-gt-MOST_CUTS+in_ok-push_cut-in-Cut, in-Open+else-ends-ge-MOST_ENDS}
+use Rattle.lin_reduce.proofs.nodes.run.Goals.{then-ends-eq0, else-ends-eq0, in-Lost, in-Split+in_ok-push_parts-in-Split, in-Solve+in_ok-push_solved-in-Solve, in-Cut+else-cuts-gt-MOST_CUTS+in_ok-push_cut-in-Cut, in-Open+else-ends-ge-MOST_ENDS}
 use Rattle.lin_reduce.proofs.nodes.run.Goals as goal
 
 pub loop-init : goal.loop-init
@@ -34,6 +34,12 @@ loop-preserved c = λ s.
           let after = λ (a : AnySolvable n w.push_parts.new.pending.items). subst (λ (v : Vec Node Global). AnySolvable n v.items) (sym w.pending-is) a in
           ⊎_elim (λ l. inl (subst (λ k. 0 < k) (sym w.ends-is) l))
           (λ a. inr (⊎_elim (λ t. after (told.parts t)) (λ b. after (told.kept b)) (popped n _ _ c.in-Some.node (c.in-Some.ensures {u = tt}).items a)))
+          (c.loop.invariant s)
+      | in-Solve+in_ok-push_solved-in-Solve w ↦
+          let told = w.in_ok-push_solved-in-Solve.ensures {u = tt} in
+          let after = λ (a : AnySolvable n w.push_solved.new.pending.items). subst (λ (v : Vec Node Global). AnySolvable n v.items) (sym w.pending-is) a in
+          ⊎_elim (λ l. inl (subst (λ k. 0 < k) (sym w.ends-is) l))
+          (λ a. inr (⊎_elim (λ t. after (told.part t)) (λ b. after (told.kept b)) (popped n _ _ c.in-Some.node (c.in-Some.ensures {u = tt}).items a)))
           (c.loop.invariant s)
       | in-Cut+else-cuts-gt-MOST_CUTS+in_ok-push_cut-in-Cut w ↦
           let told = w.in_ok-push_cut-in-Cut.ensures {u = tt} in
