@@ -7,6 +7,7 @@ pub mod Numbers
 pub mod Stopped
 pub mod Folding
 pub mod Evaluated
+pub mod Nesting
 pub mod Programs
 pub mod Outcomes
 pub mod Sided

@@ -1,5 +1,5 @@
 -- What stops the evaluation of a part of a tree expression stops that of the whole.
-use Rattle.std.proofs.Common.{◌≡◌, inl, inr, ◌||◌, ◌<◌, ℕ, zero, suc, Bool, true, false, List, [], ◌∷◌, ◌++◌, length, get_or, Contains, refl, sym, subst, arith}
+use Rattle.std.proofs.Common.{◌≡◌, inl, inr, ◌||◌, ◌<◌, ℕ, Bool, true, false, List, [], ◌∷◌, ◌++◌, Contains, refl, sym, subst}
 use Rattle.std.proofs.lemmas.List.Elements.{Contains-append_left, Contains-append_right}
 use Rattle.fast_fault.specs.declared.place.Pos.{Pos}
 use Rattle.model_tree.specs.Tree.{LabelTree, node_count}
@@ -16,9 +16,6 @@ use Rattle.model_run.specs.Causes.{HasFarOutput, HasLoad, HasNoOutput, HasTwoOut
 use Rattle.model_run.specs.Printable.{IsPrintable}
 use Rattle.model_layers.proofs.Wider.{are_among}
 use Rattle.sta_theory.proofs.Lists.{later_in}
-use Rattle.fast_syntax.specs.declared.items.X as code
-use Rattle.fast_syntax.specs.Plain.{plain_x}
-use Rattle.fast_syntax.specs.Slices.{plain_children}
 use Rattle.fast_eval.specs.declared.stops.EvalStop.{EvalStop}
 use Rattle.fast_eval.specs.declared.stops.EvalStop.TheVariants.{Classes, Wide, Range, Memory}
 use Rattle.fast_eval.specs.Found.{IsInLimits}
@@ -89,21 +86,15 @@ module _ (items : List Item) (printed : List Printed) (most : ℕ) where
   module _ (signature : PlainSignature) where
     -- ---- of literals
 
-    stop_first : (x : X) (xs : Xs) (s : ValueStop) → IsValueStop items printed most signature x s → IsStopIn items printed most signature (and_x x xs) s
+    pub stop_first : (x : X) (xs : Xs) (s : ValueStop) → IsValueStop items printed most signature x s → IsStopIn items printed most signature (and_x x xs) s
     stop_first x xs =
         goes_up (has_classes x) (some_has_classes (and_x x xs)) (used_in x) (used_in_all (and_x x xs)) (λ P. OfSomeTree items P signature x) (λ P. OfSomeTreeIn items P signature (and_x x xs))
         (left_true (has_classes x) (some_has_classes xs)) (Contains-append_left (used_in x) (used_in_all xs)) (λ P h. inl h)
 
-    stop_later : (x : X) (xs : Xs) (s : ValueStop) → IsStopIn items printed most signature xs s → IsStopIn items printed most signature (and_x x xs) s
+    pub stop_later : (x : X) (xs : Xs) (s : ValueStop) → IsStopIn items printed most signature xs s → IsStopIn items printed most signature (and_x x xs) s
     stop_later x xs =
         goes_up (some_has_classes xs) (some_has_classes (and_x x xs)) (used_in_all xs) (used_in_all (and_x x xs)) (λ P. OfSomeTreeIn items P signature xs) (λ P. OfSomeTreeIn items P signature (and_x x xs))
         (right_true (has_classes x) (some_has_classes xs)) (Contains-append_right (used_in x) (used_in_all xs)) (λ P h. inr h)
-
-    -- of one of the children
-    pub stop_at : (xs : List code.X) (i : ℕ) (x : code.X) → i < length xs → x ≡ get_or xs i x → (s : ValueStop) → IsValueStop items printed most signature (plain_x x) s → IsStopIn items printed most signature (plain_children xs) s
-    stop_at [] i x low is s h = absurd (omega (arith, low))
-    stop_at (y ∷ xs) zero x low is s h = stop_first (plain_x y) (plain_children xs) s (subst (λ z. IsValueStop items printed most signature (plain_x z) s) is h)
-    stop_at (y ∷ xs) (suc i) x low is s h = stop_later (plain_x y) (plain_children xs) s (stop_at xs i x (omega (arith, low)) is s h)
 
     pub stop_literal : (name : Name) (labels : List Expr) (xs : Xs) (s : ValueStop) → IsStopIn items printed most signature xs s → IsValueStop items printed most signature (literal name labels xs) s
     stop_literal name labels xs =
@@ -113,9 +104,6 @@ module _ (items : List Item) (printed : List Printed) (most : ℕ) where
     -- want of memory has a cause in each expression
     pub stop_memory : (x : X) → IsValueStop items printed most signature x (Stopped Memory)
     stop_memory x = (tt, tt)
-
-    pub stop_memory_in : (xs : Xs) → IsStopIn items printed most signature xs (Stopped Memory)
-    stop_memory_in xs = (tt, tt)
 
     -- ---- of trees that are found
 

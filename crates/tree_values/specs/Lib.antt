@@ -2,5 +2,6 @@ pub mod Trees
 pub mod Forms
 pub mod Stops
 pub mod Values
+pub mod Nodes
 pub mod Applied
 pub mod Members

@@ -9,6 +9,7 @@ mod applied;
 mod labels;
 mod literals;
 mod members;
+mod nodes;
 mod sizes;
 mod stops;
 mod trees;

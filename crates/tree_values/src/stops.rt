@@ -3,6 +3,7 @@
 use fast_eval::{EvalStop, OutputStop};
 use fast_fault::{Memory, Text};
 use fast_tree::{Label, Tree};
+use std::alloc::AllocFailed;
 use sttr_apply::Load;
 
 /// A tree of the type with this name.
@@ -48,6 +49,18 @@ impl From<Memory> for ValueStop {
     ghost from_gives = { λ _ e. e ≡ stops.Stopped evaluation.Memory };
 
     fn from(_want: Memory) -> ValueStop {
+        ValueStop::Stopped(EvalStop::Memory)
+    }
+}
+
+impl<T: Drop> From<AllocFailed<T>> for ValueStop {
+    ghost use Rattle.std.specs.Prelude.{◌≡◌};
+    ghost use Rattle.fast_eval.specs.declared.stops.EvalStop.TheVariants as evaluation;
+    ghost use Rattle.tree_values.specs.declared.stops.ValueStop.TheVariants as stops;
+
+    ghost from_gives = { λ _ e. e ≡ stops.Stopped evaluation.Memory };
+
+    fn from(_refused: AllocFailed<T>) -> ValueStop {
         ValueStop::Stopped(EvalStop::Memory)
     }
 }

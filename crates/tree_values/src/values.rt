@@ -2,7 +2,6 @@
 
 ghost use Rattle.std.specs.Prelude.{◌≡◌, ◌≤◌, ℕ, List, Some, IfOk, IfErr, is_some, true};
 ghost use Rattle.fast_syntax.specs.Plain.{plain_x};
-ghost use Rattle.fast_syntax.specs.Slices.{plain_children};
 ghost use Rattle.model_tree.specs.Tree.{LabelTree};
 ghost use Rattle.model_tree.specs.Signature.{PlainSignature, HasType};
 ghost use Rattle.model_grammar.specs.Syntax as plain;
@@ -12,14 +11,15 @@ ghost use Rattle.model_meaning.specs.Values.{Printed, IsValue};
 ghost use Rattle.fast_eval.specs.Forms.{AreKnown, IsMadeOn, IsMadeFrom, IsTransKnown};
 ghost use Rattle.fast_eval.specs.Found.{IsInLimits};
 ghost use Rattle.fast_eval.specs.Table.{IsGrown, AreBuilt};
-ghost use Rattle.tree_values.specs.Forms.{IsTreeOn, AreTreesOn, IsTreeKnown, AreTreesKnown};
-ghost use Rattle.tree_values.specs.Stops.{IsValueStop, IsStopIn, IsStopTyped};
+ghost use Rattle.tree_values.specs.Forms.{IsTreeOn, IsTreeKnown};
+ghost use Rattle.tree_values.specs.Nodes.{IsBegun};
+ghost use Rattle.tree_values.specs.Stops.{IsValueStop, IsStopTyped};
 ghost use Rattle.tree_values.specs.Trees.{meant, tree_at, Tells};
-ghost use Rattle.tree_values.specs.Values.{items_in, type_in, IsGiven, IsHeld, HasLeast, IsFindStop, HasValue, HaveValues};
+ghost use Rattle.tree_values.specs.Values.{items_in, type_in, IsGiven, IsHeld, HasLeast, IsFindStop, HasValue};
 
 use crate::applied::only_output;
-use crate::literals::literal;
-use crate::sizes::{Below, Measured, copied, joined, left, measure, nothing_below};
+use crate::nodes::{Begun, OpenNode, closed, grown, opened};
+use crate::sizes::{Measured, copied, left, measure};
 use crate::stops::ValueStop;
 use crate::trees::Trees;
 use fast_eval::{Built, ends_of, witness};
@@ -77,7 +77,8 @@ fn found(
     }
 }
 
-/// A value of the expression, if there is room for it.
+/// A value of the expression, if there is room for it. Open literals stand in a list, so literals within one another take no
+/// stack.
 #[cycle(evaluate)]
 fn evaluate(
     alloc: Global,
@@ -98,20 +99,54 @@ fn evaluate(
     ensures stop { IfErr result (λ s. (printed : List Printed) → Tells given.now.trees.now printed → IsValueStop (items_in given.now) printed given.now.limit (type_in given.now of.now) (plain_x x.now) s) }
     ensures shown { IfErr result (IsStopTyped (items_in given.now)) }
 {
-    match x {
-        X::Named(name) => Ok(named(alloc, given, room, &name.text)?),
-        X::One(_, _, inside) => found(alloc, given, built, room, inside),
-        X::Literal(name, labels, xs) => {
-            let Some(below) = evaluate_all(alloc, given, built, of, room, xs)? else {
-                return Ok(None);
-            };
-            if below.depth > 2000 {
-                return Err(ValueStop::TooLarge);
+    let mut around = Vec::new(alloc);
+    let mut here = begin(alloc, given, built, of, room, x)?;
+    'nodes: loop {
+        match here {
+            Begun::Part(node) => match node.rest.split_first() {
+                Some((next, rest)) => {
+                    let space = left(node.room, &node.below);
+                    around.push(OpenNode { rest, ..node })?;
+                    here = begin(alloc, given, built, of, space, next)?;
+                }
+                None => here = Begun::Whole(closed(alloc, given.checked, of, node)?),
+            },
+            Begun::Whole(value) => {
+                let Some(node) = around.pop() else {
+                    return Ok(value);
+                };
+                here = Begun::Part(grown(node, value)?);
             }
-            let tree = literal(alloc, given.checked, of, &name.text, labels, below)?;
-            Ok(Some(tree))
         }
-        X::Two(_, _, f, inside) => apply(alloc, given, built, room, f, inside),
+    }
+}
+
+/// A value of the expression, if there is room for it; or of a literal what it is before its first child.
+#[cycle(evaluate)]
+fn begin<'x>(
+    alloc: Global,
+    given: &Given,
+    built: &mut Built,
+    of: &Text,
+    room: u64,
+    x: &'x X,
+) -> Result<Begun<'x>, ValueStop>
+    requires given { IsGiven given.now }
+    requires built { AreBuilt (items_in given.now) built.old }
+    requires made { IsTreeOn (items_in given.now) of.now (plain_x x.now) }
+    requires known { IsTreeKnown (items_in given.now) given.now.trees.now built.old (plain_x x.now) }
+    requires small { room ≤ 1048576 }
+    ensures built { AreBuilt (items_in given.now) built.new }
+    ensures grown { IsGrown built.old built.new }
+    ensures begun { IfOk result (IsBegun given.now of.now (plain_x x.now) room) }
+    ensures stop { IfErr result (λ s. (printed : List Printed) → Tells given.now.trees.now printed → IsValueStop (items_in given.now) printed given.now.limit (type_in given.now of.now) (plain_x x.now) s) }
+    ensures shown { IfErr result (IsStopTyped (items_in given.now)) }
+{
+    match x {
+        X::Named(name) => Ok(Begun::Whole(named(alloc, given, room, &name.text)?)),
+        X::One(_, _, inside) => Ok(Begun::Whole(found(alloc, given, built, room, inside)?)),
+        X::Two(_, _, f, inside) => Ok(Begun::Whole(apply(alloc, given, built, room, f, inside)?)),
+        X::Literal(name, labels, xs) => Ok(Begun::Part(opened(alloc, room, name, labels, xs))),
     }
 }
 
@@ -141,35 +176,6 @@ fn apply(
         return Err(ValueStop::TooLarge);
     };
     only_output(alloc, given, built, room, f, value.tree)
-}
-
-/// Values of the expressions below a node, if there is room for all and the node.
-#[cycle(evaluate)]
-fn evaluate_all(
-    alloc: Global,
-    given: &Given,
-    built: &mut Built,
-    of: &Text,
-    room: u64,
-    xs: &[X],
-) -> Result<Option<Below>, ValueStop>
-    requires given { IsGiven given.now }
-    requires built { AreBuilt (items_in given.now) built.old }
-    requires made { AreTreesOn (items_in given.now) of.now (plain_children xs.now) }
-    requires known { AreTreesKnown (items_in given.now) given.now.trees.now built.old (plain_children xs.now) }
-    requires small { room ≤ 1048576 }
-    ensures built { AreBuilt (items_in given.now) built.new }
-    ensures grown { IsGrown built.old built.new }
-    ensures values { IfOk result (λ b. (printed : List Printed) → Tells given.now.trees.now printed → HaveValues (items_in given.now) printed (type_in given.now of.now) (plain_children xs.now) room b) }
-    ensures stop { IfErr result (λ s. (printed : List Printed) → Tells given.now.trees.now printed → IsStopIn (items_in given.now) printed given.now.limit (type_in given.now of.now) (plain_children xs.now) s) }
-    ensures shown { IfErr result (IsStopTyped (items_in given.now)) }
-{
-    let mut below = nothing_below(alloc, room);
-    'xs: for x in xs {
-        let value = evaluate(alloc, given, built, of, left(room, &below), x)?;
-        below = joined(below, value)?;
-    }
-    Ok(below)
 }
 
 /// A value of the expression, of which a tree of the type with this name is expected.

@@ -1,215 +1,44 @@
-use Rattle.std.proofs.Common.{◌≡◌, ◌≤◌, List, map, Some, None, refl, sym, ap, ap₂, subst, ◌∙◌, arith}
+use Rattle.std.proofs.Common.{rules, ◌≡◌, ◌≤◌, List, [], ◌∷◌, length, map, reverse, None, refl, sym, ap, ap₂, subst, ◌∙◌, arith}
 use Rattle.std.proofs.lemmas.Result.{IfOk-weaker, IfErr-weaker}
 use Rattle.fast_fault.specs.declared.place.Pos.{Pos}
 use Rattle.model_tree.specs.Signature.{PlainSignature, HasType}
 use Rattle.model_grammar.specs.declared.Op2.TheVariants.{Apply}
 use Rattle.model_meaning.specs.Meaning.{input_type, output_type}
-use Rattle.model_grammar.specs.Syntax.{one, two}
+use Rattle.model_grammar.specs.Syntax.{one, two, literal}
 use Rattle.model_meaning.specs.Values.{Printed, IsValue}
+use Rattle.fast_syntax.specs.declared.expressions.Expr as code_label
+use Rattle.fast_syntax.specs.declared.items.X as code
 use Rattle.fast_syntax.specs.View.{plain_name}
 use Rattle.fast_syntax.specs.Plain.{plain_expr, plain_x}
 use Rattle.fast_syntax.specs.Slices.{plain_children}
 use Rattle.fast_syntax.proofs.Rows.{plain_literal}
 use Rattle.fast_eval.specs.Forms.{IsMadeOn, IsMadeFrom, IsTransKnown}
 use Rattle.fast_eval.proofs.Keeping.{on_err, more_twice, trans_known_grown}
+use Rattle.tree_values.specs.declared.nodes.OpenNode.{OpenNode}
 use Rattle.tree_values.specs.declared.stops.ValueStop.TheVariants.{TooLarge}
-use Rattle.tree_values.specs.Forms.{IsTreeOn, AreTreesOn, IsTreeKnown, AreTreesKnown}
-use Rattle.tree_values.specs.Stops.{IsValueStop, IsStopIn, IsStopTyped}
+use Rattle.tree_values.specs.Forms.{IsTreeOn, IsTreeKnown}
+use Rattle.tree_values.specs.Nodes.{IsFirst, IsBegun, IsReached}
+use Rattle.tree_values.specs.Stops.{IsValueStop, IsStopTyped}
 use Rattle.tree_values.specs.Applied.{HasOutput, IsOutputStop}
 use Rattle.tree_values.specs.Trees.{meant, Tells}
-use Rattle.tree_values.specs.Values.{items_in, type_in, IsAbove, HasLeast, HasValue, HaveValues}
+use Rattle.tree_values.specs.Values.{items_in, type_in, left_of, HasLeast, HasValue}
 use Rattle.tree_values.proofs.Choices.{applied_value, input_is, output_is, only_apply}
-use Rattle.tree_values.proofs.Evaluated.{value_is, value_typed, value_in_limits, only_find, named_value, found_value, no_literal, made_literal, deep_literal}
-use Rattle.tree_values.proofs.Folding.{on_at, known_at, trees_known_grown, below_bounds, below_room, left_low, value_bounds, so_far_step, so_far_end}
-use Rattle.tree_values.proofs.Stopped.{stop_literal, stop_at, stop_inside, stop_output, stop_large, output_typed}
-use Rattle.tree_values.proofs.Weights.{weight, weights, weight_at}
+use Rattle.tree_values.proofs.Evaluated.{value_is, value_typed, value_in_limits, only_find, named_value, found_value}
+use Rattle.tree_values.proofs.Folding.{tree_known_grown}
+use Rattle.tree_values.proofs.Nesting.{turned, inside_on, inside_known, inside_lighter, inside_room, stop_outside, around_none, after_next, around_next, reached_begun, closed_declared, closed_labelled, reached_closed, stop_unclosed, popped, reached_joined, joined_below, joined_value, next_room}
+use Rattle.tree_values.proofs.Stopped.{stop_inside, stop_output, stop_large, output_typed}
+use Rattle.tree_values.proofs.Weights.{weight, weights, burden_here, burdens, begun_lighter}
 use Rattle.tree_values.proofs.values.+evaluate.Goals as goal
 
-pub evaluate-found-requires-clause-made : goal.evaluate-found-requires-clause-made
-evaluate-found-requires-clause-made t c =
+pub begin-found-requires-clause-made : goal.begin-found-requires-clause-made
+begin-found-requires-clause-made t c =
     let items = items_in c.args.given.now in
     let of = c.args.of.now in
     let on = subst (IsTreeOn items of) (ap plain_x c.in-One.is) c.requires.made in
     (of, subst (λ v. IsMadeOn items of (plain_x v)) (sym c.deref.ensures) (only_find items of c.in-One.field-0 c.in-One.field-1 (plain_x c.in-One.inside.value) on).1)
 
-pub evaluate-evaluate_all-requires : goal.evaluate-evaluate_all-requires
-evaluate-evaluate_all-requires t c =
-    let items = items_in c.args.given.now in
-    let of = c.args.of.now in
-    let trees = c.args.given.now.trees.now in
-    let b = c.args.built.now in
-    let is = ap plain_x c.in-Literal.is ∙ plain_literal c.in-Literal.name c.in-Literal.labels c.in-Literal.xs in
-    let on = subst (IsTreeOn items of) is c.requires.made in
-    let made = subst (λ ys. AreTreesOn items of (plain_children ys)) (sym c.deref-in-Literal.ensures.value) on.2 in
-    let known = subst (λ ys. AreTreesKnown items trees b (plain_children ys)) (sym c.deref-in-Literal.ensures.value) (subst (IsTreeKnown items trees b) is c.requires.known) in
-    let whole = ap weight is in
-    let inside = ap (λ ys. weights (plain_children ys)) c.deref-in-Literal.ensures.value in
-    (omega (arith, whole, inside, c.decreases), (c.requires.given, (c.requires.built, (made, (known, c.requires.small)))))
-
-pub evaluate-returns-in_err-below-in-Literal-clause-stop : goal.evaluate-returns-in_err-below-in-Literal-clause-stop
-evaluate-returns-in_err-below-in-Literal-clause-stop t c =
-    let g = c.args.given.now in
-    let items = items_in g in
-    let signature = type_in g c.args.of.now in
-    let s = c.in_err-below-in-Literal.field-0.0 in
-    let is = ap plain_x c.in-Literal.is ∙ plain_literal c.in-Literal.name c.in-Literal.labels c.in-Literal.xs in
-    on_err (λ e. (printed : List Printed) → Tells g.trees.now printed → IsValueStop items printed g.limit signature (plain_x c.args.x.now) e) c.from_residual-in_err-below-in-Literal.result s c.from_residual-in_err-below-in-Literal.ensures.1
-    (λ printed told. subst (λ z. IsValueStop items printed g.limit signature z s) (sym is)
-    (stop_literal items printed g.limit signature (plain_name c.in-Literal.name) (map plain_expr c.in-Literal.labels.items) (plain_children c.in-Literal.xs.items) s
-    (subst (λ ys. IsStopIn items printed g.limit signature (plain_children ys) s) c.deref-in-Literal.ensures.value (c.in_err-below-in-Literal.ensures.stop printed told))))
-
-pub evaluate-returns-in_default-clause-value : goal.evaluate-returns-in_default-clause-value
-evaluate-returns-in_default-clause-value t c = λ printed told.
-    (let g = c.args.given.now in
-    let items = items_in g in
-    let of = c.args.of.now in
-    let signature = type_in g of in
-    let is = ap plain_x c.in-Literal.is ∙ plain_literal c.in-Literal.name c.in-Literal.labels c.in-Literal.xs in
-    let on = subst (IsTreeOn items of) is c.requires.made in
-    let have = subst (λ ys. HaveValues items printed signature (plain_children ys) c.args.room None) c.deref-in-Literal.ensures.value
-    (subst (HaveValues items printed signature (plain_children c.deref-in-Literal.result.now) c.args.room) c.in_default.is (c.in_ok-below-in-Literal.ensures.values printed told)) in
-    subst (λ z. HasValue items printed signature z c.args.room None) (sym is)
-    (no_literal items of printed (plain_name c.in-Literal.name) (map plain_expr c.in-Literal.labels.items) (plain_children c.in-Literal.xs.items) c.args.room on.1 have))
-
-pub evaluate-returns-then-below-gt2000-clause-stop : goal.evaluate-returns-then-below-gt2000-clause-stop
-evaluate-returns-then-below-gt2000-clause-stop t c = λ printed told.
-    (let g = c.args.given.now in
-    let items = items_in g in
-    let of = c.args.of.now in
-    let signature = type_in g of in
-    let is = ap plain_x c.in-Literal.is ∙ plain_literal c.in-Literal.name c.in-Literal.labels c.in-Literal.xs in
-    let on = subst (IsTreeOn items of) is c.requires.made in
-    let have = subst (λ ys. HaveValues items printed signature (plain_children ys) c.args.room (Some c.in-Some.below)) c.deref-in-Literal.ensures.value
-    (subst (HaveValues items printed signature (plain_children c.deref-in-Literal.result.now) c.args.room) c.in-Some.is (c.in_ok-below-in-Literal.ensures.values printed told)) in
-    subst (λ z. IsValueStop items printed g.limit signature z TooLarge) (sym is)
-    (deep_literal items of printed (plain_name c.in-Literal.name) (map plain_expr c.in-Literal.labels.items) (plain_children c.in-Literal.xs.items) c.args.room on.1 g.limit c.in-Some.below have c.if-below-gt2000.true))
-
-pub evaluate-returns-in_ok-named-in-Named-clause-value : goal.evaluate-returns-in_ok-named-in-Named-clause-value
-evaluate-returns-in_ok-named-in-Named-clause-value t c = λ printed told.
-    (let g = c.args.given.now in
-    let items = items_in g in
-    let of = c.args.of.now in
-    let is = ap plain_x c.in-Named.is in
-    let on = subst (IsTreeOn items of) is c.requires.made in
-    let known = subst (IsTreeKnown items g.trees.now c.args.built.now) is c.requires.known in
-    subst (λ z. HasValue items printed (type_in g of) z c.args.room c.in_ok-named-in-Named.field-0) (sym is)
-    (named_value items of g.trees.now c.requires.given.typed (plain_name c.in-Named.name) on known c.args.room c.in_ok-named-in-Named.field-0 c.in_ok-named-in-Named.ensures printed told))
-
-pub evaluate-returns-in-One-clause-value : goal.evaluate-returns-in-One-clause-value
-evaluate-returns-in-One-clause-value t c =
-    let g = c.args.given.now in
-    let items = items_in g in
-    let of = c.args.of.now in
-    let is = ap plain_x c.in-One.is in
-    let x = plain_x c.in-One.inside.value in
-    let find = only_find items of c.in-One.field-0 c.in-One.field-1 x (subst (IsTreeOn items of) is c.requires.made) in
-    IfOk-weaker c.found.result (HasLeast items (plain_x c.deref.result.now) c.args.room) (λ v. (printed : List Printed) → Tells g.trees.now printed → HasValue items printed (type_in g of) (plain_x c.args.x.now) c.args.room v)
-    (λ v least printed told. subst (λ z. HasValue items printed (type_in g of) z c.args.room v) (sym is)
-    (subst (λ op. HasValue items printed (type_in g of) (one op c.in-One.field-1 x) c.args.room v) (sym find.0)
-    (found_value items of c.in-One.field-1 x find.1 c.args.room v (subst (λ y. HasLeast items (plain_x y) c.args.room v) c.deref.ensures least) printed)))
-    c.found.ensures.found
-
-pub evaluate-returns-in_ok-tree-in-Literal-clause-value : goal.evaluate-returns-in_ok-tree-in-Literal-clause-value
-evaluate-returns-in_ok-tree-in-Literal-clause-value t c = λ printed told.
-    (let g = c.args.given.now in
-    let items = items_in g in
-    let of = c.args.of.now in
-    let signature = type_in g of in
-    let is = ap plain_x c.in-Literal.is ∙ plain_literal c.in-Literal.name c.in-Literal.labels c.in-Literal.xs in
-    let on = subst (IsTreeOn items of) is c.requires.made in
-    let have = subst (λ ys. HaveValues items printed signature (plain_children ys) c.args.room (Some c.in-Some.below)) c.deref-in-Literal.ensures.value
-    (subst (HaveValues items printed signature (plain_children c.deref-in-Literal.result.now) c.args.room) c.in-Some.is (c.in_ok-below-in-Literal.ensures.values printed told)) in
-    let made = subst (λ ls. IsAbove signature c.in-Literal.name.text (map plain_expr ls) c.in-Some.below c.in_ok-tree-in-Literal.tree) c.deref-in-Literal-2.ensures.value c.in_ok-tree-in-Literal.ensures in
-    let shallow : c.in-Some.below.depth ≤ 2000 = omega (arith, c.if-below-gt2000.false) in
-    subst (λ z. HasValue items printed signature z c.args.room (Some c.in_ok-tree-in-Literal.tree)) (sym is)
-    (made_literal items of printed (plain_name c.in-Literal.name) (map plain_expr c.in-Literal.labels.items) (plain_children c.in-Literal.xs.items) c.args.room on.1 c.in-Some.below c.in_ok-tree-in-Literal.tree have shallow made))
-
-pub evaluate_all-left-requires : goal.evaluate_all-left-requires
-evaluate_all-left-requires t c =
-    let given = c.requires.given in
-    let s = c.xs.invariant.values given.printed given.told in
-    below_room c.args.room s.trees c.xs.below s.held
-
-pub evaluate_all-evaluate-requires : goal.evaluate_all-evaluate-requires
-evaluate_all-evaluate-requires t c =
-    let items = items_in c.args.given.now in
-    let of = c.args.of.now in
-    let trees = c.args.given.now.trees.now in
-    let xs = c.args.xs.now in
-    let i = c.xs.x-index in
-    let x = c.x-item.result in
-    let made = on_at items of xs i x c.xs-test.true c.x-item.is c.requires.made in
-    let known = known_at items trees c.xs.built xs i x c.xs-test.true c.x-item.is (trees_known_grown items trees c.args.built.now c.xs.built c.xs.invariant.grown (plain_children xs) c.requires.known) in
-    let low = subst (λ n. n ≤ 1048576) (sym c.left.ensures) (left_low c.args.room c.requires.small c.xs.below) in
-    let light = weight_at xs i x c.xs-test.true c.x-item.is in
-    (omega (arith, light, c.decreases), (c.requires.given, (c.xs.invariant.built, (made, (known, low)))))
-
-pub evaluate_all-returns-in_err-value-clause-stop : goal.evaluate_all-returns-in_err-value-clause-stop
-evaluate_all-returns-in_err-value-clause-stop t c =
-    let g = c.args.given.now in
-    let items = items_in g in
-    let signature = type_in g c.args.of.now in
-    let s = c.in_err-value.field-0.0 in
-    on_err (λ e. (printed : List Printed) → Tells g.trees.now printed → IsStopIn items printed g.limit signature (plain_children c.args.xs.now) e) c.from_residual.result s c.from_residual.ensures.1
-    (λ printed told. stop_at items printed g.limit signature c.args.xs.now c.xs.x-index c.x-item.result c.xs-test.true c.x-item.is s (c.in_err-value.ensures.stop printed told))
-
-pub evaluate_all-joined-requires-clause-below : goal.evaluate_all-joined-requires-clause-below
-evaluate_all-joined-requires-clause-below t c =
-    let given = c.requires.given in
-    let s = c.xs.invariant.values given.printed given.told in
-    below_bounds c.args.room c.requires.small s.trees c.xs.below s.held
-
-pub evaluate_all-joined-requires-clause-value : goal.evaluate_all-joined-requires-clause-value
-evaluate_all-joined-requires-clause-value t c =
-    let given = c.requires.given in
-    let has = c.in_ok-value.ensures.value given.printed given.told in
-    value_bounds c.left.result (subst (λ n. n ≤ 1048576) (sym c.left.ensures) (left_low c.args.room c.requires.small c.xs.below)) has.tree c.in_ok-value.value has.held
-
-pub evaluate_all-xs-preserved : goal.evaluate_all-xs-preserved
-evaluate_all-xs-preserved t c =
-    let g = c.args.given.now in
-    let items = items_in g in
-    let signature = type_in g c.args.of.now in
-    let xs = c.args.xs.now in
-    let x = c.x-item.result in
-    record {
-      built = c.evaluate.ensures.built;
-      grown = more_twice c.args.built.now c.xs.built c.evaluate.new.built c.xs.invariant.grown c.evaluate.ensures.grown;
-      values = λ printed told.
-          so_far_step items printed signature xs c.xs.x-index x (plain_children xs) c.args.room c.xs.below c.in_ok-value.value c.in_ok-below.below c.xs-test.true c.x-item.is (c.xs.invariant.values printed told)
-          (subst (λ n. HasValue items printed signature (plain_x x) n c.in_ok-value.value) c.left.ensures (c.in_ok-value.ensures.value printed told)) c.in_ok-below.ensures;
-    }
-
-pub evaluate_all-returns-clause-values : goal.evaluate_all-returns-clause-values
-evaluate_all-returns-clause-values t c = λ printed told.
-    (let g = c.args.given.now in
-    let xs = c.args.xs.now in
-    so_far_end (items_in g) printed (type_in g c.args.of.now) xs c.xs.x-index (plain_children xs) c.args.room c.xs.below c.xs-test.false (c.xs.invariant.values printed told))
-
--- ---- a transformation that is applied
-
-pub evaluate-returns-in-Two-clause-value : goal.evaluate-returns-in-Two-clause-value
-evaluate-returns-in-Two-clause-value t c =
-    let g = c.args.given.now in
-    let items = items_in g in
-    let of = c.args.of.now in
-    let room = c.args.room in
-    let is = ap plain_x c.in-Two.is in
-    let place = c.in-Two.field-1 in
-    let f = plain_x c.deref-in-Two.result.now in
-    let x = plain_x c.deref-in-Two-2.result.now in
-    let on = only_apply items of c.in-Two.field-0 place (plain_x c.in-Two.f.value) (plain_x c.in-Two.inside.value) (subst (IsTreeOn items of) is c.requires.made) in
-    let made = subst (λ v. IsMadeFrom items on.1.0 of (plain_x v)) (sym c.deref-in-Two.ensures) on.1.1 in
-    let at : two Apply place f x ≡ plain_x c.args.x.now =
-    ap₂ (λ v w. two Apply place (plain_x v) (plain_x w)) c.deref-in-Two.ensures c.deref-in-Two-2.ensures ∙ (ap (λ op. two op place (plain_x c.in-Two.f.value) (plain_x c.in-Two.inside.value)) (sym on.0) ∙ sym is) in
-    IfOk-weaker c.apply.result
-    (λ v. (place : Pos) (signature : PlainSignature) (printed : List Printed) → Tells g.trees.now printed → signature ≡ output_type items f → HasValue items printed signature (two Apply place f x) room v)
-    (λ v. (printed : List Printed) → Tells g.trees.now printed → HasValue items printed (type_in g of) (plain_x c.args.x.now) room v)
-    (λ v has printed told. subst (λ z. HasValue items printed (type_in g of) z room v) at (has place (type_in g of) printed told (output_is items f on.1.0 of made of refl)))
-    c.apply.ensures.value
-
-pub evaluate-apply-requires : goal.evaluate-apply-requires
-evaluate-apply-requires t c =
+pub begin-apply-requires : goal.begin-apply-requires
+begin-apply-requires t c =
     let items = items_in c.args.given.now in
     let of = c.args.of.now in
     let trees = c.args.given.now.trees.now in
@@ -235,6 +64,256 @@ evaluate-apply-requires t c =
         ),
       ),
     )
+
+pub begin-returns-in_ok-named-in-Named-clause-begun : goal.begin-returns-in_ok-named-in-Named-clause-begun
+begin-returns-in_ok-named-in-Named-clause-begun t c = λ printed told.
+    (let g = c.args.given.now in
+    let items = items_in g in
+    let of = c.args.of.now in
+    let is = ap plain_x c.in-Named.is in
+    let on = subst (IsTreeOn items of) is c.requires.made in
+    let known = subst (IsTreeKnown items g.trees.now c.args.built.now) is c.requires.known in
+    subst (λ z. HasValue items printed (type_in g of) z c.args.room c.in_ok-named-in-Named.field-0) (sym is)
+    (named_value items of g.trees.now c.requires.given.typed (plain_name c.in-Named.name) on known c.args.room c.in_ok-named-in-Named.field-0 c.in_ok-named-in-Named.ensures printed told))
+
+pub begin-returns-in_ok-found-in-One-clause-begun : goal.begin-returns-in_ok-found-in-One-clause-begun
+begin-returns-in_ok-found-in-One-clause-begun t c = λ printed told.
+    (let g = c.args.given.now in
+    let items = items_in g in
+    let of = c.args.of.now in
+    let room = c.args.room in
+    let v = c.in_ok-found-in-One.field-0 in
+    let is = ap plain_x c.in-One.is in
+    let x = plain_x c.in-One.inside.value in
+    let find = only_find items of c.in-One.field-0 c.in-One.field-1 x (subst (IsTreeOn items of) is c.requires.made) in
+    subst (λ z. HasValue items printed (type_in g of) z room v) (sym is)
+    (subst (λ op. HasValue items printed (type_in g of) (one op c.in-One.field-1 x) room v) (sym find.0)
+    (found_value items of c.in-One.field-1 x find.1 room v (subst (λ y. HasLeast items (plain_x y) room v) c.deref.ensures c.in_ok-found-in-One.ensures.found) printed)))
+
+pub begin-returns-in_ok-apply-in-Two-clause-begun : goal.begin-returns-in_ok-apply-in-Two-clause-begun
+begin-returns-in_ok-apply-in-Two-clause-begun t c = λ printed told.
+    (let g = c.args.given.now in
+    let items = items_in g in
+    let of = c.args.of.now in
+    let is = ap plain_x c.in-Two.is in
+    let place = c.in-Two.field-1 in
+    let f = plain_x c.deref-in-Two.result.now in
+    let x = plain_x c.deref-in-Two-2.result.now in
+    let on = only_apply items of c.in-Two.field-0 place (plain_x c.in-Two.f.value) (plain_x c.in-Two.inside.value) (subst (IsTreeOn items of) is c.requires.made) in
+    let made = subst (λ v. IsMadeFrom items on.1.0 of (plain_x v)) (sym c.deref-in-Two.ensures) on.1.1 in
+    let at : two Apply place f x ≡ plain_x c.args.x.now =
+    ap₂ (λ v w. two Apply place (plain_x v) (plain_x w)) c.deref-in-Two.ensures c.deref-in-Two-2.ensures ∙ (ap (λ op. two op place (plain_x c.in-Two.f.value) (plain_x c.in-Two.inside.value)) (sym on.0) ∙ sym is) in
+    subst (λ z. HasValue items printed (type_in g of) z c.args.room c.in_ok-apply-in-Two.field-0) at
+    (c.in_ok-apply-in-Two.ensures.value place (type_in g of) printed told (output_is items f on.1.0 of made of refl)))
+
+pub begin-returns-in_err-apply-in-Two-clause-stop : goal.begin-returns-in_err-apply-in-Two-clause-stop
+begin-returns-in_err-apply-in-Two-clause-stop t c =
+    let g = c.args.given.now in
+    let items = items_in g in
+    let of = c.args.of.now in
+    let is = ap plain_x c.in-Two.is in
+    let place = c.in-Two.field-1 in
+    let f = plain_x c.deref-in-Two.result.now in
+    let x = plain_x c.deref-in-Two-2.result.now in
+    let on = only_apply items of c.in-Two.field-0 place (plain_x c.in-Two.f.value) (plain_x c.in-Two.inside.value) (subst (IsTreeOn items of) is c.requires.made) in
+    let at : two Apply place f x ≡ plain_x c.args.x.now =
+    ap₂ (λ v w. two Apply place (plain_x v) (plain_x w)) c.deref-in-Two.ensures c.deref-in-Two-2.ensures ∙ (ap (λ op. two op place (plain_x c.in-Two.f.value) (plain_x c.in-Two.inside.value)) (sym on.0) ∙ sym is) in
+    let s = c.in_err-apply-in-Two.field-0.0 in
+    on_err (λ e. (printed : List Printed) → Tells g.trees.now printed → IsValueStop items printed g.limit (type_in g of) (plain_x c.args.x.now) e) c.from_residual-in_err-apply-in-Two.result s c.from_residual-in_err-apply-in-Two.ensures.1
+    (λ printed told. subst (λ z. IsValueStop items printed g.limit (type_in g of) z s) at (c.in_err-apply-in-Two.ensures.stop place (type_in g of) printed told))
+
+pub begin-returns-in-Literal-clause-begun : goal.begin-returns-in-Literal-clause-begun
+begin-returns-in-Literal-clause-begun t c =
+    let name = plain_name c.in-Literal.name in
+    let is : literal name (map plain_expr c.deref-in-Literal.result.now) (plain_children c.deref-in-Literal-2.result.now) ≡ plain_x c.args.x.now =
+    ap₂ (λ (ls : List code_label.Expr) (ys : List code.X). literal name (map plain_expr ls) (plain_children ys)) c.deref-in-Literal.ensures.value c.deref-in-Literal-2.ensures.value
+    ∙ sym (ap plain_x c.in-Literal.is ∙ plain_literal c.in-Literal.name c.in-Literal.labels c.in-Literal.xs) in
+    subst (λ z. IsFirst z c.args.room c.opened.result) is c.opened.ensures
+
+-- ---- literals within one another
+
+pub evaluate-nodes-init : goal.evaluate-nodes-init
+evaluate-nodes-init t c =
+    let g = c.args.given.now in
+    let of = c.args.of.now in
+    let x = plain_x c.args.x.now in
+    let room = c.args.room in
+    record {
+      built = c.begin.ensures.built;
+      grown = c.begin.ensures.grown;
+      reached = subst (λ (ns : List OpenNode). IsReached g of x room (reverse ns) c.in_ok-here.here) (sym c.new-around.ensures.items) (reached_begun g of x room [] x room (around_none g of x room) c.in_ok-here.here c.in_ok-here.ensures.begun);
+    }
+
+pub evaluate-left-space-requires : goal.evaluate-left-space-requires
+evaluate-left-space-requires t c =
+    let g = c.args.given.now in
+    let of = c.args.of.now in
+    let x = plain_x c.args.x.now in
+    let room = c.args.room in
+    next_room g of x room (reverse c.nodes.around.items) c.in-Part.node c.nodes.here c.nodes.invariant.reached c.in-Part.is c.requires.given
+
+pub evaluate-begin-requires-in-Some : goal.evaluate-begin-requires-in-Some
+evaluate-begin-requires-in-Some t c =
+    let g = c.args.given.now in
+    let items = items_in g in
+    let of = c.args.of.now in
+    let x = plain_x c.args.x.now in
+    let room = c.args.room in
+    let ns = reverse c.nodes.around.items in
+    let n = c.in-Part.node in
+    let m = after_next n c.in-Some.rest in
+    let y = c.in-Some.next.now in
+    let is : n.rest.now ≡ y ∷ c.in-Some.rest.now = search rules in
+    let around = around_next g of x room ns n y c.in-Some.rest c.nodes.here c.nodes.invariant.reached c.in-Part.is is in
+    let left = left_of n.room n.below in
+    let light = inside_lighter g of x room (m ∷ ns) (plain_x y) left around in
+    let made = inside_on g of x room (m ∷ ns) (plain_x y) left around c.requires.made in
+    let known = inside_known g of x room c.nodes.built (m ∷ ns) (plain_x y) left around (tree_known_grown items g.trees.now c.args.built.now c.nodes.built c.nodes.invariant.grown x c.requires.known) in
+    let small = subst (λ r. r ≤ 1048576) (sym c.left-space.ensures) (inside_room g of x room 1048576 c.requires.small (m ∷ ns) (plain_x y) left around) in
+    (omega (arith, light, c.decreases), (c.requires.given, (c.nodes.invariant.built, (made, (known, small)))))
+
+pub evaluate-returns-in_err-here-in-Some-clause-stop : goal.evaluate-returns-in_err-here-in-Some-clause-stop
+evaluate-returns-in_err-here-in-Some-clause-stop t c =
+    let g = c.args.given.now in
+    let of = c.args.of.now in
+    let x = plain_x c.args.x.now in
+    let room = c.args.room in
+    let ns = reverse c.nodes.around.items in
+    let n = c.in-Part.node in
+    let m = after_next n c.in-Some.rest in
+    let y = c.in-Some.next.now in
+    let is : n.rest.now ≡ y ∷ c.in-Some.rest.now = search rules in
+    let around = around_next g of x room ns n y c.in-Some.rest c.nodes.here c.nodes.invariant.reached c.in-Part.is is in
+    let s = c.in_err-here-in-Some.field-0.0 in
+    on_err (λ e. (printed : List Printed) → Tells g.trees.now printed → IsValueStop (items_in g) printed g.limit (type_in g of) x e) c.from_residual-in_err-here-in-Some.result s c.from_residual-in_err-here-in-Some.ensures.1
+    (λ printed told. stop_outside g of x room printed s (m ∷ ns) (plain_x y) (left_of n.room n.below) around (c.in_err-here-in-Some.ensures.stop printed told))
+
+pub evaluate-nodes-smaller-in-Some : goal.evaluate-nodes-smaller-in-Some
+evaluate-nodes-smaller-in-Some t c =
+    let g = c.args.given.now in
+    let of = c.args.of.now in
+    let n = c.in-Part.node in
+    let m = after_next n c.in-Some.rest in
+    let y = c.in-Some.next.now in
+    let is : n.rest.now ≡ y ∷ c.in-Some.rest.now = search rules in
+    let here = c.in_ok-here-in-Some.here in
+    let light = begun_lighter g of (plain_x y) c.left-space.result here c.in_ok-here-in-Some.ensures.begun in
+    let behind = ap burdens (turned c.nodes.around.items c.push.new.self.items m c.in_ok-push-in-Some.ensures.items) in
+    let before = ap burden_here c.in-Part.is in
+    let children = ap (λ (zs : List code.X). weights (plain_children zs)) is in
+    omega (arith, light, behind, before, children)
+
+pub evaluate-nodes-preserved-in-Some : goal.evaluate-nodes-preserved-in-Some
+evaluate-nodes-preserved-in-Some t c =
+    let g = c.args.given.now in
+    let of = c.args.of.now in
+    let x = plain_x c.args.x.now in
+    let room = c.args.room in
+    let ns = reverse c.nodes.around.items in
+    let n = c.in-Part.node in
+    let m = after_next n c.in-Some.rest in
+    let y = c.in-Some.next.now in
+    let is : n.rest.now ≡ y ∷ c.in-Some.rest.now = search rules in
+    let around = around_next g of x room ns n y c.in-Some.rest c.nodes.here c.nodes.invariant.reached c.in-Part.is is in
+    let here = c.in_ok-here-in-Some.here in
+    let begun = subst (λ r. IsBegun g of (plain_x y) r here) c.left-space.ensures c.in_ok-here-in-Some.ensures.begun in
+    record {
+      built = c.begin-in-Some.ensures.built;
+      grown = more_twice c.args.built.now c.nodes.built c.begin-in-Some.new.built c.nodes.invariant.grown c.begin-in-Some.ensures.grown;
+      reached = subst (λ ls. IsReached g of x room ls here) (sym (turned c.nodes.around.items c.push.new.self.items m c.in_ok-push-in-Some.ensures.items)) (reached_begun g of x room (m ∷ ns) (plain_x y) (left_of n.room n.below) around here begun);
+    }
+
+pub evaluate-closed-requires-clause-declared : goal.evaluate-closed-requires-clause-declared
+evaluate-closed-requires-clause-declared t c =
+    let g = c.args.given.now in
+    let of = c.args.of.now in
+    let x = plain_x c.args.x.now in
+    let room = c.args.room in
+    let ns = reverse c.nodes.around.items in
+    let n = c.in-Part.node in
+    let empty : length n.rest.now ≡ 0 = search rules in
+    closed_declared g of x room ns n c.nodes.here c.nodes.invariant.reached c.in-Part.is empty c.requires.made
+
+pub evaluate-closed-requires-clause-node : goal.evaluate-closed-requires-clause-node
+evaluate-closed-requires-clause-node t c =
+    let g = c.args.given.now in
+    let of = c.args.of.now in
+    let x = plain_x c.args.x.now in
+    let room = c.args.room in
+    let ns = reverse c.nodes.around.items in
+    let n = c.in-Part.node in
+    let empty : length n.rest.now ≡ 0 = search rules in
+    closed_labelled g of x room ns n c.nodes.here c.nodes.invariant.reached c.in-Part.is empty c.requires.made
+
+pub evaluate-returns-in_err-closed-in-None-clause-stop : goal.evaluate-returns-in_err-closed-in-None-clause-stop
+evaluate-returns-in_err-closed-in-None-clause-stop t c =
+    let g = c.args.given.now in
+    let of = c.args.of.now in
+    let x = plain_x c.args.x.now in
+    let room = c.args.room in
+    let ns = reverse c.nodes.around.items in
+    let n = c.in-Part.node in
+    let empty : length n.rest.now ≡ 0 = search rules in
+    let s = c.in_err-closed-in-None.field-0.0 in
+    on_err (λ e. (printed : List Printed) → Tells g.trees.now printed → IsValueStop (items_in g) printed g.limit (type_in g of) x e) c.from_residual-in_err-closed-in-None.result s c.from_residual-in_err-closed-in-None.ensures.1
+    (stop_unclosed g of x room ns n c.nodes.here c.nodes.invariant.reached c.in-Part.is empty c.requires.made s c.in_err-closed-in-None.ensures.stop)
+
+pub evaluate-nodes-preserved-in-None : goal.evaluate-nodes-preserved-in-None
+evaluate-nodes-preserved-in-None t c =
+    let g = c.args.given.now in
+    let of = c.args.of.now in
+    let x = plain_x c.args.x.now in
+    let room = c.args.room in
+    let ns = reverse c.nodes.around.items in
+    let n = c.in-Part.node in
+    let empty : length n.rest.now ≡ 0 = search rules in
+    record {
+      built = c.nodes.invariant.built;
+      grown = c.nodes.invariant.grown;
+      reached = reached_closed g of x room ns n c.nodes.here c.nodes.invariant.reached c.in-Part.is empty c.requires.made c.in_ok-closed-in-None.field-0 c.in_ok-closed-in-None.ensures.closed;
+    }
+
+pub evaluate-grown-requires-clause-below : goal.evaluate-grown-requires-clause-below
+evaluate-grown-requires-clause-below t c =
+    let g = c.args.given.now in
+    let of = c.args.of.now in
+    let x = plain_x c.args.x.now in
+    let room = c.args.room in
+    let n = c.in-Some-pop.node in
+    let ns = reverse c.pop.new.self.items in
+    let v = c.in-Whole.value in
+    let whole = popped g of x room c.nodes.around.items c.pop.new.self.items n v c.nodes.here c.nodes.invariant.reached c.in-Whole.is c.in-Some-pop.ensures.items in
+    joined_below g of x room ns n v whole c.requires.given c.requires.small
+
+pub evaluate-grown-requires-clause-value : goal.evaluate-grown-requires-clause-value
+evaluate-grown-requires-clause-value t c =
+    let g = c.args.given.now in
+    let of = c.args.of.now in
+    let x = plain_x c.args.x.now in
+    let room = c.args.room in
+    let n = c.in-Some-pop.node in
+    let ns = reverse c.pop.new.self.items in
+    let v = c.in-Whole.value in
+    let whole = popped g of x room c.nodes.around.items c.pop.new.self.items n v c.nodes.here c.nodes.invariant.reached c.in-Whole.is c.in-Some-pop.ensures.items in
+    joined_value g of x room ns n v whole c.requires.given c.requires.small
+
+pub evaluate-nodes-preserved : goal.evaluate-nodes-preserved
+evaluate-nodes-preserved t c =
+    let g = c.args.given.now in
+    let of = c.args.of.now in
+    let x = plain_x c.args.x.now in
+    let room = c.args.room in
+    let n = c.in-Some-pop.node in
+    let ns = reverse c.pop.new.self.items in
+    let v = c.in-Whole.value in
+    let whole = popped g of x room c.nodes.around.items c.pop.new.self.items n v c.nodes.here c.nodes.invariant.reached c.in-Whole.is c.in-Some-pop.ensures.items in
+    record {
+      built = c.nodes.invariant.built;
+      grown = c.nodes.invariant.grown;
+      reached = reached_joined g of x room ns n v whole c.in_ok-grown-in-Whole.field-0 c.in_ok-grown-in-Whole.ensures;
+    }
+
+-- ---- a transformation that is applied
 
 pub apply-evaluate-requires : goal.apply-evaluate-requires
 apply-evaluate-requires t c =
