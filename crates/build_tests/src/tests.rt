@@ -1,6 +1,3 @@
-ghost use Rattle.std.specs.Prelude.{IfOk};
-ghost use Rattle.program_check.specs.Tells.{IsChecked};
-
 use fast_build::{trans, transformation};
 use fast_fault::{Memory, Text};
 use program_check::{Checked, check};
@@ -23,9 +20,7 @@ trans twice : L -> B { nil() to (leaf [i]) | cons(y) to (both [0] (last y) (twic
 trans last : L -> B { nil() to (leaf [i + 1]) | cons(y) where i != 7 to (last y) }
 ";
 
-fn checked(alloc: Global, program: &str) -> Result<Checked, Fail>
-    ensures { IfOk result IsChecked }
-{
+fn checked(alloc: Global, program: &str) -> Result<Checked, Fail> {
     let program = read(alloc, program.as_bytes()).map_err(|_| "no program")?;
     let checked = check(alloc, program).map_err(|_| "not well-formed")?;
     Ok(checked)

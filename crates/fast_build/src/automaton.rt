@@ -8,7 +8,6 @@ ghost use Rattle.model_program.specs.Syntax.{Name};
 ghost use Rattle.model_grammar.specs.Syntax.{named};
 ghost use Rattle.model_names.specs.Kinds.{type_of};
 ghost use Rattle.model_meaning.specs.Types.{input_of};
-ghost use Rattle.program_check.specs.Tells.{IsChecked};
 ghost use Rattle.sta_core.specs.Machine.{plain_rule as machine_rule};
 ghost use Rattle.fast_build.specs.Items.{items_of, find_lang};
 ghost use Rattle.fast_build.specs.Stands.{GuardStands};
@@ -65,7 +64,6 @@ fn automaton(
     signature: &Signature,
     name: &Text,
 ) -> Result<Sta<RowAtom>, Memory>
-    requires checked { IsChecked checked.now }
     requires there { is_some (find_lang (items_of checked.now) name.now) ≡ true }
     requires typed { input_of (items_of checked.now) name.now ≡ plain_signature signature.now }
     ensures { IfOk result (IsAutomatonOf (items_of checked.now) name.now) }
@@ -78,7 +76,6 @@ fn automaton(
 
 /// The automaton of the language of this name, with a state for each language that it reaches.
 pub fn languages(alloc: Global, checked: &Checked, name: &Text) -> Result<Lang<RowAtom>, Memory>
-    requires checked { IsChecked checked.now }
     requires there { is_some (find_lang (items_of checked.now) name.now) ≡ true }
     ensures start { IfOk result (λ l. l.state ≡ 0) }
     ensures automaton { IfOk result (λ l. IsAutomatonOf (items_of checked.now) name.now l.sta) }

@@ -2,7 +2,6 @@
 
 ghost use Rattle.std.specs.Prelude.{◌≡◌, [], ◌∷◌, IfOk, OnOk, map, true, is_some};
 ghost use Rattle.fast_syntax.specs.Plain.{plain_out, plain_out_rule};
-ghost use Rattle.program_check.specs.Tells.{IsChecked};
 ghost use Rattle.fast_build.specs.Items.{items_of};
 ghost use Rattle.fast_build.specs.Transformations.{find_trans};
 ghost use Rattle.fast_build.specs.Reached.{IsGrown};
@@ -56,7 +55,6 @@ pub fn reach_calls<'p>(
     checked: &'p Checked,
     name: &Text,
 ) -> Result<Called<'p>, Memory>
-    requires checked { IsChecked checked.now }
     requires there { is_some (find_trans (items_of checked.now) name.now) ≡ true }
     ensures { IfOk result (λ called. IsCalled (items_of checked.now) name.now called) }
 {

@@ -2,7 +2,6 @@
 
 ghost use Rattle.std.specs.Prelude.{◌≡◌, IfOk, OnOk, map, true, is_some, All};
 ghost use Rattle.fast_syntax.specs.Plain.{plain_out_rule, plain_trans};
-ghost use Rattle.program_check.specs.Tells.{IsChecked};
 ghost use Rattle.fast_build.specs.Items.{items_of, find_lang};
 ghost use Rattle.fast_build.specs.Reached.{IsGrown};
 ghost use Rattle.fast_build.specs.Called.{looked_in, AreLooked, IsGathered};
@@ -42,7 +41,6 @@ pub fn gather<'p>(
     checked: &'p Checked,
     mut names: IndexSet<Text>,
 ) -> Result<Reached<'p>, Memory>
-    requires checked { IsChecked checked.now }
     requires known { All (λ n. is_some (find_lang (items_of checked.now) n) ≡ true) names.keys }
     ensures { IfOk result (λ reached. IsGathered (items_of checked.now) names.keys reached) }
 {

@@ -2,7 +2,6 @@
 
 ghost use Rattle.std.specs.Prelude.{◌≡◌, Some, None, MatchOption};
 ghost use Rattle.fast_syntax.specs.Plain.{plain_lang, plain_trans};
-ghost use Rattle.program_check.specs.Tells.{IsChecked};
 ghost use Rattle.fast_build.specs.Items.{items_of, find_lang};
 ghost use Rattle.fast_build.specs.Transformations.{find_trans};
 
@@ -12,7 +11,6 @@ use program_check::Checked;
 
 /// The language of this name.
 pub fn lang<'c>(checked: &'c Checked, name: &Text) -> Option<&'c LangItem>
-    requires { IsChecked checked.now }
     ensures { MatchOption result (find_lang (items_of checked.now) name.now ≡ None) (λ l. find_lang (items_of checked.now) name.now ≡ Some (plain_lang l.now)) }
 {
     let Some(item) = checked.item(name) else {
@@ -26,7 +24,6 @@ pub fn lang<'c>(checked: &'c Checked, name: &Text) -> Option<&'c LangItem>
 
 /// The transformation of this name.
 pub fn trans<'c>(checked: &'c Checked, name: &Text) -> Option<&'c TransItem>
-    requires { IsChecked checked.now }
     ensures { MatchOption result (find_trans (items_of checked.now) name.now ≡ None) (λ t. find_trans (items_of checked.now) name.now ≡ Some (plain_trans t.now)) }
 {
     let Some(item) = checked.item(name) else {

@@ -3,7 +3,6 @@
 ghost use Rattle.std.specs.Prelude.{◌≡◌, [], ◌∷◌, IfOk, OnOk, map, true, is_some};
 ghost use Rattle.fast_syntax.specs.View.{plain_demand};
 ghost use Rattle.fast_syntax.specs.Plain.{plain_rule};
-ghost use Rattle.program_check.specs.Tells.{IsChecked};
 ghost use Rattle.fast_build.specs.Items.{items_of, find_lang};
 ghost use Rattle.fast_build.specs.Reached.{demanded_by, demanded_in, IsGrown, IsReached};
 
@@ -63,7 +62,6 @@ pub fn add_languages(
 
 /// The languages that the language of this name reaches.
 pub fn reach<'p>(alloc: Global, checked: &'p Checked, name: &Text) -> Result<Reached<'p>, Memory>
-    requires checked { IsChecked checked.now }
     requires there { is_some (find_lang (items_of checked.now) name.now) ≡ true }
     ensures { IfOk result (λ reached. IsReached (items_of checked.now) name.now reached) }
 {

@@ -6,7 +6,6 @@ ghost use Rattle.model_grammar.specs.Syntax.{named};
 ghost use Rattle.fast_tree.specs.Signatures.{plain_signature};
 ghost use Rattle.model_meaning.specs.Types.{input_of, output_of};
 ghost use Rattle.model_run.specs.Parts.{IsFrom};
-ghost use Rattle.program_check.specs.Tells.{IsChecked};
 ghost use Rattle.fast_build.specs.Items.{items_of};
 ghost use Rattle.fast_build.specs.Transformations.{find_trans};
 ghost use Rattle.fast_build.specs.Transducer.{IsTransducerOf};
@@ -41,7 +40,6 @@ fn transducer(
     into: &Signature,
     name: &Text,
 ) -> Result<BuiltTrans, Memory>
-    requires checked { IsChecked checked.now }
     requires there { is_some (find_trans (items_of checked.now) name.now) ≡ true }
     requires begins { input_of (items_of checked.now) name.now ≡ plain_signature from.now }
     requires ends { output_of (items_of checked.now) name.now ≡ plain_signature into.now }
@@ -64,7 +62,6 @@ fn transducer(
 /// The transducer of the transformation of this name, with a state for each transformation that it reaches, and a lookahead
 /// with a state for each language that their rules reach.
 pub fn transformation(alloc: Global, checked: &Checked, name: &Text) -> Result<BuiltTrans, Memory>
-    requires checked { IsChecked checked.now }
     requires there { is_some (find_trans (items_of checked.now) name.now) ≡ true }
     ensures start { IfOk result (λ b. b.trans.state ≡ 0) }
     ensures transducer { IfOk result (λ b. IsTransducerOf (items_of checked.now) name.now b.names.keys b.trans.sttr) }

@@ -6,7 +6,6 @@ ghost use Rattle.model_grammar.specs.declared.Op2.TheVariants.{Compose};
 ghost use Rattle.fast_syntax.specs.Plain.{plain_item, plain_x, plain_claim};
 ghost use Rattle.model_run.specs.Plain.{IsPlain, IsLinear};
 ghost use Rattle.model_run.specs.Items.{IsComposable, AreComposable};
-ghost use Rattle.program_check.specs.Tells.{IsChecked};
 ghost use Rattle.fast_build.specs.Items.{items_of};
 ghost use Rattle.fast_compose.specs.Composed.{stated, AreNamesDeclared, StopsPair, StopsIn};
 ghost use Rattle.fast_compose.specs.Stops.{IsComposeCause};
@@ -28,7 +27,6 @@ fn pair(
     first: &X,
     second: &X,
 ) -> Result<(), ComposeStop>
-    requires checked { IsChecked checked.now }
     requires shallow { limit ≤ 2000 }
     requires first_declared { AreNamesDeclared (items_of checked.now) (plain_x first.now) }
     requires second_declared { AreNamesDeclared (items_of checked.now) (plain_x second.now) }
@@ -61,7 +59,6 @@ fn pair_under(
     first: &X,
     second: &X,
 ) -> Result<(), ComposeStop>
-    requires checked { IsChecked checked.now }
     requires shallow { limit ≤ 2000 }
     requires first_declared { AreNamesDeclared (items_of checked.now) (plain_x first.now) }
     requires second_declared { AreNamesDeclared (items_of checked.now) (plain_x second.now) }
@@ -76,7 +73,6 @@ fn pair_under(
 
 /// Whether each composition in the expression can be made.
 fn composed(alloc: Global, checked: &Checked, limit: u32, e: &X) -> Result<(), ComposeStop>
-    requires checked { IsChecked checked.now }
     requires shallow { limit ≤ 2000 }
     requires declared { AreNamesDeclared (items_of checked.now) (plain_x e.now) }
     ensures composable { OnOk result (AreComposable (items_of checked.now) (plain_x e.now)) }
@@ -106,7 +102,6 @@ fn composed_in(
     limit: u32,
     claim: &Claim,
 ) -> Result<(), ComposeStop>
-    requires checked { IsChecked checked.now }
     requires shallow { limit ≤ 2000 }
     requires declared { (e : plain.X) → Contains (stated (plain_claim claim.now)) e → AreNamesDeclared (items_of checked.now) e }
     ensures composable { OnOk result ((e : plain.X) → Contains (stated (plain_claim claim.now)) e → AreComposable (items_of checked.now) e) }
@@ -138,7 +133,6 @@ pub fn composable(
     limit: u32,
     item: &Item,
 ) -> Result<(), ComposeStop>
-    requires checked { IsChecked checked.now }
     requires there { Contains (items_of checked.now) (plain_item item.now) }
     requires shallow { limit ≤ 2000 }
     ensures composable { OnOk result (IsComposable (items_of checked.now) (plain_item item.now).body) }

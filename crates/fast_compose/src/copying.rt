@@ -8,7 +8,6 @@ ghost use Rattle.model_names.specs.Declared.{out_rules_of};
 ghost use Rattle.model_meaning.specs.Reached.{Reaches};
 ghost use Rattle.model_run.specs.Plain.{NamesTwice};
 ghost use Rattle.model_run.specs.Plain as run;
-ghost use Rattle.program_check.specs.Tells.{IsChecked};
 ghost use Rattle.fast_build.specs.Items.{items_of};
 ghost use Rattle.fast_compose.specs.Copying.{uses_in, Repeats, earlier_of, IsFirst};
 
@@ -112,7 +111,6 @@ fn earlier(found: Option<Placed>, other: Option<Placed>) -> Option<Placed>
 
 /// Of the rules of the transformation of this name that use a child twice, the one whose constructor stands first.
 fn first_of_rules(alloc: Global, checked: &Checked, name: &Text) -> Result<Option<Placed>, Memory>
-    requires { IsChecked checked.now }
     ensures { IfOk result (IsFirst (items_of checked.now) (λ q i. q ≡ name.now)) }
 {
     let Some(own) = trans(checked, name) else {
@@ -128,7 +126,6 @@ fn first_of_rules(alloc: Global, checked: &Checked, name: &Text) -> Result<Optio
 
 /// The same of all transformations that the name reaches.
 fn first_reached(alloc: Global, checked: &Checked, name: &Text) -> Result<Option<Placed>, Memory>
-    requires { IsChecked checked.now }
     ensures { IfOk result (IsFirst (items_of checked.now) (λ q i. Reaches (items_of checked.now) name.now q)) }
 {
     if trans(checked, name).is_none() {
@@ -149,7 +146,6 @@ pub fn first_copying(
     checked: &Checked,
     names: &IndexSet<Text>,
 ) -> Result<Option<Placed>, Memory>
-    requires { IsChecked checked.now }
     ensures { IfOk result (IsFirst (items_of checked.now) (λ q i. (n : List ℕ) × Contains names.now.keys n × Reaches (items_of checked.now) n q)) }
 {
     let mut first = None;

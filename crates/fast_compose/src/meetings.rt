@@ -3,7 +3,6 @@
 ghost use Rattle.std.specs.Prelude.{◌≡◌, ◌<◌, ◌≤◌, ◌^◌, ℕ, List, length, IfOk, IfErr};
 ghost use Rattle.std.specs.List.{Contains};
 ghost use Rattle.model_meaning.specs.Reached.{Reaches};
-ghost use Rattle.program_check.specs.Tells.{IsChecked};
 ghost use Rattle.fast_build.specs.Items.{items_of};
 ghost use Rattle.fast_compose.specs.Meetings.{IsMeetingFor, graver_of, is_at, IsMet, StopsMeeting};
 ghost use Rattle.fast_compose.specs.declared.meetings.Met.TheVariants as met;
@@ -56,7 +55,6 @@ fn met_by(
     limit: u32,
     name: &Text,
 ) -> Result<Met, ClassStop<Chain>>
-    requires checked { IsChecked checked.now }
     requires shallow { limit ≤ 2000 }
     ensures met { IfOk result (IsMet (items_of checked.now) (Reaches (items_of checked.now) name.now)) }
     ensures stop { IfErr result (StopsMeeting (items_of checked.now) name.now limit) }
@@ -106,7 +104,6 @@ pub fn met_by_all(
     limit: u32,
     names: &IndexSet<Text>,
 ) -> Result<Met, ClassStop<Chain>>
-    requires checked { IsChecked checked.now }
     requires shallow { limit ≤ 2000 }
     ensures met { IfOk result (IsMet (items_of checked.now) (λ q. (n : List ℕ) × Contains names.now.keys n × Reaches (items_of checked.now) n q)) }
     ensures stop { IfErr result (λ s. (n : List ℕ) × Contains names.now.keys n × StopsMeeting (items_of checked.now) n limit s) }

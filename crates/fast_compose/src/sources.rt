@@ -3,7 +3,6 @@
 ghost use Rattle.std.specs.Prelude.{◌≡◌, ◌<◌, Some, None, IfOk, OnOk, MatchOption, get_or, length, [], ◌∷◌};
 ghost use Rattle.fast_syntax.specs.Plain.{plain_x};
 ghost use Rattle.model_meaning.specs.Reached.{definition_of};
-ghost use Rattle.program_check.specs.Tells.{IsChecked};
 ghost use Rattle.fast_build.specs.Items.{items_of};
 ghost use Rattle.fast_build.specs.Reached.{IsGrown};
 ghost use Rattle.fast_compose.specs.Sources.{sources_in, opened_by, AreDeclared, AreSources};
@@ -44,7 +43,6 @@ fn add_sources(alloc: Global, x: &X, names: &mut IndexSet<Text>) -> Result<(), M
 
 /// The expression of the definition of this name.
 fn value<'c>(checked: &'c Checked, name: &Text) -> Option<&'c X>
-    requires { IsChecked checked.now }
     ensures { MatchOption result (definition_of (items_of checked.now) name.now ≡ None) (λ x. definition_of (items_of checked.now) name.now ≡ Some (plain_x x.now)) }
 {
     let Some(item) = checked.item(name) else {
@@ -63,7 +61,6 @@ fn open(
     place: usize,
     names: &mut IndexSet<Text>,
 ) -> Result<(), Memory>
-    requires checked { IsChecked checked.now }
     requires low { place < length names.old.keys }
     ensures { OnOk result (IsGrown names.old.keys names.new.keys (opened_by (items_of checked.now) (get_or names.old.keys place []))) }
 {
@@ -75,7 +72,6 @@ fn open(
 
 /// The names of transformations in the expression and in those of the definitions among them. Each definition is opened once.
 pub fn all_sources(alloc: Global, checked: &Checked, x: &X) -> Result<IndexSet<Text>, Memory>
-    requires checked { IsChecked checked.now }
     requires declared { AreDeclared (items_of checked.now) (sources_in (plain_x x.now)) }
     ensures { IfOk result (λ names. AreSources (items_of checked.now) (plain_x x.now) names.keys) }
 {

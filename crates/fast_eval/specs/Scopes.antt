@@ -6,7 +6,6 @@ use Rattle.model_tree.specs.Tree.{LabelTree}
 use Rattle.model_meaning.specs.Meaning.{IsInLanguage, IsRelated, signature_named}
 use Rattle.model_run.specs.Plain.{IsPlain, IsLinear}
 use Rattle.model_layers.specs.Carries.{IsTyped}
-use Rattle.program_check.specs.Tells.{IsChecked}
 use Rattle.program_check.specs.declared.programs.Checked.{Checked}
 use Rattle.sta_core.specs.declared.Lang.{Lang}
 use Rattle.record_label.specs.Rows.{RowAtom}
@@ -34,7 +33,6 @@ type_in s = s.of.now
 
 -- what was built for names is right, and the labels are those of the type
 pub record IsScope (s : Scope) : Type 0 where
-  pub checked : IsChecked s.checked.now
   pub built : AreBuilt (items_in s) s.built.now
   pub labels : s.theory.now ≡ sorts_of (signature_named (items_in s) (Some (type_in s)))
   pub shallow : s.limit ≤ 2000

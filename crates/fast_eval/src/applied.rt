@@ -8,7 +8,6 @@ ghost use Rattle.model_tree.specs.Signature.{HasType};
 ghost use Rattle.fast_tree.specs.Entries.{label_meaning};
 ghost use Rattle.fast_syntax.specs.Plain.{plain_x};
 ghost use Rattle.model_meaning.specs.Meaning.{input_type};
-ghost use Rattle.program_check.specs.Tells.{IsChecked};
 ghost use Rattle.fast_build.specs.Items.{items_of};
 ghost use Rattle.fast_eval.specs.Forms.{AreNamed, IsMadeFrom, IsTransKnown};
 ghost use Rattle.fast_eval.specs.Outputs.{cut_tree, AreOutputsOf, StopsOutputs};
@@ -55,7 +54,6 @@ pub fn outputs<'t>(
     x: &X,
     tree: &'t Tree<Label>,
 ) -> Result<Vec<Cut<'t, Label>>, OutputStop>
-    requires checked { IsChecked checked.now }
     requires built { AreBuilt (items_of checked.now) built.old }
     requires made { (from into : List ℕ) × IsMadeFrom (items_of checked.now) from into (plain_x x.now) }
     requires known { IsTransKnown (items_of checked.now) built.old (plain_x x.now) }

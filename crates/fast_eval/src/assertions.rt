@@ -4,7 +4,6 @@ ghost use Rattle.std.specs.Prelude.{◌≡◌, ◌≤◌, ℕ, List, IfOk, IfErr
 ghost use Rattle.fast_syntax.specs.Plain.{plain_x, plain_claim};
 ghost use Rattle.model_grammar.specs.Syntax as plain;
 ghost use Rattle.model_run.specs.Items.{judged_claim};
-ghost use Rattle.program_check.specs.Tells.{IsChecked};
 ghost use Rattle.fast_build.specs.Items.{items_of};
 ghost use Rattle.fast_eval.specs.Forms.{AreKnown, IsTransKnown, IsMadeOn, IsMadeFrom, IsMadeAt, IsKnownAt, IsClaimOn, IsClaimKnown};
 ghost use Rattle.fast_eval.specs.Found.{IsFoundOf};
@@ -30,7 +29,6 @@ fn find_in(
     limit: u32,
     x: &X,
 ) -> Result<Found<Label>, EvalStop>
-    requires checked { IsChecked checked.now }
     requires built { AreBuilt (items_of checked.now) built.old }
     requires made { (type : List ℕ) × IsMadeOn (items_of checked.now) type (plain_x x.now) }
     requires known { AreKnown (items_of checked.now) built.old (plain_x x.now) }
@@ -53,7 +51,6 @@ fn find_giving(
     limit: u32,
     f: &X,
 ) -> Result<Found<Label>, EvalStop>
-    requires checked { IsChecked checked.now }
     requires built { AreBuilt (items_of checked.now) built.old }
     requires made { (from into : List ℕ) × IsMadeFrom (items_of checked.now) from into (plain_x f.now) }
     requires known { IsTransKnown (items_of checked.now) built.old (plain_x f.now) }
@@ -76,7 +73,6 @@ fn find_some(
     limit: u32,
     x: &X,
 ) -> Result<Found<Label>, EvalStop>
-    requires checked { IsChecked checked.now }
     requires built { AreBuilt (items_of checked.now) built.old }
     requires made { (type : List ℕ) × IsMadeAt (items_of checked.now) type (plain_x x.now) }
     requires known { IsKnownAt (items_of checked.now) built.old (plain_x x.now) }
@@ -101,7 +97,6 @@ fn find_between(
     x: &X,
     y: &X,
 ) -> Result<Found<Label>, EvalStop>
-    requires checked { IsChecked checked.now }
     requires built { AreBuilt (items_of checked.now) built.old }
     requires made { (type : List ℕ) × IsMadeOn (items_of checked.now) type (plain_x x.now) × IsMadeOn (items_of checked.now) type (plain_x y.now) }
     requires known { AreKnown (items_of checked.now) built.old (plain_x x.now) }
@@ -135,7 +130,6 @@ fn find_broken(
     limit: u32,
     check: &TypeCheck,
 ) -> Result<Found<Label>, EvalStop>
-    requires checked { IsChecked checked.now }
     requires built { AreBuilt (items_of checked.now) built.old }
     requires made { (type : List ℕ) × IsClaimOn (items_of checked.now) type (plain.type_check (plain_x check.now.x.now) (plain_x check.now.f.now) (plain_x check.now.y.now)) }
     requires known { IsClaimKnown (items_of checked.now) built.old (plain.type_check (plain_x check.now.x.now) (plain_x check.now.f.now) (plain_x check.now.y.now)) }
@@ -160,7 +154,6 @@ pub fn judge(
     limit: u32,
     claim: &Claim,
 ) -> Result<Found<Label>, EvalStop>
-    requires checked { IsChecked checked.now }
     requires built { AreBuilt (items_of checked.now) built.old }
     requires made { (type : List ℕ) × IsClaimOn (items_of checked.now) type (plain_claim claim.now) }
     requires known { IsClaimKnown (items_of checked.now) built.old (plain_claim claim.now) }

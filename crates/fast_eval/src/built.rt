@@ -5,7 +5,6 @@ ghost use Rattle.std.specs.Option.{option_map};
 ghost use Rattle.model_grammar.specs.Syntax.{Item};
 ghost use Rattle.model_names.specs.Declared.{find_type};
 ghost use Rattle.model_names.specs.Kinds.{transformation};
-ghost use Rattle.program_check.specs.Tells.{IsChecked};
 ghost use Rattle.fast_build.specs.Items.{items_of};
 ghost use Rattle.fast_eval.specs.Table.{labels_of, AddsLabels, HasBuilt, IsNamed, IsGrown, IsBuiltNamed, IsTransBuiltNamed, IsLanguageAt, IsTransAt, AreLabels, AreBuilt};
 
@@ -35,7 +34,6 @@ fn add_labels(
     labels: &mut IndexMap<Text, RowLabels>,
     of: &Text,
 ) -> Result<(), Memory>
-    requires checked { IsChecked checked.now }
     requires declared { is_some (find_type (items_of checked.now) of.now) ≡ true }
     ensures added { OnOk result (AddsLabels (items_of checked.now) labels.old labels.new of.now) }
 {
@@ -49,7 +47,6 @@ fn add_labels(
 
 /// The labels of each type of the program.
 fn labels_of_types(alloc: Global, checked: &Checked) -> Result<IndexMap<Text, RowLabels>, Memory>
-    requires { IsChecked checked.now }
     ensures { IfOk result (AreLabels (items_of checked.now)) }
 {
     let mut labels = IndexMap::new(alloc);
@@ -64,7 +61,6 @@ fn labels_of_types(alloc: Global, checked: &Checked) -> Result<IndexMap<Text, Ro
 impl Built {
     /// The labels of the program's types, and no language or transformation.
     pub fn new(alloc: Global, checked: &Checked) -> Result<Built, Memory>
-        requires { IsChecked checked.now }
         ensures { IfOk result (AreBuilt (items_of checked.now)) }
     {
         let labels = labels_of_types(alloc, checked)?;

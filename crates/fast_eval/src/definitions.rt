@@ -5,7 +5,6 @@ ghost use Rattle.model_grammar.specs.Syntax.{Item};
 ghost use Rattle.fast_syntax.specs.Plain.{plain_x, plain_def};
 ghost use Rattle.model_names.specs.Kinds as kinds;
 ghost use Rattle.model_meaning.specs.Reached.{definition_of};
-ghost use Rattle.program_check.specs.Tells.{IsChecked};
 ghost use Rattle.fast_build.specs.Items.{items_of};
 ghost use Rattle.fast_eval.specs.Counted.{IsCounted};
 ghost use Rattle.fast_eval.specs.Forms.{AreKnown, AreNamed, IsMadeOn, IsMadeFrom, IsTransKnown};
@@ -32,7 +31,6 @@ fn value(
     limit: u32,
     x: &X,
 ) -> Result<Operand, EvalStop>
-    requires checked { IsChecked checked.now }
     requires built { AreBuilt (items_of checked.now) built.now }
     requires made { (type : List ℕ) × IsMadeOn (items_of checked.now) type (plain_x x.now) }
     requires named { AreNamed kinds.language built.now (plain_x x.now) }
@@ -82,7 +80,6 @@ fn trans_value(
     limit: u32,
     f: &X,
 ) -> Result<TransOperand, EvalStop>
-    requires checked { IsChecked checked.now }
     requires built { AreBuilt (items_of checked.now) built.now }
     requires made { (from into : List ℕ) × IsMadeFrom (items_of checked.now) from into (plain_x f.now) }
     requires named { AreNamed kinds.transformation built.now (plain_x f.now) }
@@ -119,7 +116,6 @@ fn define_transformation(
     limit: u32,
     def: &DefItem,
 ) -> Result<(), EvalStop>
-    requires checked { IsChecked checked.now }
     requires built { AreBuilt (items_of checked.now) built.old }
     requires defined { definition_of (items_of checked.now) def.now.name.text ≡ Some (plain_x def.now.value) }
     requires made { (from into : List ℕ) × IsMadeFrom (items_of checked.now) from into (plain_x def.now.value) }
@@ -144,7 +140,6 @@ fn define_language(
     limit: u32,
     def: &DefItem,
 ) -> Result<Option<u32>, EvalStop>
-    requires checked { IsChecked checked.now }
     requires built { AreBuilt (items_of checked.now) built.old }
     requires defined { definition_of (items_of checked.now) def.now.name.text ≡ Some (plain_x def.now.value) }
     requires made { (type : List ℕ) × IsMadeOn (items_of checked.now) type (plain_x def.now.value) }
@@ -170,7 +165,6 @@ pub fn define(
     limit: u32,
     def: &DefItem,
 ) -> Result<Option<u32>, EvalStop>
-    requires checked { IsChecked checked.now }
     requires built { AreBuilt (items_of checked.now) built.old }
     requires defined { definition_of (items_of checked.now) def.now.name.text ≡ Some (plain_x def.now.value) }
     requires made { IsMadeInto (items_of checked.now) (plain_def def.now).into (plain_x def.now.value) }

@@ -4,7 +4,6 @@ ghost use Rattle.std.specs.Prelude.{◌≡◌, OnOk};
 ghost use Rattle.fast_syntax.specs.Plain.{plain_x};
 ghost use Rattle.model_names.specs.Kinds as kinds;
 ghost use Rattle.model_names.specs.Kinds.{taken_by_one, taken_first, taken_second};
-ghost use Rattle.program_check.specs.Tells.{IsChecked};
 ghost use Rattle.fast_build.specs.Items.{items_of};
 ghost use Rattle.fast_eval.specs.Forms.{plain_taken, IsReadyName, AreReady, AreNamed};
 ghost use Rattle.fast_eval.specs.Table.{HasBuilt, IsNamed, IsGrown, AreBuilt};
@@ -24,7 +23,6 @@ fn build_name(
     built: &mut Built,
     name: &Text,
 ) -> Result<(), Memory>
-    requires checked { IsChecked checked.now }
     requires known { IsReadyName kinds.language (items_of checked.now) built.old name.now }
     ensures built { AreBuilt (items_of checked.now) built.old → AreBuilt (items_of checked.now) built.new }
     ensures grown { IsGrown built.old built.new }
@@ -44,7 +42,6 @@ fn build_transformation(
     built: &mut Built,
     name: &Text,
 ) -> Result<(), Memory>
-    requires checked { IsChecked checked.now }
     requires known { IsReadyName kinds.transformation (items_of checked.now) built.old name.now }
     ensures built { AreBuilt (items_of checked.now) built.old → AreBuilt (items_of checked.now) built.new }
     ensures grown { IsGrown built.old built.new }
@@ -108,7 +105,6 @@ fn build_taken(
     taken: Taken,
     name: &Text,
 ) -> Result<(), Memory>
-    requires checked { IsChecked checked.now }
     requires known { IsReadyName (plain_taken taken) (items_of checked.now) built.old name.now }
     ensures built { AreBuilt (items_of checked.now) built.old → AreBuilt (items_of checked.now) built.new }
     ensures grown { IsGrown built.old built.new }
@@ -129,7 +125,6 @@ pub fn build_names(
     taken: Taken,
     x: &X,
 ) -> Result<(), Memory>
-    requires checked { IsChecked checked.now }
     requires known { AreReady (plain_taken taken) (items_of checked.now) built.old (plain_x x.now) }
     ensures built { AreBuilt (items_of checked.now) built.old → AreBuilt (items_of checked.now) built.new }
     ensures grown { IsGrown built.old built.new }

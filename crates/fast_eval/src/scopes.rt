@@ -3,7 +3,7 @@
 ghost use Rattle.std.specs.Prelude.{◌≡◌, ◌≤◌, ℕ, List, Some, None};
 ghost use Rattle.std.specs.Option.{option_map};
 ghost use Rattle.fast_syntax.specs.Plain.{plain_x};
-ghost use Rattle.program_check.specs.Tells.{IsChecked, kind_view};
+ghost use Rattle.program_check.specs.Tells.{kind_view};
 ghost use Rattle.fast_build.specs.Items.{items_of};
 ghost use Rattle.fast_eval.specs.Forms.{inputs_in, outputs_in, IsMadeOn, IsMadeFrom, IsMadeAt};
 ghost use Rattle.fast_eval.specs.Scopes.{IsScope, IsScopeOf, AreEnds};
@@ -38,7 +38,6 @@ fn outputs_in(kind: Option<Kind3<'_>>) -> Option<&Text>
 
 /// The name of the type of an expression's trees, or of its inputs.
 pub fn type_of<'c>(checked: &'c Checked, x: &X) -> Option<&'c Text>
-    requires { IsChecked checked.now }
     ensures { (type : List ℕ) → IsMadeAt (items_of checked.now) type (plain_x x.now) → option_map (λ t. t.now) result ≡ Some type }
 {
     match x {
@@ -51,7 +50,6 @@ pub fn type_of<'c>(checked: &'c Checked, x: &X) -> Option<&'c Text>
 
 /// The name of the type of the outputs of an expression; none of a language.
 pub fn output_of<'c>(checked: &'c Checked, x: &X) -> Option<&'c Text>
-    requires { IsChecked checked.now }
     ensures outputs { (from into : List ℕ) → IsMadeFrom (items_of checked.now) from into (plain_x x.now) → option_map (λ t. t.now) result ≡ Some into }
     ensures none { (type : List ℕ) → IsMadeOn (items_of checked.now) type (plain_x x.now) → result ≡ None }
 {
@@ -72,7 +70,6 @@ pub struct Ends<'c> {
 
 /// The names of the types of an expression of a transformation.
 pub fn ends_of<'c>(checked: &'c Checked, f: &X) -> Ends<'c>
-    requires checked { IsChecked checked.now }
     requires made { (from into : List ℕ) × IsMadeFrom (items_of checked.now) from into (plain_x f.now) }
     ensures { (from into : List ℕ) → IsMadeFrom (items_of checked.now) from into (plain_x f.now) → AreEnds from into result }
 {
@@ -87,7 +84,6 @@ pub fn ends_of<'c>(checked: &'c Checked, f: &X) -> Ends<'c>
 
 /// The scope of an expression.
 pub fn scope_of<'s>(checked: &'s Checked, built: &'s Built, limit: u32, x: &X) -> Scope<'s>
-    requires checked { IsChecked checked.now }
     requires built { AreBuilt (items_of checked.now) built.now }
     requires shallow { limit ≤ 2000 }
     requires made { (type : List ℕ) × IsMadeAt (items_of checked.now) type (plain_x x.now) }

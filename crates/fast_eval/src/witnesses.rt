@@ -13,7 +13,6 @@ ghost use Rattle.fast_tree.specs.Entries.{label_meaning};
 ghost use Rattle.fast_syntax.specs.Plain.{plain_x};
 ghost use Rattle.model_meaning.specs.Meaning.{IsInLanguage, input_type};
 ghost use Rattle.model_names.specs.Kinds as kinds;
-ghost use Rattle.program_check.specs.Tells.{IsChecked};
 ghost use Rattle.fast_build.specs.Items.{items_of};
 ghost use Rattle.fast_eval.specs.Forms.{AreKnown, AreNamed, IsMadeOn};
 ghost use Rattle.fast_eval.specs.Scopes.{items_in, type_in, IsScope};
@@ -56,7 +55,6 @@ pub fn witness(
     limit: u32,
     x: &X,
 ) -> Result<Found<Label>, EvalStop>
-    requires checked { IsChecked checked.now }
     requires built { AreBuilt (items_of checked.now) built.old }
     requires made { (type : List ℕ) × IsMadeOn (items_of checked.now) type (plain_x x.now) }
     requires known { AreKnown (items_of checked.now) built.old (plain_x x.now) }
@@ -110,7 +108,6 @@ pub fn belongs(
     y: &X,
     tree: &Tree<Label>,
 ) -> Result<bool, EvalStop>
-    requires checked { IsChecked checked.now }
     requires built { AreBuilt (items_of checked.now) built.old }
     requires made { (type : List ℕ) × IsMadeOn (items_of checked.now) type (plain_x y.now) }
     requires known { AreKnown (items_of checked.now) built.old (plain_x y.now) }

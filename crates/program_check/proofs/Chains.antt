@@ -10,9 +10,9 @@ use Rattle.model_checks.specs.Sorts.{Scope, needs_sort}
 use Rattle.model_checks.specs.Forms.{has_field, have_field, form_in_range, added, with_part, form_behind}
 use Rattle.model_checks.specs.Labels.{label_failures, sorted_failures, operands_failures, steps_failures}
 use Rattle.program_check.specs.Known.{joined, next_failures, step_failures, step_form}
-use Rattle.program_check.specs.Notes.{Notes}
+use Rattle.program_check.specs.Notes.{Notes, Left}
 use Rattle.program_check.specs.declared.checker.Checker.{Checker}
-use Rattle.program_check.proofs.Noting.{Left, more, done}
+use Rattle.program_check.proofs.Noting.{more, done}
 
 pub or_false : (a : Bool) → (a || false) ≡ a
 or_false true = refl

@@ -1,8 +1,7 @@
 -- A field is numbered among the whole numbers.
-use Rattle.std.proofs.Common.{◌≡◌, ℕ, suc, ◌+◌, ◌<◌, ◌≤◌, Bool, true, false, cond, List, map, length, drop, get_or, Some, None, refl, sym, ap, ◌∙◌, arith}
-use Rattle.std.specs.Option.{option_map_or}
+use Rattle.std.proofs.Common.{◌≡◌, ℕ, suc, ◌+◌, ◌<◌, ◌≤◌, Bool, true, false, cond, List, map, length, drop, get_or, sym, ap, ◌∙◌, arith}
 use Rattle.std.proofs.lemmas.List.{drop_all}
-use Rattle.model_tree.specs.Signature.{wholes, truths, texts}
+use Rattle.model_tree.specs.Signature.{wholes}
 use Rattle.model_label.specs.Fields.{same_sort, number_at}
 use Rattle.model_names.specs.Declared.{same_text}
 use Rattle.model_names.specs.Sorts.{own_sort}
@@ -48,10 +47,3 @@ counted_to fields name i n x low is here c =
 
 pub counted_all : (fields : List FieldItem) (name : List ℕ) (i n : ℕ) → length fields ≤ i → Counted fields name i n → n ≡ number_in fields name
 counted_all fields name i n end c = sym (c.is ∙ ap (λ xs. n + number_in xs name) (drop_all i fields end) ∙ (omega arith))
-
--- the sort with the first name is that of whole numbers
-pub whole_named : (a b d : Bool) → same_sort (option_map_or (λ sort. sort) (cond a (Some wholes) (cond b (Some truths) (cond d (Some texts) None))) texts) wholes ≡ a
-whole_named true b d = refl
-whole_named false true d = refl
-whole_named false false true = refl
-whole_named false false false = refl

@@ -4,7 +4,6 @@ use Rattle.std.proofs.lemmas.Option.{slice_get-map, slice_get_read, slice_get_pa
 use Rattle.std.specs.Prelude.{find, slice_get, is_some, nat_lt}
 use Rattle.std.proofs.lemmas.Bool.Decides.{nat_tests}
 use Rattle.std.specs.Option.{option_map, option_and_then}
-use Rattle.model_program.specs.Syntax.{TypeItem}
 use Rattle.model_grammar.specs.Syntax.{Body, sorts, tree, lang, trans, def, assertion, Item}
 use Rattle.model_names.specs.Declared.{same_text, types_of, own_types, find_type, find_item, declares}
 use Rattle.model_meaning.specs.Types.{signature_of}

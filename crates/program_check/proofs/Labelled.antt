@@ -1,10 +1,9 @@
 -- What is noted and known of a label expression, from what is so of its parts.
-use Rattle.std.proofs.Common.{◌≡◌, Bool, true, false, List, Option, Some, None, sym, ap, ap₂, ◌∙◌, subst, append_assoc, ◌++◌}
+use Rattle.std.proofs.Common.{◌≡◌, Bool, List, Option, Some, None, sym, ap, ap₂, ◌∙◌, subst, append_assoc, ◌++◌}
 use Rattle.std.specs.Prelude.{negsuc, Result, Ok, Err, IfOk}
 use Rattle.std.specs.Option.{option_map}
 use Rattle.fast_fault.specs.declared.code.Code.TheVariants.{NumberRange, WrongSort}
 use Rattle.fast_fault.specs.declared.place.Pos.{Pos}
-use Rattle.fast_fault.specs.declared.refusal.Refusal.{Refusal}
 use Rattle.fast_fault.specs.declared.memory.Memory.{Memory}
 use Rattle.model_tree.specs.Signature.{Sort, wholes, truths}
 use Rattle.model_form.specs.Form.{Form}

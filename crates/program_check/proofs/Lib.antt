@@ -19,3 +19,5 @@ pub mod Stands
 pub mod Standing
 pub mod XParts
 pub mod Numbering
+pub mod Weights
+pub mod Told

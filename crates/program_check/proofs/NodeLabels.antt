@@ -7,9 +7,9 @@ use Rattle.model_grammar.specs.Syntax.{Expr}
 use Rattle.model_checks.specs.Sorts.{Scope}
 use Rattle.model_checks.specs.Labels.{label_failures, needs_sort_of, labels_failures}
 use Rattle.program_check.specs.Nodes.{label_at}
-use Rattle.program_check.specs.Notes.{Notes}
+use Rattle.program_check.specs.Notes.{Notes, Left}
 use Rattle.program_check.specs.declared.checker.Checker.{Checker}
-use Rattle.program_check.proofs.Noting.{Left, more, done}
+use Rattle.program_check.proofs.Noting.{more, done}
 
 first_label : (s : Scope) (fields : List FieldItem) (i : ℕ) (e : Expr) (rest : List Expr) → labels_failures s (drop i fields) (e ∷ rest) ≡ label_at s (slice_get fields i) e ++ labels_failures s (drop (suc i) fields) rest
 first_label s [] zero e rest = refl

@@ -1,6 +1,5 @@
 -- What fails at a node, from what fails in its parts.
 use Rattle.std.proofs.Common.{◌≡◌, ℕ, suc, List, [], ◌∷◌, ◌++◌, Option, length, refl, ap, ap₂, ◌∙◌, append_assoc}
-use Rattle.fast_fault.specs.declared.refusal.Refusal.{Refusal}
 use Rattle.model_program.specs.Syntax.{Name, TypeItem, FieldItem}
 use Rattle.model_grammar.specs.Syntax.{Expr, Item, node, Outs}
 use Rattle.fast_syntax.specs.declared.items.Out as code

@@ -7,7 +7,7 @@ use Rattle.model_checks.specs.Failures.{first_of, first_among}
 use Rattle.fast_syntax.proofs.Appending.{drop_at}
 use Rattle.program_check.specs.declared.checker.Checker.{Checker}
 use Rattle.program_check.specs.declared.context.Context.{Context}
-use Rattle.program_check.specs.Notes.{Notes}
+use Rattle.program_check.specs.Notes.{Notes, Left}
 
 pub first_among-append : (known : Option Refusal) (xs ys : List Refusal) → first_among known (xs ++ ys) ≡ first_among (first_among known xs) ys
 first_among-append known [] ys = refl
@@ -45,11 +45,6 @@ on_ok1 (Err e) into p = tt
 
 -- ---- one after another
 
--- of all that is to be noted this is left
-pub record Left (start now : Checker) (all rest : List Refusal) : Type 0 where
-  pub is : first_among now.known rest ≡ first_among start.known all
-  pub same : now.context ≡ start.context
-
 pub at_first : (a : Checker) (all : List Refusal) → Left a a all all
 at_first a all = record { is = refl; same = refl }
 
@@ -58,6 +53,10 @@ more {a} {b} {c} {all} {left} xs rest one split so_far = record {
   is = ap (λ k. first_among k rest) (one.is ∙ ap (λ d. first_among b.known (xs d)) so_far.same) ∙ sym (first_among-append b.known (xs a.context) rest) ∙ ap (first_among b.known) (sym split) ∙ so_far.is;
   same = one.same ∙ so_far.same;
 }
+
+-- these, before what is left
+pub left_by : {a b : Checker} {all xs : List Refusal} (rest : List Refusal) → all ≡ xs ++ rest → Notes a b xs → Left a b all rest
+left_by {a} {b} {all} {xs} rest split one = more (λ _. xs) rest one split (at_first a all)
 
 -- nothing is left
 pub done : {a b : Checker} {all none : List Refusal} → none ≡ [] → Left a b all none → Notes a b all

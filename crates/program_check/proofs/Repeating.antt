@@ -4,17 +4,16 @@ use Rattle.std.specs.Prelude.{is_some}
 use Rattle.std.proofs.lemmas.List.{take_more, take_all, drop_all, map-append}
 use Rattle.std.proofs.lemmas.List.Folds.{list_any-append}
 use Rattle.fast_fault.specs.declared.code.Code.{Code}
-use Rattle.fast_fault.specs.declared.refusal.Refusal.{Refusal}
 use Rattle.model_program.specs.Syntax.{Name}
 use Rattle.model_names.specs.Declared.{same_text}
 use Rattle.model_checks.specs.Failures.{fails_if}
 use Rattle.model_checks.specs.Types.{is_among, repeated_behind, repeated}
 use Rattle.fast_syntax.proofs.Appending.{drop_at}
 use Rattle.program_check.specs.declared.names.Names.{Names}
-use Rattle.program_check.specs.Notes.{Notes}
+use Rattle.program_check.specs.Notes.{Notes, Left}
 use Rattle.program_check.specs.Naming.{place_in, or_else, Adds}
 use Rattle.program_check.specs.declared.checker.Checker.{Checker}
-use Rattle.program_check.proofs.Noting.{Left, more, done}
+use Rattle.program_check.proofs.Noting.{more, done}
 use Rattle.program_check.proofs.Noting.{at_first as nothing_yet}
 
 pub take_at : {A : Type 0} (xs : List A) (i : ℕ) (x : A) → i < length xs → x ≡ get_or xs i x → take (i + 1) xs ≡ take i xs ++ x ∷ []

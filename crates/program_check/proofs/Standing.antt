@@ -7,16 +7,15 @@ use Rattle.model_grammar.specs.declared.Op1.TheVariants.{Complement, Minimize, G
 use Rattle.model_grammar.specs.declared.Op2.{Op2}
 use Rattle.model_grammar.specs.declared.Op2.TheVariants.{Intersect, Union, Difference, PreImage, Compose, Restrict, RestrictOut, Apply}
 use Rattle.model_grammar.specs.Syntax.{X, one, two, Item}
-use Rattle.model_program.specs.Syntax.{TypeItem}
 use Rattle.model_names.specs.Declared.{find_type}
 use Rattle.model_names.specs.Kinds.{same_kind, if_kind, taken_by_one, kind_of, type_of, output_of}
 use Rattle.model_names.specs.Kinds as model
-use Rattle.model_checks.specs.Expressions.{type_as, output_as, wanted_second}
+use Rattle.model_checks.specs.Expressions.{wanted_second}
 use Rattle.program_check.specs.declared.declared_type.DeclaredType.{DeclaredType}
 use Rattle.program_check.specs.declared.expressions.Kind.{Kind}
-use Rattle.program_check.specs.declared.expressions.Kind.TheVariants.{Language, Transformation, Tree}
+use Rattle.program_check.specs.declared.expressions.Kind.TheVariants.{Language, Transformation}
 use Rattle.program_check.specs.declared.expressions.Standing.{Standing}
-use Rattle.program_check.specs.Typed.{plain_option, type_name}
+use Rattle.program_check.specs.Typed.{type_name}
 use Rattle.program_check.specs.Standings.{plain_kind, IsDeclared, IsStanding, only_as, kind_taken, second_wanted, standing_of_one, standing_of_two}
 
 pub kind_is : (op : Op1) → plain_kind (kind_taken op) ≡ taken_by_one op

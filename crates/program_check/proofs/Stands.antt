@@ -1,14 +1,13 @@
 -- What is found by a name is a declared type; operations around others.
 use Rattle.std.proofs.Common.{◌≡◌, ℕ, suc, ◌+◌, ◌<◌, ◌≤◌, Bool, true, false, List, [], ◌++◌, Option, Some, None, length, refl, sym, ap, ap₂, ◌∙◌, arith, add-one}
 use Rattle.std.specs.Prelude.{nat_le, nat_lt}
-use Rattle.std.specs.Option.{option_map}
 use Rattle.std.proofs.lemmas.Bool.Decides.{nat_tests}
 use Rattle.fast_fault.specs.declared.place.Pos.{Pos}
 use Rattle.fast_fault.specs.declared.code.Code.TheVariants.{TooMany}
 use Rattle.model_grammar.specs.Syntax.{X, named, one, two, literal, Xs, no_x, and_x, Item}
 use Rattle.model_names.specs.Declared.{find_type}
 use Rattle.program_check.specs.declared.declared_type.DeclaredType.{DeclaredType}
-use Rattle.program_check.specs.Typed.{plain_of, plain_option, type_name}
+use Rattle.program_check.specs.Typed.{plain_of, plain_option}
 use Rattle.model_names.specs.Kinds.{a_tree, taken_by_one, taken_first, taken_second}
 use Rattle.model_checks.specs.Failures.{fails_if}
 use Rattle.model_checks.specs.Labels.{labels_failures}

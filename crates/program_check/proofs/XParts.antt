@@ -1,21 +1,21 @@
 -- What fails in an expression, from what fails in its parts.
 use Rattle.std.proofs.Common.{◌≡◌, ℕ, suc, List, [], ◌∷◌, ◌++◌, Option, Some, None, length, refl, sym, ap, ap₂, ◌∙◌, append_assoc}
 use Rattle.fast_fault.specs.declared.place.Pos.{Pos}
-use Rattle.fast_fault.specs.declared.refusal.Refusal.{Refusal}
 use Rattle.model_program.specs.Syntax.{Name, TypeItem}
 use Rattle.model_grammar.specs.declared.Op1.{Op1}
 use Rattle.model_grammar.specs.declared.Op2.{Op2}
 use Rattle.model_grammar.specs.Syntax.{Expr, X, one, two, literal, Xs, and_x, Item}
 use Rattle.model_names.specs.Kinds.{Kind, language, transformation, a_tree, taken_by_one, taken_first, taken_second}
 use Rattle.fast_syntax.specs.declared.items.X as code
+use Rattle.fast_syntax.specs.Plain.{plain_x}
 use Rattle.fast_syntax.specs.Slices.{plain_children}
 use Rattle.model_checks.specs.Labels.{labels_failures}
 use Rattle.model_checks.specs.Rules.{constructor_failures, label_count_failures, fields_of}
 use Rattle.model_checks.specs.Expressions.{nesting_failures, count_xs, type_called, needs_be, wanted_second, expected_as, x_failures, xs_failures}
 use Rattle.program_check.specs.Standings.{as_failures, literal_failures}
-use Rattle.program_check.specs.Notes.{Notes}
+use Rattle.program_check.specs.Notes.{Notes, Left}
 use Rattle.program_check.specs.declared.checker.Checker.{Checker}
-use Rattle.program_check.proofs.Noting.{Left, next, same, more}
+use Rattle.program_check.proofs.Noting.{next, same, left_by}
 
 pub xs_counted : (xs : List code.X) → length xs ≡ count_xs (plain_children xs)
 xs_counted [] = refl
@@ -65,8 +65,44 @@ module _ (items before : List Item) where
       let rest = xs_failures items before around e xs in
       same (append_assoc ctor (count ++ own) rest ∙ ap (λ l. ctor ++ l) (append_assoc count own rest)) (next (same (ap₂ (λ u m. literal_failures u name labels m) t_is counted) p) q)
 
-  pub child_more : (around : ℕ) (e : Option (List ℕ)) (x : X) (all rest : Xs) (whole : List Refusal) (a b c : Checker) → all ≡ and_x x rest → Notes b c (as_failures items before around e a_tree x)
-      → Left a b whole (xs_failures items before around e all) → Left a c whole (xs_failures items before around e rest)
-  child_more around e x all rest whole a b c split p left =
-      more (λ _. as_failures items before around e a_tree x) (xs_failures items before around e rest) p
-      (ap (xs_failures items before around e) split ∙ sym (append_assoc (x_failures items before around e x) (needs_be items before e a_tree x) (xs_failures items before around e rest))) left
+  -- what fails in further children
+  xs_failures-append : (around : ℕ) (e : Option (List ℕ)) (xs ys : List code.X) → xs_failures items before around e (plain_children (xs ++ ys)) ≡ xs_failures items before around e (plain_children xs) ++ xs_failures items before around e (plain_children ys)
+  xs_failures-append around e [] ys = refl
+  xs_failures-append around e (x ∷ xs) ys =
+      let own = x_failures items before around e (plain_x x) in
+      let be = needs_be items before e a_tree (plain_x x) in
+      let first = xs_failures items before around e (plain_children xs) in
+      let last = xs_failures items before around e (plain_children ys) in
+      ap (λ l. own ++ (be ++ l)) (xs_failures-append around e xs ys) ∙ ap (λ l. own ++ l) (sym (append_assoc be first last)) ∙ sym (append_assoc own (be ++ first) last)
+
+  -- a literal is a tree, of whatever type
+  literal_is : (type : Option (List ℕ)) (name : Name) (labels : List Expr) (xs : Xs) → needs_be items before type a_tree (literal name labels xs) ≡ []
+  literal_is None name labels xs = refl
+  literal_is (Some t) name labels xs = refl
+
+  -- a child that is a literal, whose children wait
+  pub literal_child : (around n : ℕ) (e : Option (List ℕ)) (t : Option TypeItem) (x : X) (name : Name) (labels : List Expr) (xs old new : List code.X) (a b : Checker) → t ≡ type_called items before e → n ≡ count_xs (plain_children xs)
+      → x ≡ literal name labels (plain_children xs) → new ≡ xs ++ old → Notes a b (literal_failures t name labels n)
+      → Left a b (xs_failures items before around e (and_x x (plain_children old))) (xs_failures items before around e (plain_children new))
+  literal_child around n e t x name labels xs old new a b t_is counted is more_are p =
+      let each = xs_failures items before around e in
+      let t2 = type_called items before e in
+      let ctor = constructor_failures t2 name (count_xs (plain_children xs)) in
+      let count = label_count_failures t2 name (length labels) in
+      let own = labels_failures (Some []) (fields_of t2) labels in
+      let inside = each (plain_children xs) in
+      let later = each (plain_children old) in
+      let whole = literal name labels (plain_children xs) in
+      left_by (each (plain_children new))
+      (ap (λ y. each (and_x y (plain_children old))) is
+      ∙ ap (λ l. x_failures items before around e whole ++ (l ++ later)) (literal_is e name labels (plain_children xs))
+      ∙ ap (λ l. l ++ later) (ap (λ l. ctor ++ l) (sym (append_assoc count own inside)) ∙ sym (append_assoc ctor (count ++ own) inside))
+      ∙ append_assoc (ctor ++ (count ++ own)) inside later
+      ∙ ap (λ l. (ctor ++ (count ++ own)) ++ l) (sym (xs_failures-append around e xs old) ∙ ap (λ l. each (plain_children l)) (sym more_are)))
+      (same (ap₂ (λ u m. literal_failures u name labels m) t_is counted) p)
+
+  -- any other child
+  pub other_child : (around : ℕ) (e : Option (List ℕ)) (x : X) (rest : Xs) (a b : Checker) → Notes a b (as_failures items before around e a_tree x)
+      → Left a b (xs_failures items before around e (and_x x rest)) (xs_failures items before around e rest)
+  other_child around e x rest a b p =
+      left_by (xs_failures items before around e rest) (sym (append_assoc (x_failures items before around e x) (needs_be items before e a_tree x) (xs_failures items before around e rest))) p

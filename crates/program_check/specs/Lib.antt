@@ -10,3 +10,4 @@ pub mod Standings
 pub mod Stops
 pub mod Tells
 pub mod Signed
+pub mod Waiting

@@ -8,3 +8,8 @@ use Rattle.program_check.specs.declared.checker.Checker.{Checker}
 pub record Notes (old new : Checker) (failures : List Refusal) : Type 0 where
   pub is : new.known ≡ first_among old.known failures
   pub same : new.context ≡ old.context
+
+-- of all that is to be noted this is left
+pub record Left (start now : Checker) (all rest : List Refusal) : Type 0 where
+  pub is : first_among now.known rest ≡ first_among start.known all
+  pub same : now.context ≡ start.context

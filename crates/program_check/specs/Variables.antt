@@ -1,5 +1,5 @@
 -- Child variables and types, as the code keeps them.
-use Rattle.std.specs.Prelude.{◌≡◌, ℕ, ◌||◌, List, map, is_some}
+use Rattle.std.specs.Prelude.{◌||◌, List}
 use Rattle.std.specs.Option.{option_map_or}
 use Rattle.fast_fault.specs.declared.code.Code.TheVariants.{WrongKind, WrongType}
 use Rattle.fast_fault.specs.declared.refusal.Refusal.{Refusal}

@@ -7,7 +7,7 @@ ghost use Rattle.fast_syntax.specs.Plain.{plain_item, plain_def, plain_program};
 ghost use Rattle.fast_tree.specs.Signatures.{plain_signature};
 ghost use Rattle.model_meaning.specs.Types.{signature_of};
 ghost use Rattle.program_check.specs.Signed.{signature_in};
-ghost use Rattle.program_check.specs.Tells.{kind_view, defined_as, stands_for, IsChecked};
+ghost use Rattle.program_check.specs.Tells.{kind_view, defined_as, stands_for};
 
 use crate::context::item_at;
 use crate::programs::Checked;
@@ -34,7 +34,6 @@ impl Checked {
 
     /// What this name of a language, transformation, definition or tree stands for.
     pub fn kind<'c>(&'c self, name: &Text) -> Option<Kind3<'c>>
-        requires { IsChecked self.now }
         ensures { option_map kind_view result ≡ option_and_then (λ item. stands_for item.body) (find_item (plain_program self.now.program) name.now) }
     {
         match self.item(name) {
@@ -45,7 +44,6 @@ impl Checked {
 
     /// The signature of the type of this name.
     pub fn signature(&self, name: &Text) -> Option<&Signature>
-        requires { IsChecked self.now }
         ensures { option_map (λ s. plain_signature s.now) result ≡ option_map signature_of (find_type (plain_program self.now.program) name.now) }
     {
         match self.declared.types.place(name) {
@@ -56,7 +54,6 @@ impl Checked {
 
     /// The item that declares this name of a language, transformation, definition or tree.
     pub fn item(&self, name: &Text) -> Option<&Item>
-        requires { IsChecked self.now }
         ensures { option_map (λ item. plain_item item.now) result ≡ find_item (plain_program self.now.program) name.now }
     {
         match self.declared.names.place(name) {

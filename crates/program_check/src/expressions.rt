@@ -11,9 +11,10 @@ ghost use Rattle.fast_syntax.specs.View.{plain_name, plain_field, plain_type};
 ghost use Rattle.fast_syntax.specs.Plain.{plain_expr, plain_x, plain_item, plain_into};
 ghost use Rattle.fast_syntax.specs.Slices.{plain_children};
 ghost use Rattle.model_checks.specs.Expressions.{place_of_x, is_other_kind, is_known_later, expected_as, nesting_failures, name_failures, needs_kind, needs_type, needs_be, x_failures, xs_failures};
-ghost use Rattle.program_check.specs.Notes.{Notes};
+ghost use Rattle.program_check.specs.Notes.{Notes, Left};
 ghost use Rattle.program_check.specs.Typed.{plain_option, type_name};
 ghost use Rattle.program_check.specs.Contexts.{items_of, before_of};
+ghost use Rattle.program_check.specs.Waiting.{plain_waiting, weight, weights};
 ghost use Rattle.program_check.specs.Standings.{plain_kind, IsDeclared, IsStanding, only_as, as_failures, input_of_two, output_of_two, second_wanted, kind_taken, kind_given, kind_given_by_two, standing_of_one, standing_of_two, literal_failures};
 
 use crate::checker::Checker;
@@ -23,6 +24,7 @@ use crate::labels::{Scope, both};
 use crate::limits::MOST_AROUND;
 use crate::outputs::fields_of;
 use crate::rules::differ;
+use crate::waiting::Waiting;
 use fast_fault::{Code, Memory, Pos};
 use fast_syntax::Name;
 use fast_syntax::expressions::Expr;
@@ -449,7 +451,7 @@ impl<'p> Checker<'p> {
         Ok(standing)
     }
 
-    /// The children of a literal of this type.
+    /// The children of a literal of this type, and those of the literals in it.
     #[cycle(check_x)]
     fn check_children(
         &mut self,
@@ -460,9 +462,32 @@ impl<'p> Checker<'p> {
         requires { IsDeclared (items_of self.old.context) expected.now }
         ensures { OnOk result (Notes self.old self.new (xs_failures (items_of self.old.context) (before_of self.old.context) around (type_name expected.now) (plain_children children.now))) }
     {
-        'children: for child in children {
-            self.check_as(around, expected, Kind::Tree, child)?;
+        let mut waiting = Waiting::new(self.alloc);
+        waiting.add(children)?;
+        'children: while let Some(child) = waiting.next()? {
+            self.check_next_child(around, expected, child, &mut waiting)?;
         }
         Ok(())
+    }
+
+    /// A child of a literal of this type. Where it is a literal, its own children wait.
+    #[cycle(check_x)]
+    fn check_next_child<'x>(
+        &mut self,
+        around: usize,
+        expected: &Option<DeclaredType<'p>>,
+        child: &'x X,
+        waiting: &mut Waiting<'x>,
+    ) -> Result<(), Memory>
+        requires { IsDeclared (items_of self.old.context) expected.now }
+        ensures noted { OnOk result (Left self.old self.new (xs_failures (items_of self.old.context) (before_of self.old.context) around (type_name expected.now) (plain.and_x (plain_x child.now) (plain_waiting waiting.old))) (xs_failures (items_of self.old.context) (before_of self.old.context) around (type_name expected.now) (plain_waiting waiting.new))) }
+        ensures less { OnOk result (weights (plain_waiting waiting.new) < weight (plain_x child.now) + weights (plain_waiting waiting.old)) }
+    {
+        let X::Literal(name, labels, children) = child else {
+            self.check_as(around, expected, Kind::Tree, child)?;
+            return Ok(());
+        };
+        self.check_literal(expected, name, labels, children.len())?;
+        waiting.add(children)
     }
 }

@@ -25,6 +25,7 @@ ghost use Rattle.program_check.specs.Known.{plain_scope, IsKnown, form_made, is_
 
 use crate::checker::Checker;
 use crate::limits::{GREATEST_DIVISOR, LONGEST_TEXT, MOST_FIELDS, MOST_PARTS};
+use crate::signatures::own_sort;
 use crate::types::sort_named;
 use fast_fault::{Code, Memory, Pos, Text};
 use fast_syntax::FieldItem;
@@ -90,7 +91,10 @@ fn find_field(fields: &[FieldItem], name: &Text) -> Option<usize>
 fn is_whole(field: &FieldItem) -> bool
     ensures { result ≡ same_sort (own_sort (plain_field field.now)) wholes }
 {
-    field.sort.text.is("Int")
+    match own_sort(field) {
+        Sort::Int => true,
+        Sort::Bool | Sort::Text => false,
+    }
 }
 
 /// The number of the field of this name among the whole numbers.

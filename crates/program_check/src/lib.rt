@@ -21,6 +21,7 @@ mod rules;
 mod signatures;
 mod types;
 mod vars;
+mod waiting;
 
 pub use checked::Kind3;
 pub use programs::{CheckStop, Checked, check};

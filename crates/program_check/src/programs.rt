@@ -1,12 +1,15 @@
 //! Whole programs: one passes where none of the conditions on programs fails.
 
 ghost use Rattle.std.specs.Prelude.{◌≡◌, ◌<◌, OnOk, IfOk, IfErr, Some, None, true, map, take, length, get_or};
+ghost use Rattle.std.specs.Option.{option_map};
+ghost use Rattle.std.proofs.Props.{props};
+ghost use Rattle.fast_tree.specs.Signatures.{plain_signature};
 ghost use Rattle.model_checks.specs.Failures.{first_among};
 ghost use Rattle.model_checks.specs.Programs.{item_limit, body_failures, is_well_formed, refusal_of};
 ghost use Rattle.fast_syntax.specs.Plain.{plain_item, plain_program};
 ghost use Rattle.program_check.specs.Numbered.{AreNumbered};
 ghost use Rattle.program_check.specs.Stops.{IsStop};
-ghost use Rattle.program_check.specs.Tells.{IsChecked};
+ghost use Rattle.program_check.specs.Signed.{own_signature};
 
 use crate::checker::Checker;
 use crate::context::{Context, item_at};
@@ -18,12 +21,15 @@ use fast_syntax::items::{Item, Program};
 use fast_tree::Signature;
 use std::alloc::Global;
 
-/// A program that is well-formed.
+/// A program that is well-formed, with the numbers of its names and the signatures of its types.
 #[derive(Drop)]
 pub struct Checked {
     pub(crate) program: Program,
     pub(crate) declared: Declarations,
     pub(crate) signatures: Vec<Option<Signature>>,
+    ghost well_formed: { is_well_formed (plain_program program) ≡ true },
+    ghost numbered: { AreNumbered (plain_program program) declared } by { Prim.hlevel props },
+    ghost signed: { map (option_map plain_signature) signatures.items ≡ map own_signature (plain_program program) } by { Prim.hlevel props },
 }
 
 /// Why a program doesn't pass.
@@ -117,7 +123,6 @@ fn declared_by(alloc: Global, program: &Program) -> Result<Declarations, CheckSt
 pub fn check(alloc: Global, program: Program) -> Result<Checked, CheckStop>
     ensures well_formed { OnOk result (is_well_formed (plain_program program) ≡ true) }
     ensures same { IfOk result (λ checked. checked.program ≡ program) }
-    ensures checked { IfOk result IsChecked }
     ensures refused { IfErr result (IsStop (refusal_of (plain_program program))) }
 {
     let declared = declared_by(alloc, &program)?;

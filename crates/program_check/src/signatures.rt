@@ -21,7 +21,7 @@ use fast_tree::{CtorOf, FieldOf, Signature, Sort};
 use std::alloc::Global;
 
 /// The sort of a field, in a type whose sorts are known.
-fn own_sort(field: &FieldItem) -> Sort
+pub(crate) fn own_sort(field: &FieldItem) -> Sort
     ensures { plain_sort result ≡ own_sort (syntax.plain_field field.now) }
 {
     match sort_named(&field.sort.text) {

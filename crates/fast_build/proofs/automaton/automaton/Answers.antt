@@ -23,7 +23,7 @@ states_for-requires-clause-few c =
     let t = plain_signature c.args.signature.now in
     let ls = map (λ l. plain_lang l.now) r.langs.items in
     let found = is.langs ∙ sym (map-map (λ l. Some l) (λ l. plain_lang l.now) r.langs.items) in
-    subst (λ n. n ≤ 8) (length-map c.args.signature.now.fields.items plain_field) (few_fields (items_of c.args.checked.now) c.requires.checked.well_formed c.args.name.now r.names.keys ls c.requires.there is.reached is.closed is.once found t c.requires.typed)
+    subst (λ n. n ≤ 8) (length-map c.args.signature.now.fields.items plain_field) (few_fields (items_of c.args.checked.now) c.args.checked.now.well_formed c.args.name.now r.names.keys ls c.requires.there is.reached is.closed is.once found t c.requires.typed)
 
 pub states_for-requires-clause-ctors : goal.states_for-requires-clause-ctors
 states_for-requires-clause-ctors c =
@@ -32,7 +32,7 @@ states_for-requires-clause-ctors c =
     let t = plain_signature c.args.signature.now in
     let ls = map (λ l. plain_lang l.now) r.langs.items in
     let found = is.langs ∙ sym (map-map (λ l. Some l) (λ l. plain_lang l.now) r.langs.items) in
-    All_from_map (λ l. list_all (has_ctor t) l.rules ≡ true) (λ l. plain_lang l.now) r.langs.items (ctors_stand (items_of c.args.checked.now) c.requires.checked.well_formed c.args.name.now r.names.keys ls c.requires.there is.reached is.closed is.once found t c.requires.typed)
+    All_from_map (λ l. list_all (has_ctor t) l.rules ≡ true) (λ l. plain_lang l.now) r.langs.items (ctors_stand (items_of c.args.checked.now) c.args.checked.now.well_formed c.args.name.now r.names.keys ls c.requires.there is.reached is.closed is.once found t c.requires.typed)
 
 pub states_for-requires-clause-guarded : goal.states_for-requires-clause-guarded
 states_for-requires-clause-guarded c =
@@ -41,7 +41,7 @@ states_for-requires-clause-guarded c =
     let t = plain_signature c.args.signature.now in
     let ls = map (λ l. plain_lang l.now) r.langs.items in
     let found = is.langs ∙ sym (map-map (λ l. Some l) (λ l. plain_lang l.now) r.langs.items) in
-    All_from_map (λ l. All (λ r. GuardStands t.fields r.guard) l.rules) (λ l. plain_lang l.now) r.langs.items (guards_stand (items_of c.args.checked.now) c.requires.checked.well_formed c.args.name.now r.names.keys ls c.requires.there is.reached is.closed is.once found t c.requires.typed)
+    All_from_map (λ l. All (λ r. GuardStands t.fields r.guard) l.rules) (λ l. plain_lang l.now) r.langs.items (guards_stand (items_of c.args.checked.now) c.args.checked.now.well_formed c.args.name.now r.names.keys ls c.requires.there is.reached is.closed is.once found t c.requires.typed)
 
 pub states_for-requires-clause-named : goal.states_for-requires-clause-named
 states_for-requires-clause-named c =
@@ -50,7 +50,7 @@ states_for-requires-clause-named c =
     let t = plain_signature c.args.signature.now in
     let ls = map (λ l. plain_lang l.now) r.langs.items in
     let found = is.langs ∙ sym (map-map (λ l. Some l) (λ l. plain_lang l.now) r.langs.items) in
-    All_from_map (λ l. All (Contains r.names.keys) (demanded_in l.rules)) (λ l. plain_lang l.now) r.langs.items (demands_stand (items_of c.args.checked.now) c.requires.checked.well_formed c.args.name.now r.names.keys ls c.requires.there is.reached is.closed is.once found t c.requires.typed)
+    All_from_map (λ l. All (Contains r.names.keys) (demanded_in l.rules)) (λ l. plain_lang l.now) r.langs.items (demands_stand (items_of c.args.checked.now) c.args.checked.now.well_formed c.args.name.now r.names.keys ls c.requires.there is.reached is.closed is.once found t c.requires.typed)
 
 pub new-requires : goal.new-requires
 new-requires c =
@@ -61,7 +61,7 @@ new-requires c =
     let found = is.langs ∙ sym (map-map (λ l. Some l) (λ l. plain_lang l.now) r.langs.items) in
     let are = subst (AreStatesFor t (number_in r.names.keys) (map (λ those. map plain_rule those.items) c.in_ok-states.states.items)) (sym (map-map (λ l. l.rules) (λ l. plain_lang l.now) r.langs.items)) c.in_ok-states.ensures in
     let ranks = c.in_ok-ranks.ensures ∙ ap (map (λ x. x.rank)) c.deref.ensures.value ∙ sym (map-map (λ x. x.rank) plain_constructor c.args.signature.now.constructors.items) in
-    subst (λ ks. RulesFit ks c.in_ok-states.states.items) (sym ranks) (all_fit (items_of c.args.checked.now) c.requires.checked.well_formed c.args.name.now r.names.keys ls c.requires.there is.reached is.closed is.once found t c.requires.typed c.in_ok-states.states.items are)
+    subst (λ ks. RulesFit ks c.in_ok-states.states.items) (sym ranks) (all_fit (items_of c.args.checked.now) c.args.checked.now.well_formed c.args.name.now r.names.keys ls c.requires.there is.reached is.closed is.once found t c.requires.typed c.in_ok-states.states.items are)
 
 pub returns : goal.returns
 returns c =
@@ -74,4 +74,4 @@ returns c =
     let ranks = c.in_ok-ranks.ensures ∙ ap (map (λ x. x.rank)) c.deref.ensures.value ∙ sym (map-map (λ x. x.rank) plain_constructor c.args.signature.now.constructors.items) in
     subst (IsAutomatonOf (items_of c.args.checked.now) c.args.name.now)
     (sym (c.new.ensures ∙ ap (λ ks. record { ranks = ks; rules = map (λ those. map plain_rule those.items) c.in_ok-states.states.items }) ranks))
-    (is_automaton (items_of c.args.checked.now) c.requires.checked.well_formed c.args.name.now r.names.keys ls c.requires.there is.reached is.closed is.once found t c.requires.typed c.in_ok-states.states.items are)
+    (is_automaton (items_of c.args.checked.now) c.args.checked.now.well_formed c.args.name.now r.names.keys ls c.requires.there is.reached is.closed is.once found t c.requires.typed c.in_ok-states.states.items are)

@@ -10,7 +10,7 @@ use Rattle.fast_build.proofs.automaton.languages.Goals as goal
 
 pub unreachable-requires-in_default-signature : goal.unreachable-requires-in_default-signature
 unreachable-requires-in_default-signature c =
-    let stands = all_stand (items_of c.args.checked.now) c.requires.checked.well_formed c.args.name.now (plain_lang c.in-Some.own.now) c.in-Some.ensures in
+    let stands = all_stand (items_of c.args.checked.now) c.args.checked.now.well_formed c.args.name.now (plain_lang c.in-Some.own.now) c.in-Some.ensures in
     let no : None ≡ Some (signature_of stands.type) = c.in_default-signature.ensures ∙ ap (option_map signature_of) stands.found in
     absurd (cc)
 

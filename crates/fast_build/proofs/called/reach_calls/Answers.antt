@@ -58,7 +58,7 @@ reach-preserved c =
     let more : length c.push.new.self.items ≡ length held + 1 = ap length c.in_ok-push.ensures.items ∙ length-append _ _ in
     let grown : IsGrown old new (called_in (out_rules_of items n)) = subst (λ rs. IsGrown old new (called_in rs)) (ap (map plain_out_rule) c.deref.ensures.value ∙ sym (outs_are items n (plain_trans c.in-Some.own.now) c.in-Some.ensures)) c.in_ok-add_calls.ensures in
     record {
-      known = λ t found. more_known items c.requires.checked.well_formed old new n t.from.text t.into.text (c.reach.invariant.known t found) (length held, low, sym at) grown;
+      known = λ t found. more_known items c.args.checked.now.well_formed old new n t.from.text t.into.text (c.reach.invariant.known t found) (length held, low, sym at) grown;
       reached = more_called items c.args.name.now old new n c.reach.invariant.reached (length held, low, sym at) grown;
       closed = subst (λ j. AreCallsClosed items new (take j new)) (sym more) (closed_more (λ m. called_in (out_rules_of items m)) old new (length held) n low at c.reach.invariant.closed grown);
       transformations = found_more (find_trans items) (λ x. plain_trans x.now) old new _ held c.push.new.self.items n c.in-Some.own low at grown c.in_ok-push.ensures.items c.in-Some.ensures c.reach.invariant.transformations;

@@ -48,7 +48,7 @@ gather-preserved c =
     let own = plain_lang c.in-Some.lang.now in
     let grown : IsGrown old new (demanded_in (rules_of items n)) = subst (λ rs. IsGrown old new (demanded_in rs)) (ap (map plain_rule) c.deref.ensures.value ∙ sym (rules_are items n own c.in-Some.ensures)) c.in_ok-add_languages.ensures in
     record {
-      known = more_languages items c.requires.checked.well_formed old new n own c.gather.invariant.known c.in-Some.ensures grown;
+      known = more_languages items c.args.checked.now.well_formed old new n own c.gather.invariant.known c.in-Some.ensures grown;
       kept = still_there old new _ seeds grown c.gather.invariant.kept;
       reached = more_from_seeds items seeds old new n c.gather.invariant.reached (length held, low, sym at) grown;
       closed = subst (λ j. AreClosed items new (take j new)) (sym more) (closed_more (λ m. demanded_in (rules_of items m)) old new (length held) n low at c.gather.invariant.closed grown);

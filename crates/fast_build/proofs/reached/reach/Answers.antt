@@ -30,14 +30,14 @@ unreachable-requires c =
     let k : c.len-in-reach-2.result ≡ length c.reach.langs.items = omega (arith, c.len-in-reach-2.ensures, c.reach.langs.ok.0) in
     let n = c.index-as_slice-len.result in
     let at : n ≡ get_or c.reach.names.keys (length c.reach.langs.items) n = c.index-as_slice-len.is ∙ (λ i. get_or (c.as_slice.ensures.keys i) (k i) n) in
-    let found = declared items c.args.name.now n (all_stand items c.requires.checked.well_formed) c.requires.there (all_of_contained (Reaches items c.args.name.now) c.reach.names.keys n c.reach.invariant.reached.reached (length c.reach.langs.items, low, sym at)) in
+    let found = declared items c.args.name.now n (all_stand items c.args.checked.now.well_formed) c.requires.there (all_of_contained (Reaches items c.args.name.now) c.reach.names.keys n c.reach.invariant.reached.reached (length c.reach.langs.items, low, sym at)) in
     let no : None ≡ Some found.0 = sym c.in_default.ensures ∙ found.1 in absurd (cc)
 
 pub reach-smaller : goal.reach-smaller
 reach-smaller c =
     let items = items_of c.args.checked.now in
     let low : length c.reach.langs.items < length c.reach.names.keys = omega (arith, c.reach-test.true, c.len.ensures, c.reach.langs.ok.0, c.len-in-reach.ensures.len) in
-    let most = not_more items c.args.name.now nat_list_eq_equiv c.reach.names.keys (all_stand items c.requires.checked.well_formed) c.requires.there c.reach.invariant.reached c.len-in-reach.ensures.unique in
+    let most = not_more items c.args.name.now nat_list_eq_equiv c.reach.names.keys (all_stand items c.args.checked.now.well_formed) c.requires.there c.reach.invariant.reached c.len-in-reach.ensures.unique in
     let more : length c.push.new.self.items ≡ length c.reach.langs.items + 1 = ap length c.in_ok-push.ensures.items ∙ length-append _ _ in
     omega (arith, low, most, more)
 

@@ -21,21 +21,21 @@ use Rattle.fast_build.proofs.Gathering.{transformations_of, langs_of, own_trans,
 use Rattle.fast_build.proofs.WholeTrans.{few, outs_stand, look_ctors, look_guards, look_demands, all_fit, is_transducer}
 use Rattle.fast_build.proofs.transducer.transducer.Goals as goal
 
-pub gather-requires-clause-known : goal.gather-requires-clause-known
-gather-requires-clause-known c =
+pub gather-requires : goal.gather-requires
+gather-requires c =
     let items = items_of c.args.checked.now in
-    let well = c.requires.checked.well_formed in
+    let well = c.args.checked.now.well_formed in
     let name = c.args.name.now in
     let called = c.in_ok-called.called in
     let seeds = c.in_ok-seeds.seeds.keys in
     let seeded = subst (λ xs. AreLooked (map (λ x. plain_trans x.now) xs) seeds) c.deref.ensures.value c.in_ok-seeds.ensures in
     let is = c.in_ok-called.ensures in
-    seeds_known items well name (own_trans items name c.requires.there) (own_found items name c.requires.there) called.names.keys (transformations_of called) is.reached is.closed is.once (founds_of items name called is) seeds seeded
+    record { known = seeds_known items well name (own_trans items name c.requires.there) (own_found items name c.requires.there) called.names.keys (transformations_of called) is.reached is.closed is.once (founds_of items name called is) seeds seeded }
 
 pub states_for-requires-clause-few : goal.states_for-requires-clause-few
 states_for-requires-clause-few c =
     let items = items_of c.args.checked.now in
-    let well = c.requires.checked.well_formed in
+    let well = c.args.checked.now.well_formed in
     let name = c.args.name.now in
     let called = c.in_ok-called.called in
     let seeds = c.in_ok-seeds.seeds.keys in
@@ -52,7 +52,7 @@ states_for-requires-clause-few c =
 pub states_for-requires-clause-ctors : goal.states_for-requires-clause-ctors
 states_for-requires-clause-ctors c =
     let items = items_of c.args.checked.now in
-    let well = c.requires.checked.well_formed in
+    let well = c.args.checked.now.well_formed in
     let name = c.args.name.now in
     let called = c.in_ok-called.called in
     let seeds = c.in_ok-seeds.seeds.keys in
@@ -69,7 +69,7 @@ states_for-requires-clause-ctors c =
 pub states_for-requires-clause-guarded : goal.states_for-requires-clause-guarded
 states_for-requires-clause-guarded c =
     let items = items_of c.args.checked.now in
-    let well = c.requires.checked.well_formed in
+    let well = c.args.checked.now.well_formed in
     let name = c.args.name.now in
     let called = c.in_ok-called.called in
     let seeds = c.in_ok-seeds.seeds.keys in
@@ -86,7 +86,7 @@ states_for-requires-clause-guarded c =
 pub states_for-requires-clause-named : goal.states_for-requires-clause-named
 states_for-requires-clause-named c =
     let items = items_of c.args.checked.now in
-    let well = c.requires.checked.well_formed in
+    let well = c.args.checked.now.well_formed in
     let name = c.args.name.now in
     let called = c.in_ok-called.called in
     let seeds = c.in_ok-seeds.seeds.keys in
@@ -103,7 +103,7 @@ states_for-requires-clause-named c =
 pub out_states_for-requires-clause-few : goal.out_states_for-requires-clause-few
 out_states_for-requires-clause-few c =
     let items = items_of c.args.checked.now in
-    let well = c.requires.checked.well_formed in
+    let well = c.args.checked.now.well_formed in
     let name = c.args.name.now in
     let called = c.in_ok-called.called in
     let seeds = c.in_ok-seeds.seeds.keys in
@@ -120,7 +120,7 @@ out_states_for-requires-clause-few c =
 pub out_states_for-requires-clause-stand : goal.out_states_for-requires-clause-stand
 out_states_for-requires-clause-stand c =
     let items = items_of c.args.checked.now in
-    let well = c.requires.checked.well_formed in
+    let well = c.args.checked.now.well_formed in
     let name = c.args.name.now in
     let called = c.in_ok-called.called in
     let seeds = c.in_ok-seeds.seeds.keys in
@@ -137,7 +137,7 @@ out_states_for-requires-clause-stand c =
 pub new-requires : goal.new-requires
 new-requires c =
     let items = items_of c.args.checked.now in
-    let well = c.requires.checked.well_formed in
+    let well = c.args.checked.now.well_formed in
     let name = c.args.name.now in
     let called = c.in_ok-called.called in
     let seeds = c.in_ok-seeds.seeds.keys in
@@ -157,7 +157,7 @@ new-requires c =
 pub returns-clause-transducer : goal.returns-clause-transducer
 returns-clause-transducer c =
     let items = items_of c.args.checked.now in
-    let well = c.requires.checked.well_formed in
+    let well = c.args.checked.now.well_formed in
     let name = c.args.name.now in
     let called = c.in_ok-called.called in
     let seeds = c.in_ok-seeds.seeds.keys in

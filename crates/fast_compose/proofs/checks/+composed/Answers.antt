@@ -21,7 +21,7 @@ composed-requires t c =
     let known : AreNamesDeclared items (plain_x c.in-One.inside.value) = subst (AreNamesDeclared items) is c.requires.declared in
     let heavy = ap weight is in
     let inside = ap (λ v. weight (plain_x v)) c.deref.ensures in
-    (omega (arith, heavy, inside, c.decreases), (c.requires.checked, (c.requires.shallow, subst (λ v. AreNamesDeclared items (plain_x v)) (sym c.deref.ensures) known)))
+    (omega (arith, heavy, inside, c.decreases), (c.requires.shallow, subst (λ v. AreNamesDeclared items (plain_x v)) (sym c.deref.ensures) known))
 
 pub composed-requires-in-Two : goal.composed-requires-in-Two
 composed-requires-in-Two t c =
@@ -32,7 +32,7 @@ composed-requires-in-Two t c =
     let known = first_declared items c.in-Two.op c.in-Two.field-1 x y (subst (AreNamesDeclared items) is c.requires.declared) in
     let heavy = ap weight is in
     let inside = ap (λ v. weight (plain_x v)) c.deref-in-Two-3.ensures in
-    (omega (arith, heavy, inside, c.decreases), (c.requires.checked, (c.requires.shallow, subst (λ v. AreNamesDeclared items (plain_x v)) (sym c.deref-in-Two-3.ensures) known)))
+    (omega (arith, heavy, inside, c.decreases), (c.requires.shallow, subst (λ v. AreNamesDeclared items (plain_x v)) (sym c.deref-in-Two-3.ensures) known))
 
 pub composed-requires-in-Two-2 : goal.composed-requires-in-Two-2
 composed-requires-in-Two-2 t c =
@@ -43,7 +43,7 @@ composed-requires-in-Two-2 t c =
     let known = second_declared items c.in-Two.op c.in-Two.field-1 x y (subst (AreNamesDeclared items) is c.requires.declared) in
     let heavy = ap weight is in
     let inside = ap (λ v. weight (plain_x v)) c.deref-in-Two-4.ensures in
-    (omega (arith, heavy, inside, c.decreases), (c.requires.checked, (c.requires.shallow, subst (λ v. AreNamesDeclared items (plain_x v)) (sym c.deref-in-Two-4.ensures) known)))
+    (omega (arith, heavy, inside, c.decreases), (c.requires.shallow, subst (λ v. AreNamesDeclared items (plain_x v)) (sym c.deref-in-Two-4.ensures) known))
 
 pub composed-requires-in-xs : goal.composed-requires-in-xs
 composed-requires-in-xs t c =
@@ -56,7 +56,7 @@ composed-requires-in-xs t c =
     let declared = child_declared items n labels xs c.xs.x-index c.x-item.result c.xs-test.true c.x-item.is (subst (AreNamesDeclared items) whole c.requires.declared) in
     let heavy = ap weight whole in
     let low = weight_at xs c.xs.x-index c.x-item.result c.xs-test.true c.x-item.is in
-    (omega (arith, heavy, low, c.decreases), (c.requires.checked, (c.requires.shallow, declared)))
+    (omega (arith, heavy, low, c.decreases), (c.requires.shallow, declared))
 
 pub returns-in_err-composed-in-Literal-clause-stop : goal.returns-in_err-composed-in-Literal-clause-stop
 returns-in_err-composed-in-Literal-clause-stop t c =

@@ -15,7 +15,7 @@ use Rattle.fast_compose.proofs.copying.first_of_rules.Goals as goal
 pub copying_at-requires : goal.copying_at-requires
 copying_at-requires c =
     let items = items_of c.args.checked.now in
-    let s = trans_sound items c.requires.well_formed c.args.name.now (plain_trans c.in-Some.own.now) c.in-Some.ensures in
+    let s = trans_sound items c.args.checked.now.well_formed c.args.name.now (plain_trans c.in-Some.own.now) c.in-Some.ensures in
     let long : length (map plain_out_rule c.in-Some.own.now.rules.items) ≡ length c.in-Some.own.now.rules.items = length-map c.in-Some.own.now.rules.items plain_out_rule in
     let same = ap length c.deref-rule-items.ensures.value in
     record { low = omega (arith, c.rules-test.true, same, long, s.few) }

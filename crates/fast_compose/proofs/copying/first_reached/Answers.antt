@@ -10,7 +10,7 @@ use Rattle.fast_compose.proofs.copying.first_reached.Goals as goal
 pub returns-then-is_none : goal.returns-then-is_none
 returns-then-is_none c =
     let items = items_of c.args.checked.now in
-    none_copies items (sound items c.requires.well_formed) c.args.name.now (trans_none c.trans.result _ _ c.if-is_none.ensures c.trans.ensures)
+    none_copies items (sound items c.args.checked.now.well_formed) c.args.name.now (trans_none c.trans.result _ _ c.if-is_none.ensures c.trans.ensures)
 
 pub reached-init : goal.reached-init
 reached-init c = λ q i r at copies. absurd (none_of q at)
@@ -33,5 +33,5 @@ returns c =
     let items = items_of c.args.checked.now in
     let names = c.as_slice-own-items.result.now in
     let all : take c.reached.own-index names ≡ c.in_ok-built.built.names.keys = take_all c.reached.own-index names c.reached-test.false ∙ c.as_slice-own-items.ensures.keys in
-    first_of_names items (sound items c.requires.well_formed) c.args.name.now c.in_ok-built.built.names.keys _ c.in_ok-built.ensures.transducer c.reached.first
+    first_of_names items (sound items c.args.checked.now.well_formed) c.args.name.now c.in_ok-built.built.names.keys _ c.in_ok-built.ensures.transducer c.reached.first
     (subst (λ ns. IsFirst items (λ q i. Contains ns q) c.reached.first) all c.reached.invariant)

@@ -46,7 +46,7 @@ open-preserved c =
     let more = opened_by items n in
     let grown : IsGrown old new more = c.in_ok-open.ensures in
     record {
-      declared = all_grown (λ m. is_some (find_item items m) ≡ true) old new more grown c.open.invariant.declared (λ m by. opened_declared items c.requires.checked.well_formed n m by);
+      declared = all_grown (λ m. is_some (find_item items m) ≡ true) old new more grown c.open.invariant.declared (λ m by. opened_declared items c.args.checked.now.well_formed n m by);
       all = still_there old new more (sources_in x) grown c.open.invariant.all;
       closed = closed_more (opened_by items) old new k n low (get_or_default old k [] n low) c.open.invariant.closed grown;
       only = all_grown (IsSource items x) old new more grown c.open.invariant.only (λ m by. opened n m (all_of_contained (IsSource items x) old n c.open.invariant.only at) by);

@@ -9,8 +9,8 @@ use Rattle.fast_eval.proofs.assertions.find_between.Goals as goal
 pub returns-in_err-build_names-clause-built : goal.returns-in_err-build_names-clause-built
 returns-in_err-build_names-clause-built c = c.build_names.ensures.built c.requires.built
 
-pub build_names-requires-2-clause-known : goal.build_names-requires-2-clause-known
-build_names-requires-2-clause-known c = known_grown (items_of c.args.checked.now) c.args.built.now c.build_names.new.built c.build_names.ensures.grown (plain_x c.args.y.now) c.requires.also_known
+pub build_names-requires-2 : goal.build_names-requires-2
+build_names-requires-2 c = record { known = known_grown (items_of c.args.checked.now) c.args.built.now c.build_names.new.built c.build_names.ensures.grown (plain_x c.args.y.now) c.requires.also_known }
 
 pub returns-in_err-build_names-2-clause-built : goal.returns-in_err-build_names-2-clause-built
 returns-in_err-build_names-2-clause-built c = c.build_names-2.ensures.built (c.build_names.ensures.built c.requires.built)
@@ -18,7 +18,7 @@ returns-in_err-build_names-2-clause-built c = c.build_names-2.ensures.built (c.b
 pub scope_of-scope-requires : goal.scope_of-scope-requires
 scope_of-scope-requires c =
     let (type, made, also) = c.requires.made in
-    record { checked = c.requires.checked; built = c.build_names-2.ensures.built (c.build_names.ensures.built c.requires.built); shallow = c.requires.shallow; made = (type, inl made) }
+    record { built = c.build_names-2.ensures.built (c.build_names.ensures.built c.requires.built); shallow = c.requires.shallow; made = (type, inl made) }
 
 pub judge_equal-requires-clause-first : goal.judge_equal-requires-clause-first
 judge_equal-requires-clause-first c =

@@ -15,18 +15,18 @@ use Rattle.fast_eval.proofs.assertions.find_broken.Goals as goal
 pub returns-in_err-build_names-clause-built : goal.returns-in_err-build_names-clause-built
 returns-in_err-build_names-clause-built c = c.build_names.ensures.built c.requires.built
 
-pub build_names-requires-2-clause-known : goal.build_names-requires-2-clause-known
-build_names-requires-2-clause-known c = trans_known_grown (items_of c.args.checked.now) c.args.built.now c.build_names.new.built c.build_names.ensures.grown (plain_x c.args.check.now.f.now) c.requires.known.1
+pub build_names-requires-2 : goal.build_names-requires-2
+build_names-requires-2 c = record { known = trans_known_grown (items_of c.args.checked.now) c.args.built.now c.build_names.new.built c.build_names.ensures.grown (plain_x c.args.check.now.f.now) c.requires.known.1 }
 
 pub returns-in_err-build_names-2-clause-built : goal.returns-in_err-build_names-2-clause-built
 returns-in_err-build_names-2-clause-built c = c.build_names-2.ensures.built (c.build_names.ensures.built c.requires.built)
 
-pub build_names-requires-3-clause-known : goal.build_names-requires-3-clause-known
-build_names-requires-3-clause-known c =
+pub build_names-requires-3 : goal.build_names-requires-3
+build_names-requires-3 c =
     let items = items_of c.args.checked.now in
     let y = plain_x c.args.check.now.y.now in
-    known_grown items c.build_names.new.built c.build_names-2.new.built c.build_names-2.ensures.grown y
-    (known_grown items c.args.built.now c.build_names.new.built c.build_names.ensures.grown y c.requires.known.2)
+    let first = known_grown items c.args.built.now c.build_names.new.built c.build_names.ensures.grown y c.requires.known.2 in
+    record { known = known_grown items c.build_names.new.built c.build_names-2.new.built c.build_names-2.ensures.grown y first }
 
 pub returns-in_err-build_names-3-clause-built : goal.returns-in_err-build_names-3-clause-built
 returns-in_err-build_names-3-clause-built c = c.build_names-3.ensures.built (c.build_names-2.ensures.built (c.build_names.ensures.built c.requires.built))
@@ -34,7 +34,6 @@ returns-in_err-build_names-3-clause-built c = c.build_names-3.ensures.built (c.b
 pub scope_of-scope-requires : goal.scope_of-scope-requires
 scope_of-scope-requires c =
     record {
-      checked = c.requires.checked;
       built = c.build_names-3.ensures.built (c.build_names-2.ensures.built (c.build_names.ensures.built c.requires.built));
       shallow = c.requires.shallow;
       made = (c.requires.made.0, inl c.requires.made.1.1);

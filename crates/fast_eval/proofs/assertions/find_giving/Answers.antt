@@ -17,7 +17,7 @@ returns-in_err-build_names-clause-built c = c.build_names.ensures.built c.requir
 pub scope_of-scope-requires : goal.scope_of-scope-requires
 scope_of-scope-requires c =
     let (from, into, made) = c.requires.made in
-    record { checked = c.requires.checked; built = c.build_names.ensures.built c.requires.built; shallow = c.requires.shallow; made = (from, inr (into, made)) }
+    record { built = c.build_names.ensures.built c.requires.built; shallow = c.requires.shallow; made = (from, inr (into, made)) }
 
 pub judge_giving-requires : goal.judge_giving-requires
 judge_giving-requires c =

@@ -17,7 +17,7 @@ returns-in_err-build_names-clause-built c = c.build_names.ensures.built c.requir
 pub scope_of-scope-requires : goal.scope_of-scope-requires
 scope_of-scope-requires c =
     let (type, made) = c.requires.made in
-    record { checked = c.requires.checked; built = c.build_names.ensures.built c.requires.built; shallow = c.requires.shallow; made = (type, inl made) }
+    record { built = c.build_names.ensures.built c.requires.built; shallow = c.requires.shallow; made = (type, inl made) }
 
 pub judge_empty-requires : goal.judge_empty-requires
 judge_empty-requires c =

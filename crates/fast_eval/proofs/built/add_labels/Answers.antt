@@ -10,4 +10,4 @@ pub new-requires : goal.new-requires
 new-requires c =
     let items = items_of c.args.checked.now in
     subst (λ k. k ≤ 8) (length-map c.in-Some.signature.now.fields.items plain_field)
-    (few_of items c.args.of.now (sound items c.requires.checked.well_formed) (plain_signature c.in-Some.signature.now) c.in-Some.ensures)
+    (few_of items c.args.of.now (sound items c.args.checked.now.well_formed) (plain_signature c.in-Some.signature.now) c.in-Some.ensures)

@@ -17,11 +17,11 @@ returns-in_err-keep-clause-built c =
     let items = items_of c.args.checked.now in
     let x = plain_x c.args.def.now.value in
     c.keep.ensures.built items (c.build_names.ensures.built c.requires.built)
-    (operand_by_definition items c.requires.checked.well_formed c.args.def.now.name.text x c.requires.defined c.requires.made.0 c.requires.made.1 c.build_names.new.built c.in_ok-operand.operand (c.in_ok-operand.ensures.built c.requires.made.0 c.requires.made.1))
+    (operand_by_definition items c.args.checked.now.well_formed c.args.def.now.name.text x c.requires.defined c.requires.made.0 c.requires.made.1 c.build_names.new.built c.in_ok-operand.operand (c.in_ok-operand.ensures.built c.requires.made.0 c.requires.made.1))
 
 pub returns-clause-built : goal.returns-clause-built
 returns-clause-built c =
     let items = items_of c.args.checked.now in
     let x = plain_x c.args.def.now.value in
     c.keep.ensures.built items (c.build_names.ensures.built c.requires.built)
-    (operand_by_definition items c.requires.checked.well_formed c.args.def.now.name.text x c.requires.defined c.requires.made.0 c.requires.made.1 c.build_names.new.built c.in_ok-operand.operand (c.in_ok-operand.ensures.built c.requires.made.0 c.requires.made.1))
+    (operand_by_definition items c.args.checked.now.well_formed c.args.def.now.name.text x c.requires.defined c.requires.made.0 c.requires.made.1 c.build_names.new.built c.in_ok-operand.operand (c.in_ok-operand.ensures.built c.requires.made.0 c.requires.made.1))

@@ -17,11 +17,11 @@ returns-in_err-keep_trans-clause-built c =
     let items = items_of c.args.checked.now in
     let (from, into, made) = c.requires.made in
     c.keep_trans.ensures.built items (c.build_names.ensures.built c.requires.built)
-    (trans_operand_by_definition items c.requires.checked.well_formed c.args.def.now.name.text (plain_x c.args.def.now.value) c.requires.defined from into made c.build_names.new.built c.in_ok-operand.operand (c.in_ok-operand.ensures.built from into made))
+    (trans_operand_by_definition items c.args.checked.now.well_formed c.args.def.now.name.text (plain_x c.args.def.now.value) c.requires.defined from into made c.build_names.new.built c.in_ok-operand.operand (c.in_ok-operand.ensures.built from into made))
 
 pub returns-clause-built : goal.returns-clause-built
 returns-clause-built c =
     let items = items_of c.args.checked.now in
     let (from, into, made) = c.requires.made in
     c.keep_trans.ensures.built items (c.build_names.ensures.built c.requires.built)
-    (trans_operand_by_definition items c.requires.checked.well_formed c.args.def.now.name.text (plain_x c.args.def.now.value) c.requires.defined from into made c.build_names.new.built c.in_ok-operand.operand (c.in_ok-operand.ensures.built from into made))
+    (trans_operand_by_definition items c.args.checked.now.well_formed c.args.def.now.name.text (plain_x c.args.def.now.value) c.requires.defined from into made c.build_names.new.built c.in_ok-operand.operand (c.in_ok-operand.ensures.built from into made))

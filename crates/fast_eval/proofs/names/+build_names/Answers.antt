@@ -15,7 +15,7 @@ build_names-requires t c =
     let known = subst (AreReady (plain_taken c.args.taken) items b) (ap plain_x c.in-One.is) c.requires.known in
     let whole = ap (λ v. size_of (plain_x v)) c.in-One.is in
     let inside = ap (λ v. size_of (plain_x v)) c.deref.ensures in
-    (omega (arith, whole, inside, c.decreases), (c.requires.checked, subst (λ v. AreReady (plain_taken c.taken_by_one.result) items b (plain_x v)) (sym c.deref.ensures) (subst (λ k. AreReady k items b (plain_x c.in-One.inside.value)) (sym c.taken_by_one.ensures) known)))
+    (omega (arith, whole, inside, c.decreases), subst (λ v. AreReady (plain_taken c.taken_by_one.result) items b (plain_x v)) (sym c.deref.ensures) (subst (λ k. AreReady k items b (plain_x c.in-One.inside.value)) (sym c.taken_by_one.ensures) known))
 
 pub build_names-requires-in-Two : goal.build_names-requires-in-Two
 build_names-requires-in-Two t c =
@@ -24,7 +24,7 @@ build_names-requires-in-Two t c =
     let known = subst (AreReady (plain_taken c.args.taken) items b) (ap plain_x c.in-Two.is) c.requires.known in
     let whole = ap (λ v. size_of (plain_x v)) c.in-Two.is in
     let first = ap (λ v. size_of (plain_x v)) c.deref-in-Two.ensures in
-    (omega (arith, whole, first, c.decreases), (c.requires.checked, subst (λ v. AreReady (plain_taken c.taken_first.result) items b (plain_x v)) (sym c.deref-in-Two.ensures) (subst (λ k. AreReady k items b (plain_x c.in-Two.first.value)) (sym c.taken_first.ensures) known.0)))
+    (omega (arith, whole, first, c.decreases), subst (λ v. AreReady (plain_taken c.taken_first.result) items b (plain_x v)) (sym c.deref-in-Two.ensures) (subst (λ k. AreReady k items b (plain_x c.in-Two.first.value)) (sym c.taken_first.ensures) known.0))
 
 pub build_names-requires-in-Two-2 : goal.build_names-requires-in-Two-2
 build_names-requires-in-Two-2 t c =
@@ -35,7 +35,7 @@ build_names-requires-in-Two-2 t c =
     let whole = ap (λ v. size_of (plain_x v)) c.in-Two.is in
     let second = ap (λ v. size_of (plain_x v)) c.deref-in-Two-2.ensures in
     let grown = all_ready_grown (plain_taken c.taken_second.result) items b mid c.build_names-in-Two.ensures.grown (plain_x c.in-Two.second.value) (subst (λ k. AreReady k items b (plain_x c.in-Two.second.value)) (sym c.taken_second.ensures) known.1) in
-    (omega (arith, whole, second, c.decreases), (c.requires.checked, subst (λ v. AreReady (plain_taken c.taken_second.result) items mid (plain_x v)) (sym c.deref-in-Two-2.ensures) grown))
+    (omega (arith, whole, second, c.decreases), subst (λ v. AreReady (plain_taken c.taken_second.result) items mid (plain_x v)) (sym c.deref-in-Two-2.ensures) grown)
 
 pub returns-in_ok-build_names-in-Two-clause-built : goal.returns-in_ok-build_names-in-Two-clause-built
 returns-in_ok-build_names-in-Two-clause-built t c = λ are. c.build_names-in-Two-2.ensures.built (c.build_names-in-Two.ensures.built are)

@@ -11,4 +11,4 @@ returns-clause-built c = λ are.
     let (t, found) = trans_there items c.args.built.now c.args.name.now c.requires.known (ap (λ o. is_some (place_in o c.args.name.now)) (sym c.transformations.ensures) ∙ (ap is_some (sym c.place.ensures) ∙ (sym c.is_some.ensures ∙ c.if-is_some.false))) in
     let b = c.in_ok-trans.trans in
     c.add_transformation.ensures.built items are
-    (trans_for_name items c.requires.checked.well_formed c.args.name.now t found b.names.keys b.trans c.in_ok-trans.ensures.transducer c.in_ok-trans.ensures.carried))
+    (trans_for_name items c.args.checked.now.well_formed c.args.name.now t found b.names.keys b.trans c.in_ok-trans.ensures.transducer c.in_ok-trans.ensures.carried))

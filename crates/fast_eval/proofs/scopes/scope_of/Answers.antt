@@ -15,7 +15,6 @@ pub returns-clause-scope : goal.returns-clause-scope
 returns-clause-scope c =
     let told = told_labels (items_of c.args.checked.now) (plain_x c.args.x.now) c.in-Some.of.now c.in-Some.ensures c.requires.made c.args.built.now.labels c.requires.built.labels in
     record {
-      checked = c.requires.checked;
       built = c.requires.built;
       labels = let same : Some c.in-Some-labels.theory.now ≡ Some _ = c.in-Some-labels.ensures ∙ told in cc;
       shallow = c.requires.shallow;

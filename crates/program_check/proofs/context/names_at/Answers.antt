@@ -1,4 +1,3 @@
-use Rattle.std.proofs.Common.{true, false}
 use Rattle.program_check.proofs.Found.{there_by, past_by}
 use Rattle.program_check.specs.Naming.{place_in}
 use Rattle.program_check.proofs.context.names_at.Goals as goal

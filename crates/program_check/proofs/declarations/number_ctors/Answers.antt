@@ -1,6 +1,4 @@
-use Rattle.std.proofs.Common.{true, false}
 use Rattle.fast_syntax.specs.View.{plain_ctor}
-use Rattle.program_check.proofs.Noting.{same}
 use Rattle.program_check.specs.Numbered.{is_ctor}
 use Rattle.program_check.proofs.Numbering.{numbered_more, numbered_all}
 use Rattle.program_check.proofs.declarations.number_ctors.Goals as goal

@@ -1,6 +1,4 @@
-use Rattle.std.proofs.Common.{true, false}
 use Rattle.fast_syntax.specs.Plain.{plain_item}
-use Rattle.program_check.proofs.Noting.{same}
 use Rattle.model_names.specs.Declared.{declares}
 use Rattle.program_check.proofs.Numbering.{numbered_more, numbered_all}
 use Rattle.program_check.proofs.declarations.number_names.Goals as goal

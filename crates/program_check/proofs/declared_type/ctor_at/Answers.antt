@@ -1,4 +1,3 @@
-use Rattle.std.proofs.Common.{true, false}
 use Rattle.fast_syntax.specs.View.{plain_ctor}
 use Rattle.program_check.proofs.Found.{there_by, past_by}
 use Rattle.program_check.proofs.declared_type.ctor_at.Goals as goal

@@ -1,4 +1,3 @@
-use Rattle.std.proofs.Common.{true}
 use Rattle.program_check.proofs.Numbering.{item_more}
 use Rattle.program_check.proofs.FieldKnown.{element_at}
 use Rattle.program_check.proofs.programs.find_refusal.Goals as goal

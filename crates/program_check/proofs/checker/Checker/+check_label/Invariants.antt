@@ -6,7 +6,7 @@ use Rattle.model_checks.specs.Forms.{have_field, added, form_behind}
 use Rattle.model_checks.specs.Labels.{operands_failures, steps_failures}
 use Rattle.fast_syntax.specs.Slices.{plain_operands, plain_sum_parts, plain_prod_parts}
 use Rattle.program_check.specs.Known.{plain_scope, plain_added, joined}
-use Rattle.program_check.proofs.Noting.{Left}
+use Rattle.program_check.specs.Notes.{Left}
 use Rattle.program_check.proofs.checker.Checker.+check_label.Given as goal
 
 abbrev pub invariant-check_truths-parts : goal.invariant-check_truths-parts

@@ -3,7 +3,7 @@ use Rattle.fast_syntax.specs.View.{plain_name}
 use Rattle.fast_syntax.specs.Slices.{plain_outputs}
 use Rattle.model_checks.specs.Rules.{outs_failures}
 use Rattle.program_check.specs.Contexts.{items_of}
-use Rattle.program_check.proofs.Noting.{Left}
+use Rattle.program_check.specs.Notes.{Left}
 use Rattle.program_check.proofs.checker.Checker.+check_out.Given as goal
 
 abbrev pub invariant-check_outs-outs : goal.invariant-check_outs-outs

@@ -1,22 +1,21 @@
-use Rattle.std.proofs.Common.{◌∙◌, ◌+◌, None, sym, ap, ap₂, map, drop, subst, length, true, false}
-use Rattle.std.proofs.lemmas.List.{drop_all}
+use Rattle.std.proofs.Common.{◌≡◌, ◌∙◌, suc, ◌++◌, None, sym, ap, ap₂, map, subst, length, arith}
 use Rattle.fast_syntax.specs.View.{plain_name}
 use Rattle.fast_syntax.specs.Plain.{plain_x, plain_expr}
 use Rattle.fast_syntax.specs.Slices.{plain_children}
-use Rattle.fast_syntax.proofs.Appending.{drop_at}
 use Rattle.model_checks.specs.Expressions.{x_failures, xs_failures, needs_be}
-use Rattle.model_names.specs.Kinds.{a_tree}
 use Rattle.program_check.specs.Contexts.{items_of, before_of}
 use Rattle.program_check.specs.Typed.{plain_option, type_name}
-use Rattle.program_check.specs.Standings.{plain_kind, as_failures, IsStanding}
-use Rattle.program_check.proofs.Noting.{next, same, of_same, done}
+use Rattle.program_check.specs.Standings.{plain_kind, as_failures, IsDeclared, IsStanding}
+use Rattle.program_check.proofs.Noting.{next, same, of_same, on_ok1}
 use Rattle.program_check.proofs.Standing.{wanted_is, one_stands, two_stands, kind_is}
 use Rattle.fast_syntax.proofs.Rows.{plain_literal}
 use Rattle.model_grammar.specs.Syntax.{X}
 use Rattle.program_check.specs.declared.context.Context.{Context}
 use Rattle.program_check.specs.Standings.{literal_failures}
-use Rattle.program_check.proofs.XParts.{xs_counted, one_noted, two_noted, literal_noted, child_more}
+use Rattle.program_check.proofs.XParts.{xs_counted, one_noted, two_noted, literal_noted, literal_child, other_child}
 use Rattle.program_check.proofs.Stands.{as_deep}
+use Rattle.program_check.specs.Waiting.{those_of, plain_waiting, weight, weights}
+use Rattle.program_check.proofs.Weights.{weights-append, some_weight}
 use Rattle.program_check.proofs.checker.Checker.+check_x.Goals as goal
 
 pub check_as-returns-clause-noted : goal.check_as-returns-clause-noted
@@ -30,22 +29,6 @@ check_as-returns-clause-noted t c =
 
 pub check_as-check_be-requires : goal.check_as-check_be-requires
 check_as-check_be-requires t c = subst (λ (d : Context). IsStanding (items_of d) (plain_x c.args.x.now) c.in_ok-standing.standing) (sym c.in_ok-standing.ensures.noted.same) c.in_ok-standing.ensures.standing
-
-pub check_children-children-preserved : goal.check_children-children-preserved
-check_children-children-preserved t c =
-    let xs = c.args.children.now in
-    let i = c.children.child-index in
-    let x = plain_x c.child-item.result in
-    let items = items_of c.args.self.now.context in
-    let before = before_of c.args.self.now.context in
-    let e = type_name c.args.expected.now in
-    child_more items before c.args.around e x (plain_children (drop i xs)) (plain_children (drop (i + 1) xs)) _ _ _ _
-    (ap plain_children (drop_at xs i c.child-item.result c.children-test.true c.child-item.is)) (of_same (λ d. as_failures (items_of d) (before_of d) c.args.around e a_tree x) c.children.invariant.same c.in_ok-check_as.ensures.noted) c.children.invariant
-
-pub check_children-returns : goal.check_children-returns
-check_children-returns t c =
-    let each = xs_failures (items_of c.args.self.now.context) (before_of c.args.self.now.context) c.args.around (type_name c.args.expected.now) in
-    done (ap (λ l. each (plain_children l)) (drop_all c.children.child-index c.args.children.now c.children-test.false)) c.children.invariant
 
 pub check_x-returns-in_ok-operand-in-One-clause-noted : goal.check_x-returns-in_ok-operand-in-One-clause-noted
 check_x-returns-in_ok-operand-in-One-clause-noted t c =
@@ -111,3 +94,39 @@ check_x-returns-in_ok-check_children-in-Literal-clause-noted t c =
     same (sym (ap each (ap plain_x c.in-Literal.is ∙ plain_literal c.in-Literal.name c.in-Literal.labels c.in-Literal.children)))
     (literal_noted items before c.args.around (length xs) e t name (map plain_expr c.in-Literal.labels.items) (plain_children xs) _ _ _
     c.requires.is (xs_counted xs) one two)
+
+pub check_x-check_children-requires : goal.check_x-check_children-requires
+check_x-check_children-requires t c =
+    let xs = c.in-Literal.children.items in
+    let is : weight (plain_x c.args.x.now) ≡ suc (suc (suc (suc (weights (plain_children xs))))) = ap weight (ap plain_x c.in-Literal.is ∙ plain_literal c.in-Literal.name c.in-Literal.labels c.in-Literal.children) in
+    let inside = ap (λ l. weights (plain_children l)) c.deref-in-Literal-2.ensures.value in
+    (omega (arith, is, inside, c.decreases), subst (λ (d : Context). IsDeclared (items_of d) c.args.expected.now) (sym c.in_ok-check_literal-in-Literal.ensures.same) c.requires)
+
+pub check_next_child-returns-clause-noted : goal.check_next_child-returns-clause-noted
+check_next_child-returns-clause-noted t c =
+    let items = items_of c.args.self.now.context in
+    let before = before_of c.args.self.now.context in
+    let e = type_name c.args.expected.now in
+    let name = plain_name c.in-Literal.name in
+    let t = plain_option c.args.expected.now in
+    let xs = c.in-Literal.children.items in
+    let old = those_of c.args.waiting.now in
+    let one = same (ap₂ (λ ls n. literal_failures t name (map plain_expr ls) n) c.deref.ensures.value (c.len.ensures ∙ sym c.deref-2.ensures.len ∙ ap length c.deref-2.ensures.value)) c.in_ok-check_literal.ensures in
+    on_ok1 c.add.result (λ more. literal_child items before c.args.around (length xs) e t (plain_x c.args.child.now) name (map plain_expr c.in-Literal.labels.items) xs old (those_of c.add.new.self) _ _
+    c.requires.is (xs_counted xs) (ap plain_x c.in-Literal.is ∙ plain_literal c.in-Literal.name c.in-Literal.labels c.in-Literal.children) (more ∙ ap (λ l. l ++ old) c.deref-2.ensures.value) one) c.add.ensures
+
+pub check_next_child-returns-clause-less : goal.check_next_child-returns-clause-less
+check_next_child-returns-clause-less t c =
+    let xs = c.in-Literal.children.items in
+    let old = those_of c.args.waiting.now in
+    let is : weight (plain_x c.args.child.now) ≡ suc (suc (suc (suc (weights (plain_children xs))))) = ap weight (ap plain_x c.in-Literal.is ∙ plain_literal c.in-Literal.name c.in-Literal.labels c.in-Literal.children) in
+    on_ok1 c.add.result (λ more.
+    let now = ap (λ l. weights (plain_children l)) (more ∙ ap (λ l. l ++ old) c.deref-2.ensures.value) ∙ weights-append xs old in
+    omega (arith, is, now)) c.add.ensures
+
+pub check_next_child-returns-in_default-clause-noted : goal.check_next_child-returns-in_default-clause-noted
+check_next_child-returns-in_default-clause-noted t c =
+    other_child (items_of c.args.self.now.context) (before_of c.args.self.now.context) c.args.around (type_name c.args.expected.now) (plain_x c.args.child.now) (plain_waiting c.args.waiting.now) _ _ c.in_ok-check_as.ensures.noted
+
+pub check_next_child-returns-in_default-clause-less : goal.check_next_child-returns-in_default-clause-less
+check_next_child-returns-in_default-clause-less t c = let some = some_weight (plain_x c.args.child.now) in omega (arith, some)

@@ -1,12 +1,32 @@
-use Rattle.std.proofs.Common.{drop}
+use Rattle.std.proofs.Common.{◌≤◌, ◌+◌}
+use Rattle.fast_syntax.specs.Plain.{plain_x}
 use Rattle.fast_syntax.specs.Slices.{plain_children}
 use Rattle.model_checks.specs.Expressions.{xs_failures}
 use Rattle.program_check.specs.Contexts.{items_of, before_of}
 use Rattle.program_check.specs.Typed.{type_name}
-use Rattle.program_check.proofs.Noting.{Left}
+use Rattle.program_check.specs.Notes.{Left}
+use Rattle.program_check.specs.Waiting.{plain_waiting, weight, weights}
 use Rattle.program_check.proofs.checker.Checker.+check_x.Given as goal
+
+abbrev pub decreases-check_x : goal.decreases-check_x
+decreases-check_x l = weight (plain_x l.x.now)
+
+abbrev pub decreases-check_as : goal.decreases-check_as
+decreases-check_as l = 1 + weight (plain_x l.x.now)
+
+abbrev pub decreases-check_next_child : goal.decreases-check_next_child
+decreases-check_next_child l = 2 + weight (plain_x l.child.now)
+
+abbrev pub decreases-check_children : goal.decreases-check_children
+decreases-check_children l = 3 + weights (plain_children l.children.now)
 
 abbrev pub invariant-check_children-children : goal.invariant-check_children-children
 invariant-check_children-children l =
-    let each = xs_failures (items_of l.initial.self.context) (before_of l.initial.self.context) l.around (type_name l.expected) in
-    Left l.initial.self l.self (each (plain_children l.children)) (each (plain_children (drop l.child-index l.children)))
+    let each = xs_failures (items_of l.fn.self.context) (before_of l.fn.self.context) l.around (type_name l.expected) in
+    record {
+      noted : Left l.fn.self l.self (each (plain_children l.children)) (each (plain_waiting l.waiting));
+      few : weights (plain_waiting l.waiting) ≤ weights (plain_children l.children);
+    }
+
+abbrev pub decreases-check_children-children : goal.decreases-check_children-children
+decreases-check_children-children l = weights (plain_waiting l.waiting)

@@ -6,7 +6,7 @@ use Rattle.program_check.specs.Contexts.{items_of, before_of}
 use Rattle.program_check.specs.Typed.{type_name}
 use Rattle.program_check.proofs.Noting.{next, same, of_same}
 use Rattle.program_check.proofs.Standing.{declared_in, only_is, only_declared}
-use Rattle.program_check.specs.declared.expressions.Kind.TheVariants.{Language, Transformation}
+use Rattle.program_check.specs.declared.expressions.Kind.TheVariants.{Language}
 use Rattle.program_check.proofs.checker.Checker.check_equal.Goals as goal
 
 pub check_as-requires-2 : goal.check_as-requires-2

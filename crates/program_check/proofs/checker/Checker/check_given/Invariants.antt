@@ -3,7 +3,7 @@ use Rattle.std.specs.List.{flat_map}
 use Rattle.fast_syntax.specs.View.{plain_name, plain_demand}
 use Rattle.model_checks.specs.Rules.{demand_failures}
 use Rattle.program_check.specs.Contexts.{items_of}
-use Rattle.program_check.proofs.Noting.{Left}
+use Rattle.program_check.specs.Notes.{Left}
 use Rattle.program_check.proofs.checker.Checker.check_given.Given as goal
 
 abbrev pub invariant-given : goal.invariant-given

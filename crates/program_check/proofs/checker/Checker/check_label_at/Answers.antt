@@ -1,4 +1,4 @@
-use Rattle.std.proofs.Common.{ap, true, false}
+use Rattle.std.proofs.Common.{ap}
 use Rattle.fast_syntax.specs.View.{plain_field}
 use Rattle.fast_syntax.specs.Plain.{plain_expr}
 use Rattle.program_check.specs.Known.{plain_scope}

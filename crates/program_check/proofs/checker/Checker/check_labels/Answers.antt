@@ -1,4 +1,4 @@
-use Rattle.std.proofs.Common.{◌+◌, ap, map, drop, true, false}
+use Rattle.std.proofs.Common.{◌+◌, ap, map, drop}
 use Rattle.std.proofs.lemmas.List.{drop_all}
 use Rattle.fast_syntax.specs.View.{plain_field}
 use Rattle.fast_syntax.specs.Plain.{plain_expr}

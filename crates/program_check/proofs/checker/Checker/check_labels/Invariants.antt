@@ -3,7 +3,7 @@ use Rattle.fast_syntax.specs.View.{plain_field}
 use Rattle.fast_syntax.specs.Plain.{plain_expr}
 use Rattle.model_checks.specs.Labels.{labels_failures}
 use Rattle.program_check.specs.Known.{plain_scope}
-use Rattle.program_check.proofs.Noting.{Left}
+use Rattle.program_check.specs.Notes.{Left}
 use Rattle.program_check.proofs.checker.Checker.check_labels.Given as goal
 
 abbrev pub invariant-labels : goal.invariant-labels

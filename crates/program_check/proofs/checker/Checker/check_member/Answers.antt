@@ -1,12 +1,12 @@
 use Rattle.std.proofs.Common.{◌∙◌, ap}
 use Rattle.fast_syntax.specs.Plain.{plain_x}
 use Rattle.model_checks.specs.Expressions.{whole_failures}
-use Rattle.model_names.specs.Kinds.{a_tree, language}
+use Rattle.model_names.specs.Kinds.{a_tree}
 use Rattle.program_check.specs.Contexts.{items_of, before_of}
 use Rattle.program_check.specs.Typed.{type_name}
 use Rattle.program_check.proofs.Noting.{next, same, of_same}
 use Rattle.program_check.proofs.Standing.{declared_in, only_is, only_declared}
-use Rattle.program_check.specs.declared.expressions.Kind.TheVariants.{Language, Transformation}
+use Rattle.program_check.specs.declared.expressions.Kind.TheVariants.{Language}
 use Rattle.program_check.proofs.checker.Checker.check_member.Goals as goal
 
 pub check_as-requires-2 : goal.check_as-requires-2

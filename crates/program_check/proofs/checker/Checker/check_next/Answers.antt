@@ -1,4 +1,4 @@
-use Rattle.std.proofs.Common.{sym, subst, true, false}
+use Rattle.std.proofs.Common.{sym, subst}
 use Rattle.std.specs.Prelude.{OnOk}
 use Rattle.fast_syntax.specs.Plain.{plain_expr}
 use Rattle.std.proofs.Common.{Bool}

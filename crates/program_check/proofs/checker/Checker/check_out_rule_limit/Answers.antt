@@ -1,4 +1,4 @@
-use Rattle.std.proofs.Common.{[], sym, ap, true, false}
+use Rattle.std.proofs.Common.{[], sym, ap}
 use Rattle.std.specs.Option.{option_map_or}
 use Rattle.fast_syntax.specs.Plain.{plain_rule}
 use Rattle.model_checks.specs.Failures.{failure}

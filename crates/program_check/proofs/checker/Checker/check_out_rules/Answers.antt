@@ -1,4 +1,4 @@
-use Rattle.std.proofs.Common.{ap, map, true, false}
+use Rattle.std.proofs.Common.{ap, map}
 use Rattle.std.specs.List.{flat_map}
 use Rattle.std.proofs.lemmas.List.{drop_all}
 use Rattle.fast_syntax.specs.View.{plain_name}

@@ -1,4 +1,4 @@
-use Rattle.std.proofs.Common.{◌≡◌, List, ap, map, subst, length, true, false, get_or}
+use Rattle.std.proofs.Common.{◌≡◌, List, ap, map, subst, length, get_or}
 use Rattle.std.specs.List.{flat_map}
 use Rattle.std.proofs.lemmas.List.{drop_all}
 use Rattle.fast_syntax.specs.View.{plain_ctor}

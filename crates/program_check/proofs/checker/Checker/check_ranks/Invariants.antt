@@ -2,7 +2,7 @@ use Rattle.std.proofs.Common.{map, drop}
 use Rattle.std.specs.List.{flat_map}
 use Rattle.fast_syntax.specs.View.{plain_ctor}
 use Rattle.model_checks.specs.Types.{ctor_failures}
-use Rattle.program_check.proofs.Noting.{Left}
+use Rattle.program_check.specs.Notes.{Left}
 use Rattle.program_check.proofs.checker.Checker.check_ranks.Given as goal
 
 abbrev pub invariant-ctors : goal.invariant-ctors

@@ -1,4 +1,3 @@
-use Rattle.std.proofs.Common.{true, false}
 use Rattle.fast_syntax.specs.View.{plain_name}
 use Rattle.program_check.proofs.Repeating.{at_first, one_more, all_noted, all_there}
 use Rattle.program_check.proofs.checker.Checker.check_repeated.Goals as goal

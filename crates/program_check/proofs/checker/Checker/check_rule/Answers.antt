@@ -3,7 +3,6 @@ use Rattle.fast_syntax.specs.View.{plain_name}
 use Rattle.fast_syntax.specs.Plain.{plain_rule}
 use Rattle.program_check.specs.Known.{plain_scope}
 use Rattle.program_check.specs.Typed.{plain_option}
-use Rattle.program_check.proofs.Noting.{same}
 use Rattle.program_check.proofs.Searching.{rule_noted}
 use Rattle.program_check.proofs.checker.Checker.check_rule.Goals as goal
 

@@ -4,7 +4,7 @@ use Rattle.fast_syntax.specs.View.{plain_name}
 use Rattle.fast_syntax.specs.Plain.{plain_rule}
 use Rattle.model_checks.specs.Rules.{rule_failures}
 use Rattle.program_check.specs.Contexts.{items_of}
-use Rattle.program_check.proofs.Noting.{Left}
+use Rattle.program_check.specs.Notes.{Left}
 use Rattle.program_check.proofs.checker.Checker.check_rules.Given as goal
 
 abbrev pub invariant-rules : goal.invariant-rules

@@ -1,0 +1,5 @@
+use Rattle.program_check.proofs.Weights.{row_added}
+use Rattle.program_check.proofs.waiting.Waiting.add.Goals as goal
+
+pub returns : goal.returns
+returns c = row_added (λ row. row.now) c.args.self.now.rows.items c.push.new.self.items c.args.children c.in_ok-push.ensures.items
