@@ -20,7 +20,7 @@ pub record IsClosable {A : Type 0} (item : A → List Lexeme → Type 0) (goes_o
   pub apart : AllStartIn (other_than close) item
   pub ends : Ends goes_on (closing_of item close) closed
 
-closing_ends : {A : Type 0} {goes_on : Word → Type 0} (item : A → List Lexeme → Type 0) (close : Word) → IsClosable item goes_on close → (tokens : List Lexeme) → IsNext close tokens → Makes (IsSign close) (closing_of item close) (λ _. ([], tt)) closed tokens
+pub closing_ends : {A : Type 0} {goes_on : Word → Type 0} (item : A → List Lexeme → Type 0) (close : Word) → IsClosable item goes_on close → (tokens : List Lexeme) → IsNext close tokens → Makes (IsSign close) (closing_of item close) (λ _. ([], tt)) closed tokens
 closing_ends {A} item close closable tokens is_next = alternative (other_than close) tokens (λ _ ts is_sign. put_nothing (sign close) ts is_sign) (λ b ts spelled. back b ts spelled) (stops_next close (other_than close) tokens is_next (λ h. h refl))
   where
     back : (b : List A × Unit {0}) (ts : List Lexeme) → closing_of item close b ts → StartsIn (other_than close) ts ⊎ ((u : Unit {0}) × IsSign close u ts × (b ≡ ([], tt)))

@@ -1,7 +1,7 @@
 -- What is returned at the exit of a `?`.
 use Rattle.std.proofs.Common.{◌≡◌, ◌<◌, ◌≤◌, List, [], ◌∷◌, ◌++◌, length, refl, ap, arith, Result, Ok, Err}
 use Rattle.std.proofs.lemmas.List.{length-append, length-map}
-use Rattle.std.specs.Prelude.{IsErrAnd}
+use Rattle.std.specs.Prelude.{IsErrAnd, IfOk}
 use Rattle.std.proofs.lemmas.Result.{err_from_is_err_and}
 use Rattle.model_program.specs.declared.Word.{Word}
 use Rattle.model_program.specs.Lexeme.{Lexeme}
@@ -48,3 +48,7 @@ reads_wider form few many tokens view (Err e) wider fails = wider_fails _ wider 
 -- behind the first token
 pub taken : (tokens rest : List Token) (t : Lexeme) → lexemes tokens ≡ t ∷ lexemes rest → length rest < length tokens
 taken tokens rest t here = omega (arith, simp length-map at (ap length here))
+
+pub reads_shorter : {A X : Type 0} {words : Word → Type 0} (form : A → List Lexeme → Type 0) (goes_on : Word → Type 0) (tokens : List Token) (value : X → A) (rest : X → List Token) (r : Result X Stop) → AllStartIn words form → Reads form goes_on tokens (λ x. (value x, lexemes (rest x))) r → IfOk r (λ x. length (rest x) < length tokens)
+reads_shorter {words = words} form goes_on tokens value rest (Ok x) starts read = shorter words tokens (rest x) starts read
+reads_shorter form goes_on tokens value rest (Err e) starts fails = tt

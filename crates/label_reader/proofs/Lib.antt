@@ -9,3 +9,5 @@ pub mod Gathered
 pub mod Primaries
 pub mod Insides
 pub mod Further
+pub mod ListSteps
+pub mod Listed

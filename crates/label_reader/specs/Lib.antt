@@ -3,3 +3,4 @@ pub mod Levels
 pub mod Operands
 pub mod Inside
 pub mod Constants
+pub mod Lists

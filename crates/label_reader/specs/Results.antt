@@ -1,5 +1,5 @@
 -- What a reader of tokens returns.
-use Rattle.std.specs.Prelude.{List, map, Option, Some, None, Result, Ok, Err}
+use Rattle.std.specs.Prelude.{ℕ, List, map, Option, Some, None, Result, Ok, Err}
 use Rattle.model_program.specs.declared.Word.{Word}
 use Rattle.model_program.specs.Lexeme.{Lexeme}
 use Rattle.read_forms.specs.Reads.{IsRead, Fails}
@@ -7,6 +7,8 @@ use Rattle.fast_lex.specs.declared.Token.{Token}
 use Rattle.fast_lex.specs.Tokens.{lexeme}
 use Rattle.label_reader.specs.declared.stop.Stop.{Stop}
 use Rattle.label_reader.specs.declared.stop.Stop.TheVariants.{Memory, At}
+use Rattle.label_reader.specs.declared.stop.ReadTokensStop.{ReadTokensStop}
+use Rattle.label_reader.specs.declared.stop.ReadTokensStop.TheVariants.{Wrong}
 
 abbrev pub lexemes : List Token → List Lexeme
 lexemes tokens = map lexeme tokens
@@ -20,3 +22,8 @@ bad_of (At bad) = Some (lexemes bad.now)
 abbrev pub Reads : {A X : Type 0} → (A → List Lexeme → Type 0) → (Word → Type 0) → List Token → (X → A × List Lexeme) → Result X Stop → Type 0
 Reads form goes_on tokens view (Ok x) = IsRead form goes_on (lexemes tokens) (view x).0 (view x).1
 Reads form goes_on tokens view (Err e) = Fails form goes_on (lexemes tokens) (bad_of e)
+
+-- a fact of the number of tokens before the wrong one
+abbrev pub IfWrong : {T : Type 0} → Result T ReadTokensStop → (ℕ → Type 0) → Type 0
+IfWrong (Err (Wrong k)) fact = fact k
+IfWrong _ fact = Unit {0}

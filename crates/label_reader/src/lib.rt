@@ -6,6 +6,7 @@
 
 mod constants;
 mod levels;
+mod lists;
 mod operands;
 mod operators;
 mod stop;
@@ -13,5 +14,6 @@ mod words;
 
 pub use constants::{read_numeral, read_string};
 pub use levels::read_level;
-pub use stop::Stop;
-pub use words::{is_next, is_same, next_if, read_name, read_sign, read_word, skip_comma};
+pub use lists::{Between, read_any, read_some};
+pub use stop::{ReadTokensStop, Stop};
+pub use words::{is_next, is_same, next_if, read_name, read_sign, read_word};

@@ -13,6 +13,13 @@ pub enum Stop<'t> {
     At(&'t [Token<'t>]),
 }
 
+/// Why the tokens as a whole weren't read: the first wrong one, by the number of the tokens before it, or want of memory.
+#[derive(Debug, Drop)]
+pub enum ReadTokensStop {
+    Wrong(usize),
+    Memory,
+}
+
 impl<'t> From<Memory> for Stop<'t> {
     ghost use Rattle.std.specs.Prelude.{◌≡◌};
     ghost use Rattle.label_reader.specs.declared.stop.Stop.TheVariants.{Memory};

@@ -2,8 +2,8 @@
 
 ghost use Rattle.std.specs.Prelude.{◌≡◌, ◌∷◌, true, false, MatchOption};
 ghost use Rattle.model_program.specs.Joined.{IsNext, IsOther};
-ghost use Rattle.read_forms.specs.Reads.{IsRead, closed};
-ghost use Rattle.model_program.specs.Grammar.{IsWord, IsSign, IsName, IsComma, comma};
+ghost use Rattle.read_forms.specs.Reads.{closed};
+ghost use Rattle.model_program.specs.Grammar.{IsWord, IsSign, IsName};
 ghost use Rattle.fast_lex.specs.Tokens.{lexeme};
 ghost use Rattle.label_reader.specs.Results.{lexemes, Reads};
 ghost use Rattle.fast_syntax.specs.View.{plain_name};
@@ -75,13 +75,4 @@ pub fn read_name<'t>(
         },
         rest,
     ))
-}
-
-pub fn skip_comma<'t>(tokens: &'t [Token<'t>]) -> &'t [Token<'t>]
-    ensures { IsRead IsComma comma (lexemes tokens.now) tt (lexemes result.now) }
-{
-    let Some((_comma, rest)) = next_if(tokens, Word::Comma) else {
-        return tokens;
-    };
-    rest
 }

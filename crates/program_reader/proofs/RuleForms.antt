@@ -4,17 +4,19 @@ use Rattle.model_program.specs.declared.Word.{Word}
 use Rattle.model_program.specs.declared.Word.TheVariants.{Where, Given, To, Id, RoundOpen, RoundClose, CurlyOpen, CurlyClose, Bar}
 use Rattle.model_program.specs.Lexeme.{Lexeme}
 use Rattle.model_program.specs.Syntax.{Name, Demand}
-use Rattle.model_program.specs.Joined.{◌⌢◌, IsNext, IsOther, ◌⊗◌}
+use Rattle.model_program.specs.Joined.{IsNext, IsOther, ◌⊗◌}
 use Rattle.read_forms.specs.Reads.{IsRead, StartsIn, closed}
-use Rattle.model_program.specs.Grammar.{IsSign, sign, IsName, IsComma, comma, Further, Many, IsDemand, AreVars, IsGiven}
-use Rattle.read_forms.proofs.Forms.{Ends, Makes, HasSample, AllStartIn, as_read, as_fails, then_read, then_fails, sample_pair, sample_as, remade, stands, left_out, ends_left_out, ends_starting, ends_closed, starts_joined, starts_wider, starts_next, stops_other, other_than}
-use Rattle.read_forms.proofs.Words.{sample_sign, sign_starts, word_other}
-use Rattle.read_forms.proofs.Lists.{IsPartWay, IsListed, comma_listed, tail_of, sample_tail, sample_any, items_to, items_make}
+use Rattle.model_program.specs.Grammar.{IsSign, sign, IsName, IsComma, Many, IsDemand, AreVars, IsGiven}
+use Rattle.read_forms.proofs.Forms.{Ends, Makes, HasSample, AllStartIn, as_read, as_fails, then_read, then_fails, sample_pair, sample_as, remade, stands, left_out, ends_left_out, ends_starting, ends_closed, starts_joined, starts_next, stops_other}
+use Rattle.read_forms.proofs.Words.{sample_sign, sign_starts}
+use Rattle.read_forms.proofs.Lists.{IsPartWay, sample_any}
 use Rattle.model_grammar.specs.declared.Level.TheVariants.{E}
 use Rattle.model_grammar.specs.Syntax.{Expr, Rule, Out}
 use Rattle.model_grammar.specs.Expressions.{IsE}
 use Rattle.model_grammar.specs.Terms.{IsOut}
 use Rattle.model_grammar.specs.Grammar.{IsGuard, IsRule, IsOutRule, InBraces}
+use Rattle.label_reader.specs.declared.lists.Between.TheVariants as gap
+use Rattle.label_reader.proofs.Listed.{IsItem, named_item, bar_tail, sample_some}
 use Rattle.label_reader.specs.Levels.{strength, GoesOn}
 use Rattle.label_reader.proofs.Names.{sample_name, name_starts}
 use Rattle.program_reader.specs.Goings.{guard_words, given_words, rule_words}
@@ -36,8 +38,8 @@ sample_demand = sample_as (λ (v : Unit {0} × (Name × (Name × Unit {0}))). re
 pub demand_starts : AllStartIn (λ w. w ≡ RoundOpen) IsDemand
 demand_starts = record { starts = λ d ts spelled. starts_joined (λ w. w ≡ RoundOpen) _ _ ts ((sign_starts RoundOpen).starts tt) spelled }
 
-pub vars_listed : IsListed IsComma comma IsName closed RoundClose
-vars_listed = comma_listed IsName RoundClose name_starts (λ h. cc) (λ h. cc)
+pub var_item : IsItem gap.Comma RoundClose IsName closed
+var_item = named_item gap.Comma RoundClose sample_name name_starts (λ h. cc) (λ h. cc, λ h. cc) (ends_closed _ closed)
 
 pub sample_vars : HasSample AreVars
 sample_vars = sample_as (λ (v : Unit {0} × List Name). v.1) (λ v ts spelled. spelled) (sample_pair (sample_sign RoundOpen) (sample_any IsComma IsName RoundClose))
@@ -135,37 +137,15 @@ ends_rule = ends_starting (IsSign To ⊗ IsOut) closed (λ w is goes. no_rule_wo
 
 -- Rules in braces.
 
-abbrev pub bar_or_close : Word → Type 0
-bar_or_close w = (w ≡ Bar) ⊎ (w ≡ CurlyClose)
-
-tail_starts : {A : Type 0} (form : A → List Lexeme → Type 0) → AllStartIn bar_or_close (tail_of (IsSign Bar) form CurlyClose)
-tail_starts {A} form = record { starts = λ v ts spelled. each v.0 ts spelled }
+pub rule_item : IsItem gap.Bar CurlyClose IsRule rule_words
+rule_item = named_item gap.Bar CurlyClose sample_rule rule_starts (λ h. cc) (λ h. cc, λ h. cc) (ends_starting _ closed (λ w is goes. apart w is goes) (bar_tail IsRule CurlyClose))
   where
-    each : (rules : List A) (ts : List Lexeme) → (Further (IsSign Bar) form rules ⌢ sign CurlyClose) ts → StartsIn bar_or_close ts
-    each [] ts spelled = subst (λ (l : List Lexeme). StartsIn bar_or_close l) (sym (spelled.split ∙ ap (λ l. l ++ spelled.back) spelled.at_front))
-        (starts_wider (λ w. w ≡ CurlyClose) bar_or_close spelled.back (λ w h. inr h) ((sign_starts CurlyClose).starts tt spelled.back spelled.at_back))
-    each (r ∷ rs) ts spelled = starts_joined bar_or_close _ _ ts (λ l joined. starts_joined bar_or_close _ _ l (λ k is_bar. starts_wider (λ w. w ≡ Bar) bar_or_close k (λ w h. inl h) ((sign_starts Bar).starts tt k is_bar)) joined) spelled
-
-bar_listed : {A : Type 0} (form : A → List Lexeme → Type 0) (goes_on : Word → Type 0) → AllStartIn (λ w. w ≡ Id) form → ((w : Word) → bar_or_close w → goes_on w → ⊥) → IsListed (IsSign Bar) closed form goes_on CurlyClose
-bar_listed form goes_on begins apart = record {
-  apart = λ x ts joined. starts_joined (other_than CurlyClose) _ _ ts (λ l is_bar. word_other CurlyClose Bar is_bar.0 l (λ h. cc) is_bar.1) joined;
-  first_apart = record { starts = λ x ts spelled. starts_wider (λ w. w ≡ Id) (other_than CurlyClose) ts (λ w is_id is_close. let e : Id ≡ CurlyClose = sym is_id ∙ is_close in cc) (begins.starts x ts spelled) };
-  item_ends = ends_starting (tail_of (IsSign Bar) form CurlyClose) closed apart (tail_starts form);
-  between_ends = ends_closed (form ⊗ tail_of (IsSign Bar) form CurlyClose) closed;
-}
-
-pub rules_listed : IsListed (IsSign Bar) closed IsRule rule_words CurlyClose
-rules_listed = bar_listed IsRule rule_words rule_starts (λ w is goes. apart w is goes)
-  where
-    apart : (w : Word) → bar_or_close w → rule_words w → ⊥
+    apart : (w : Word) → (w ≡ Bar) ⊎ (w ≡ CurlyClose) → rule_words w → ⊥
     apart w (inl is) goes = no_rule_word Bar w (λ e. cc) (λ e. cc) (λ e. cc) refl is goes
     apart w (inr is) goes = no_rule_word CurlyClose w (λ e. cc) (λ e. cc) (λ e. cc) refl is goes
 
-pub out_rules_listed : IsListed (IsSign Bar) closed IsOutRule closed CurlyClose
-out_rules_listed = bar_listed IsOutRule closed out_rule_starts (λ w is goes. goes)
+pub out_rule_item : IsItem gap.Bar CurlyClose IsOutRule closed
+out_rule_item = named_item gap.Bar CurlyClose sample_out_rule out_rule_starts (λ h. cc) (λ h. cc, λ h. cc) (ends_closed _ closed)
 
 pub sample_braces : {A : Type 0} (form : A → List Lexeme → Type 0) → HasSample form → HasSample (InBraces form)
-sample_braces {A} form sample = sample_as (λ (v : Unit {0} × List A). v.1) (λ v ts spelled. spelled) (sample_pair (sample_sign CurlyOpen) (sample_as (λ (v : A × (List A × Unit {0})). v.0 ∷ v.1.0) ((items_make (IsSign Bar) form CurlyClose []).into) (sample_pair sample (sample_tail (IsSign Bar) form CurlyClose))))
-
-pub sample_items : {A : Type 0} (between : Unit {0} → List Lexeme → Type 0) (form : A → List Lexeme → Type 0) (close : Word) → HasSample form → HasSample (items_to between form close)
-sample_items {A} between form close sample = sample_as (λ (v : A × (List A × Unit {0})). v.0 ∷ v.1.0) ((items_make between form close []).into) (sample_pair sample (sample_tail between form close))
+sample_braces {A} form sample = sample_as (λ (v : Unit {0} × List A). v.1) (λ v ts spelled. spelled) (sample_pair (sample_sign CurlyOpen) (sample_some (IsSign Bar) form CurlyClose sample))

@@ -1,16 +1,17 @@
 -- Of what types are made.
 use Rattle.std.specs.Str.Parse.{digits_value}
-use Rattle.std.proofs.Common.{◌≡◌, ℤ, pos, List, [], ◌∷◌, refl, sym, ◌∙◌, ◌⊎◌, inl, inr}
+use Rattle.std.proofs.Common.{◌≡◌, ℤ, pos, List, [], refl, sym, ◌∙◌, ◌⊎◌, inl, inr}
 use Rattle.model_program.specs.declared.Word.{Word}
 use Rattle.model_program.specs.declared.Word.TheVariants.{Id, RoundOpen, RoundClose, SquareOpen, SquareClose, CurlyOpen, CurlyClose, Colon}
 use Rattle.model_program.specs.Lexeme.{Lexeme}
 use Rattle.model_program.specs.Syntax.{Name, FieldItem, CtorItem}
 use Rattle.model_program.specs.Joined.{IsNext, IsOther, ◌⊗◌}
 use Rattle.read_forms.specs.Reads.{IsRead, StartsIn, closed}
-use Rattle.model_program.specs.Grammar.{IsWord, IsSign, IsName, IsNumber, IsComma, comma, IsCtor, sort_text, IsSort, IsField, AreFields, AreFieldsOrNone, square_word, AreCtors, IsTypeItem}
-use Rattle.read_forms.proofs.Forms.{Ends, Makes, HasSample, AllStartIn, sample_pair, sample_as, remade, stands, left_out, ends_starting, starts_joined, starts_next, stops_other}
+use Rattle.model_program.specs.Grammar.{IsWord, IsSign, IsName, IsNumber, IsComma, IsCtor, sort_text, IsSort, IsField, AreFields, AreFieldsOrNone, square_word, AreCtors, IsTypeItem}
+use Rattle.read_forms.proofs.Forms.{Ends, Makes, HasSample, AllStartIn, sample_pair, sample_as, remade, stands, left_out, ends_closed, ends_starting, starts_joined, starts_next, stops_other}
 use Rattle.read_forms.proofs.Words.{sample_word, sample_sign, sign_starts}
-use Rattle.read_forms.proofs.Lists.{IsListed, comma_listed, items_to, items_make, sample_tail}
+use Rattle.label_reader.specs.declared.lists.Between.TheVariants.{Comma}
+use Rattle.label_reader.proofs.Listed.{IsItem, named_item, sample_some}
 use Rattle.label_reader.specs.Constants.{IsNumeral}
 use Rattle.label_reader.proofs.Names.{sample_name, name_starts}
 use Rattle.label_reader.proofs.Primaries.{sample_numeral}
@@ -39,14 +40,11 @@ sample_ctor = sample_as (λ (v : Name × (Unit {0} × (ℤ × Unit {0}))). recor
 pub ctor_starts : AllStartIn (λ w. w ≡ Id) IsCtor
 ctor_starts = record { starts = λ c ts spelled. starts_joined (λ w. w ≡ Id) _ _ ts (name_starts.starts c.name) spelled }
 
-pub ctors_listed : IsListed IsComma comma IsCtor closed CurlyClose
-ctors_listed = comma_listed IsCtor CurlyClose ctor_starts (λ h. cc) (λ h. cc)
-
-pub sample_items : {A : Type 0} (between : Unit {0} → List Lexeme → Type 0) (form : A → List Lexeme → Type 0) (close : Word) → HasSample form → HasSample (items_to between form close)
-sample_items {A} between form close sample = sample_as (λ (v : A × (List A × Unit {0})). v.0 ∷ v.1.0) ((items_make between form close []).into) (sample_pair sample (sample_tail between form close))
+pub ctor_item : IsItem Comma CurlyClose IsCtor closed
+ctor_item = named_item Comma CurlyClose sample_ctor ctor_starts (λ h. cc) (λ h. cc, λ h. cc) (ends_closed _ closed)
 
 pub sample_ctors : HasSample AreCtors
-sample_ctors = sample_as (λ (v : Unit {0} × List CtorItem). v.1) (λ v ts spelled. spelled) (sample_pair (sample_sign CurlyOpen) (sample_items IsComma IsCtor CurlyClose sample_ctor))
+sample_ctors = sample_as (λ (v : Unit {0} × List CtorItem). v.1) (λ v ts spelled. spelled) (sample_pair (sample_sign CurlyOpen) (sample_some IsComma IsCtor CurlyClose sample_ctor))
 
 abbrev pub field_parts : Name × (Unit {0} × Name) → List Lexeme → Type 0
 field_parts = IsName ⊗ (IsSign Colon ⊗ IsSort)
@@ -57,8 +55,11 @@ field_makes goes_on tokens = remade (λ v ts spelled. spelled) (λ f ts spelled.
 pub field_starts : AllStartIn (λ w. w ≡ Id) IsField
 field_starts = record { starts = λ f ts spelled. starts_joined (λ w. w ≡ Id) _ _ ts (name_starts.starts f.name) spelled }
 
-pub fields_listed : IsListed IsComma comma IsField closed SquareClose
-fields_listed = comma_listed IsField SquareClose field_starts (λ h. cc) (λ h. cc)
+sample_field : HasSample IsField
+sample_field = sample_as (λ (v : Name × (Unit {0} × Name)). record { name = v.0; sort = v.1.1 }) (λ v ts spelled. spelled) (sample_pair sample_name (sample_pair (sample_sign Colon) sample_sort))
+
+pub field_item : IsItem Comma SquareClose IsField closed
+field_item = named_item Comma SquareClose sample_field field_starts (λ h. cc) (λ h. cc, λ h. cc) (ends_closed _ closed)
 
 pub fields_make : (tokens : List Lexeme) → IsNext SquareOpen tokens → Makes AreFields AreFieldsOrNone (λ fs. fs) square_word tokens
 fields_make tokens is_next = stands tokens (λ fs ts spelled. inr spelled) (λ fs ts spelled. back fs ts spelled) (starts_next SquareOpen square_word tokens is_next refl)

@@ -1,7 +1,7 @@
 -- Of what expressions of languages, transformations and trees are made.
 use Rattle.std.proofs.Common.{◌≡◌, List, [], ◌∷◌, ◌++◌, refl, sym, ap, ◌∙◌, subst, Option, Some, None, ◌⊎◌, inl, inr}
 use Rattle.model_program.specs.declared.Word.{Word}
-use Rattle.model_program.specs.declared.Word.TheVariants.{Id, RoundOpen, RoundClose}
+use Rattle.model_program.specs.declared.Word.TheVariants.{Id, RoundOpen, RoundClose, Comma, Minus}
 use Rattle.model_program.specs.declared.Word.TheVariants as word
 use Rattle.model_program.specs.Lexeme.{Lexeme}
 use Rattle.model_program.specs.Syntax.{Name}
@@ -17,6 +17,8 @@ use Rattle.model_grammar.specs.Operators.{op1_word, op2_word}
 use Rattle.model_grammar.specs.Syntax.{Expr, X, named, one, two, literal, Xs, no_x, and_x, xs_of}
 use Rattle.model_grammar.specs.Terms.{AreLabels, IsX, name, on_one, on_two, new, AreXs, no_more, one_more}
 use Rattle.label_reader.proofs.Names.{sample_name, name_starts}
+use Rattle.label_reader.specs.declared.lists.Between.TheVariants as gap
+use Rattle.label_reader.proofs.Listed.{IsItem, starting_item}
 use Rattle.label_reader.proofs.Closings.{closing_of, IsClosable, sample_to_close}
 use Rattle.program_reader.specs.Operations.{IsNoOp1, IsNoOp2, NoOp1, NoOp2}
 use Rattle.program_reader.specs.Nodes.{AreXsToClose, IsXInside}
@@ -262,6 +264,17 @@ xs_closable = record { apart = record { starts = λ x ts is. starts_wider (λ w.
 
 pub sample_x : HasSample IsX
 sample_x = sample_as named (λ n ts spelled. name n ts spelled) sample_name
+
+pub x_item : IsItem gap.Nothing RoundClose IsX closed
+x_item = starting_item gap.Nothing RoundClose (λ w. (w ≡ Id) ⊎ (w ≡ RoundOpen)) sample_x (record { starts = λ x ts is. x_starts x ts is }) no_minus no_comma no_close (λ h. cc, λ h. cc) (ends_closed _ closed)
+  where
+    no_minus : (w : Word) → (w ≡ Id) ⊎ (w ≡ RoundOpen) → w ≡ Minus → ⊥
+    no_minus w (inl a) e = let f : Id ≡ Minus = sym a ∙ e in cc
+    no_minus w (inr a) e = let f : RoundOpen ≡ Minus = sym a ∙ e in cc
+
+    no_comma : (w : Word) → (w ≡ Id) ⊎ (w ≡ RoundOpen) → w ≡ Comma → ⊥
+    no_comma w (inl a) e = let f : Id ≡ Comma = sym a ∙ e in cc
+    no_comma w (inr a) e = let f : RoundOpen ≡ Comma = sym a ∙ e in cc
 
 pub sample_xs : HasSample AreXsToClose
 sample_xs = sample_to_close IsX RoundClose

@@ -3,5 +3,4 @@ pub mod Goings
 pub mod Nodes
 pub mod Assertions
 pub mod Items
-pub mod Refusals
 pub mod Growing

@@ -6,10 +6,9 @@ ghost use Rattle.model_grammar.specs.Grammar.{IsTreeItem, IsLangItem, IsTransIte
 ghost use Rattle.model_grammar.specs.Wrong.{IsFirstWrong};
 ghost use Rattle.model_grammar.specs.Syntax as plain;
 ghost use Rattle.fast_syntax.specs.Plain.{plain_tree, plain_lang, plain_trans, plain_into, plain_def, plain_item, plain_program};
-ghost use Rattle.label_reader.specs.Results.{lexemes, Reads};
+ghost use Rattle.label_reader.specs.Results.{lexemes, Reads, IfWrong};
 ghost use Rattle.program_reader.specs.Goings.{arrow_word};
 ghost use Rattle.program_reader.specs.Items.{IsAssertion};
-ghost use Rattle.program_reader.specs.Refusals.{IfWrong};
 
 use crate::assertions::read_a;
 use crate::rules::{read_out_rules, read_rules};
@@ -18,7 +17,7 @@ use crate::types::read_type_item;
 use fast_lex::{Token, Word};
 use fast_syntax::Name;
 use fast_syntax::items::{AssertItem, Body, DefItem, Item, LangItem, Program, TransItem, TreeItem};
-use label_reader::{Stop, is_next, next_if, read_name, read_sign, read_word};
+use label_reader::{ReadTokensStop, Stop, is_next, next_if, read_name, read_sign, read_word};
 use std::alloc::Global;
 
 fn read_tree_item<'t>(
@@ -179,15 +178,8 @@ fn read_program<'t>(alloc: Global, tokens: &'t [Token<'t>]) -> Result<Vec<Item>,
     Ok(all)
 }
 
-/// Why no items were read: the first wrong token, by the number of the tokens before it, or want of memory.
-#[derive(Debug, Drop)]
-pub enum ReadItemsStop {
-    Wrong(usize),
-    Memory,
-}
-
 /// The program that the tokens spell.
-pub fn read_items<'t>(alloc: Global, tokens: &'t [Token<'t>]) -> Result<Program, ReadItemsStop>
+pub fn read_items<'t>(alloc: Global, tokens: &'t [Token<'t>]) -> Result<Program, ReadTokensStop>
     // What is read is spelled so.
     ensures found { IfOk result (λ program. IsProgram (plain_program program) (lexemes tokens.now)) }
     // The tokens spell no other program.
@@ -197,7 +189,7 @@ pub fn read_items<'t>(alloc: Global, tokens: &'t [Token<'t>]) -> Result<Program,
 {
     match read_program(alloc, tokens) {
         Ok(items) => Ok(Program { items }),
-        Err(Stop::Memory) => Err(ReadItemsStop::Memory),
-        Err(Stop::At(bad)) => Err(ReadItemsStop::Wrong(tokens.len() - bad.len())),
+        Err(Stop::Memory) => Err(ReadTokensStop::Memory),
+        Err(Stop::At(bad)) => Err(ReadTokensStop::Wrong(tokens.len() - bad.len())),
     }
 }

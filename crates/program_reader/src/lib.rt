@@ -13,4 +13,4 @@ mod rules;
 mod terms;
 mod types;
 
-pub use items::{ReadItemsStop, read_items};
+pub use items::read_items;

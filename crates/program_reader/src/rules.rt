@@ -2,7 +2,7 @@
 
 ghost use Rattle.std.specs.Prelude.{map};
 ghost use Rattle.read_forms.specs.Reads.{closed};
-ghost use Rattle.model_program.specs.Grammar.{IsDemand, AreVars, IsGiven};
+ghost use Rattle.model_program.specs.Grammar.{IsName, IsDemand, AreVars, IsGiven};
 ghost use Rattle.model_grammar.specs.Grammar.{IsGuard, IsRule, IsOutRule, InBraces};
 ghost use Rattle.fast_syntax.specs.View.{plain_name, plain_demand};
 ghost use Rattle.fast_syntax.specs.Plain.{plain_guard, plain_rule, plain_out_rule};
@@ -14,7 +14,7 @@ use fast_lex::{Token, Word};
 use fast_syntax::expressions::Expr;
 use fast_syntax::items::{OutRule, Rule};
 use fast_syntax::{Demand, Name};
-use label_reader::{Stop, is_next, read_level, read_name, read_sign, skip_comma};
+use label_reader::{Between, Stop, is_next, read_any, read_level, read_name, read_sign, read_some};
 use model_grammar::Level;
 use std::alloc::Global;
 
@@ -31,6 +31,12 @@ fn read_demand<'t>(
     Ok((Demand { language, child }, rest))
 }
 
+fn read_var<'t>(alloc: Global, tokens: &'t [Token<'t>]) -> Result<(Name, &'t [Token<'t>]), Stop<'t>>
+    ensures { Reads IsName closed tokens.now (λ x. (plain_name x.0, lexemes x.1.now)) result }
+{
+    read_name(alloc, tokens)
+}
+
 fn read_vars<'t>(
     alloc: Global,
     tokens: &'t [Token<'t>],
@@ -38,20 +44,7 @@ fn read_vars<'t>(
     ensures { Reads AreVars closed tokens.now (λ x. (map plain_name x.0.items, lexemes x.1.now)) result }
 {
     let start = read_sign(tokens, Word::RoundOpen)?;
-    let mut all = Vec::new(alloc);
-    if is_next(start, Word::RoundClose) {
-        let rest = read_sign(start, Word::RoundClose)?;
-        return Ok((all, rest));
-    }
-    let (first, mut rest) = read_name(alloc, start)?;
-    all.push(first)?;
-    'items: while !is_next(rest, Word::RoundClose) {
-        let (next, after) = read_name(alloc, skip_comma(rest))?;
-        all.push(next)?;
-        rest = after;
-    }
-    let rest = read_sign(rest, Word::RoundClose)?;
-    Ok((all, rest))
+    read_any(alloc, Between::Comma, Word::RoundClose, start, read_var)
 }
 
 fn read_guard<'t>(
@@ -129,17 +122,7 @@ pub(crate) fn read_rules<'t>(
     ensures { Reads (InBraces IsRule) closed tokens.now (λ x. (map plain_rule x.0.items, lexemes x.1.now)) result }
 {
     let start = read_sign(tokens, Word::CurlyOpen)?;
-    let mut all = Vec::new(alloc);
-    let (first, mut rest) = read_rule(alloc, start)?;
-    all.push(first)?;
-    'items: while !is_next(rest, Word::CurlyClose) {
-        let behind = read_sign(rest, Word::Bar)?;
-        let (next, after) = read_rule(alloc, behind)?;
-        all.push(next)?;
-        rest = after;
-    }
-    let rest = read_sign(rest, Word::CurlyClose)?;
-    Ok((all, rest))
+    read_some(alloc, Between::Bar, Word::CurlyClose, start, read_rule)
 }
 
 pub(crate) fn read_out_rules<'t>(
@@ -149,15 +132,5 @@ pub(crate) fn read_out_rules<'t>(
     ensures { Reads (InBraces IsOutRule) closed tokens.now (λ x. (map plain_out_rule x.0.items, lexemes x.1.now)) result }
 {
     let start = read_sign(tokens, Word::CurlyOpen)?;
-    let mut all = Vec::new(alloc);
-    let (first, mut rest) = read_out_rule(alloc, start)?;
-    all.push(first)?;
-    'items: while !is_next(rest, Word::CurlyClose) {
-        let behind = read_sign(rest, Word::Bar)?;
-        let (next, after) = read_out_rule(alloc, behind)?;
-        all.push(next)?;
-        rest = after;
-    }
-    let rest = read_sign(rest, Word::CurlyClose)?;
-    Ok((all, rest))
+    read_some(alloc, Between::Bar, Word::CurlyClose, start, read_out_rule)
 }

@@ -18,7 +18,7 @@ use fast_lex::{Token, Word};
 use fast_syntax::expressions::Expr;
 use fast_syntax::items::X;
 use fast_syntax::{Name, Op1, Op2, Pos};
-use label_reader::{Stop, is_next, next_if, read_name, read_sign};
+use label_reader::{Between, Stop, is_next, next_if, read_any, read_name, read_sign};
 use std::alloc::Global;
 
 /// A node whose next child is to be read, and what stands before that child.
@@ -165,18 +165,5 @@ pub(crate) fn read_xs<'t>(
 ) -> Result<(Vec<X>, &'t [Token<'t>]), Stop<'t>>
     ensures { Reads AreXsToClose closed tokens.now (λ x. (map plain_x x.0.items, lexemes x.1.now)) result }
 {
-    let mut all = Vec::new(alloc);
-    if is_next(tokens, Word::RoundClose) {
-        let rest = read_sign(tokens, Word::RoundClose)?;
-        return Ok((all, rest));
-    }
-    let (first, mut rest) = read_x(alloc, tokens)?;
-    all.push(first)?;
-    'items: while !is_next(rest, Word::RoundClose) {
-        let (next, after) = read_x(alloc, rest)?;
-        all.push(next)?;
-        rest = after;
-    }
-    let rest = read_sign(rest, Word::RoundClose)?;
-    Ok((all, rest))
+    read_any(alloc, Between::Nothing, Word::RoundClose, tokens, read_x)
 }

@@ -9,7 +9,9 @@ ghost use Rattle.fast_syntax.specs.View.{plain_name, plain_field, plain_ctor, pl
 
 use fast_lex::{Token, Word};
 use fast_syntax::{CtorItem, FieldItem, Name, Text, TypeItem};
-use label_reader::{Stop, is_next, read_name, read_numeral, read_sign, read_word, skip_comma};
+use label_reader::{
+    Between, Stop, is_next, read_any, read_name, read_numeral, read_sign, read_some, read_word,
+};
 use std::alloc::Global;
 
 /// The sort's name, with a capital.
@@ -60,20 +62,7 @@ fn read_fields<'t>(
     ensures { Reads AreFields closed tokens.now (λ x. (map plain_field x.0.items, lexemes x.1.now)) result }
 {
     let start = read_sign(tokens, Word::SquareOpen)?;
-    let mut all = Vec::new(alloc);
-    if is_next(start, Word::SquareClose) {
-        let rest = read_sign(start, Word::SquareClose)?;
-        return Ok((all, rest));
-    }
-    let (first, mut rest) = read_field(alloc, start)?;
-    all.push(first)?;
-    'items: while !is_next(rest, Word::SquareClose) {
-        let (next, after) = read_field(alloc, skip_comma(rest))?;
-        all.push(next)?;
-        rest = after;
-    }
-    let rest = read_sign(rest, Word::SquareClose)?;
-    Ok((all, rest))
+    read_any(alloc, Between::Comma, Word::SquareClose, start, read_field)
 }
 
 fn read_fields_or_none<'t>(
@@ -109,16 +98,7 @@ fn read_ctors<'t>(
     ensures { Reads AreCtors closed tokens.now (λ x. (map plain_ctor x.0.items, lexemes x.1.now)) result }
 {
     let start = read_sign(tokens, Word::CurlyOpen)?;
-    let mut all = Vec::new(alloc);
-    let (first, mut rest) = read_ctor(alloc, start)?;
-    all.push(first)?;
-    'items: while !is_next(rest, Word::CurlyClose) {
-        let (next, after) = read_ctor(alloc, skip_comma(rest))?;
-        all.push(next)?;
-        rest = after;
-    }
-    let rest = read_sign(rest, Word::CurlyClose)?;
-    Ok((all, rest))
+    read_some(alloc, Between::Comma, Word::CurlyClose, start, read_ctor)
 }
 
 pub(crate) fn read_type_item<'t>(

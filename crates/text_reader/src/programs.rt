@@ -11,7 +11,8 @@ ghost use Rattle.text_reader.specs.Answers.{IfRefused};
 use crate::texts::{ReadStop, place_at, refused, text_of, tokens_of};
 use fast_fault::Code;
 use fast_syntax::items::Program;
-use program_reader::{ReadItemsStop, read_items};
+use label_reader::ReadTokensStop;
+use program_reader::read_items;
 use std::alloc::Global;
 
 /// The program that the bytes are.
@@ -27,9 +28,9 @@ pub fn read(alloc: Global, bytes: &[u8]) -> Result<Program, ReadStop>
     let found = tokens_of(alloc, text)?;
     match read_items(alloc, &found) {
         Ok(program) => Ok(program),
-        Err(ReadItemsStop::Wrong(before)) => {
+        Err(ReadTokensStop::Wrong(before)) => {
             Err(refused(Code::Syntax, place_at(text, &found, before)))
         }
-        Err(ReadItemsStop::Memory) => Err(ReadStop::Memory),
+        Err(ReadTokensStop::Memory) => Err(ReadStop::Memory),
     }
 }

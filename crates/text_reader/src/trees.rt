@@ -10,8 +10,9 @@ ghost use Rattle.text_reader.specs.Answers.{IfRefused};
 
 use crate::texts::{ReadStop, place_at, refused, text_of, tokens_of};
 use fast_fault::Code;
+use label_reader::ReadTokensStop;
 use std::alloc::Global;
-use tree_reader::{FileTree, ReadTreesStop, read_trees as read_tokens};
+use tree_reader::{FileTree, read_trees as read_tokens};
 
 /// The trees that the bytes are.
 pub fn read_trees(alloc: Global, bytes: &[u8]) -> Result<Vec<FileTree>, ReadStop>
@@ -26,9 +27,9 @@ pub fn read_trees(alloc: Global, bytes: &[u8]) -> Result<Vec<FileTree>, ReadStop
     let found = tokens_of(alloc, text)?;
     match read_tokens(alloc, &found) {
         Ok(trees) => Ok(trees),
-        Err(ReadTreesStop::Wrong(before)) => {
+        Err(ReadTokensStop::Wrong(before)) => {
             Err(refused(Code::Syntax, place_at(text, &found, before)))
         }
-        Err(ReadTreesStop::Memory) => Err(ReadStop::Memory),
+        Err(ReadTokensStop::Memory) => Err(ReadStop::Memory),
     }
 }

@@ -1,5 +1,6 @@
 use fast_lex::{Lexed, tokens};
-use program_reader::{ReadItemsStop, read_items};
+use label_reader::ReadTokensStop;
+use program_reader::read_items;
 use std::alloc::Global;
 use std::test::Fail;
 
@@ -20,8 +21,8 @@ fn read_text(alloc: Global, text: &str) -> Answer {
     };
     match read_items(alloc, &found) {
         Ok(_program) => Answer::Read,
-        Err(ReadItemsStop::Wrong(before)) => Answer::Wrong(before),
-        Err(ReadItemsStop::Memory) => Answer::Other,
+        Err(ReadTokensStop::Wrong(before)) => Answer::Wrong(before),
+        Err(ReadTokensStop::Memory) => Answer::Other,
     }
 }
 

@@ -8,15 +8,14 @@ use Rattle.model_program.specs.Joined.{IsNext, IsOther, ◌⊗◌}
 use Rattle.read_forms.specs.Reads.{Stops, StartsIn, closed}
 use Rattle.model_program.specs.Grammar.{IsWord}
 use Rattle.read_forms.proofs.Forms.{Makes, HasSample, sample_as, sample_pair, alternative, other_than, stops_other_than, starts_wider, ends_closed}
-use Rattle.read_forms.proofs.Words.{sample_word, sample_sign, sample_token}
+use Rattle.read_forms.proofs.Words.{sample_sign, sample_token}
 use Rattle.model_grammar.specs.Syntax.{Expr, number, text, truth}
 use Rattle.model_grammar.specs.Expressions.{negative}
-use Rattle.model_grammar.specs.Terms.{IsLater}
 use Rattle.model_grammar.specs.TreeFiles.{AreConstants, IsConstant, a_number, a_negative, a_text, a_true, a_false}
 use Rattle.label_reader.specs.Constants.{IsNumeral, IsString}
-use Rattle.label_reader.proofs.Closings.{closing_of}
 use Rattle.label_reader.proofs.Joins.{Without}
-use Rattle.program_reader.proofs.RowForms.{IsRowItem, sample_row}
+use Rattle.label_reader.specs.declared.lists.Between.TheVariants as gap
+use Rattle.label_reader.proofs.Listed.{IsItem, sample_row}
 
 pub true_makes : (tokens : List Lexeme) → IsNext True tokens → Makes (IsWord True) IsConstant (λ v. truth v.place true) closed tokens
 true_makes tokens is_next = alternative (other_than True) tokens (λ v ts spelled. subst (λ (l : List Lexeme). IsConstant (truth v.place true) l) (sym spelled.0) (a_true v spelled.1)) (λ b ts spelled. back b ts spelled) (stops_other_than True tokens is_next)
@@ -103,20 +102,18 @@ no_comma w (inl (inl (inr is))) e = let f : Quoted ≡ Comma = sym is ∙ e in c
 no_comma w (inl (inr is)) e = let f : Minus ≡ Comma = sym is ∙ e in cc
 no_comma w (inr is) e = let f : Number ≡ Comma = sym is ∙ e in cc
 
-sample_constant : HasSample IsConstant
-sample_constant = sample_as (λ v. truth v.place true) (λ v ts spelled. subst (λ (l : List Lexeme). IsConstant (truth v.place true) l) (sym spelled.0) (a_true v spelled.1)) (sample_word True)
+-- a label that begins with no `-`
+sample_alone : HasSample (Without Minus IsConstant)
+sample_alone = record { value = truth (record { line = 1; column = 1 }) true; tokens = sample_token True ∷ []; spelled = (a_true (sample_token True) refl, λ e. cc) }
 
-pub constant_row : IsRowItem IsConstant closed
-constant_row = record {
-  sample = sample_constant;
-  no_close = record { starts = λ e ts is. starts_wider (λ w. OtherLabel w ⊎ (w ≡ Number)) (other_than SquareClose) ts no_close (starts_label e ts is) };
+pub constant_item : IsItem gap.LabelComma SquareClose IsConstant closed
+constant_item = record {
+  alone = sample_alone;
   no_comma = record { starts = λ e ts is. starts_wider (λ w. OtherLabel w ⊎ (w ≡ Number)) (other_than Comma) ts no_comma (starts_label e ts is) };
-  ends = ends_closed (closing_of (IsLater IsConstant) SquareClose) closed;
+  no_close = record { starts = λ e ts is. starts_wider (λ w. OtherLabel w ⊎ (w ≡ Number)) (other_than SquareClose) ts no_close (starts_label e ts is) };
+  closes = (λ h. cc, λ h. cc);
+  ends = ends_closed _ closed;
 }
 
 pub sample_constants : HasSample AreConstants
-sample_constants = sample_as (λ (v : Unit {0} × List Expr). v.1) (λ v ts spelled. spelled) (sample_pair (sample_sign SquareOpen) (sample_row IsConstant))
-
--- a label that begins with no `-`
-pub sample_alone : HasSample (Without Minus IsConstant)
-sample_alone = record { value = truth (record { line = 1; column = 1 }) true; tokens = sample_token True ∷ []; spelled = (a_true (sample_token True) refl, λ e. cc) }
+sample_constants = sample_as (λ (v : Unit {0} × List Expr). v.1) (λ v ts spelled. spelled) (sample_pair (sample_sign SquareOpen) (sample_row IsConstant SquareClose))

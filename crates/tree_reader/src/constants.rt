@@ -2,14 +2,15 @@
 
 ghost use Rattle.std.specs.Prelude.{map};
 ghost use Rattle.read_forms.specs.Reads.{closed};
-ghost use Rattle.model_grammar.specs.Terms.{IsLater};
 ghost use Rattle.model_grammar.specs.TreeFiles.{IsConstant, AreConstants};
 ghost use Rattle.label_reader.specs.Results.{lexemes, Reads};
 ghost use Rattle.tree_reader.specs.Plain.{plain_constant};
 
 use crate::{Constant, Value};
 use fast_lex::{Token, Word};
-use label_reader::{Stop, is_next, next_if, read_numeral, read_sign, read_string};
+use label_reader::{
+    Between, Stop, is_next, next_if, read_any, read_numeral, read_sign, read_string,
+};
 use std::alloc::Global;
 
 /// A number, which `-` may stand before, a text or a truth value.
@@ -42,24 +43,6 @@ fn read_constant<'t>(
     Ok((Constant { place, value }, rest))
 }
 
-/// A label behind another. Where the comma is left out, no `-` begins it.
-fn read_later<'t>(
-    alloc: Global,
-    tokens: &'t [Token<'t>],
-) -> Result<(Constant, &'t [Token<'t>]), Stop<'t>>
-    ensures { Reads (IsLater IsConstant) closed tokens.now (λ x. (plain_constant x.0, lexemes x.1.now)) result }
-{
-    if let Some((_comma, rest)) = next_if(tokens, Word::Comma) {
-        let (label, behind) = read_constant(alloc, rest)?;
-        return Ok((label, behind));
-    }
-    if is_next(tokens, Word::Minus) {
-        return Err(Stop::At(tokens));
-    }
-    let (label, behind) = read_constant(alloc, tokens)?;
-    Ok((label, behind))
-}
-
 pub(crate) fn read_constants<'t>(
     alloc: Global,
     tokens: &'t [Token<'t>],
@@ -67,18 +50,11 @@ pub(crate) fn read_constants<'t>(
     ensures { Reads AreConstants closed tokens.now (λ x. (map plain_constant x.0.items, lexemes x.1.now)) result }
 {
     let start = read_sign(tokens, Word::SquareOpen)?;
-    let mut all = Vec::new(alloc);
-    if is_next(start, Word::SquareClose) {
-        let rest = read_sign(start, Word::SquareClose)?;
-        return Ok((all, rest));
-    }
-    let (first, mut rest) = read_constant(alloc, start)?;
-    all.push(first)?;
-    'items: while !is_next(rest, Word::SquareClose) {
-        let (next, after) = read_later(alloc, rest)?;
-        all.push(next)?;
-        rest = after;
-    }
-    let rest = read_sign(rest, Word::SquareClose)?;
-    Ok((all, rest))
+    read_any(
+        alloc,
+        Between::LabelComma,
+        Word::SquareClose,
+        start,
+        read_constant,
+    )
 }

@@ -9,7 +9,7 @@ mod trees;
 
 use fast_fault::{Pos, Text};
 use fast_syntax::Name;
-pub use trees::{ReadTreesStop, read_trees};
+pub use trees::read_trees;
 
 /// A label of a file's tree, where it stands.
 #[derive(Drop)]

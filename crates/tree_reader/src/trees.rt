@@ -7,9 +7,8 @@ ghost use Rattle.read_forms.specs.Reads.{closed, anything};
 ghost use Rattle.model_grammar.specs.TreeFiles.{IsTree, IsTreeFile};
 ghost use Rattle.model_grammar.specs.TreeFiles as plain;
 ghost use Rattle.model_grammar.specs.Wrong.{IsFirstWrong};
-ghost use Rattle.label_reader.specs.Results.{lexemes, Reads};
+ghost use Rattle.label_reader.specs.Results.{lexemes, Reads, IfWrong};
 ghost use Rattle.tree_reader.specs.Plain.{plain_tree};
-ghost use Rattle.tree_reader.specs.Trees.{IfWrong};
 ghost use Rattle.tree_reader.specs.Growing.{node_of, Opens};
 
 use crate::constants::read_constants;
@@ -17,7 +16,7 @@ use crate::{Constant, FileTree};
 use fast_fault::Pos;
 use fast_lex::{Token, Word};
 use fast_syntax::Name;
-use label_reader::{Stop, next_if, read_name, read_word};
+use label_reader::{ReadTokensStop, Stop, next_if, read_name, read_word};
 use std::alloc::Global;
 
 /// A tree whose closing parenthesis hasn't been read, with the children that have been.
@@ -113,18 +112,11 @@ fn read_file<'t>(alloc: Global, tokens: &'t [Token<'t>]) -> Result<Vec<FileTree>
     Ok(all)
 }
 
-/// Why no trees were read: the first wrong token, by the number of the tokens before it, or want of memory.
-#[derive(Debug, Drop)]
-pub enum ReadTreesStop {
-    Wrong(usize),
-    Memory,
-}
-
 /// The trees that the tokens spell.
 pub fn read_trees<'t>(
     alloc: Global,
     tokens: &'t [Token<'t>],
-) -> Result<Vec<FileTree>, ReadTreesStop>
+) -> Result<Vec<FileTree>, ReadTokensStop>
     // What is read is spelled so.
     ensures found { IfOk result (λ trees. IsTreeFile (map plain_tree trees.items) (lexemes tokens.now)) }
     // The tokens spell no other trees.
@@ -134,7 +126,7 @@ pub fn read_trees<'t>(
 {
     match read_file(alloc, tokens) {
         Ok(trees) => Ok(trees),
-        Err(Stop::Memory) => Err(ReadTreesStop::Memory),
-        Err(Stop::At(bad)) => Err(ReadTreesStop::Wrong(tokens.len() - bad.len())),
+        Err(Stop::Memory) => Err(ReadTokensStop::Memory),
+        Err(Stop::At(bad)) => Err(ReadTokensStop::Wrong(tokens.len() - bad.len())),
     }
 }
