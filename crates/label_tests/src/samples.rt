@@ -19,7 +19,7 @@ use record_label::{RowAtom, RowEntry, RowMap};
 use std::alloc::Global;
 
 /// The greatest whole number of a label.
-pub const MOST: i64 = 9223372036854775807;
+pub(crate) const MOST: i64 = 9223372036854775807;
 
 /// Adds a field.
 fn declare(alloc: Global, fields: &mut Vec<FieldOf>, name: &str, sort: Sort) -> Result<(), Memory>
@@ -32,7 +32,7 @@ fn declare(alloc: Global, fields: &mut Vec<FieldOf>, name: &str, sort: Sort) -> 
 }
 
 /// A type with a truth value b, a whole number x, a text t and a whole number y.
-pub fn signature(alloc: Global) -> Result<Signature, Memory>
+pub(crate) fn signature(alloc: Global) -> Result<Signature, Memory>
     ensures few { IfOk result (λ made. length made.fields.items ≤ 8) }
     ensures sorts { IfOk result (λ made. model.sorts_of (plain_signature made) ≡ truths ∷ wholes ∷ texts ∷ wholes ∷ []) }
 {
@@ -50,7 +50,7 @@ pub fn signature(alloc: Global) -> Result<Signature, Memory>
 
 /// A constant, a constant and so many times a field, or the remainder of a field by a divisor.
 #[derive(Clone, Copy)]
-pub enum Side {
+pub(crate) enum Side {
     Constant(i64),
     Line(i64, i64, u32),
     Remainder(u32, u32),
@@ -69,7 +69,7 @@ fn line(alloc: Global, constant: i64, by: i64, field: u32) -> Result<Form, FormS
     Form::of_sum(alloc, &parts)
 }
 
-pub fn form(alloc: Global, side: Side) -> Result<Form, FormStop> {
+pub(crate) fn form(alloc: Global, side: Side) -> Result<Form, FormStop> {
     match side {
         Side::Constant(value) => Ok(Form::number(alloc, value as i128)?),
         Side::Line(constant, by, field) => line(alloc, constant, by, field),
@@ -83,7 +83,7 @@ pub fn form(alloc: Global, side: Side) -> Result<Form, FormStop> {
 }
 
 /// The label of these values.
-pub fn label(alloc: Global, b: bool, x: i64, t: &str, y: i64) -> Result<Label, Memory>
+pub(crate) fn label(alloc: Global, b: bool, x: i64, t: &str, y: i64) -> Result<Label, Memory>
     ensures { IfOk result (λ made. KeepsSorts (truths ∷ wholes ∷ texts ∷ wholes ∷ []) (label_meaning made)) }
 {
     let mut values = Vec::new(alloc);
@@ -95,7 +95,7 @@ pub fn label(alloc: Global, b: bool, x: i64, t: &str, y: i64) -> Result<Label, M
 }
 
 /// That one whole number is less than another one.
-pub fn less(alloc: Global, left: u32, right: u32) -> Result<RowAtom, Memory>
+pub(crate) fn less(alloc: Global, left: u32, right: u32) -> Result<RowAtom, Memory>
     requires left { left < 2 }
     requires right { right < 2 }
     ensures { IfOk result (RowFits (truths ∷ wholes ∷ texts ∷ wholes ∷ [])) }
@@ -108,7 +108,7 @@ pub fn less(alloc: Global, left: u32, right: u32) -> Result<RowAtom, Memory>
 }
 
 /// The map to x < y, two whole numbers and the same text.
-pub fn exchange(alloc: Global, left: u32, right: u32) -> Result<RowMap, Memory>
+pub(crate) fn exchange(alloc: Global, left: u32, right: u32) -> Result<RowMap, Memory>
     requires left { left < 2 }
     requires right { right < 2 }
     ensures fit { IfOk result (λ made. EntriesFit (truths ∷ wholes ∷ texts ∷ wholes ∷ []) (map plain_entry made.entries.items)) }
