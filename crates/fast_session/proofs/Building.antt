@@ -66,7 +66,7 @@ module _ (items : List Item) (whole : IsSound items) (item : Item) (at : StandsI
 
 module _ (a : Around) (names : List (List ℕ)) (item : Item) (k : Kept) (b : IsBuildable a names item k) (d : DefItem) (is : item.body ≡ def d) where
   whole : IsSound (items_in a)
-  whole = sound (items_in a) b.checked.well_formed
+  whole = sound (items_in a) a.checked.now.well_formed
 
   pub value_is : definition_of (items_in a) d.name.text ≡ Some d.value
   value_is = value_found (items_in a) whole item b.at d is

@@ -27,7 +27,7 @@ with_kept s k = record s { kept = k }
 module _ (s : Session) (k : Kept) (more : IsBuiltMore (items_in s) s.kept k) where
   pub at_more : (done : List Outcome) → IsAt s done → IsAt (with_kept s k) done
   at_more done at = record {
-    over = record { checked = at.over.checked; shallow = at.over.shallow };
+    over = record { shallow = at.over.shallow };
     running = at.running;
     count = at.count;
     low = at.low;

@@ -28,7 +28,7 @@ use Rattle.fast_session.specs.Items.{is_member}
 
 module _ (a : Around) (item : Item) (k : Kept) (ready : IsReady a item k) (composable : IsComposable (items_in a) item.body) where
   pub whole : IsSound (items_in a)
-  whole = sound (items_in a) ready.checked.well_formed
+  whole = sound (items_in a) a.checked.now.well_formed
 
   abbrev before : List Item
   before = ready.at.before

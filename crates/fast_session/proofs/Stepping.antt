@@ -3,7 +3,6 @@ use Rattle.std.proofs.Common.{◌≡◌, ◌≤◌, ◌<◌, ◌+◌, ℕ, suc, 
 use Rattle.std.specs.List.{list_all}
 use Rattle.model_grammar.specs.Syntax.{Item}
 use Rattle.model_run.specs.Outcomes.{Outcome}
-use Rattle.program_check.specs.Tells.{IsChecked}
 use Rattle.program_check.specs.declared.programs.Checked.{Checked}
 use Rattle.fast_syntax.specs.declared.items.Item as syntax
 use Rattle.fast_syntax.specs.declared.items.Program.{Program}
@@ -38,10 +37,7 @@ module _ (old : Session) (done : List Outcome) (at : IsAt old done) (item : Item
   module _ (new : Session) (same : new.checked ≡ old.checked) (limited : new.limit ≡ old.limit) (next : new.next ≡ old.next + 1) (running : new.ended ≡ None) where
     pub at_next : (o : Outcome) → IsDone (items_in old) item old.kept new.kept o → IsAt new (o ∷ done)
     at_next o did = record {
-      over = record {
-        checked = subst IsChecked (sym same) at.over.checked;
-        shallow = subst (λ n. n ≤ 2000) (sym limited) at.over.shallow;
-      };
+      over = record { shallow = subst (λ n. n ≤ 2000) (sym limited) at.over.shallow };
       running = running;
       count = ap suc at.count ∙ (sym (add-one old.next) ∙ sym next);
       low = subst (λ its. new.next ≤ length its) (sym (ap items_of same)) (omega (arith, next, low));

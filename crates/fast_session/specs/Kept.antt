@@ -3,7 +3,6 @@ use Rattle.std.specs.Prelude.{◌≡◌, ◌≤◌, true, List}
 use Rattle.model_grammar.specs.Syntax.{Item}
 use Rattle.model_checks.specs.Sound.{StandsIn}
 use Rattle.model_run.specs.Outcomes.{Outcome, trees_in}
-use Rattle.program_check.specs.Tells.{IsChecked}
 use Rattle.fast_build.specs.Items.{items_of}
 use Rattle.fast_eval.specs.Defined.{AreDefined}
 use Rattle.fast_eval.specs.Table.{AreBuilt}
@@ -24,7 +23,6 @@ pub record IsKept (items done : List Item) (k : Kept) : Type 0 where
 
 -- the item stands in the program, and those before it are done with some outcomes
 pub record IsReady (a : Around) (item : Item) (k : Kept) : Type 0 where
-  pub checked : IsChecked a.checked.now
   pub at : StandsIn (items_in a) item
   pub kept : IsKept (items_in a) at.before k
   pub outcomes : List Outcome

@@ -10,7 +10,6 @@ use Rattle.model_names.specs.Declared.{own_name}
 use Rattle.model_run.specs.Items.{IsComposable}
 use Rattle.model_run.specs.Causes.{HasCause, TreeHasCause}
 use Rattle.model_run.specs.Report.{named_x, IsNeeded}
-use Rattle.program_check.specs.Tells.{IsChecked}
 use Rattle.fast_eval.specs.Defined.{AreDefinedOf}
 use Rattle.fast_eval.specs.Table.{AreBuilt}
 use Rattle.fast_session.specs.declared.answers.Halt.{Halt}
@@ -56,7 +55,6 @@ pub record AreNeeded (items : List Item) (name : List ℕ) (names : List (List �
 
 -- the definitions before the item that have one of the names are built
 pub record IsBuildable (a : Around) (names : List (List ℕ)) (item : Item) (k : Kept) : Type 0 where
-  pub checked : IsChecked a.checked.now
   pub at : StandsIn (items_in a) item
   pub built : AreBuilt (items_in a) k.built
   pub closed : AreClosedFrom (items_in a) 0 names

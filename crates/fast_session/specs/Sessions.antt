@@ -6,7 +6,6 @@ use Rattle.model_names.specs.Kinds.{Kind}
 use Rattle.model_run.specs.Texts.{IsNameOf}
 use Rattle.fast_eval.specs.Forms.{IsReadyName}
 use Rattle.model_run.specs.Outcomes.{Outcome, silent, trees_in, IsOutcome}
-use Rattle.program_check.specs.Tells.{IsChecked}
 use Rattle.fast_build.specs.Items.{items_of}
 use Rattle.tree_values.specs.Trees.{Tells}
 use Rattle.fast_session.specs.declared.answers.Step.{Step}
@@ -24,7 +23,6 @@ items_in s = items_of s.checked
 
 -- what is so of each session
 pub record IsOver (s : Session) : Type 0 where
-  pub checked : IsChecked s.checked
   pub shallow : s.limit ≤ 2000
 
 -- it hasn't ended, and its items that are done had these outcomes, the last one first

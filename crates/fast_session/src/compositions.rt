@@ -4,7 +4,6 @@ ghost use Rattle.std.specs.Prelude.{◌≤◌, IfErr, OnOk};
 ghost use Rattle.std.specs.List.{Contains};
 ghost use Rattle.fast_syntax.specs.Plain.{plain_item};
 ghost use Rattle.model_run.specs.Items.{IsComposable};
-ghost use Rattle.program_check.specs.Tells.{IsChecked};
 ghost use Rattle.fast_session.specs.Items.{IsAlwaysStopped};
 ghost use Rattle.fast_session.specs.Kept.{items_in};
 
@@ -17,7 +16,6 @@ use std::alloc::Global;
 
 /// Whether the compositions of the item can be made.
 pub fn can_compose(alloc: Global, around: &Around, item: &Item) -> Result<(), Stopped>
-    requires checked { IsChecked around.now.checked.now }
     requires there { Contains (items_in around.now) (plain_item item.now) }
     requires shallow { around.now.limit ≤ 2000 }
     ensures composable { OnOk result (IsComposable (items_in around.now) (plain_item item.now).body) }

@@ -9,7 +9,6 @@ ghost use Rattle.model_names.specs.Kinds.{language};
 ghost use Rattle.model_meaning.specs.Meaning.{IsInLanguage, input_type};
 ghost use Rattle.model_run.specs.Report.{named_x};
 ghost use Rattle.model_run.specs.Texts.{IsNameOf};
-ghost use Rattle.program_check.specs.Tells.{IsChecked};
 ghost use Rattle.fast_eval.specs.Forms.{AreKnown};
 ghost use Rattle.fast_eval.specs.Table.{AreBuilt};
 ghost use Rattle.tree_values.specs.Trees.{meant};
@@ -52,7 +51,6 @@ pub fn is_member(
     name: &str,
     tree: &Tree<Label>,
 ) -> Result<bool, Memory>
-    requires checked { IsChecked around.now.checked.now }
     requires shallow { around.now.limit ≤ 2000 }
     requires built { AreBuilt (items_in around.now) kept.old.built }
     requires language { IsNameOf (items_in around.now) language (chars name.now) }

@@ -7,7 +7,6 @@ ghost use Rattle.model_grammar.specs.Syntax as plain;
 ghost use Rattle.model_program.specs.Syntax.{Name};
 ghost use Rattle.model_names.specs.Declared.{own_name};
 ghost use Rattle.meaning_laws.specs.Shapes.{has_automaton_shape};
-ghost use Rattle.program_check.specs.Tells.{IsChecked};
 ghost use Rattle.fast_build.specs.Items.{items_of};
 ghost use Rattle.fast_build.specs.Reached.{IsGrown};
 ghost use Rattle.fast_session.specs.Needed.{own_def, names_in, IsFollowed, AreNeeded};
@@ -83,7 +82,6 @@ fn follow(alloc: Global, item: &Item, names: &mut IndexSet<Text>) -> Result<(), 
 
 /// The name, and the names on which it depends as far as definitions lead.
 pub fn names_for(alloc: Global, checked: &Checked, name: &Text) -> Result<IndexSet<Text>, Memory>
-    requires checked { IsChecked checked.now }
     ensures { IfOk result (λ names. AreNeeded (items_of checked.now) name.now names.keys) }
 {
     let items = checked.program().items.as_slice();

@@ -8,7 +8,6 @@ ghost use Rattle.model_names.specs.Kinds.{transformation};
 ghost use Rattle.model_meaning.specs.Meaning.{input_type};
 ghost use Rattle.model_run.specs.Report.{named_x};
 ghost use Rattle.model_run.specs.Texts.{IsNameOf};
-ghost use Rattle.program_check.specs.Tells.{IsChecked};
 ghost use Rattle.fast_eval.specs.Forms.{IsReadyName};
 ghost use Rattle.fast_eval.specs.Outputs.{cut_tree, AreOutputsOf};
 ghost use Rattle.fast_eval.specs.Table.{AreBuilt};
@@ -34,7 +33,6 @@ pub fn outputs_of<'t>(
     name: &str,
     tree: &'t Tree<Label>,
 ) -> Result<Vec<Cut<'t, Label>>, Stopped>
-    requires checked { IsChecked around.now.checked.now }
     requires shallow { around.now.limit ≤ 2000 }
     requires built { AreBuilt (items_in around.now) kept.old.built }
     requires named { IsNameOf (items_in around.now) transformation (chars name.now) }

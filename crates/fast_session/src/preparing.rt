@@ -11,7 +11,6 @@ ghost use Rattle.model_names.specs.Declared.{own_name};
 ghost use Rattle.model_run.specs.Items.{IsComposable};
 ghost use Rattle.model_run.specs.Report.{AreNeededComposable};
 ghost use Rattle.model_run.specs.Texts.{IsNameOf};
-ghost use Rattle.program_check.specs.Tells.{IsChecked};
 ghost use Rattle.fast_eval.specs.Forms.{IsReadyName};
 ghost use Rattle.fast_eval.specs.Defined.{IsDefined, AreDefinedOf};
 ghost use Rattle.fast_eval.specs.Table.{AreBuilt};
@@ -71,7 +70,6 @@ fn build_each(
     kept: &mut Kept,
     names: &IndexSet<Text>,
 ) -> Result<(), Halt>
-    requires checked { IsChecked around.now.checked.now }
     requires shallow { around.now.limit ≤ 2000 }
     requires built { AreBuilt (items_in around.now) kept.old.built }
     requires closed { AreClosedFrom (items_in around.now) 0 names.now.keys }
@@ -89,7 +87,6 @@ fn build_each(
 
 /// Builds what the name needs.
 pub fn prepare(alloc: Global, around: &Around, kept: &mut Kept, name: &str) -> Result<(), Halt>
-    requires checked { IsChecked around.now.checked.now }
     requires shallow { around.now.limit ≤ 2000 }
     requires built { AreBuilt (items_in around.now) kept.old.built }
     ensures more { IsBuiltMore (items_in around.now) kept.old kept.new }

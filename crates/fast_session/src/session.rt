@@ -12,7 +12,6 @@ ghost use Rattle.tree_values.specs.Trees.{meant};
 ghost use Rattle.fast_session.specs.declared.answers.Halt.TheVariants as halts;
 ghost use Rattle.fast_eval.specs.Outputs.{cut_tree, AreOutputsOf};
 ghost use Rattle.fast_session.specs.Needed.{IsHaltNeeded, IsTreeStopped};
-ghost use Rattle.program_check.specs.Tells.{IsChecked};
 ghost use Rattle.model_run.specs.Outcomes.{Outcome};
 ghost use Rattle.fast_session.specs.declared.answers.Ending.{Ending};
 ghost use Rattle.fast_session.specs.Answers.{again, ending_of, step_of};
@@ -65,7 +64,6 @@ fn step_of(line: Option<Line>) -> Step
 impl Session {
     /// A session in which nothing is done. `limit` is how many trees may be told apart.
     pub fn new(alloc: Global, checked: Checked, limit: u32) -> Result<Session, Memory>
-        requires checked { IsChecked checked }
         requires shallow { limit ≤ 2000 }
         ensures at { IfOk result (λ s. IsAt s []) }
         ensures program { IfOk result (λ s. s.checked ≡ checked) }

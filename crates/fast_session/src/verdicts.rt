@@ -4,7 +4,6 @@ ghost use Rattle.std.specs.Prelude.{◌≡◌, ℕ, List, true, false, IfOk, IfE
 ghost use Rattle.fast_syntax.specs.Plain.{plain_x, plain_claim, plain_assert, plain_item};
 ghost use Rattle.model_grammar.specs.Syntax as plain;
 ghost use Rattle.model_run.specs.Items.{IsComposable};
-ghost use Rattle.program_check.specs.Tells.{IsChecked};
 ghost use Rattle.fast_eval.specs.Forms.{IsMadeAt};
 ghost use Rattle.fast_session.specs.Answers.{line_outcome};
 ghost use Rattle.fast_session.specs.Kept.{items_in, IsReady};
@@ -146,7 +145,6 @@ fn line_of(
     own: &AssertItem,
     verdict: Verdict,
 ) -> Result<Line, Memory>
-    requires checked { IsChecked around.now.checked.now }
     requires made { (type : List ℕ) × IsMadeAt (items_in around.now) type (spoken_of (plain_claim own.now.claim)) }
     ensures { IfOk result (λ l. line_outcome (items_in around.now) l ≡ verdict_outcome (items_in around.now) line (plain_assert own.now) verdict) }
 {

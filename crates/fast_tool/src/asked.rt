@@ -7,7 +7,6 @@ ghost use Rattle.fast_syntax.specs.Plain.{plain_program};
 ghost use Rattle.fast_tool.specs.Commands.{kind_asked};
 ghost use Rattle.fast_tool.specs.Taken.{HeldReport};
 ghost use Rattle.model_meaning.specs.Meaning.{input_type};
-ghost use Rattle.program_check.specs.Tells.{IsChecked};
 ghost use Rattle.model_run.specs.Report.{named_x, trees_script, NameReport, StatusReport, Reports};
 ghost use Rattle.model_run.specs.Scripts.{Writes};
 ghost use Rattle.model_run.specs.Texts.{IsNameOf};
@@ -33,7 +32,6 @@ fn answer_trees<K: Sink>(
     placed: &[PlacedTree],
     sink: &mut K,
 ) -> Status
-    requires checked { IsChecked checked }
     requires named { IsNameOf (plain_program checked.program) (kind_asked asked.question) name.now }
     requires typed { AreOfType (input_type (plain_program checked.program) (named_x name.now)) (map plain_placed placed.now) }
     ensures report { Reports (StatusReport (Writes (trees_script (plain_program checked.program) asked.entry.file.now name.now asked.entry.trees.now (kind_asked asked.entry.question) (map plain_placed placed.now)))) result (K.written sink.old) (K.written sink.new) }
@@ -62,7 +60,6 @@ fn answer_name<T: TextSource, K: Sink>(
     texts: &mut T,
     sink: &mut K,
 ) -> Status
-    requires checked { IsChecked checked }
     ensures report { Reports (StatusReport (NameReport asked.entry.file.now asked.entry.name.now asked.entry.trees.now (kind_asked asked.entry.question) (T.held texts.old asked.entry.trees.now) (plain_program checked.program))) result (K.written sink.old) (K.written sink.new) }
     ensures later { K.faults sink.old ≤ K.faults sink.new }
     ensures rose { result ≡ SinkFault → Rose (K.faults sink.old) (K.faults sink.new) }

@@ -5,7 +5,6 @@ ghost use Rattle.fast_fault.specs.Written.{Rose};
 ghost use Rattle.fast_fault.specs.declared.status.Status.TheVariants.{SinkFault, TextFault};
 ghost use Rattle.fast_fault.specs.declared.status.Status.TheVariants as ends;
 ghost use Rattle.fast_syntax.specs.Plain.{plain_program};
-ghost use Rattle.program_check.specs.Tells.{IsChecked};
 ghost use Rattle.model_grammar.specs.Syntax as plain;
 ghost use Rattle.model_run.specs.Generator.{self_text};
 ghost use Rattle.model_run.specs.Outcomes.{Outcome};
@@ -62,7 +61,6 @@ fn verdict_in(line: &Line) -> Option<bool>
 
 /// The verdict of a line that can be shown.
 fn shown_verdict(alloc: Global, checked: &Checked, line: &Line) -> Result<Option<bool>, Status>
-    requires checked { IsChecked checked.now }
     requires typed { IsTyped (line_outcome (items_of checked.now) line.now) }
     ensures verdict { IfOk result (λ verdict. verdict ≡ verdict_in (line_outcome (items_of checked.now) line.now)) }
     ensures scalars { OnOk result (HaveScalars (line_outcome (items_of checked.now) line.now)) }

@@ -4,7 +4,6 @@ ghost use Rattle.std.specs.Prelude.{◌≡◌, ◌≢◌, ◌≤◌, ◌<◌, Li
 ghost use Rattle.fast_fault.specs.Written.{Appends, Rose};
 ghost use Rattle.fast_fault.specs.declared.status.Status.TheVariants.{SinkFault, TextFault};
 ghost use Rattle.fast_syntax.specs.Plain.{plain_program};
-ghost use Rattle.program_check.specs.Tells.{IsChecked};
 ghost use Rattle.model_grammar.specs.Syntax as plain;
 ghost use Rattle.model_run.specs.Outcomes.{Outcome, says_fail, line_of};
 ghost use Rattle.model_run.specs.Report.{Reports, RunReport, StatusReport};
@@ -38,7 +37,6 @@ fn put_outcome<K: Sink>(
     line: &Line,
     sink: &mut K,
 ) -> Result<bool, Status>
-    requires checked { IsChecked checked.now }
     requires typed { IsTyped (line_outcome (items_of checked.now) line.now) }
     ensures put { IfOk result (λ fails. Appends (K.written sink.old) (K.written sink.new) (line_of (line_outcome (items_of checked.now) line.now)) × (fails ≡ says_fail (line_outcome (items_of checked.now) line.now))) }
     ensures scalars { OnOk result (HaveScalars (line_outcome (items_of checked.now) line.now)) }
@@ -109,7 +107,6 @@ pub fn run_program<K: Sink>(
     limit: u32,
     sink: &mut K,
 ) -> Status
-    requires checked { IsChecked checked }
     requires shallow { limit ≤ 2000 }
     ensures report { Reports (StatusReport (RunReport file.now limit (plain_program checked.program))) result (K.written sink.old) (K.written sink.new) }
     ensures later { K.faults sink.old ≤ K.faults sink.new }

@@ -7,7 +7,6 @@ ghost use Rattle.model_tree.specs.Signature.{HasType};
 ghost use Rattle.model_meaning.specs.Meaning.{signature_named};
 ghost use Rattle.fast_tree.specs.Entries.{label_meaning};
 ghost use Rattle.model_run.specs.Outcomes.{verdict, tree_line, minimal_line, shown_tree, line_of};
-ghost use Rattle.program_check.specs.Tells.{IsChecked};
 ghost use Rattle.fast_build.specs.Items.{items_of};
 ghost use Rattle.fast_session.specs.Answers.{verdict_on, line_outcome};
 ghost use Rattle.fast_session.specs.Items.{HaveScalars, IsTyped};
@@ -37,7 +36,6 @@ pub fn append_tree(
     of: &Text,
     tree: &Tree<Label>,
 ) -> Result<(), Memory>
-    requires checked { IsChecked checked.now }
     requires typed { HasType (signature_named (items_of checked.now) (Some of.now)) (relabel label_meaning tree.now) }
     ensures text { OnOk result (text.new.items ≡ text.old.items ++ shown_tree (signature_named (items_of checked.now) (Some of.now)) (relabel label_meaning tree.now)) }
     ensures scalars { OnOk result (has_scalars (relabel label_meaning tree.now) ≡ true) }
@@ -58,7 +56,6 @@ fn tree_text(
     of: &Text,
     tree: &Tree<Label>,
 ) -> Result<Vec<u8>, Memory>
-    requires checked { IsChecked checked.now }
     requires typed { HasType (signature_named (items_of checked.now) (Some of.now)) (relabel label_meaning tree.now) }
     ensures text { IfOk result (λ text. text.items ≡ line_of (tree_line name.now (signature_named (items_of checked.now) (Some of.now)) (relabel label_meaning tree.now))) }
     ensures scalars { OnOk result (has_scalars (relabel label_meaning tree.now) ≡ true) }
@@ -79,7 +76,6 @@ fn verdict_text(
     of: &Text,
     shown: &Option<Tree<Label>>,
 ) -> Result<Vec<u8>, Memory>
-    requires checked { IsChecked checked.now }
     requires typed { IsTyped (verdict_on line passes (signature_named (items_of checked.now) (Some of.now)) shown.now) }
     ensures text { IfOk result (λ text. text.items ≡ line_of (verdict_on line passes (signature_named (items_of checked.now) (Some of.now)) shown.now)) }
     ensures scalars { OnOk result (HaveScalars (verdict_on line passes (signature_named (items_of checked.now) (Some of.now)) shown.now)) }
@@ -104,7 +100,6 @@ fn minimal_text(alloc: Global, name: &Text, count: u32) -> Result<Vec<u8>, Memor
 
 /// The text of a line.
 pub fn line_text(alloc: Global, checked: &Checked, line: &Line) -> Result<Vec<u8>, Memory>
-    requires checked { IsChecked checked.now }
     requires typed { IsTyped (line_outcome (items_of checked.now) line.now) }
     ensures text { IfOk result (λ text. text.items ≡ line_of (line_outcome (items_of checked.now) line.now)) }
     ensures scalars { OnOk result (HaveScalars (line_outcome (items_of checked.now) line.now)) }

@@ -4,7 +4,7 @@ ghost use Rattle.std.specs.Prelude.{◌≡◌, IfOk, IfErr, IfSome, IfNone};
 ghost use Rattle.fast_tree.specs.Signatures.{plain_signature};
 ghost use Rattle.model_names.specs.Kinds.{transformation};
 ghost use Rattle.model_meaning.specs.Meaning.{input_type, output_type};
-ghost use Rattle.program_check.specs.Tells.{IsChecked, kind_view};
+ghost use Rattle.program_check.specs.Tells.{kind_view};
 ghost use Rattle.fast_build.specs.Items.{items_of};
 ghost use Rattle.model_run.specs.Report.{named_x};
 ghost use Rattle.fast_tool.specs.Commands.{kind_asked};
@@ -45,7 +45,6 @@ pub fn type_of_trees<'c>(
     name: &Text,
     question: Question,
 ) -> Result<&'c Signature, Code>
-    requires { IsChecked checked.now }
     ensures named { IfOk result (λ _. IsNameOf (items_of checked.now) (kind_asked question) name.now) }
     ensures of { IfOk result (λ signature. plain_signature signature.now ≡ input_type (items_of checked.now) (named_x name.now)) }
     ensures refused { IfErr result (IsNameRefused (items_of checked.now) (kind_asked question) name.now) }
@@ -64,7 +63,6 @@ pub fn type_of_trees<'c>(
 
 /// The type of the outputs of the transformation of this name.
 pub fn type_of_outputs<'c>(checked: &'c Checked, name: &Text) -> &'c Signature
-    requires checked { IsChecked checked.now }
     requires named { IsNameOf (items_of checked.now) transformation name.now }
     ensures { plain_signature result.now ≡ output_type (items_of checked.now) (named_x name.now) }
 {

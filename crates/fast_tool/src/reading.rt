@@ -6,7 +6,6 @@ ghost use Rattle.fast_fault.specs.Written.{Rose};
 ghost use Rattle.fast_tree.specs.Signatures.{plain_signature};
 ghost use Rattle.fast_fault.specs.declared.status.Status.TheVariants.{SinkFault, TextFault};
 ghost use Rattle.fast_syntax.specs.Plain.{plain_program};
-ghost use Rattle.program_check.specs.Tells as told;
 ghost use Rattle.model_run.specs.Texts.{IsChecked, IsRefused, IsFileRefused};
 ghost use Rattle.text_reader.specs.Answers.{IfRefused};
 ghost use Rattle.fast_tool.specs.Taken.{IsProgramOf, AreTreesOf, TextAnswer, IsNotTaken, IsToldOf};
@@ -26,7 +25,6 @@ const MOST: u64 = 1_048_576;
 /// The well-formed program that the bytes are.
 pub fn read_checked(alloc: Global, bytes: &[u8]) -> Result<Checked, ReadStop>
     ensures program { IfOk result (λ checked. IsChecked bytes.now (plain_program checked.program)) }
-    ensures checked { IfOk result told.IsChecked }
     ensures refused { IfRefused result (λ refusal. IsRefused bytes.now refusal.code refusal.place) }
 {
     let program = read(alloc, bytes)?;
@@ -88,7 +86,6 @@ pub fn take_checked<T: TextSource, K: Sink>(
     sink: &mut K,
 ) -> Result<Checked, Status>
     ensures program { IfOk result (λ checked. IsProgramOf (T.held texts.old file.now) (plain_program checked.program)) }
-    ensures checked { IfOk result told.IsChecked }
     ensures untouched { OnOk result (sink.new ≡ sink.old) }
     ensures report { IfErr result (λ status. TextAnswer IsRefused file.now (T.held texts.old file.now) (K.written sink.old) (K.written sink.new) status) }
     ensures same { (name : List ℕ) → T.held texts.new name ≡ T.held texts.old name }

@@ -7,7 +7,6 @@ ghost use Rattle.model_tree.specs.Scalars.{has_scalars};
 ghost use Rattle.model_tree.specs.Signature.{HasType};
 ghost use Rattle.model_run.specs.Lines.{refusal_line, name_line, stop_shows, stop_line};
 ghost use Rattle.model_run.specs.Outcomes.{shown_tree};
-ghost use Rattle.program_check.specs.Tells.{IsChecked};
 ghost use Rattle.fast_build.specs.Items.{items_of};
 ghost use Rattle.tree_values.specs.Stops.{type_of_tree};
 ghost use Rattle.tree_values.specs.Trees.{meant};
@@ -126,7 +125,6 @@ fn show(
     checked: &Checked,
     shown: &TypedTree,
 ) -> Result<(), Memory>
-    requires checked { IsChecked checked.now }
     requires typed { HasType (type_of_tree (items_of checked.now) shown.now) (meant shown.now.tree) }
     ensures text { OnOk result (text.new.items ≡ text.old.items ++ shown_tree (type_of_tree (items_of checked.now) shown.now) (meant shown.now.tree)) }
     ensures scalars { OnOk result (has_scalars (meant shown.now.tree) ≡ true) }
@@ -136,7 +134,6 @@ fn show(
 
 /// What the line of a refusal shows of a tree without output.
 fn shown_none(alloc: Global, checked: &Checked, input: &TypedTree) -> Result<Vec<u8>, Memory>
-    requires checked { IsChecked checked.now }
     requires typed { IsCauseTyped (items_of checked.now) (NoOutput input.now) }
     ensures text { IfOk result (λ text. text.items ≡ stop_shows (plain_cause (items_of checked.now) (NoOutput input.now))) }
     ensures scalars { OnOk result (CanBeShown (NoOutput input.now)) }
@@ -148,7 +145,6 @@ fn shown_none(alloc: Global, checked: &Checked, input: &TypedTree) -> Result<Vec
 
 /// What the line of a refusal shows of a tree with two outputs.
 fn shown_two(alloc: Global, checked: &Checked, two: &TwoOutputs) -> Result<Vec<u8>, Memory>
-    requires checked { IsChecked checked.now }
     requires typed { IsCauseTyped (items_of checked.now) (SeveralOutputs two.now) }
     ensures text { IfOk result (λ text. text.items ≡ stop_shows (plain_cause (items_of checked.now) (SeveralOutputs two.now))) }
     ensures scalars { OnOk result (CanBeShown (SeveralOutputs two.now)) }
@@ -185,7 +181,6 @@ fn shown_uncomposed(
     checked: &Checked,
     shown: &Uncomposable,
 ) -> Result<Vec<u8>, Memory>
-    requires checked { IsChecked checked.now }
     requires typed { IsCauseTyped (items_of checked.now) (NotComposable shown.now) }
     ensures text { IfOk result (λ text. text.items ≡ stop_shows (plain_cause (items_of checked.now) (NotComposable shown.now))) }
     ensures scalars { OnOk result (CanBeShown (NotComposable shown.now)) }
@@ -204,7 +199,6 @@ fn shown_uncomposed(
 
 /// What the line of a refusal of an item shows behind the place.
 fn shown_for(alloc: Global, checked: &Checked, cause: &Cause) -> Result<Vec<u8>, Memory>
-    requires checked { IsChecked checked.now }
     requires typed { IsCauseTyped (items_of checked.now) cause.now }
     ensures text { IfOk result (λ text. text.items ≡ stop_shows (plain_cause (items_of checked.now) cause.now)) }
     ensures scalars { OnOk result (CanBeShown cause.now) }
@@ -230,7 +224,6 @@ fn refused_text(
     place: Pos,
     cause: &Cause,
 ) -> Result<Vec<u8>, Memory>
-    requires checked { IsChecked checked.now }
     requires typed { IsCauseTyped (items_of checked.now) cause.now }
     ensures text { IfOk result (λ text. text.items ≡ stop_line (plain_cause (items_of checked.now) cause.now) file.now place) }
     ensures scalars { OnOk result (CanBeShown cause.now) }
@@ -251,7 +244,6 @@ pub fn refuse_item<K: Sink>(
     place: Pos,
     cause: &Cause,
 ) -> Status
-    requires checked { IsChecked checked.now }
     requires typed { IsCauseTyped (items_of checked.now) cause.now }
     ensures ends { IsRefusal (CanBeShown cause.now) (K.written sink.old) (K.written sink.new) (stop_line (plain_cause (items_of checked.now) cause.now) file.now place) result }
     ensures later { K.faults sink.old ≤ K.faults sink.new }

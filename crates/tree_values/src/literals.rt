@@ -8,7 +8,6 @@ ghost use Rattle.model_names.specs.Declared.{same_text, find_type};
 ghost use Rattle.model_tree.specs.Signature.{names_of};
 ghost use Rattle.model_meaning.specs.Outputs.{number_named};
 ghost use Rattle.model_meaning.specs.Meaning.{signature_named};
-ghost use Rattle.program_check.specs.Tells.{IsChecked};
 ghost use Rattle.fast_build.specs.Items.{items_of};
 ghost use Rattle.tree_values.specs.Forms.{IsLabelled};
 ghost use Rattle.tree_values.specs.Values.{IsAbove};
@@ -73,7 +72,6 @@ pub(crate) fn literal(
     labels: &[Expr],
     below: Below,
 ) -> Result<Measured, Memory>
-    requires checked { IsChecked checked.now }
     requires declared { is_some (find_type (items_of checked.now) of.now) ≡ true }
     requires node { IsLabelled (signature_named (items_of checked.now) (Some of.now)) name.now (map plain_expr labels.now) }
     ensures { IfOk result (IsAbove (signature_named (items_of checked.now) (Some of.now)) name.now (map plain_expr labels.now) below) }

@@ -17,7 +17,7 @@ returns-in_err-x-clause-more c = nothing_more (items_in c.args.around.now) c.arg
 pub belongs-requires-clause-made : goal.belongs-requires-clause-made
 belongs-requires-clause-made c =
     let items = items_in c.args.around.now in
-    let m = name_made items (sound items c.requires.checked.well_formed) (chars c.args.name.now) c.requires.language in
+    let m = name_made items (sound items c.args.around.now.checked.now.well_formed) (chars c.args.name.now) c.requires.language in
     (m.0, subst (IsMadeOn items m.0) (sym c.in_ok-x.ensures) m.1)
 
 pub belongs-requires-clause-known : goal.belongs-requires-clause-known

@@ -13,7 +13,7 @@ use Rattle.fast_session.proofs.needed.names_for.Goals as goal
 pub items-init : goal.items-init
 items-init c =
     let items = items_of c.args.checked.now in
-    let whole = sound items c.requires.checked.well_formed in
+    let whole = sound items c.args.checked.now.well_formed in
     let many = length-map c.args.checked.now.program.items.items plain_item in
     let slice = ap length c.as_slice-items.ensures.value in
     let top = ap (λ p. length p.items.items) c.program.ensures in
@@ -29,12 +29,12 @@ follow-requires c = λ d is.
     let n = c.items.left - 1 in
     let item = plain_item c.index-items-left.result in
     let w = item_there c.args.checked.now c.program.result.now c.as_slice-items.result.now n (length c.as_slice-items.result.now) c.index-items-left.result c.program.ensures c.as_slice-items.ensures.value (omega (arith, c.items-test.true, c.items.invariant.low)) refl c.index-items-left.is in
-    form items (sound items c.requires.checked.well_formed) item (record { before = take n items; behind = drop (suc n) items; is = splits_next items n item w.0 w.1 }) d is)
+    form items (sound items c.args.checked.now.well_formed) item (record { before = take n items; behind = drop (suc n) items; is = splits_next items n item w.0 w.1 }) d is)
 
 pub items-preserved : goal.items-preserved
 items-preserved c =
     let items = items_of c.args.checked.now in
-    let whole = sound items c.requires.checked.well_formed in
+    let whole = sound items c.args.checked.now.well_formed in
     let n = c.items.left - 1 in
     let item = plain_item c.index-items-left.result in
     let w = item_there c.args.checked.now c.program.result.now c.as_slice-items.result.now n (length c.as_slice-items.result.now) c.index-items-left.result c.program.ensures c.as_slice-items.ensures.value (omega (arith, c.items-test.true, c.items.invariant.low)) refl c.index-items-left.is in
@@ -49,4 +49,4 @@ pub returns : goal.returns
 returns c =
     let items = items_of c.args.checked.now in
     let none : c.items.left ≡ 0 = omega (arith, c.items-test.false) in
-    all_needed items (sound items c.requires.checked.well_formed) c.args.name.now c.items.names.keys (subst (λ k. AreSoFar items c.args.name.now k c.items.names.keys) none c.items.invariant.so_far)
+    all_needed items (sound items c.args.checked.now.well_formed) c.args.name.now c.items.names.keys (subst (λ k. AreSoFar items c.args.name.now k c.items.names.keys) none c.items.invariant.so_far)

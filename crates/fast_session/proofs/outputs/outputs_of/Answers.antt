@@ -18,7 +18,7 @@ returns-in_err-x-clause-more c = nothing_more (items_in c.args.around.now) c.arg
 pub outputs-requires-clause-made : goal.outputs-requires-clause-made
 outputs-requires-clause-made c =
     let items = items_in c.args.around.now in
-    let m = trans_name_made items (sound items c.requires.checked.well_formed) (chars c.args.name.now) c.requires.named in
+    let m = trans_name_made items (sound items c.args.around.now.checked.now.well_formed) (chars c.args.name.now) c.requires.named in
     (m.0, m.1, subst (IsMadeFrom items m.0 m.1) (sym c.in_ok-x.ensures) m.2)
 
 pub outputs-requires-clause-known : goal.outputs-requires-clause-known

@@ -24,7 +24,6 @@ build-requires c =
     let item = plain_item c.item-item.result in
     let w = item_there c.args.around.now.checked.now c.program.result.now c.as_slice-items.result.now n (length c.as_slice-items.result.now) c.item-item.result c.program.ensures c.as_slice-items.ensures.value (omega (arith, c.items-test.true)) refl c.item-item.is in
     record {
-      checked = c.requires.checked;
       at = record { before = take n items; behind = drop (suc n) items; is = splits_next items n item w.0 w.1 };
       built = c.items.invariant.more.built;
       closed = c.requires.closed;

@@ -37,4 +37,4 @@ returns-clause-composable c =
     let name = chars c.args.name.now in
     let keys = c.in_ok-names.names.keys in
     let need = subst (λ n. AreNeeded items n keys) c.in_ok-name.ensures c.in_ok-names.ensures in
-    on_ok c.build_each.result (needed_compose items (sound items c.requires.checked.well_formed) keys need.closed name need.itself) c.build_each.ensures.composable
+    on_ok c.build_each.result (needed_compose items (sound items c.args.around.now.checked.now.well_formed) keys need.closed name need.itself) c.build_each.ensures.composable

@@ -3,8 +3,8 @@ use Rattle.fast_session.proofs.Judging.{done_verdict}
 use Rattle.fast_session.proofs.Members.{spoken_made}
 use Rattle.fast_session.proofs.verdicts.do_assertion.Goals as goal
 
-pub line_of-requires-clause-made : goal.line_of-requires-clause-made
-line_of-requires-clause-made c = spoken_made _ _ _ c.requires.ready c.requires.composable _ c.requires.is
+pub line_of-requires : goal.line_of-requires
+line_of-requires c = record { made = spoken_made _ _ _ c.requires.ready c.requires.composable _ c.requires.is }
 
 pub returns-clause-done : goal.returns-clause-done
 returns-clause-done c =

@@ -10,10 +10,10 @@ returns-in_default-clause-refused c = not_declared (items_of c.args.checked.now)
 
 pub unreachable-requires : goal.unreachable-requires
 unreachable-requires c =
-    has_signature (items_of c.args.checked.now) c.requires.well_formed c.args.name.now (kind_view c.in-Some.kind) c.in-Some.ensures c.args.question c.in-Some-type_asked.ensures.some.0 c.in-Some-type_asked.of.now c.in-Some-type_asked.ensures.some.1
+    has_signature (items_of c.args.checked.now) c.args.checked.now.well_formed c.args.name.now (kind_view c.in-Some.kind) c.in-Some.ensures c.args.question c.in-Some-type_asked.ensures.some.0 c.in-Some-type_asked.of.now c.in-Some-type_asked.ensures.some.1
     c.in-None.ensures
 
 pub returns-clause-of : goal.returns-clause-of
 returns-clause-of c =
-    signature_is (items_of c.args.checked.now) c.requires.well_formed c.args.name.now (kind_view c.in-Some.kind) c.in-Some.ensures c.args.question c.in-Some-type_asked.ensures.some.0 c.in-Some-type_asked.of.now c.in-Some-type_asked.ensures.some.1
+    signature_is (items_of c.args.checked.now) c.args.checked.now.well_formed c.args.name.now (kind_view c.in-Some.kind) c.in-Some.ensures c.args.question c.in-Some-type_asked.ensures.some.0 c.in-Some-type_asked.of.now c.in-Some-type_asked.ensures.some.1
     (plain_signature c.in-Some-signature.signature.now) c.in-Some-signature.ensures

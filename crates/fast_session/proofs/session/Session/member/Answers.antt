@@ -5,7 +5,7 @@ use Rattle.fast_session.proofs.session.Session.member.Goals as goal
 
 pub is_member-requires : goal.is_member-requires
 is_member-requires c = elim c.requires.prepared [
-  | inl r ↦ record { checked = r.at.over.checked; shallow = r.at.over.shallow; built = r.at.kept.built; language = r.named; known = r.known; typed = c.requires.typed; kept = c.requires.kept }
+  | inl r ↦ record { shallow = r.at.over.shallow; built = r.at.kept.built; language = r.named; known = r.known; typed = c.requires.typed; kept = c.requires.kept }
   | inr over ↦ (let bad : false ≡ true = sym (ap is_some c.in_default.is) ∙ over in absurd (cc))
 ]
 

@@ -7,7 +7,7 @@ pub returns-clause-at : goal.returns-clause-at
 returns-clause-at c =
     let items = items_of c.args.checked in
     record {
-      over = record { checked = c.requires.checked; shallow = c.requires.shallow };
+      over = record { shallow = c.requires.shallow };
       running = refl;
       count = refl;
       low = omega arith;

@@ -5,7 +5,7 @@ use Rattle.fast_session.proofs.session.Session.prepare.Goals as goal
 
 pub prepare-requires : goal.prepare-requires
 prepare-requires c = elim c.requires.session [
-  | inl s ↦ record { checked = s.1.over.checked; shallow = s.1.over.shallow; built = s.1.kept.built }
+  | inl s ↦ record { shallow = s.1.over.shallow; built = s.1.kept.built }
   | inr over ↦ (let bad : false ≡ true = sym (ap is_some c.in_default.is) ∙ over in absurd (cc))
 ]
 

@@ -16,7 +16,6 @@ do_item-requires c =
     record {
       ready = elim c.requires.session [
         | inl s ↦ record {
-          checked = s.1.over.checked;
           at = record { before = take n items; behind = drop (suc n) items; is = splits_next items n item w.0 w.1 };
           kept = s.1.kept;
           outcomes = s.0;
