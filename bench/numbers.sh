@@ -1,7 +1,8 @@
 #!/usr/bin/env bash
 # Measures the decision of conjunctions over whole numbers, each the guard of one rule: K fields with small coefficients,
 # a remainder by K, remainders by 4096 nested K deep, K values that a field is not, an equation with the coefficient
-# K, and 24 half-spaces of K fields: with no numbers in them, with some, and with few.
+# K, an equation beside three remainders by K, with no numbers that meet them and with some, and 24 half-spaces of K fields:
+# with no numbers in them, with some, and with few.
 . "$(dirname "${BASH_SOURCE[0]}")/common.sh"
 
 # A program that asks whether a label of these many fields satisfies the guard.
@@ -50,6 +51,10 @@ unequal() {
 
 equation() { asks 1 "$1 * x1 = 5"; }
 
+# An even number whose remainder by an even one would be odd.
+halved() { asks 3 "x1 % $1 = 2 * (x2 % $1 + x3 % $1) + 1 and x1 = 2 * (x3 - x2) and x2 > 5"; }
+halved_met() { asks 3 "x1 % $1 = 2 * (x2 % $1 + x3 % $1) + 4 and x1 = 2 * (x3 - x2) and x2 > 5"; }
+
 # 24 half-spaces with coefficients up to 9: of K fields, and by how much each is past a drawn point at most (0: no point).
 drawn() {
   asks "$1" "$(awk -v count="$1" -v slack="$2" '
@@ -81,6 +86,8 @@ table run met 2 3 4 5 6 7 8
 table run remainder 16 64 256 1024 4096
 table run nested 1 2 3
 table run unequal 2 4 8 16
+table run halved 100 200 400 800 1600 3200
+table run halved_met 100 200 400 800 1600 3200
 table run equation 7 2147483647
 for kind in half_spaces half_spaces_met half_spaces_thin; do
   table run "$kind" 4 5 6 7 8
