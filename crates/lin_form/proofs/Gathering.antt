@@ -6,11 +6,13 @@ use Rattle.std.proofs.Math.Nat.{mul-le-mul}
 use Rattle.std.proofs.lemmas.Int.{ints, unsigned_abs-mul}
 use Rattle.std.proofs.lemmas.Bool.{eqb-true}
 use Rattle.std.specs.Ordering.{int_eq}
-use Rattle.model_form.specs.Form.{Form, form, Remainders, no_remainders, remainder, Term}
+use Rattle.model_form.specs.Form.{Form, form, Remainders, no_remainders, remainder, remainders_of, Term}
 use Rattle.model_form.specs.Same.{same_form}
 use Rattle.model_form.specs.Sums.{Sum, add_fields, add_like, add_remainders, add_form, is_like, without_zeros, started}
 use Rattle.model_form.specs.Ranges.{IsForm, IsCoefficient, AreFields, AreRemainders, AreApart, IsApart}
 use Rattle.lin_form.specs.Within.{IsWithin, AreTotals, AreLikes, IsGathered, TotalsBefore, LikesBefore}
+use Rattle.lin_form.specs.Whole.{AreInner}
+use Rattle.lin_form.proofs.Wholes.{add_remainders_inner}
 use Rattle.model_form.proofs.Equals.{same_laws}
 use Rattle.model_form.proofs.Values.{both_out, length-add_fields}
 
@@ -144,12 +146,13 @@ without_zeros_apart (remainder a f k rs) h = by (int_eq a (pos 0)) (without_zero
 
 -- ---- one more form
 
-pub gathered_more : (m : ℕ) (by : ℤ) (f : Form) (s : Sum) → unsigned_abs by ≤ 2 ^ 31 → IsForm f → IsGathered m s → IsGathered (suc m) (add_form by f s)
-gathered_more m by (form c ts rs) s b f h = record {
+pub gathered_more : (m : ℕ) (by : ℤ) (f : Form) (s : Sum) → unsigned_abs by ≤ 2 ^ 31 → IsForm f → AreInner (remainders_of f) → IsGathered m s → IsGathered (suc m) (add_form by f s)
+gathered_more m by (form c ts rs) s b f i h = record {
   eight = length-add_fields by ts s.totals ∙ h.eight;
   totals = add_fields_within m 0 by ts s.totals b f.1 h.eight (totals_begin m 0 s.totals h.totals);
   likes = add_remainders_within m by rs s.terms b f.2 f.3 (likes_begin m rs s.terms h.likes);
   apart = add_remainders_apart by rs s.terms h.apart;
+  inner = add_remainders_inner by rs s.terms i h.inner;
 }
 
 pub gathered_none : (c : ℤ) → IsGathered 0 (started c)
@@ -158,10 +161,11 @@ gathered_none c = record {
   totals = (omega arith, (omega arith, (omega arith, (omega arith, (omega arith, (omega arith, (omega arith, (omega arith, tt))))))));
   likes = tt;
   apart = tt;
+  inner = tt;
 }
 
 pub gathered_later : (m n : ℕ) (s : Sum) → m ≤ n → IsGathered m s → IsGathered n s
-gathered_later m n s l h = record { eight = h.eight; totals = wide s.totals h.totals; likes = wide_likes s.terms h.likes; apart = h.apart }
+gathered_later m n s l h = record { eight = h.eight; totals = wide s.totals h.totals; likes = wide_likes s.terms h.likes; apart = h.apart; inner = h.inner }
   where
     within : (z : ℤ) → IsWithin m z → IsWithin n z
     within z h = let p : m * 2 ^ 62 ≤ n * 2 ^ 62 = omega arith in omega arith

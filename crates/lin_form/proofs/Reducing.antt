@@ -18,7 +18,9 @@ use Rattle.lin_form.specs.declared.sum.Like.{Like}
 use Rattle.lin_form.specs.Terms.{plain_remainders}
 use Rattle.lin_form.specs.Gathered.{plain_likes}
 use Rattle.lin_form.specs.Within.{IsWithin, AreTotals, AreLikes, IsGathered, IsReduced}
+use Rattle.lin_form.specs.Whole.{IsInner, AreInner}
 use Rattle.lin_form.proofs.Gathering.{sum_within, more_within, add_like_apart}
+use Rattle.lin_form.proofs.Wholes.{reduced_inner, add_like_inner}
 
 -- ---- reduced twice
 
@@ -146,6 +148,7 @@ pub record IsHeld (s : Sum) : Type 0 where
   pub bound : ℕ
   pub likes : AreLikes bound s.terms
   pub apart : AreApart s.terms
+  pub inner : AreInner s.terms
 
 pub held_reduced : (m : ℕ) (s t : Sum) → 0 < m → m ≤ 4096 → t ≡ reduced m s → IsHeld s → IsReduced m t
 held_reduced m s t h l e g = subst (IsReduced m) (sym e) (record {
@@ -154,6 +157,7 @@ held_reduced m s t h l e g = subst (IsReduced m) (sym e) (record {
     totals = totals_small m s.totals h l;
     likes = likes_small m g.bound s.terms h l g.likes;
     apart = apart_reduced m s.terms g.apart;
+    inner = reduced_inner m s.terms g.inner;
   };
   constant = (let c = modulo_small s.constant m h l in omega arith);
   same = reduced_twice m s h;
@@ -171,11 +175,11 @@ like_more n c g k (remainder a f m rs) w p q h = by (is_like f m g k) (like_more
     by true r = (sum_within n a c h.0 w, h.1, h.2, later rs h.3)
     by false r = (more_within n a h.0, h.1, h.2, r)
 
-pub held_term : (n : ℕ) (c : ℤ) (f : Form) (k : ℕ) (s : Sum) → IsWithin 1 c → 0 < k → k ≤ 4096 → IsGathered n s → IsHeld (add_term c f k s)
-held_term n c f k s w p q g = record { eight = g.eight; bound = suc n; likes = like_more n c f k s.terms w p q g.likes; apart = add_like_apart c f k s.terms g.apart }
+pub held_term : (n : ℕ) (c : ℤ) (f : Form) (k : ℕ) (s : Sum) → IsWithin 1 c → 0 < k → k ≤ 4096 → IsInner f → IsGathered n s → IsHeld (add_term c f k s)
+held_term n c f k s w p q i g = record { eight = g.eight; bound = suc n; likes = like_more n c f k s.terms w p q g.likes; apart = add_like_apart c f k s.terms g.apart; inner = add_like_inner c f k s.terms i g.inner }
 
 pub held_outer : (n : ℕ) (by c : ℤ) (ts : List Term) (s : Sum) → IsGathered n s → IsHeld (add_outer by c ts s)
-held_outer n by c ts s g = record { eight = length-add_fields by ts s.totals ∙ g.eight; bound = n; likes = g.likes; apart = g.apart }
+held_outer n by c ts s g = record { eight = length-add_fields by ts s.totals ∙ g.eight; bound = n; likes = g.likes; apart = g.apart; inner = g.inner }
 
 -- ---- nothing is outside
 

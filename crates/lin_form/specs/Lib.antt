@@ -2,5 +2,6 @@ pub mod Terms
 pub mod Falls
 pub mod Stops
 pub mod Gathered
+pub mod Whole
 pub mod Within
 pub mod Hashed

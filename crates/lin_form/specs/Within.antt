@@ -4,6 +4,7 @@ use Rattle.model_form.specs.Form.{Remainders, no_remainders, remainder}
 use Rattle.model_form.specs.Sums.{Sum}
 use Rattle.model_form.specs.Simpler.{reduced}
 use Rattle.model_form.specs.Ranges.{IsApart, AreApart}
+use Rattle.lin_form.specs.Whole.{AreInner}
 
 -- m products of two coefficients are no greater
 abbrev pub IsWithin : ℕ → ℤ → Type 0
@@ -23,6 +24,7 @@ pub record IsGathered (m : ℕ) (s : Sum) : Type 0 where
   pub totals : AreTotals m s.totals
   pub likes : AreLikes m s.terms
   pub apart : AreApart s.terms
+  pub inner : AreInner s.terms
 
 -- while one more form is added: the fields before this one may have had their term
 abbrev pub TotalsBefore : ℕ → ℕ → ℕ → List ℤ → Type 0

@@ -1,15 +1,20 @@
 //! Forms and their readers.
 
 ghost use Rattle.std.specs.Prelude.{◌≡◌, ℤ, ◌<◌, map, IfOk};
-ghost use Rattle.model_form.specs.Form.{constant_of, fields_of, remainders_of};
+ghost use Rattle.model_form.specs.Form.{constant_of, fields_of, remainders_of, height, heights};
 ghost use Rattle.model_form.specs.Sums.{number_form, field_form};
 ghost use Rattle.model_tree.specs.Range.{IsLabelNumber};
 ghost use Rattle.model_form.specs.Ranges.{IsForm};
 ghost use Rattle.lin_form.specs.Terms.{plain_fields, plain_remainders};
+ghost use Rattle.lin_form.specs.Whole.{IsWhole};
 
 use fast_fault::Memory;
 use std::alloc::Global;
 use std::marker::Model;
+
+/// The most remainders that may stand in one another in a form. A form that would nest deeper is told as want of memory,
+/// since going over it takes as much of the stack.
+pub const DEEPEST: u32 = 8192;
 
 /// A coefficient of the field with this number.
 #[derive(Clone, Copy, Debug, PartialEq, Eq)]
@@ -34,12 +39,14 @@ pub struct Form {
     pub(crate) constant: i128,
     pub(crate) fields: Vec<FieldTerm>,
     pub(crate) remainders: Vec<RemTerm>,
+    // How many remainders stand in one another.
+    pub(crate) depth: u32,
 }
 
 impl Model for Form {
     ghost use Rattle.model_form.specs.Form.{Form, form, height};
     ghost use Rattle.model_form.specs.FormCode.{coded_form};
-    ghost use Rattle.model_form.specs.Ranges.{IsForm};
+    ghost use Rattle.lin_form.specs.Whole.{IsSound};
     ghost use Rattle.std.proofs.Common.{arith};
 
     ghost Value = { Form };
@@ -50,7 +57,7 @@ impl Model for Form {
 
     ghost view = { λ s. form s.constant (plain_fields s.fields.items) (plain_remainders s.remainders.items) };
 
-    ghost invariant = { λ s. IsForm (form s.constant (plain_fields s.fields.items) (plain_remainders s.remainders.items)) };
+    ghost invariant = { λ s. IsSound s.depth (form s.constant (plain_fields s.fields.items) (plain_remainders s.remainders.items)) };
 
     ghost size = { height };
 
@@ -69,6 +76,7 @@ impl Form {
             constant: value,
             fields: Vec::new(alloc),
             remainders: Vec::new(alloc),
+            depth: 0,
         })
     }
 
@@ -86,6 +94,7 @@ impl Form {
             constant: 0,
             fields,
             remainders: Vec::new(alloc),
+            depth: 0,
         })
     }
 
@@ -93,6 +102,7 @@ impl Form {
     pub fn constant(&self) -> i128
         ensures value { result ≡ constant_of self.now }
         ensures form { IsForm self.now }
+        ensures whole { IsWhole self.now }
     {
         self.constant
     }
@@ -101,6 +111,7 @@ impl Form {
     pub fn fields(&self) -> &[FieldTerm]
         ensures value { plain_fields result.now ≡ fields_of self.now }
         ensures form { IsForm self.now }
+        ensures whole { IsWhole self.now }
     {
         &self.fields
     }
@@ -109,8 +120,17 @@ impl Form {
     pub fn remainders(&self) -> &[RemTerm]
         ensures value { plain_remainders result.now ≡ remainders_of self.now }
         ensures form { IsForm self.now }
+        ensures whole { IsWhole self.now }
     {
         &self.remainders
+    }
+
+    // How deep a remainder of the form nests.
+    pub(crate) fn height(&self) -> u32
+        ensures value { result ≡ height self.now }
+        ensures whole { IsWhole self.now }
+    {
+        self.depth + 1
     }
 
     /// An equal form, with the terms in the same order.
@@ -131,6 +151,18 @@ impl Form {
             constant: self.constant,
             fields,
             remainders,
+            depth: self.depth,
         })
     }
+}
+
+/// How many remainders stand in one another in these terms.
+pub(crate) fn depth_of(terms: &[RemTerm]) -> u32
+    ensures { result ≡ heights (plain_remainders terms.now) }
+{
+    let mut depth = 0;
+    for term in terms {
+        depth = depth.max(term.inner.height());
+    }
+    depth
 }

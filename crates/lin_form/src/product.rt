@@ -8,7 +8,7 @@ ghost use Rattle.lin_form.specs.Terms.{plain_fields, plain_remainders};
 ghost use Rattle.lin_form.specs.Stops.{StopsAt};
 
 use crate::stop::{coefficient, constant};
-use crate::{FieldTerm, Form, FormStop, RemTerm};
+use crate::{DEEPEST, FieldTerm, Form, FormStop, RemTerm};
 use std::alloc::Global;
 use wide_num::rem;
 
@@ -29,6 +29,7 @@ impl Form {
             constant,
             fields,
             remainders,
+            depth: self.depth,
         })
     }
 
@@ -41,7 +42,8 @@ impl Form {
         self.copy(alloc)?.into_remainder(alloc, by)
     }
 
-    /// The form's remainder by a number, in constant time: a chain of remainders is built in linear time by it.
+    /// The form's remainder by a number, in constant time: a chain of remainders is built in linear time by it. One that
+    /// would nest deeper than the deepest is told as want of memory.
     pub fn into_remainder(self, alloc: Global, by: u32) -> Result<Form, FormStop>
         requires some { 0 < by }
         requires few { by ≤ 4096 }
@@ -49,6 +51,10 @@ impl Form {
     {
         if self.fields.is_empty() && self.remainders.is_empty() {
             return Ok(Form::number(alloc, rem(self.constant, by as i128))?);
+        }
+        let depth = self.height();
+        if depth > DEEPEST {
+            return Err(FormStop::Memory);
         }
         let mut remainders = Vec::new(alloc);
         remainders.push(RemTerm {
@@ -60,6 +66,7 @@ impl Form {
             constant: 0,
             fields: Vec::new(alloc),
             remainders,
+            depth,
         })
     }
 }

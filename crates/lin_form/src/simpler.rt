@@ -6,6 +6,7 @@ ghost use Rattle.model_form.specs.Ranges.{IsOutside};
 ghost use Rattle.model_form.specs.Simpler.{add_open, add_term_open, inside, reduced, reduced_terms, reduced_totals, simpler_form, simpler_sum};
 ghost use Rattle.lin_form.specs.Gathered.{plain_likes, plain_sum};
 ghost use Rattle.lin_form.specs.Stops.{StopsAt};
+ghost use Rattle.lin_form.specs.Whole.{IsInner};
 ghost use Rattle.lin_form.specs.Within.{IsGathered, IsReduced};
 
 use crate::sum::{Like, Sum, add_fields, add_like};
@@ -119,6 +120,7 @@ fn add_term_open(
     requires few { by ≤ 4096 }
     requires divisor_some { 0 < divisor }
     requires divisor_few { divisor ≤ 4096 }
+    requires inner { IsInner inner.now }
     requires sum { IsReduced by (plain_sum sum.old) }
     ensures sum { OnOk result (plain_sum sum.new ≡ reduced by (add_term_open by coefficient inner.now divisor (plain_sum sum.old))) }
     ensures reduced { OnOk result (IsReduced by (plain_sum sum.new)) }

@@ -2,15 +2,17 @@
 
 ghost use Rattle.std.specs.Prelude.{◌≡◌, ℕ, ℤ, pos, ◌+◌, ◌<◌, ◌≤◌, ◌^◌, ◌*◌, ◌+ℤ◌, ◌*ℤ◌, MatchResult, MatchOption, OnOk, unsigned_abs, FitsSigned, length, false, true, slice_index_or};
 ghost use Rattle.std.specs.Int.{w128};
-ghost use Rattle.model_form.specs.Form.{constant_of};
+ghost use Rattle.model_form.specs.Form.{constant_of, remainders_of};
 ghost use Rattle.model_form.specs.Sums.{add_fields, add_like, add_remainders, add_form, is_like, fields_from, without_zeros, form_of_sum, sum_form, started, sign};
 ghost use Rattle.model_tree.specs.Range.{IsLabelNumber};
 ghost use Rattle.model_form.specs.Ranges.{IsCoefficient, IsForm, IsOutside, IsOfFields, IsOfRemainders, AreFields, AreRemainders, AreApart};
 ghost use Rattle.lin_form.specs.Within.{AreTotals, AreLikes, IsGathered, LikesBefore, IsWithin};
+ghost use Rattle.lin_form.specs.Whole.{AreInner};
 ghost use Rattle.lin_form.specs.Terms.{plain_fields, plain_remainders};
 ghost use Rattle.lin_form.specs.Gathered.{plain_likes, plain_sum, plain_parts, found_or};
 ghost use Rattle.lin_form.specs.Stops.{StopsAt};
 
+use crate::form::depth_of;
 use crate::stop::{coefficient, constant};
 use crate::{FieldTerm, Form, FormStop, RemTerm};
 use fast_fault::Memory;
@@ -71,6 +73,7 @@ impl Sum {
         requires gathered { (m : ℕ) × (m ≤ 2 ^ 64 + 16) × IsGathered m (plain_sum self.old) }
         ensures sum { OnOk result (plain_sum self.new ≡ add_form by form.now (plain_sum self.old)) }
         ensures form { IsForm form.now }
+        ensures inner { AreInner (remainders_of form.now) }
     {
         self.constant += by * form.constant;
         add_fields(&mut self.totals, by, &form.fields);
@@ -88,6 +91,7 @@ impl Sum {
         Ok(Form {
             constant,
             fields,
+            depth: depth_of(&remainders),
             remainders,
         })
     }

@@ -44,7 +44,7 @@ form::Form::is_same-returns t c =
     (same_by_parts c.self.inside.constant c.other.inside.constant (plain_fields c.self.inside.fields.items) (plain_fields c.other.inside.fields.items) (plain_remainders c.self.inside.remainders.items) (plain_remainders c.other.inside.remainders.items)
     (omega (arith, ints))
     (sym (ap plain_fields c.deref.ensures.value) ∙ c.same_fields.ensures.0 c.if-not-same_fields.false ∙ ap plain_fields c.deref-2.ensures.value)
-    c.self.invariant.3
+    c.self.invariant.form.3
     (count_is c.self.inside.remainders.items ∙ sym (ap length c.as_slice-terms.ensures.value) ∙ c.if-terms-others.false ∙ ap length c.as_slice-others.ensures.value ∙ sym (count_is c.other.inside.remainders.items))
     (subst (λ ts. AreIn (members (plain_remainders ts)) (members (plain_remainders c.other.inside.remainders.items))) c.as_slice-terms.ensures.value (subst (λ us. AreIn (members (plain_remainders c.as_slice-terms.result.now)) (members (plain_remainders us))) c.as_slice-others.ensures.value all)))
 

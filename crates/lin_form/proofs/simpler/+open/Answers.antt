@@ -16,12 +16,13 @@ use Rattle.lin_form.proofs.Likes.{remainders_drop}
 use Rattle.lin_form.proofs.Outside.{has_constant}
 use Rattle.lin_form.proofs.Putting.{held_128}
 use Rattle.lin_form.proofs.Reducing.{all_open_after, reduced_twice, held_reduced, held_outer, held_term, opens, stays, small_within, inner_lower}
+use Rattle.lin_form.proofs.Wholes.{inner_item}
 use Rattle.lin_form.proofs.simpler.+open.Goals as goal
 
 pub add_open-overflow_mul-product : goal.add_open-overflow_mul-product
 add_open-overflow_mul-product t c =
     let a = c.term-item.result.coefficient in
-    let h = (remainder_item c.form.inside.remainders.items c.deref-term-items.result.now c.loop-term.term-index c.term-item.result c.form.invariant.2 c.deref-term-items.ensures.value c.term-item.is c.loop-term-test.true).0 in
+    let h = (remainder_item c.form.inside.remainders.items c.deref-term-items.result.now c.loop-term.term-index c.term-item.result c.form.invariant.form.2 c.deref-term-items.ensures.value c.term-item.is c.loop-term-test.true).0 in
     let small : unsigned_abs a ≤ 2 ^ 31 = (let l : unsigned_abs a < 2 ^ 31 = h in omega arith) in
     let p = small_product c.args.coefficient a 4096 (2 ^ 31) (2 ^ 43) c.requires.coefficient small (lit≤ tt) in
     let back = to_z-of_z w128 c.args.coefficient c.ranges.coefficient in
@@ -37,7 +38,7 @@ add_open-loop-term-init t c =
     let n = c.form.inside.constant in
     let ts = plain_fields c.form.inside.fields.items in
     let items = c.deref-term-items.result.now in
-    let k = has_constant c.args.sum.now.constant c.args.coefficient n (let z = c.requires.sum.constant in omega arith) (let z = c.requires.coefficient in omega arith) c.form.invariant.0 in
+    let k = has_constant c.args.sum.now.constant c.args.coefficient n (let z = c.requires.sum.constant in omega arith) (let z = c.requires.coefficient in omega arith) c.form.invariant.form.0 in
     let totals = c.add_fields.ensures ∙ (λ i. add_fields (back i) (plain_fields (c.deref.ensures.value i)) c.args.sum.now.totals) in
     let x = add_outer by n ts s in
     let done : plain_sum c.reduce.new.self ≡ reduced m x =
@@ -60,7 +61,7 @@ add_open-loop-term-preserved t c =
     let it = c.term-item.result in
     let items = c.deref-term-items.result.now in
     let s = plain_sum c.loop-term.sum in
-    let h = (remainder_item c.form.inside.remainders.items items i it c.form.invariant.2 c.deref-term-items.ensures.value c.term-item.is c.loop-term-test.true).0 in
+    let h = (remainder_item c.form.inside.remainders.items items i it c.form.invariant.form.2 c.deref-term-items.ensures.value c.term-item.is c.loop-term-test.true).0 in
     let small : unsigned_abs it.coefficient ≤ 2 ^ 31 = (let l : unsigned_abs it.coefficient < 2 ^ 31 = h in omega arith) in
     let p = small_product c.args.coefficient it.coefficient 4096 (2 ^ 31) (2 ^ 43) c.requires.coefficient small (lit≤ tt) in
     let fp = fits_128 (c.args.coefficient *ℤ it.coefficient) (omega arith) in
@@ -123,15 +124,16 @@ add_term_open-returns-clause-reduced t c =
     let within : IsWithin 1 d = subst (IsWithin 1) (sym value) (small_within c.args.coefficient m c.requires.some c.requires.few) in
     held_reduced m (add_term d c.args.inner.now c.args.divisor s) (plain_sum c.reduce.new.self) c.requires.some c.requires.few
     (c.reduce.ensures ∙ ap (λ rs. reduced m (record { constant = s.constant; totals = s.totals; terms = rs })) (c.in_ok-add_like.ensures {u = tt}))
-    (held_term 1 d c.args.inner.now c.args.divisor s within c.requires.divisor_some c.requires.divisor_few c.requires.sum.gathered)
+    (held_term 1 d c.args.inner.now c.args.divisor s within c.requires.divisor_some c.requires.divisor_few c.requires.inner c.requires.sum.gathered)
 
 pub add_open-add_term_open-requires : goal.add_open-add_term_open-requires
 add_open-add_term_open-requires t c =
-    let h = remainder_item c.form.inside.remainders.items c.deref-term-items.result.now c.loop-term.term-index c.term-item.result c.form.invariant.2 c.deref-term-items.ensures.value c.term-item.is c.loop-term-test.true in
+    let h = remainder_item c.form.inside.remainders.items c.deref-term-items.result.now c.loop-term.term-index c.term-item.result c.form.invariant.form.2 c.deref-term-items.ensures.value c.term-item.is c.loop-term-test.true in
     let it = c.term-item.result in
     let items = c.deref-term-items.result.now in
     let low : height it.inner ≤ heights (plain_remainders items) = subst (λ (x : RemTerm). height x.inner ≤ heights (plain_remainders items)) (sym c.term-item.is) (inner_lower items c.loop-term.term-index it c.loop-term-test.true) in
     let same = ap (λ ts. heights (plain_remainders ts)) c.deref-term-items.ensures.value in
     let view = ap height c.form.view_is in
     let falls = c.decreases in
-    (let less : 2 * height it.inner + 1 < t = omega arith in less, (c.requires.some, (c.requires.few, (h.1, (h.2, c.loop-term.invariant.reduced)))))
+    let inner = inner_item c.form.inside.remainders.items items c.loop-term.term-index it c.form.invariant.inner c.deref-term-items.ensures.value c.term-item.is c.loop-term-test.true in
+    (let less : 2 * height it.inner + 1 < t = omega arith in less, (c.requires.some, (c.requires.few, (h.1, (h.2, (inner, c.loop-term.invariant.reduced))))))

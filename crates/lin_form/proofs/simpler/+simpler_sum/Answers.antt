@@ -1,12 +1,13 @@
 use Rattle.std.proofs.Common.{suc, ◌≡◌, ap, sym, ◌∙◌, subst, arith, drop, ◌+◌, ◌*◌, ◌<◌, ◌≤◌, ◌^◌, unsigned_abs, refl}
 use Rattle.std.specs.Prelude.{pos, ◌+ℤ◌, ◌*ℤ◌}
 use Rattle.std.proofs.lemmas.Int.{ints}
-use Rattle.model_form.specs.Form.{constant_of, remainder}
+use Rattle.model_form.specs.Form.{constant_of, remainder, remainders_of}
 use Rattle.model_form.specs.Sums.{form_of_sum, started, add_form, add_fields, remainder_form}
 use Rattle.model_form.specs.Sums as model
 use Rattle.model_form.specs.Simpler.{simpler_sum, add_simpler, add_outer, inside}
 use Rattle.model_tree.specs.Range.{IsLabelNumber}
 use Rattle.model_form.specs.Ranges.{IsForm}
+use Rattle.lin_form.specs.Whole.{AreInner}
 use Rattle.lin_form.specs.Within.{IsGathered}
 use Rattle.lin_form.proofs.Gathering.{gathered_more, gathered_none, gathered_later, add_fields_within, totals_begin}
 use Rattle.lin_form.specs.Terms.{plain_fields, plain_remainders}
@@ -24,7 +25,7 @@ loop-term-init t c =
     let n = c.form.inside.constant in
     let ts = plain_fields c.form.inside.fields.items in
     let begun = c.of-sum.ensures in
-    let constant : c.of-sum.result.constant ≡ n = ap (λ (x : model.Sum). x.constant) begun ∙ (let f : IsLabelNumber n = c.form.invariant.0 in omega (arith, ints)) in
+    let constant : c.of-sum.result.constant ≡ n = ap (λ (x : model.Sum). x.constant) begun ∙ (let f : IsLabelNumber n = c.form.invariant.form.0 in omega (arith, ints)) in
     let terms = ap (λ (x : model.Sum). x.terms) begun in
     let totals : c.add_fields.new.totals ≡ add_fields (pos 1) ts (started n).totals =
     c.add_fields.ensures ∙ (λ i. add_fields (pos 1) (plain_fields (c.deref.ensures.value i)) (begun i).totals) in
@@ -34,26 +35,27 @@ loop-term-init t c =
     λ i. record { constant = (constant ∙ more) i; totals = totals i; terms = terms i } in
     let outer : IsGathered 1 (add_outer (pos 1) (pos 0) ts (started n)) = record {
       eight = length-add_fields (pos 1) ts (started n).totals;
-      totals = add_fields_within 0 0 (pos 1) ts (started n).totals (omega arith) c.form.invariant.1 refl (totals_begin 0 0 (started n).totals none.totals);
+      totals = add_fields_within 0 0 (pos 1) ts (started n).totals (omega arith) c.form.invariant.form.1 refl (totals_begin 0 0 (started n).totals none.totals);
       likes = tt;
       apart = tt;
+      inner = tt;
     } in
     record {
       value = (λ i. add_simpler (plain_remainders (c.deref-term-items.ensures.value i)) (is i)) ∙ ap simpler_sum c.form.view_is;
       gathered = subst (IsGathered 8) (sym is) (gathered_later 1 8 (add_outer (pos 1) (pos 0) ts (started n)) (omega arith) outer);
-      constant = subst (λ z. unsigned_abs z ≤ 2 ^ 98) (sym constant) (let f : IsLabelNumber n = c.form.invariant.0 in omega (arith, ints));
+      constant = subst (λ z. unsigned_abs z ≤ 2 ^ 98) (sym constant) (let f : IsLabelNumber n = c.form.invariant.form.0 in omega (arith, ints));
     }
 
 pub remainder-requires-clause-some : goal.remainder-requires-clause-some
-remainder-requires-clause-some t c = (remainder_item c.form.inside.remainders.items c.deref-term-items.result.now c.loop-term.term-index c.term-item.result c.form.invariant.2 c.deref-term-items.ensures.value c.term-item.is c.loop-term-test.true).1
+remainder-requires-clause-some t c = (remainder_item c.form.inside.remainders.items c.deref-term-items.result.now c.loop-term.term-index c.term-item.result c.form.invariant.form.2 c.deref-term-items.ensures.value c.term-item.is c.loop-term-test.true).1
 
 pub remainder-requires-clause-few : goal.remainder-requires-clause-few
-remainder-requires-clause-few t c = (remainder_item c.form.inside.remainders.items c.deref-term-items.result.now c.loop-term.term-index c.term-item.result c.form.invariant.2 c.deref-term-items.ensures.value c.term-item.is c.loop-term-test.true).2
+remainder-requires-clause-few t c = (remainder_item c.form.inside.remainders.items c.deref-term-items.result.now c.loop-term.term-index c.term-item.result c.form.invariant.form.2 c.deref-term-items.ensures.value c.term-item.is c.loop-term-test.true).2
 
 pub add-requires-clause-by : goal.add-requires-clause-by
 add-requires-clause-by t c =
     let a = c.term-item.result.coefficient in
-    let h = (remainder_item c.form.inside.remainders.items c.deref-term-items.result.now c.loop-term.term-index c.term-item.result c.form.invariant.2 c.deref-term-items.ensures.value c.term-item.is c.loop-term-test.true).0 in
+    let h = (remainder_item c.form.inside.remainders.items c.deref-term-items.result.now c.loop-term.term-index c.term-item.result c.form.invariant.form.2 c.deref-term-items.ensures.value c.term-item.is c.loop-term-test.true).0 in
     subst (λ z. unsigned_abs z ≤ 2 ^ 31) (sym (held_128 a h)) (let l : unsigned_abs a < 2 ^ 31 = h in omega arith)
 
 pub loop-term-preserved : goal.loop-term-preserved
@@ -62,7 +64,7 @@ loop-term-preserved t c =
     let it = c.term-item.result in
     let items = c.deref-term-items.result.now in
     let s = plain_sum c.loop-term.sum in
-    let h = remainder_item c.form.inside.remainders.items items i it c.form.invariant.2 c.deref-term-items.ensures.value c.term-item.is c.loop-term-test.true in
+    let h = remainder_item c.form.inside.remainders.items items i it c.form.invariant.form.2 c.deref-term-items.ensures.value c.term-item.is c.loop-term-test.true in
     let b : unsigned_abs it.coefficient ≤ 2 ^ 31 = (let l : unsigned_abs it.coefficient < 2 ^ 31 = h.0 in omega arith) in
     let inner = c.in_ok-inner.ensures {u = tt} in
     let part = c.in_ok-part.ensures {u = tt} in
@@ -78,6 +80,6 @@ loop-term-preserved t c =
     let e : suc (8 + i) ≡ 8 + (i + 1) = omega arith in
     record {
       value = ap (add_simpler rest) added ∙ sym (ap (λ rs. add_simpler rs s) here) ∙ c.loop-term.invariant.value;
-      gathered = subst (λ n. IsGathered n (plain_sum c.add.new.self)) e (subst (IsGathered (suc (8 + i))) (sym added) (gathered_more (8 + i) it.coefficient g s b is c.loop-term.invariant.gathered));
+      gathered = subst (λ n. IsGathered n (plain_sum c.add.new.self)) e (subst (IsGathered (suc (8 + i))) (sym added) (gathered_more (8 + i) it.coefficient g s b is (subst (λ x. AreInner (remainders_of x)) made done.inner) c.loop-term.invariant.gathered));
       constant = subst (λ z. unsigned_abs z ≤ 2 ^ 98 + (i + 1) * 2 ^ 43) (sym (ap (λ (x : model.Sum). x.constant) added ∙ constant_after it.coefficient g s)) (constant_grows i c.loop-term.sum.constant it.coefficient (constant_of g) h.0 (remainder_constant f it.divisor h.1 h.2) c.loop-term.invariant.constant);
     }

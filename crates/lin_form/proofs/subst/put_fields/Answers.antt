@@ -1,8 +1,10 @@
 use Rattle.std.proofs.Common.{suc, ◌≡◌, ap, sym, ◌∙◌, subst, arith, get_or, drop, ◌+◌, ◌*◌, ◌<◌, ◌≤◌, ◌^◌, unsigned_abs, add-one}
 use Rattle.std.specs.Prelude.{pos}
+use Rattle.model_form.specs.Form.{remainders_of}
 use Rattle.model_form.specs.Sums.{put_fields, add_form, number_form}
 use Rattle.model_form.specs.Sums as model
 use Rattle.model_form.specs.Ranges.{IsForm}
+use Rattle.lin_form.specs.Whole.{AreInner}
 use Rattle.lin_form.specs.Within.{IsGathered}
 use Rattle.lin_form.proofs.Gathering.{gathered_more, gathered_later}
 use Rattle.lin_form.specs.Terms.{plain_fields}
@@ -65,7 +67,7 @@ loop-term-preserved c =
     let is = subst IsForm form done.form in
     record {
       value = ap (put_fields rest gs) added ∙ sym (ap (λ us. put_fields us gs s) here) ∙ c.loop-term.invariant.value;
-      gathered = subst (λ n. IsGathered n (plain_sum c.add.new.self)) (sym (add-one i)) (subst (IsGathered (suc i)) (sym added) (gathered_more i t.coefficient g s b is c.loop-term.invariant.gathered));
+      gathered = subst (λ n. IsGathered n (plain_sum c.add.new.self)) (sym (add-one i)) (subst (IsGathered (suc i)) (sym added) (gathered_more i t.coefficient g s b is (subst (λ x. AreInner (remainders_of x)) form done.inner) c.loop-term.invariant.gathered));
       constant = subst (λ z. unsigned_abs z ≤ (i + 1 + 1) * 2 ^ 94) (sym (ap (λ (x : model.Sum). x.constant) added ∙ constant_after t.coefficient g s)) (constant_more (i + 1) c.loop-term.sum.constant t.coefficient g is b c.loop-term.invariant.constant);
     }
 

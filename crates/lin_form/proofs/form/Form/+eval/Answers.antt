@@ -10,19 +10,19 @@ use Rattle.lin_form.proofs.form.Form.+eval.Goals as goal
 
 pub remainder_value-sum-requires-clause-coefficient : goal.remainder_value-sum-requires-clause-coefficient
 remainder_value-sum-requires-clause-coefficient t c =
-    let h = (remainder_item c.self.inside.remainders.items c.deref-term-items.result.now c.loop-term.term-index c.term-item.result c.self.invariant.2 c.deref-term-items.ensures.value c.term-item.is c.loop-term-test.true).0 in
+    let h = (remainder_item c.self.inside.remainders.items c.deref-term-items.result.now c.loop-term.term-index c.term-item.result c.self.invariant.form.2 c.deref-term-items.ensures.value c.term-item.is c.loop-term-test.true).0 in
     let z = c.term-item.result.coefficient in
     subst (λ y. unsigned_abs y < 2 ^ 31) (sym (to_z-of_z w64 z (fits_64 z (omega (arith, h))))) h
 
 pub remainder_value-sum-requires-clause-some : goal.remainder_value-sum-requires-clause-some
-remainder_value-sum-requires-clause-some t c = (remainder_item c.self.inside.remainders.items c.deref-term-items.result.now c.loop-term.term-index c.term-item.result c.self.invariant.2 c.deref-term-items.ensures.value c.term-item.is c.loop-term-test.true).1
+remainder_value-sum-requires-clause-some t c = (remainder_item c.self.inside.remainders.items c.deref-term-items.result.now c.loop-term.term-index c.term-item.result c.self.invariant.form.2 c.deref-term-items.ensures.value c.term-item.is c.loop-term-test.true).1
 
 pub remainder_value-sum-requires-clause-few : goal.remainder_value-sum-requires-clause-few
-remainder_value-sum-requires-clause-few t c = (remainder_item c.self.inside.remainders.items c.deref-term-items.result.now c.loop-term.term-index c.term-item.result c.self.invariant.2 c.deref-term-items.ensures.value c.term-item.is c.loop-term-test.true).2
+remainder_value-sum-requires-clause-few t c = (remainder_item c.self.inside.remainders.items c.deref-term-items.result.now c.loop-term.term-index c.term-item.result c.self.invariant.form.2 c.deref-term-items.ensures.value c.term-item.is c.loop-term-test.true).2
 
 pub loop-term-preserved : goal.loop-term-preserved
 loop-term-preserved t c =
-    let h = (remainder_item c.self.inside.remainders.items c.deref-term-items.result.now c.loop-term.term-index c.term-item.result c.self.invariant.2 c.deref-term-items.ensures.value c.term-item.is c.loop-term-test.true).0 in
+    let h = (remainder_item c.self.inside.remainders.items c.deref-term-items.result.now c.loop-term.term-index c.term-item.result c.self.invariant.form.2 c.deref-term-items.ensures.value c.term-item.is c.loop-term-test.true).0 in
     let items = c.deref-term-items.result.now in
     let i = c.loop-term.term-index in
     let it = c.term-item.result in

@@ -4,11 +4,12 @@ use Rattle.std.specs.Int.{w128}
 use Rattle.std.proofs.lemmas.Int.{ints}
 use Rattle.std.proofs.lemmas.List.{drop_all}
 use Rattle.std.proofs.lemmas.Result.{err_from_is_err_and}
-use Rattle.model_form.specs.Form.{Form, form, constant_of, remainder}
+use Rattle.model_form.specs.Form.{Form, form, constant_of, remainder, remainders_of}
 use Rattle.model_form.specs.Sums.{form_of_sum, started, put_fields, put_remainders, add_form, remainder_form, subst_form}
 use Rattle.model_form.specs.Sums as model
 use Rattle.model_tree.specs.Range.{IsLabelNumber}
 use Rattle.model_form.specs.Ranges.{IsForm, IsOutside, IsOutsideAfter, IsOutsideWithin}
+use Rattle.lin_form.specs.Whole.{AreInner}
 use Rattle.lin_form.specs.Within.{IsGathered}
 use Rattle.lin_form.proofs.Gathering.{gathered_more}
 use Rattle.lin_form.specs.Terms.{plain_fields, plain_remainders}
@@ -32,15 +33,15 @@ returns-in_err-inner-clause-form t c =
     rw (p.1, p.2) (stops_weaker (IsOutsideAfter c.term-item.result.inner gs) (IsOutsideAfter c.args.self.now gs) c.in_err-inner.field-0.0 out h)
 
 pub into_remainder-requires-clause-some : goal.into_remainder-requires-clause-some
-into_remainder-requires-clause-some t c = (remainder_item c.self.inside.remainders.items c.deref-term-items.result.now c.loop-term.term-index c.term-item.result c.self.invariant.2 c.deref-term-items.ensures.value c.term-item.is c.loop-term-test.true).1
+into_remainder-requires-clause-some t c = (remainder_item c.self.inside.remainders.items c.deref-term-items.result.now c.loop-term.term-index c.term-item.result c.self.invariant.form.2 c.deref-term-items.ensures.value c.term-item.is c.loop-term-test.true).1
 
 pub into_remainder-requires-clause-few : goal.into_remainder-requires-clause-few
-into_remainder-requires-clause-few t c = (remainder_item c.self.inside.remainders.items c.deref-term-items.result.now c.loop-term.term-index c.term-item.result c.self.invariant.2 c.deref-term-items.ensures.value c.term-item.is c.loop-term-test.true).2
+into_remainder-requires-clause-few t c = (remainder_item c.self.inside.remainders.items c.deref-term-items.result.now c.loop-term.term-index c.term-item.result c.self.invariant.form.2 c.deref-term-items.ensures.value c.term-item.is c.loop-term-test.true).2
 
 pub add-requires-clause-by : goal.add-requires-clause-by
 add-requires-clause-by t c =
     let a = c.term-item.result.coefficient in
-    let h = (remainder_item c.self.inside.remainders.items c.deref-term-items.result.now c.loop-term.term-index c.term-item.result c.self.invariant.2 c.deref-term-items.ensures.value c.term-item.is c.loop-term-test.true).0 in
+    let h = (remainder_item c.self.inside.remainders.items c.deref-term-items.result.now c.loop-term.term-index c.term-item.result c.self.invariant.form.2 c.deref-term-items.ensures.value c.term-item.is c.loop-term-test.true).0 in
     subst (λ z. unsigned_abs z ≤ 2 ^ 31) (sym (held_128 a h)) (let l : unsigned_abs a < 2 ^ 31 = h in omega arith)
 
 pub loop-term-preserved : goal.loop-term-preserved
@@ -50,7 +51,7 @@ loop-term-preserved t c =
     let gs = c.args.forms.now in
     let items = c.deref-term-items.result.now in
     let s = plain_sum c.loop-term.sum in
-    let h = remainder_item c.self.inside.remainders.items c.deref-term-items.result.now c.loop-term.term-index c.term-item.result c.self.invariant.2 c.deref-term-items.ensures.value c.term-item.is c.loop-term-test.true in
+    let h = remainder_item c.self.inside.remainders.items c.deref-term-items.result.now c.loop-term.term-index c.term-item.result c.self.invariant.form.2 c.deref-term-items.ensures.value c.term-item.is c.loop-term-test.true in
     let b : unsigned_abs it.coefficient ≤ 2 ^ 31 = (let l : unsigned_abs it.coefficient < 2 ^ 31 = h.0 in omega arith) in
     let inner = (c.in_ok-inner.ensures {u = tt}) in
     let part = c.in_ok-part.ensures {u = tt} in
@@ -65,7 +66,7 @@ loop-term-preserved t c =
     let e : suc (8 + i) ≡ 8 + (i + 1) = omega arith in
     record {
       value = ap (put_remainders rest gs) added ∙ sym (ap (λ rs. put_remainders rs gs s) here) ∙ c.loop-term.invariant.value;
-      gathered = subst (λ n. IsGathered n (plain_sum c.add.new.self)) e (subst (IsGathered (suc (8 + i))) (sym added) (gathered_more (8 + i) it.coefficient g s b is c.loop-term.invariant.gathered));
+      gathered = subst (λ n. IsGathered n (plain_sum c.add.new.self)) e (subst (IsGathered (suc (8 + i))) (sym added) (gathered_more (8 + i) it.coefficient g s b is (subst (λ x. AreInner (remainders_of x)) made done.inner) c.loop-term.invariant.gathered));
       constant = subst (λ z. unsigned_abs z ≤ 2 ^ 98 + (i + 1) * 2 ^ 43) (sym (ap (λ (x : model.Sum). x.constant) added ∙ constant_after it.coefficient g s)) (constant_grows i c.loop-term.sum.constant it.coefficient (constant_of g) h.0 (remainder_constant (subst_form it.inner gs) it.divisor h.1 h.2) c.loop-term.invariant.constant);
       within = λ n o. elim (subst (λ rs. IsOutsideWithin rs gs n) here (c.loop-term.invariant.within n o)) as (λ _. IsOutsideWithin rest gs n) [ inl x ↦ absurd (inner.in_range n x) | inr x ↦ x ];
     }
@@ -76,7 +77,7 @@ returns-clause-in_range t c =
     let items = c.deref-term-items.result.now in
     let past = drop_all c.loop-term.term-index items c.loop-term-test.false in
     let begun = (c.in_ok-put_fields.ensures {u = tt}).sum in
-    let constant : to_z w128 (of_z w128 c.self.inside.constant) ≡ c.self.inside.constant = let f : IsLabelNumber c.self.inside.constant = c.self.invariant.0 in omega (arith, ints) in
+    let constant : to_z w128 (of_z w128 c.self.inside.constant) ≡ c.self.inside.constant = let f : IsLabelNumber c.self.inside.constant = c.self.invariant.form.0 in omega (arith, ints) in
     let view = form c.self.inside.constant (plain_fields c.self.inside.fields.items) (plain_remainders c.self.inside.remainders.items) in
     let e : form_of_sum (plain_sum c.loop-term.sum) ≡ subst_form view gs =
     ap form_of_sum (ap (λ ts. put_remainders (plain_remainders ts) gs (plain_sum c.loop-term.sum)) (sym past) ∙ c.loop-term.invariant.value)

@@ -36,7 +36,7 @@ loop-part-preserved c =
     here ∙ ap (λ (x : Signed). record { minus = x.minus; added = x.form } ∷ plain_parts (drop (i + 1) c.args.parts.now)) (sym c.part-item.is) in
     record {
       value = ap (add_parts (plain_parts (drop (i + 1) c.args.parts.now))) added ∙ sym (ap (λ ps. add_parts ps (plain_sum c.loop-part.sum)) same) ∙ c.loop-part.invariant.value;
-      gathered = subst (λ n. IsGathered n (plain_sum c.add.new.self)) (sym (add-one i)) (subst (IsGathered (suc i)) (sym added) (gathered_more i (sign p.minus) p.form (plain_sum c.loop-part.sum) (sign_small p.minus) done.form c.loop-part.invariant.gathered));
+      gathered = subst (λ n. IsGathered n (plain_sum c.add.new.self)) (sym (add-one i)) (subst (IsGathered (suc i)) (sym added) (gathered_more i (sign p.minus) p.form (plain_sum c.loop-part.sum) (sign_small p.minus) done.form done.inner c.loop-part.invariant.gathered));
       constant = subst (λ z. unsigned_abs z ≤ (i + 1) * 2 ^ 94) (sym (ap (λ (s : model.Sum). s.constant) added ∙ constant_after (sign p.minus) p.form (plain_sum c.loop-part.sum))) (constant_more i c.loop-part.sum.constant (sign p.minus) p.form done.form (sign_small p.minus) c.loop-part.invariant.constant);
     }
 

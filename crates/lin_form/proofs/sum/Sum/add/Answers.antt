@@ -11,7 +11,7 @@ use Rattle.lin_form.proofs.sum.Sum.add.Goals as goal
 pub returns-clause-sum : goal.returns-clause-sum
 returns-clause-sum c =
     let back = to_z-of_z w128 c.args.by c.ranges.by in
-    let k = has_constant c.args.self.now.constant c.args.by c.form.inside.constant c.requires.constant c.requires.by c.form.invariant.0 in
+    let k = has_constant c.args.self.now.constant c.args.by c.form.inside.constant c.requires.constant c.requires.by c.form.invariant.form.0 in
     let t = c.add_fields.ensures ∙ (λ i. add_fields (back i) (plain_fields (c.deref.ensures.value i)) c.args.self.now.totals) in
     on_ok_weaker c.add_remainders.result
     (λ e. (λ i. record { constant = k.is i; totals = t i; terms = (e ∙ (λ j. add_remainders (back j) (plain_remainders (c.deref-2.ensures.value j)) (plain_likes c.args.self.now.likes.items))) i })

@@ -9,6 +9,7 @@ use Rattle.model_form.specs.Simpler.{add_all_open, add_term_open, outer, reduced
 use Rattle.lin_form.specs.declared.sum.Like.{Like}
 use Rattle.lin_form.specs.Gathered.{plain_likes, plain_sum}
 use Rattle.lin_form.proofs.Reducing.{all_open_after, reduced_twice, held_reduced, likes_drop, divisor_at}
+use Rattle.lin_form.proofs.Wholes.{like_item}
 use Rattle.lin_form.proofs.sum.Sum.opened.Goals as goal
 
 pub loop-like-init : goal.loop-like-init
@@ -26,7 +27,7 @@ loop-like-init c =
       value = ap (λ x. reduced m (add_all_open m (pos 1) (plain_likes items) x)) done
           ∙ all_open_after m (pos 1) (plain_likes items) (reduced m (outer all)) (outer all) some (reduced_twice m (outer all) some)
           ∙ (λ i. reduced m (add_all_open m (pos 1) (plain_likes (c.deref-like-items.ensures.value i)) (outer all)));
-      reduced = held_reduced m (outer all) (plain_sum c.reduce.new.self) some c.requires.few done (record { eight = g.eight; bound = 0; likes = tt; apart = tt });
+      reduced = held_reduced m (outer all) (plain_sum c.reduce.new.self) some c.requires.few done (record { eight = g.eight; bound = 0; likes = tt; apart = tt; inner = tt });
     }
 
 pub add_term_open-requires-clause-divisor_some : goal.add_term_open-requires-clause-divisor_some
@@ -40,6 +41,10 @@ add_term_open-requires-clause-divisor_few c =
     let here : c.loop-like.like-index < length c.args.self.now.likes.items = subst (λ ts. c.loop-like.like-index < length ts) c.deref-like-items.ensures.value c.loop-like-test.true in
     let d = (divisor_at c.requires.gathered.0 c.args.self.now.likes.items c.loop-like.like-index c.like-item.result c.requires.gathered.1.likes here).1 in
     subst (λ (x : Like). x.divisor ≤ 4096) (sym (c.like-item.is ∙ (λ i. get_or (c.deref-like-items.ensures.value i) c.loop-like.like-index c.like-item.result))) d
+
+pub add_term_open-requires-clause-inner : goal.add_term_open-requires-clause-inner
+add_term_open-requires-clause-inner c =
+    like_item c.args.self.now.likes.items c.deref-like-items.result.now c.loop-like.like-index c.like-item.result c.requires.gathered.1.inner c.deref-like-items.ensures.value c.like-item.is c.loop-like-test.true
 
 pub loop-like-preserved : goal.loop-like-preserved
 loop-like-preserved c =

@@ -1,0 +1,25 @@
+-- What is so of each form that a program has, at every depth: which fields and divisors, and how deep remainders nest.
+use Rattle.std.specs.Prelude.{◌≡◌, ℕ, ◌≤◌}
+use Rattle.model_form.specs.Form.{Form, Remainders, no_remainders, remainder, remainders_of, height, heights}
+use Rattle.model_form.specs.Over.{IsOver, IsDivided}
+use Rattle.model_form.specs.Ranges.{IsForm}
+
+-- over the eight fields, by divisors that are at least 1, and at most 8192 remainders stand in one another
+pub record IsWhole (f : Form) : Type 0 where
+  pub over : IsOver 8 f
+  pub divided : IsDivided f
+  pub low : height f ≤ 8193
+
+-- what may stand in a remainder
+abbrev pub IsInner : Form → Type 0
+IsInner f = IsWhole f × (height f ≤ 8192)
+
+abbrev pub AreInner : Remainders → Type 0
+AreInner no_remainders = Unit {0}
+AreInner (remainder a f k rs) = IsInner f × AreInner rs
+
+-- a form beside the number of its remainders that stand in one another
+pub record IsSound (n : ℕ) (f : Form) : Type 0 where
+  pub form : IsForm f
+  pub inner : AreInner (remainders_of f)
+  pub depth : n ≡ heights (remainders_of f)
