@@ -1,12 +1,13 @@
 //! Forms made simpler.
 
-ghost use Rattle.std.specs.Prelude.{◌≡◌, ℕ, ℤ, ◌<◌, ◌≤◌, MatchResult, OnOk, unsigned_abs};
-ghost use Rattle.model_form.specs.Sums.{form_of_sum, remainder_form};
-ghost use Rattle.model_form.specs.Ranges.{IsOutside};
+ghost use Rattle.std.specs.Prelude.{◌≡◌, ℕ, ℤ, pos, ◌+◌, ◌<◌, ◌≤◌, ◌^◌, MatchResult, OnOk, unsigned_abs};
+ghost use Rattle.model_form.specs.Form.{remainders_of};
+ghost use Rattle.model_form.specs.Sums.{add_form, form_of_sum, remainder_form, started};
+ghost use Rattle.model_form.specs.Ranges.{IsCoefficient, IsForm, IsOutside};
 ghost use Rattle.model_form.specs.Simpler.{add_open, add_term_open, inside, reduced, reduced_terms, reduced_totals, simpler_form, simpler_sum};
 ghost use Rattle.lin_form.specs.Gathered.{plain_likes, plain_sum};
 ghost use Rattle.lin_form.specs.Stops.{StopsAt};
-ghost use Rattle.lin_form.specs.Whole.{IsInner};
+ghost use Rattle.lin_form.specs.Whole.{IsInner, AreInner};
 ghost use Rattle.lin_form.specs.Within.{IsGathered, IsReduced};
 
 use crate::sum::{Like, Sum, add_fields, add_like};
@@ -22,36 +23,50 @@ impl Form {
         ensures form { MatchResult result (λ form. form ≡ simpler_form self.now) (λ stop. StopsAt (IsOutside (simpler_form self.now)) stop) }
         ensures in_range { MatchResult result (λ form. (n : ℤ) → IsOutside form n → ⊥) (λ _. Unit {0}) }
     {
-        let sum = simpler_sum(alloc, self)?;
+        let mut sum = Sum::of(alloc, 0);
+        simpler_sum(alloc, &mut sum, self)?;
         sum.finish(alloc)
     }
 }
 
-// The terms outside all remainders, whose inner forms are simpler.
-fn simpler_sum(alloc: Global, form: &Form) -> Result<Sum, FormStop>
-    ensures { MatchResult result (λ sum. (plain_sum sum ≡ simpler_sum form.now) × ((m : ℕ) × IsGathered m (plain_sum sum))) (λ stop. stop ≡ FormStop.Memory) }
+// The terms outside all remainders, whose inner forms are simpler, in a sum that had none.
+fn simpler_sum(alloc: Global, sum: &mut Sum, form: &Form) -> Result<(), FormStop>
+    requires { plain_sum sum.old ≡ started (pos 0) }
+    ensures { MatchResult result (λ _. (plain_sum sum.new ≡ simpler_sum form.now) × ((m : ℕ) × IsGathered m (plain_sum sum.new))) (λ stop. stop ≡ FormStop.Memory) }
 {
-    let mut sum = Sum::of(alloc, form.constant);
+    sum.constant = form.constant;
     add_fields(&mut sum.totals, 1, &form.fields);
     for term in &form.remainders {
-        let inner = simpler_sum(alloc, &term.inner)?;
-        let part = inner.remainder(alloc, term.divisor)?;
-        sum.add(alloc, term.coefficient as i128, &part)?;
+        let mut inner = Sum::of(alloc, 0);
+        simpler_sum(alloc, &mut inner, &term.inner)?;
+        sum.add_inside(alloc, term.coefficient, &inner, term.divisor)?;
     }
-    Ok(sum)
+    Ok(())
 }
 
 impl Sum {
-    // The remainder of the sum's form.
-    fn remainder(&self, alloc: Global, by: u32) -> Result<Form, FormStop>
-        requires some { 0 < by }
-        requires few { by ≤ 4096 }
-        requires gathered { (m : ℕ) × IsGathered m (plain_sum self.now) }
-        ensures { MatchResult result (λ form. form ≡ remainder_form (form_of_sum (inside by (plain_sum self.now))) by) (λ stop. stop ≡ FormStop.Memory) }
+    // A coefficient times the remainder of the inner sum's form more. Within the recursion over inner forms this would take
+    // of the stack at each level, so it stays a call.
+    #[inline(never)]
+    fn add_inside(
+        &mut self,
+        alloc: Global,
+        coefficient: i64,
+        inner: &Sum,
+        divisor: u32,
+    ) -> Result<(), FormStop>
+        requires coefficient { IsCoefficient coefficient }
+        requires some { 0 < divisor }
+        requires few { divisor ≤ 4096 }
+        requires constant { unsigned_abs self.old.constant ≤ 2 ^ 126 }
+        requires gathered { (m : ℕ) × (m ≤ 2 ^ 64 + 16) × IsGathered m (plain_sum self.old) }
+        requires inner { (m : ℕ) × IsGathered m (plain_sum inner.now) }
+        ensures sum { MatchResult result (λ _. plain_sum self.new ≡ add_form coefficient (remainder_form (form_of_sum (inside divisor (plain_sum inner.now))) divisor) (plain_sum self.old)) (λ stop. stop ≡ FormStop.Memory) }
+        ensures form { OnOk result (IsForm (remainder_form (form_of_sum (inside divisor (plain_sum inner.now))) divisor)) }
+        ensures inner { OnOk result (AreInner (remainders_of (remainder_form (form_of_sum (inside divisor (plain_sum inner.now))) divisor))) }
     {
-        let sum = self.opened(alloc, by)?;
-        let inner = sum.finish(alloc)?;
-        inner.into_remainder(alloc, by)
+        let inner = inner.opened(alloc, divisor)?.finish(alloc)?;
+        self.add_remainder(alloc, coefficient, inner, divisor)
     }
 
     // The sum as it stands in a remainder.

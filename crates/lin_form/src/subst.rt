@@ -24,13 +24,14 @@ impl Form {
         put_fields(alloc, &mut sum, &self.fields, forms)?;
         for term in &self.remainders {
             let inner = term.inner.subst(alloc, forms)?;
-            let part = inner.into_remainder(alloc, term.divisor)?;
-            sum.add(alloc, term.coefficient as i128, &part)?;
+            sum.add_remainder(alloc, term.coefficient, inner, term.divisor)?;
         }
         sum.finish(alloc)
     }
 }
 
+// Within the recursion over inner forms this would take of the stack at each level, so it stays a call.
+#[inline(never)]
 fn put_fields(
     alloc: Global,
     sum: &mut Sum,

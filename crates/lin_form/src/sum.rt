@@ -3,7 +3,7 @@
 ghost use Rattle.std.specs.Prelude.{◌≡◌, ℕ, ℤ, pos, ◌+◌, ◌<◌, ◌≤◌, ◌^◌, ◌*◌, ◌+ℤ◌, ◌*ℤ◌, MatchResult, MatchOption, OnOk, unsigned_abs, FitsSigned, length, false, true, slice_index_or};
 ghost use Rattle.std.specs.Int.{w128};
 ghost use Rattle.model_form.specs.Form.{constant_of, remainders_of};
-ghost use Rattle.model_form.specs.Sums.{add_fields, add_like, add_remainders, add_form, is_like, fields_from, without_zeros, form_of_sum, sum_form, started, sign};
+ghost use Rattle.model_form.specs.Sums.{add_fields, add_like, add_remainders, add_form, is_like, fields_from, without_zeros, form_of_sum, remainder_form, sum_form, started, sign};
 ghost use Rattle.model_tree.specs.Range.{IsLabelNumber};
 ghost use Rattle.model_form.specs.Ranges.{IsCoefficient, IsForm, IsOutside, IsOfFields, IsOfRemainders, AreFields, AreRemainders, AreApart};
 ghost use Rattle.lin_form.specs.Within.{AreTotals, AreLikes, IsGathered, LikesBefore, IsWithin};
@@ -80,6 +80,32 @@ impl Sum {
         add_remainders(alloc, &mut self.likes, by, &form.remainders)
     }
 
+    // A coefficient times the form's remainder more. Within a recursion over inner forms this would take of the stack at
+    // each level, so it stays a call.
+    #[inline(never)]
+    pub(crate) fn add_remainder(
+        &mut self,
+        alloc: Global,
+        coefficient: i64,
+        inner: Form,
+        divisor: u32,
+    ) -> Result<(), FormStop>
+        requires coefficient { IsCoefficient coefficient }
+        requires some { 0 < divisor }
+        requires few { divisor ≤ 4096 }
+        requires constant { unsigned_abs self.old.constant ≤ 2 ^ 126 }
+        requires gathered { (m : ℕ) × (m ≤ 2 ^ 64 + 16) × IsGathered m (plain_sum self.old) }
+        ensures sum { MatchResult result (λ _. plain_sum self.new ≡ add_form coefficient (remainder_form inner divisor) (plain_sum self.old)) (λ stop. stop ≡ FormStop.Memory) }
+        ensures form { OnOk result (IsForm (remainder_form inner divisor)) }
+        ensures inner { OnOk result (AreInner (remainders_of (remainder_form inner divisor))) }
+    {
+        let part = inner.into_remainder(alloc, divisor)?;
+        self.add(alloc, coefficient as i128, &part)?;
+        Ok(())
+    }
+
+    // Within a recursion over inner forms this would take of the stack at each level, so it stays a call.
+    #[inline(never)]
     pub(crate) fn finish(self, alloc: Global) -> Result<Form, FormStop>
         requires { (m : ℕ) × IsGathered m (plain_sum self) }
         ensures form { MatchResult result (λ form. form ≡ form_of_sum (plain_sum self)) (λ stop. StopsAt (IsOutside (form_of_sum (plain_sum self))) stop) }

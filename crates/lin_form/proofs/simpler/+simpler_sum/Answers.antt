@@ -1,12 +1,13 @@
-use Rattle.std.proofs.Common.{suc, ◌≡◌, ap, sym, ◌∙◌, subst, arith, drop, ◌+◌, ◌*◌, ◌<◌, ◌≤◌, ◌^◌, unsigned_abs, refl}
+use Rattle.std.proofs.Common.{suc, ◌≡◌, ap, sym, ◌∙◌, subst, arith, drop, to_z, of_z, ◌+◌, ◌*◌, ◌<◌, ◌≤◌, ◌^◌, unsigned_abs, refl}
 use Rattle.std.specs.Prelude.{pos, ◌+ℤ◌, ◌*ℤ◌}
+use Rattle.std.specs.Int.{w128}
 use Rattle.std.proofs.lemmas.Int.{ints}
 use Rattle.model_form.specs.Form.{constant_of, remainder, remainders_of}
 use Rattle.model_form.specs.Sums.{form_of_sum, started, add_form, add_fields, remainder_form}
 use Rattle.model_form.specs.Sums as model
 use Rattle.model_form.specs.Simpler.{simpler_sum, add_simpler, add_outer, inside}
 use Rattle.model_tree.specs.Range.{IsLabelNumber}
-use Rattle.model_form.specs.Ranges.{IsForm}
+use Rattle.model_form.specs.Ranges.{IsForm, IsCoefficient}
 use Rattle.lin_form.specs.Whole.{AreInner}
 use Rattle.lin_form.specs.Within.{IsGathered}
 use Rattle.lin_form.proofs.Gathering.{gathered_more, gathered_none, gathered_later, add_fields_within, totals_begin}
@@ -15,23 +16,22 @@ use Rattle.lin_form.specs.Gathered.{plain_sum}
 use Rattle.lin_form.specs.declared.form.RemTerm.{RemTerm}
 use Rattle.model_form.proofs.Values.{length-add_fields}
 use Rattle.lin_form.proofs.Evaluating.{remainder_item}
-use Rattle.lin_form.proofs.Likes.{remainders_drop}
+use Rattle.lin_form.proofs.Likes.{remainders_drop, held_64}
 use Rattle.lin_form.proofs.Outside.{constant_after}
-use Rattle.lin_form.proofs.Putting.{held_128, constant_grows, remainder_constant}
+use Rattle.lin_form.proofs.Putting.{constant_grows, remainder_constant}
 use Rattle.lin_form.proofs.simpler.+simpler_sum.Goals as goal
 
 pub loop-term-init : goal.loop-term-init
 loop-term-init t c =
     let n = c.form.inside.constant in
     let ts = plain_fields c.form.inside.fields.items in
-    let begun = c.of-sum.ensures in
-    let constant : c.of-sum.result.constant ≡ n = ap (λ (x : model.Sum). x.constant) begun ∙ (let f : IsLabelNumber n = c.form.invariant.form.0 in omega (arith, ints)) in
-    let terms = ap (λ (x : model.Sum). x.terms) begun in
+    let constant : to_z w128 (of_z w128 n) ≡ n = (let f : IsLabelNumber n = c.form.invariant.form.0 in omega (arith, ints)) in
+    let terms = ap (λ (x : model.Sum). x.terms) c.requires in
     let totals : c.add_fields.new.totals ≡ add_fields (pos 1) ts (started n).totals =
-    c.add_fields.ensures ∙ (λ i. add_fields (pos 1) (plain_fields (c.deref.ensures.value i)) (begun i).totals) in
+    c.add_fields.ensures ∙ (λ i. add_fields (pos 1) (plain_fields (c.deref.ensures.value i)) (c.requires i).totals) in
     let none = gathered_none n in
     let more : n ≡ n +ℤ (pos 1 *ℤ pos 0) = omega (arith, ints) in
-    let is : plain_sum (record { constant = c.of-sum.result.constant; totals = c.add_fields.new.totals; likes = c.of-sum.result.likes }) ≡ add_outer (pos 1) (pos 0) ts (started n) =
+    let is : plain_sum (record { constant = to_z w128 (of_z w128 n); totals = c.add_fields.new.totals; likes = c.args.sum.now.likes }) ≡ add_outer (pos 1) (pos 0) ts (started n) =
     λ i. record { constant = (constant ∙ more) i; totals = totals i; terms = terms i } in
     let outer : IsGathered 1 (add_outer (pos 1) (pos 0) ts (started n)) = record {
       eight = length-add_fields (pos 1) ts (started n).totals;
@@ -46,17 +46,16 @@ loop-term-init t c =
       constant = subst (λ z. unsigned_abs z ≤ 2 ^ 98) (sym constant) (let f : IsLabelNumber n = c.form.invariant.form.0 in omega (arith, ints));
     }
 
-pub remainder-requires-clause-some : goal.remainder-requires-clause-some
-remainder-requires-clause-some t c = (remainder_item c.form.inside.remainders.items c.deref-term-items.result.now c.loop-term.term-index c.term-item.result c.form.invariant.form.2 c.deref-term-items.ensures.value c.term-item.is c.loop-term-test.true).1
-
-pub remainder-requires-clause-few : goal.remainder-requires-clause-few
-remainder-requires-clause-few t c = (remainder_item c.form.inside.remainders.items c.deref-term-items.result.now c.loop-term.term-index c.term-item.result c.form.invariant.form.2 c.deref-term-items.ensures.value c.term-item.is c.loop-term-test.true).2
-
-pub add-requires-clause-by : goal.add-requires-clause-by
-add-requires-clause-by t c =
-    let a = c.term-item.result.coefficient in
+pub add_inside-requires-clause-coefficient : goal.add_inside-requires-clause-coefficient
+add_inside-requires-clause-coefficient t c =
     let h = (remainder_item c.form.inside.remainders.items c.deref-term-items.result.now c.loop-term.term-index c.term-item.result c.form.invariant.form.2 c.deref-term-items.ensures.value c.term-item.is c.loop-term-test.true).0 in
-    subst (λ z. unsigned_abs z ≤ 2 ^ 31) (sym (held_128 a h)) (let l : unsigned_abs a < 2 ^ 31 = h in omega arith)
+    subst IsCoefficient (sym (held_64 c.term-item.result.coefficient h)) h
+
+pub add_inside-requires-clause-some : goal.add_inside-requires-clause-some
+add_inside-requires-clause-some t c = (remainder_item c.form.inside.remainders.items c.deref-term-items.result.now c.loop-term.term-index c.term-item.result c.form.invariant.form.2 c.deref-term-items.ensures.value c.term-item.is c.loop-term-test.true).1
+
+pub add_inside-requires-clause-few : goal.add_inside-requires-clause-few
+add_inside-requires-clause-few t c = (remainder_item c.form.inside.remainders.items c.deref-term-items.result.now c.loop-term.term-index c.term-item.result c.form.invariant.form.2 c.deref-term-items.ensures.value c.term-item.is c.loop-term-test.true).2
 
 pub loop-term-preserved : goal.loop-term-preserved
 loop-term-preserved t c =
@@ -66,20 +65,19 @@ loop-term-preserved t c =
     let s = plain_sum c.loop-term.sum in
     let h = remainder_item c.form.inside.remainders.items items i it c.form.invariant.form.2 c.deref-term-items.ensures.value c.term-item.is c.loop-term-test.true in
     let b : unsigned_abs it.coefficient ≤ 2 ^ 31 = (let l : unsigned_abs it.coefficient < 2 ^ 31 = h.0 in omega arith) in
-    let inner = c.in_ok-inner.ensures {u = tt} in
-    let part = c.in_ok-part.ensures {u = tt} in
-    let done = c.in_ok-add.ensures {u = tt} in
+    let done = c.in_ok-add_inside.ensures {u = tt} in
     let f = form_of_sum (inside it.divisor (simpler_sum it.inner)) in
     let g = remainder_form f it.divisor in
-    let made : c.in_ok-part.part ≡ g = part ∙ ap (λ x. remainder_form (form_of_sum (inside it.divisor x)) it.divisor) inner.0 in
-    let added : plain_sum c.add.new.self ≡ add_form it.coefficient g s = done.sum ∙ (λ j. add_form (held_128 it.coefficient h.0 j) (made j) s) in
+    let made : remainder_form (form_of_sum (inside it.divisor (plain_sum c.simpler_sum.new.sum))) it.divisor ≡ g = ap (λ x. remainder_form (form_of_sum (inside it.divisor x)) it.divisor) (c.in_ok-simpler_sum.ensures {u = tt}).0 in
+    let added : plain_sum c.add_inside.new.self ≡ add_form it.coefficient g s = done.sum ∙ (λ j. add_form (held_64 it.coefficient h.0 j) (made j) s) in
     let rest = plain_remainders (drop (i + 1) items) in
     let here : plain_remainders (drop i items) ≡ remainder it.coefficient it.inner it.divisor rest =
     remainders_drop items i it c.loop-term-test.true ∙ ap (λ (x : RemTerm). remainder x.coefficient x.inner x.divisor rest) (sym c.term-item.is) in
     let is = subst IsForm made done.form in
+    let inner = subst (λ x. AreInner (remainders_of x)) made done.inner in
     let e : suc (8 + i) ≡ 8 + (i + 1) = omega arith in
     record {
       value = ap (add_simpler rest) added ∙ sym (ap (λ rs. add_simpler rs s) here) ∙ c.loop-term.invariant.value;
-      gathered = subst (λ n. IsGathered n (plain_sum c.add.new.self)) e (subst (IsGathered (suc (8 + i))) (sym added) (gathered_more (8 + i) it.coefficient g s b is (subst (λ x. AreInner (remainders_of x)) made done.inner) c.loop-term.invariant.gathered));
+      gathered = subst (λ n. IsGathered n (plain_sum c.add_inside.new.self)) e (subst (IsGathered (suc (8 + i))) (sym added) (gathered_more (8 + i) it.coefficient g s b is inner c.loop-term.invariant.gathered));
       constant = subst (λ z. unsigned_abs z ≤ 2 ^ 98 + (i + 1) * 2 ^ 43) (sym (ap (λ (x : model.Sum). x.constant) added ∙ constant_after it.coefficient g s)) (constant_grows i c.loop-term.sum.constant it.coefficient (constant_of g) h.0 (remainder_constant f it.divisor h.1 h.2) c.loop-term.invariant.constant);
     }

@@ -8,7 +8,7 @@ use Rattle.model_form.specs.Form.{Form, form, constant_of, remainder, remainders
 use Rattle.model_form.specs.Sums.{form_of_sum, started, put_fields, put_remainders, add_form, remainder_form, subst_form}
 use Rattle.model_form.specs.Sums as model
 use Rattle.model_tree.specs.Range.{IsLabelNumber}
-use Rattle.model_form.specs.Ranges.{IsForm, IsOutside, IsOutsideAfter, IsOutsideWithin}
+use Rattle.model_form.specs.Ranges.{IsCoefficient, IsForm, IsOutside, IsOutsideAfter, IsOutsideWithin}
 use Rattle.lin_form.specs.Whole.{AreInner}
 use Rattle.lin_form.specs.Within.{IsGathered}
 use Rattle.lin_form.proofs.Gathering.{gathered_more}
@@ -16,9 +16,9 @@ use Rattle.lin_form.specs.Terms.{plain_fields, plain_remainders}
 use Rattle.lin_form.specs.Gathered.{plain_sum}
 use Rattle.lin_form.specs.declared.form.RemTerm.{RemTerm}
 use Rattle.lin_form.proofs.Evaluating.{remainder_item}
-use Rattle.lin_form.proofs.Likes.{remainders_drop}
+use Rattle.lin_form.proofs.Likes.{remainders_drop, held_64}
 use Rattle.lin_form.proofs.Outside.{constant_after, none_outside}
-use Rattle.lin_form.proofs.Putting.{stops_weaker, within_at, after_within, held_128, both_of, constant_grows, remainder_constant}
+use Rattle.lin_form.proofs.Putting.{stops_weaker, within_at, after_within, both_of, constant_grows, remainder_constant}
 use Rattle.lin_form.proofs.form.Form.+subst.Goals as goal
 
 pub returns-in_err-inner-clause-form : goal.returns-in_err-inner-clause-form
@@ -32,17 +32,16 @@ returns-in_err-inner-clause-form t c =
     (subst (λ ts. IsOutsideWithin (plain_remainders ts) gs n) c.deref-term-items.ensures.value (within_at items c.loop-term.term-index c.term-item.result gs n c.loop-term-test.true (subst (λ (x : RemTerm). IsOutsideAfter x.inner gs n) c.term-item.is o))) in
     rw (p.1, p.2) (stops_weaker (IsOutsideAfter c.term-item.result.inner gs) (IsOutsideAfter c.args.self.now gs) c.in_err-inner.field-0.0 out h)
 
-pub into_remainder-requires-clause-some : goal.into_remainder-requires-clause-some
-into_remainder-requires-clause-some t c = (remainder_item c.self.inside.remainders.items c.deref-term-items.result.now c.loop-term.term-index c.term-item.result c.self.invariant.form.2 c.deref-term-items.ensures.value c.term-item.is c.loop-term-test.true).1
+pub add_remainder-requires-clause-some : goal.add_remainder-requires-clause-some
+add_remainder-requires-clause-some t c = (remainder_item c.self.inside.remainders.items c.deref-term-items.result.now c.loop-term.term-index c.term-item.result c.self.invariant.form.2 c.deref-term-items.ensures.value c.term-item.is c.loop-term-test.true).1
 
-pub into_remainder-requires-clause-few : goal.into_remainder-requires-clause-few
-into_remainder-requires-clause-few t c = (remainder_item c.self.inside.remainders.items c.deref-term-items.result.now c.loop-term.term-index c.term-item.result c.self.invariant.form.2 c.deref-term-items.ensures.value c.term-item.is c.loop-term-test.true).2
+pub add_remainder-requires-clause-few : goal.add_remainder-requires-clause-few
+add_remainder-requires-clause-few t c = (remainder_item c.self.inside.remainders.items c.deref-term-items.result.now c.loop-term.term-index c.term-item.result c.self.invariant.form.2 c.deref-term-items.ensures.value c.term-item.is c.loop-term-test.true).2
 
-pub add-requires-clause-by : goal.add-requires-clause-by
-add-requires-clause-by t c =
-    let a = c.term-item.result.coefficient in
+pub add_remainder-requires-clause-coefficient : goal.add_remainder-requires-clause-coefficient
+add_remainder-requires-clause-coefficient t c =
     let h = (remainder_item c.self.inside.remainders.items c.deref-term-items.result.now c.loop-term.term-index c.term-item.result c.self.invariant.form.2 c.deref-term-items.ensures.value c.term-item.is c.loop-term-test.true).0 in
-    subst (λ z. unsigned_abs z ≤ 2 ^ 31) (sym (held_128 a h)) (let l : unsigned_abs a < 2 ^ 31 = h in omega arith)
+    subst IsCoefficient (sym (held_64 c.term-item.result.coefficient h)) h
 
 pub loop-term-preserved : goal.loop-term-preserved
 loop-term-preserved t c =
@@ -54,11 +53,10 @@ loop-term-preserved t c =
     let h = remainder_item c.self.inside.remainders.items c.deref-term-items.result.now c.loop-term.term-index c.term-item.result c.self.invariant.form.2 c.deref-term-items.ensures.value c.term-item.is c.loop-term-test.true in
     let b : unsigned_abs it.coefficient ≤ 2 ^ 31 = (let l : unsigned_abs it.coefficient < 2 ^ 31 = h.0 in omega arith) in
     let inner = (c.in_ok-inner.ensures {u = tt}) in
-    let part = c.in_ok-part.ensures {u = tt} in
-    let done = c.in_ok-add.ensures {u = tt} in
+    let done = c.in_ok-add_remainder.ensures {u = tt} in
     let g = remainder_form (subst_form it.inner gs) it.divisor in
-    let made : c.in_ok-part.part ≡ g = part ∙ ap (λ f. remainder_form f it.divisor) inner.form in
-    let added : plain_sum c.add.new.self ≡ add_form it.coefficient g s = done.sum ∙ (λ j. add_form (held_128 it.coefficient h.0 j) (made j) s) in
+    let made : remainder_form c.in_ok-inner.inner it.divisor ≡ g = ap (λ f. remainder_form f it.divisor) inner.form in
+    let added : plain_sum c.add_remainder.new.self ≡ add_form it.coefficient g s = done.sum ∙ (λ j. add_form (held_64 it.coefficient h.0 j) (made j) s) in
     let rest = plain_remainders (drop (i + 1) items) in
     let here : plain_remainders (drop i items) ≡ remainder it.coefficient it.inner it.divisor rest =
     remainders_drop items i it c.loop-term-test.true ∙ ap (λ (x : RemTerm). remainder x.coefficient x.inner x.divisor rest) (sym c.term-item.is) in
@@ -66,7 +64,7 @@ loop-term-preserved t c =
     let e : suc (8 + i) ≡ 8 + (i + 1) = omega arith in
     record {
       value = ap (put_remainders rest gs) added ∙ sym (ap (λ rs. put_remainders rs gs s) here) ∙ c.loop-term.invariant.value;
-      gathered = subst (λ n. IsGathered n (plain_sum c.add.new.self)) e (subst (IsGathered (suc (8 + i))) (sym added) (gathered_more (8 + i) it.coefficient g s b is (subst (λ x. AreInner (remainders_of x)) made done.inner) c.loop-term.invariant.gathered));
+      gathered = subst (λ n. IsGathered n (plain_sum c.add_remainder.new.self)) e (subst (IsGathered (suc (8 + i))) (sym added) (gathered_more (8 + i) it.coefficient g s b is (subst (λ x. AreInner (remainders_of x)) made done.inner) c.loop-term.invariant.gathered));
       constant = subst (λ z. unsigned_abs z ≤ 2 ^ 98 + (i + 1) * 2 ^ 43) (sym (ap (λ (x : model.Sum). x.constant) added ∙ constant_after it.coefficient g s)) (constant_grows i c.loop-term.sum.constant it.coefficient (constant_of g) h.0 (remainder_constant (subst_form it.inner gs) it.divisor h.1 h.2) c.loop-term.invariant.constant);
       within = λ n o. elim (subst (λ rs. IsOutsideWithin rs gs n) here (c.loop-term.invariant.within n o)) as (λ _. IsOutsideWithin rest gs n) [ inl x ↦ absurd (inner.in_range n x) | inr x ↦ x ];
     }
