@@ -8,7 +8,6 @@ ghost use Rattle.lin_solve.specs.Plain.{plain_compare};
 ghost use Rattle.lin_solve.specs.Branches.{ArePut};
 
 use crate::compare::Compare;
-use crate::over::is_whole;
 use label_core::Lit;
 use lin_form::{Form, FormStop};
 use std::alloc::Global;
@@ -45,7 +44,7 @@ fn put(alloc: Global, form: &Form, forms: &[Form]) -> Result<Form, FormStop>
     ensures { IfOk result (λ f. (vs : List ℤ) → value f vs ≡ value form.now (values_of forms.now vs)) }
 {
     let put = form.subst(alloc, forms)?;
-    is_whole(&put);
+    put.constant();
     put.simpler(alloc)
 }
 
