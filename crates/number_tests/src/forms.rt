@@ -1,4 +1,4 @@
-use lin_form::{Form, FormStop, Signed};
+use lin_form::{DEEPEST, Form, FormStop, Signed};
 use std::alloc::Global;
 use std::test::Fail;
 
@@ -30,6 +30,15 @@ fn both(alloc: Global, first: &Form, second: &Form, minus: bool) -> Result<Form,
     let form = second.copy(alloc)?;
     parts.push(Signed { minus, form })?;
     Form::of_sum(alloc, &parts)
+}
+
+/// A field's remainder by 2, that one's remainder and so on, so many in one another.
+fn chain(alloc: Global, count: u32) -> Result<Form, FormStop> {
+    let mut form = Form::field(alloc, 0)?;
+    for _step in 0..count {
+        form = form.into_remainder(alloc, 2)?;
+    }
+    Ok(form)
 }
 
 /// The divisor of the first remainder, or 0.
@@ -171,5 +180,21 @@ fn opens_remainders_by_multiples(rt: HostRuntime) -> Result<(), Fail> {
         panic!(rt; "no form");
     };
     assert!(rt; matches!(wide.simpler(alloc), Err(FormStop::Range(2147483648))));
+    Ok(())
+}
+
+#[test]
+fn nests_no_deeper_than_the_deepest(rt: HostRuntime) -> Result<(), Fail> {
+    let alloc = rt.alloc();
+    let (Ok(deepest), x) = (chain(alloc, DEEPEST), Form::field(alloc, 0)?) else {
+        panic!(rt; "no form");
+    };
+    assert!(rt; deepest.eval(&[7]) == 1);
+    let Ok(sum) = both(alloc, &deepest, &x, false) else {
+        panic!(rt; "no sum");
+    };
+    assert!(rt; sum.eval(&[7]) == 8);
+    assert!(rt; matches!(sum.into_remainder(alloc, 2), Err(FormStop::Memory)));
+    assert!(rt; matches!(deepest.into_remainder(alloc, 2), Err(FormStop::Memory)));
     Ok(())
 }
