@@ -1,6 +1,8 @@
 -- Branches of values, and what is put for fields in them.
-use Rattle.std.proofs.Common.{◌≡◌, ◌⊎◌, inl, inr, ℕ, zero, suc, ◌<◌, ◌+◌, List, [], ◌∷◌, ◌++◌, length, take, get_or, false, refl, ap, sym, ◌∙◌, subst, arith}
+use Rattle.std.proofs.Common.{◌≡◌, ◌⊎◌, inl, inr, ℕ, zero, suc, ◌<◌, ◌+◌, List, [], ◌∷◌, ◌++◌, length, take, get_or, Bool, true, false, refl, ap, sym, ◌∙◌, subst, arith}
 use Rattle.std.proofs.Math.IntN.{ℤ, pos, ◌+ℤ◌, ◌*ℤ◌}
+use Rattle.std.specs.Prelude.{◌<ℤ◌, ◌≤ℤ◌, int_lt, FitsSigned}
+use Rattle.std.specs.Int.{w64}
 use Rattle.std.proofs.Math.ListN.{set}
 use Rattle.std.specs.List.{Contains}
 use Rattle.std.proofs.lemmas.Int.{ints}
@@ -21,6 +23,10 @@ use Rattle.fast_fault.specs.declared.memory.Memory.{Memory}
 use Rattle.lin_reduce.specs.declared.nodes.Explored.{Explored}
 use Rattle.lin_reduce.specs.declared.nodes.Explored.TheVariants as explored
 use Rattle.lin_reduce.specs.Parts.{TellsNever}
+use Rattle.model_chain.specs.Literals.{Literal, Relation, less, equal, related, compare_holds}
+use Rattle.label_core.specs.declared.theory.Lit.{Lit}
+use Rattle.lin_solve.specs.declared.compare.Compare.{Compare}
+use Rattle.lin_solve.specs.Plain.{plain_compare, plain_literal}
 use Rattle.lin_solve.proofs.Cased.{set_here}
 use Rattle.lin_solve.specs.declared.branches.Branch.{Branch}
 use Rattle.lin_solve.specs.Branches.{IsHeld, SomeHeld}
@@ -128,3 +134,35 @@ module _ {T E : Type 0} where
   pub ok_map : (r : Result T E) (P R : T → Type 0) → ((x : T) → P x → R x) → IfOk r P → IfOk r R
   ok_map (Ok x) P R f h = f x h
   ok_map (Err e) P R f h = tt
+
+-- ---- a field beside a number
+
+pub literal_so : {k : ℕ} {r : Relation} {n : ℤ} {sign : Bool} (l : Lit Compare) (us : List ℤ) → plain_literal l ≡ record { compare = record { left = field_form k; relation = r; right = number_form n }; positive = sign } → related r (get_or us k (pos 0)) n ≡ sign → compare_holds (plain_compare l.atom) us ≡ l.sign
+literal_so {k} {r} {n} {sign} l us e h =
+    subst (λ (x : Literal). compare_holds x.compare us ≡ x.positive) (sym e) ((λ i. related r (field_value k us i) (number_value n us i)) ∙ h)
+
+pub less_holds : (k : ℕ) (n : ℤ) (us : List ℤ) → get_or us k (pos 0) <ℤ n → related less (get_or us k (pos 0)) n ≡ true
+less_holds k n us l = grind (arith, ints)
+
+pub not_less_holds : (k : ℕ) (n : ℤ) (us : List ℤ) → n ≤ℤ get_or us k (pos 0) → related less (get_or us k (pos 0)) n ≡ false
+not_less_holds k n us l = grind (arith, ints)
+
+pub equal_holds : (k : ℕ) (n : ℤ) (us : List ℤ) → get_or us k (pos 0) ≡ n → related equal (get_or us k (pos 0)) n ≡ true
+equal_holds k n us e = grind (arith, ints)
+
+pub below_or_same : (x v : ℤ) → x <ℤ (v +ℤ pos 1) → (x <ℤ v) ⊎ (x ≡ v)
+below_or_same x v l = by (int_lt x v) refl
+  where
+    by : (b : Bool) → int_lt x v ≡ b → (x <ℤ v) ⊎ (x ≡ v)
+    by true e = inl (omega (arith, ints))
+    by false e = inr (omega (arith, ints))
+
+pub before_or_from : (x t v : ℤ) → int_lt v t ≡ false → (x <ℤ v) ⊎ (t ≤ℤ x)
+before_or_from x t v past = by (int_lt x v) refl
+  where
+    by : (b : Bool) → int_lt x v ≡ b → (x <ℤ v) ⊎ (t ≤ℤ x)
+    by true e = inl (omega (arith, ints))
+    by false e = inr (omega (arith, ints))
+
+pub fits_next : (v t : ℤ) → FitsSigned w64 v → FitsSigned w64 t → int_lt v t ≡ true → FitsSigned w64 (v +ℤ pos 1)
+fits_next v t f g l = grind (arith, ints)

@@ -4,25 +4,27 @@
 //! which all holds but for remainders break a literal, and then what is put for the field makes the literals simpler. So
 //! remainders that don't matter are never told apart, however many there are.
 
-ghost use Rattle.std.specs.Prelude.{◌≡◌, ◌<◌, ◌≤◌, ◌+ℤ◌, ◌*ℤ◌, ℕ, ℤ, List, IfOk, IfSome, OnOk, IsTrue, true, length, slice_index_or, slice_set, pos};
+ghost use Rattle.std.specs.Prelude.{◌≡◌, ◌<◌, ◌≤◌, ◌<ℤ◌, ◌≤ℤ◌, ◌+ℤ◌, ◌*ℤ◌, ℕ, ℤ, List, IfOk, IfSome, OnOk, IsTrue, true, length, slice_index_or, slice_set, pos};
 ghost use Rattle.label_core.specs.declared.theory.Lit.{Lit as OneLit};
 ghost use Rattle.math_cooper.specs.System.{Solves};
 ghost use Rattle.model_form.specs.Form.{value};
 ghost use Rattle.model_form.specs.Meaning.{values_of, AreFormsLow};
-ghost use Rattle.model_chain.specs.Literals.{HoldsAll, needs_side as needs};
+ghost use Rattle.model_form.specs.Sums.{field_form, number_form};
+ghost use Rattle.model_chain.specs.Literals.{HoldsAll, compare_holds, needs_side as needs};
 ghost use Rattle.lin_solve.specs.declared.compare.Compare.{Compare as OneCompare};
-ghost use Rattle.lin_solve.specs.Plain.{plain_literal, plain_literals};
+ghost use Rattle.lin_solve.specs.Plain.{plain_compare, plain_literal, plain_literals, plain_relation};
 ghost use Rattle.lin_solve.specs.Sought.{IsSidedAt, TellsExplored, TellsSought};
 ghost use Rattle.lin_solve.specs.Branches.{IsHeld, SomeHeld};
 
 use crate::cases::{Case, Turn, divisor_in_common};
-use crate::compare::Compare;
+use crate::compare::{Compare, Relation};
 use crate::equations::equated;
 use crate::found::{Sought, sided, sideless};
 use crate::guess::all_hold;
 use crate::numbering::remainders_of;
 use crate::over::are_over;
 use crate::puts::{forms_with, put_each};
+use crate::ranges::{Range, ranges_of};
 use crate::system::{first_system, needs_side};
 use cooper_solve::{Constraint, Relation as Kind};
 use fast_fault::{LabelInt, Memory};
@@ -130,23 +132,88 @@ fn split_of(literal: &Lit<Compare>) -> Option<Split> {
     }
 }
 
+// How many parts a field is split into, and by which values, if they are few.
+#[derive(Clone, Copy)]
+struct Best {
+    split: Split,
+    parts: u32,
+    first: Option<LabelInt>,
+}
+
+impl Best {
+    // By the field's values, if there are fewer than remainders.
+    fn of(split: Split, ranges: &[Range]) -> Best {
+        let by_rest = Best {
+            split,
+            parts: split.times,
+            first: None,
+        };
+        let Some(range) = ranges.get(split.field as usize) else {
+            return by_rest;
+        };
+        match (range.count(split.times), LabelInt::try_from(range.low)) {
+            (Some(parts), Ok(low)) => Best {
+                split,
+                parts,
+                first: Some(low),
+            },
+            _ => by_rest,
+        }
+    }
+}
+
 // Of the literals that these values break, how one is split that leaves the fewest branches.
-fn best_split(literals: &[Lit<Compare>], values: &[LabelInt]) -> Option<Split> {
-    let mut best: Option<Split> = None;
+fn best_split(literals: &[Lit<Compare>], values: &[LabelInt]) -> Option<Best> {
+    let ranges = ranges_of(literals);
+    let mut best: Option<Best> = None;
     for literal in literals {
         if literal.atom.holds(values) != literal.sign {
             if let Some(split) = split_of(literal) {
+                let own = Best::of(split, &ranges);
                 let is_first = match best {
                     None => true,
-                    Some(other) => split.times < other.times,
+                    Some(other) => own.parts < other.parts,
                 };
                 if is_first {
-                    best = Some(split);
+                    best = Some(own);
                 }
             }
         }
     }
     best
+}
+
+// How a field stands to a number.
+fn beside(
+    alloc: Global,
+    field: u32,
+    relation: Relation,
+    number: LabelInt,
+    sign: bool,
+) -> Result<Lit<Compare>, FormStop>
+    requires { field < 8 }
+    ensures { IfOk result (λ l. plain_literal l ≡ record { compare = record { left = field_form field; relation = plain_relation relation; right = number_form number }; positive = sign }) }
+{
+    Ok(Lit {
+        atom: Compare {
+            left: Form::field(alloc, field)?,
+            relation,
+            right: Form::number(alloc, number as i128)?,
+        },
+        sign,
+    })
+}
+
+fn with_literal(
+    alloc: Global,
+    literals: &[Lit<Compare>],
+    more: Lit<Compare>,
+) -> Result<Vec<Lit<Compare>>, Memory>
+    ensures { IfOk result (λ r. (us : List ℤ) → HoldsAll (plain_literals literals.now) us → compare_holds (plain_compare more.atom) us ≡ more.sign → HoldsAll (plain_literals r.items) us) }
+{
+    let mut out = sided(alloc, literals, literals.len(), false)?;
+    out.push(more)?;
+    Ok(out)
 }
 
 // The first negated equality without remainders that these values break.
@@ -210,6 +277,73 @@ impl Branch {
         Ok(split.times > 0)
     }
 
+    // The branch with a literal more, at the end.
+    fn push_with(
+        &self,
+        alloc: Global,
+        more: Lit<Compare>,
+        pending: &mut Vec<Branch>,
+    ) -> Result<(), FormStop>
+        ensures more { OnOk result ((us : List ℤ) → length us ≡ 8 → HoldsAll (plain_literals self.now.literals.items) us → compare_holds (plain_compare more.atom) us ≡ more.sign → SomeHeld pending.new.items) }
+        ensures kept { OnOk result (SomeHeld pending.old.items → SomeHeld pending.new.items) }
+    {
+        let own = with_literal(alloc, &self.literals, more)?;
+        let literals = equated(alloc, own)?;
+        pending.push(Branch {
+            case: self.case,
+            literals,
+        })?;
+        Ok(())
+    }
+
+    // The parts where the field is less than a number, and where it isn't less than another, at the end.
+    fn push_outside(
+        &self,
+        alloc: Global,
+        field: u32,
+        from: LabelInt,
+        to: LabelInt,
+        pending: &mut Vec<Branch>,
+    ) -> Result<(), FormStop>
+        requires { field < 8 }
+        ensures below { OnOk result ((us : List ℤ) → length us ≡ 8 → HoldsAll (plain_literals self.now.literals.items) us → slice_index_or us field (pos 0) <ℤ from → SomeHeld pending.new.items) }
+        ensures above { OnOk result ((us : List ℤ) → length us ≡ 8 → HoldsAll (plain_literals self.now.literals.items) us → to ≤ℤ slice_index_or us field (pos 0) → SomeHeld pending.new.items) }
+        ensures kept { OnOk result (SomeHeld pending.old.items → SomeHeld pending.new.items) }
+    {
+        let below = beside(alloc, field, Relation::Less, from, true)?;
+        self.push_with(alloc, below, pending)?;
+        let above = beside(alloc, field, Relation::Less, to, false)?;
+        self.push_with(alloc, above, pending)?;
+        Ok(())
+    }
+
+    // The parts in which the field is less than a number, is each of so many from it on, or is more, at the end; not all, if
+    // one is too great.
+    fn push_values(
+        &self,
+        alloc: Global,
+        field: u32,
+        from: LabelInt,
+        count: u32,
+        pending: &mut Vec<Branch>,
+    ) -> Result<bool, FormStop>
+        ensures parts { IfOk result (λ pushed. IsTrue pushed → IsHeld self.now → SomeHeld pending.new.items) }
+        ensures kept { OnOk result (SomeHeld pending.old.items → SomeHeld pending.new.items) }
+    {
+        let Some(to) = from.checked_add(count as LabelInt) else {
+            return Ok(false);
+        };
+        if field >= 8 {
+            return Ok(false);
+        }
+        self.push_outside(alloc, field, from, to, pending)?;
+        for value in from..to {
+            let own = beside(alloc, field, Relation::Equal, value, true)?;
+            self.push_with(alloc, own, pending)?;
+        }
+        Ok(true)
+    }
+
     // The branch where at a place one side is the lesser, at the end.
     fn push_side(
         &self,
@@ -260,9 +394,12 @@ impl Branch {
         if self.push_sides(alloc, values, pending)? {
             return Ok(true);
         }
-        match best_split(&self.literals, values) {
-            Some(split) => self.push_parts(alloc, split, pending),
-            None => Ok(false),
+        let Some(best) = best_split(&self.literals, values) else {
+            return Ok(false);
+        };
+        match best.first {
+            Some(first) => self.push_values(alloc, best.split.field, first, best.parts, pending),
+            None => self.push_parts(alloc, best.split, pending),
         }
     }
 }

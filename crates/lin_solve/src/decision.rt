@@ -8,11 +8,11 @@ ghost use Rattle.lin_solve.specs.Plain.{plain_literals, AreTheirs};
 ghost use Rattle.lin_solve.specs.Shown.{Answers};
 ghost use Rattle.lin_solve.specs.Kept.{AreKept};
 
-use crate::branches::seek_branches;
+use crate::apart::seek_apart;
 use crate::cases::seek_cases;
 use crate::chain::{Chain, Width, chain_of};
 use crate::compare::Compare;
-use crate::found::{Sought, seek};
+use crate::found::Sought;
 use crate::gaps::is_clear_clash;
 use crate::guess::guess;
 use crate::mend::mend;
@@ -111,12 +111,7 @@ pub fn decide(
     if let Some(values) = mend(alloc, literals)? {
         return Ok(Verdict::Sat(values));
     }
-    match seek_branches(alloc, literals)? {
-        Sought::Values(values) => return Ok(Verdict::Sat(values)),
-        Sought::Never => return Ok(Verdict::Unsat),
-        Sought::Open => {}
-    }
-    match seek(alloc, literals)? {
+    match seek_apart(alloc, literals)? {
         Sought::Values(values) => return Ok(Verdict::Sat(values)),
         Sought::Never => return Ok(Verdict::Unsat),
         Sought::Open => {}

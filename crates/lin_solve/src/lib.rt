@@ -4,6 +4,7 @@
 //! the literals, each of them once, that passes its width.
 #![tactic(auto)]
 
+mod apart;
 mod branches;
 mod cases;
 mod chain;
@@ -18,6 +19,7 @@ mod mend;
 mod numbering;
 mod over;
 mod puts;
+mod ranges;
 mod repeats;
 mod rows;
 mod said;

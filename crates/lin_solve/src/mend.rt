@@ -40,8 +40,8 @@ fn count_broken(literals: &[Lit<Compare>], values: &[LabelInt], most: usize) -> 
     broken
 }
 
-// The coefficient of a field outside all remainders.
-fn coefficient(form: &Form, field: u32) -> i128 {
+/// The coefficient of a field outside all remainders.
+pub(crate) fn coefficient(form: &Form, field: u32) -> i128 {
     for term in form.fields() {
         if term.field == field {
             return term.coefficient as i128;
