@@ -1,6 +1,6 @@
 //! The compositions of an item.
 
-ghost use Rattle.std.specs.Prelude.{◌≡◌, ◌≤◌, ◌⊎◌, OnOk, IfErr, Contains};
+ghost use Rattle.std.specs.Prelude.{◌≡◌, ◌≤◌, ◌⊎◌, OnOk, IfErr, All, Contains};
 ghost use Rattle.model_grammar.specs.Syntax as plain;
 ghost use Rattle.model_grammar.specs.declared.Op2.TheVariants.{Compose};
 ghost use Rattle.fast_syntax.specs.Plain.{plain_item, plain_x, plain_claim};
@@ -72,6 +72,9 @@ fn pair_under(
 }
 
 /// Whether each composition in the expression can be made.
+// It isn't inlined into `composed_each`, each frame of which would then have a place for every result that this one holds.
+#[cycle(composed)]
+#[inline(never)]
 fn composed(alloc: Global, checked: &Checked, limit: u32, e: &X) -> Result<(), ComposeStop>
     requires shallow { limit ≤ 2000 }
     requires declared { AreNamesDeclared (items_of checked.now) (plain_x e.now) }
@@ -86,13 +89,28 @@ fn composed(alloc: Global, checked: &Checked, limit: u32, e: &X) -> Result<(), C
             composed(alloc, checked, limit, first)?;
             composed(alloc, checked, limit, second)
         }
-        X::Literal(_, _, xs) => {
-            'xs: for x in xs {
-                composed(alloc, checked, limit, x)?;
-            }
-            Ok(())
-        }
+        X::Literal(_, _, xs) => composed_each(alloc, checked, limit, xs),
     }
+}
+
+/// Whether each composition in each of the expressions can be made.
+// At a literal it calls itself, and not `composed`, so that a level of a tree takes one frame, with a place for one result: a
+// result is large, and a tree may have 2,000 levels.
+#[cycle(composed)]
+fn composed_each(alloc: Global, checked: &Checked, limit: u32, xs: &[X]) -> Result<(), ComposeStop>
+    requires shallow { limit ≤ 2000 }
+    requires declared { All (λ x. AreNamesDeclared (items_of checked.now) (plain_x x)) xs.now }
+    ensures composable { OnOk result (All (λ x. AreComposable (items_of checked.now) (plain_x x)) xs.now) }
+    ensures stop { IfErr result (λ s. (x : X) × Contains xs.now x × StopsIn (items_of checked.now) limit (plain_x x) s) }
+{
+    'xs: for x in xs {
+        let found = match x {
+            X::Literal(_, _, inside) => composed_each(alloc, checked, limit, inside),
+            _ => composed(alloc, checked, limit, x),
+        };
+        found?;
+    }
+    Ok(())
 }
 
 /// Whether each composition in the statement can be made.
