@@ -4,15 +4,15 @@ use Rattle.model_form.specs.Form.{Form, Remainders, no_remainders, remainder, re
 use Rattle.model_form.specs.Over.{IsOver, IsDivided}
 use Rattle.model_form.specs.Ranges.{IsForm}
 
--- over the eight fields, by divisors that are at least 1, and at most 8192 remainders stand in one another
+-- over the eight fields, by divisors that are at least 1, and at most 4096 remainders stand in one another
 pub record IsWhole (f : Form) : Type 0 where
   pub over : IsOver 8 f
   pub divided : IsDivided f
-  pub low : height f ≤ 8193
+  pub low : height f ≤ 4097
 
 -- what may stand in a remainder
 abbrev pub IsInner : Form → Type 0
-IsInner f = IsWhole f × (height f ≤ 8192)
+IsInner f = IsWhole f × (height f ≤ 4096)
 
 abbrev pub AreInner : Remainders → Type 0
 AreInner no_remainders = Unit {0}

@@ -14,7 +14,7 @@ use std::marker::Model;
 
 /// The most remainders that may stand in one another in a form. A form that would nest deeper is told as want of memory,
 /// since going over it takes as much of the stack.
-pub const DEEPEST: u32 = 8192;
+pub const DEEPEST: u32 = 4096;
 
 /// A coefficient of the field with this number.
 #[derive(Clone, Copy, Debug, PartialEq, Eq)]
