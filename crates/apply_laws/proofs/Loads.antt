@@ -6,6 +6,7 @@ use Rattle.std.proofs.lemmas.List.Sums.{sum_by-cons}
 use Rattle.std.specs.declared.cmp.Ordering.{Ordering}
 use Rattle.std.specs.declared.cmp.Ordering.TheVariants.{Equal}
 use Rattle.std.specs.Cmp.{IsTotalOrder}
+use Rattle.model_tree.specs.Limits.{most_nodes, greatest_depth, most_outputs}
 use Rattle.model_tree.specs.Tree.{Tree, node_count, depth, relabel}
 use Rattle.model_tree.proofs.Trees.{node_count-relabel}
 use Rattle.model_sta.specs.EachTwo as all_by_index
@@ -43,12 +44,12 @@ module _ {X : Type 0} where
 module _ {L : Type 0} (R : Tree L → Tree L → Type 0) (t : Tree L) where
   pub too_much_is : (a : Load) → Passes node_count depth a (R t) → IsTooMuch a R t
   too_much_is outputs (us, r, d, m) = (us, each_all (R t) us r, two_all _ us d, m)
-  too_much_is nodes (us, r, d, m) = (us, each_all (R t) us r, two_all _ us d, subst (λ n. 1048576 < n) (sum_same node_count us) m)
+  too_much_is nodes (us, r, d, m) = (us, each_all (R t) us r, two_all _ us d, subst (λ n. most_nodes < n) (sum_same node_count us) m)
   too_much_is depths h = h
 
   pub is_too_much : (a : Load) → IsTooMuch a R t → Passes node_count depth a (R t)
   is_too_much outputs (us, r, d, m) = (us, all_each (R t) us r, all_two _ us d, m)
-  is_too_much nodes (us, r, d, m) = (us, all_each (R t) us r, all_two _ us d, subst (λ n. 1048576 < n) (sym (sum_same node_count us)) m)
+  is_too_much nodes (us, r, d, m) = (us, all_each (R t) us r, all_two _ us d, subst (λ n. most_nodes < n) (sym (sum_same node_count us)) m)
   is_too_much depths h = h
 
 -- ---- different elements of a list are no more than it
@@ -92,15 +93,15 @@ module _ {V L N : Type 0} (label : V → L) (order : V → V → Ordering) (keep
     listed [] r = tt
     listed (u ∷ us) r = (h.all u r.0 (h.far_is u r.0), listed us r.1)
 
-    deepest : (xs : List (Cut V)) (u : Tree L) → HasOf (λ x. relabel label (tree_of x)) xs u → Each (λ x. depth (tree_of x) ≤ 2000) xs → depth u ≤ 2000
+    deepest : (xs : List (Cut V)) (u : Tree L) → HasOf (λ x. relabel label (tree_of x)) xs u → Each (λ x. depth (tree_of x) ≤ greatest_depth) xs → depth u ≤ greatest_depth
     deepest [] u o e = absurd o
-    deepest (x ∷ xs) u (inl p) e = subst (λ n. n ≤ 2000) (sym (depth-relabel label (tree_of x)) ∙ ap depth p) e.0
+    deepest (x ∷ xs) u (inl p) e = subst (λ n. n ≤ greatest_depth) (sym (depth-relabel label (tree_of x)) ∙ ap depth p) e.0
     deepest (x ∷ xs) u (inr o) e = deepest xs u o e.1
 
     -- no load passes
-    pub within : length xs ≤ 4096 → sum_of (λ x. node_count (tree_of x)) xs ≤ 1048576 → Each (λ x. depth (tree_of x) ≤ 2000) xs → (load : Load) → Passes node_count depth load R → ⊥
+    pub within : length xs ≤ most_outputs → sum_of (λ x. node_count (tree_of x)) xs ≤ most_nodes → Each (λ x. depth (tree_of x) ≤ greatest_depth) xs → (load : Load) → Passes node_count depth load R → ⊥
     within a b c outputs (us, r, d, m) = let f = fewer (λ x. relabel label (tree_of x)) node_count us xs d (listed us r) in omega (arith, f.0, m, a)
-    within a b c nodes (us, r, d, m) = let f = fewer (λ x. relabel label (tree_of x)) node_count us xs d (listed us r) in omega (arith, f.1, m, subst (λ n. n ≤ 1048576) (sym (sums xs)) b)
+    within a b c nodes (us, r, d, m) = let f = fewer (λ x. relabel label (tree_of x)) node_count us xs d (listed us r) in omega (arith, f.1, m, subst (λ n. n ≤ most_nodes) (sym (sums xs)) b)
       where
         sums : (xs : List (Cut V)) → sum_of (λ x. node_count (relabel label (tree_of x))) xs ≡ sum_of (λ x. node_count (tree_of x)) xs
         sums [] = refl

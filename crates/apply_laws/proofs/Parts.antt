@@ -3,6 +3,7 @@ use Rattle.std.proofs.Common.{ℕ, suc, ◌≡◌, ◌<◌, inl, inr, Bool, true
 use Rattle.std.specs.declared.cmp.Ordering.{Ordering}
 use Rattle.std.specs.declared.cmp.Ordering.TheVariants.{Less, Equal}
 use Rattle.std.specs.Cmp.{IsTotalOrder}
+use Rattle.model_tree.specs.Limits.{most_nodes, greatest_depth, most_outputs}
 use Rattle.model_tree.specs.TreeOrder.{tree_cmp, trees_cmp}
 use Rattle.model_tree.specs.Tree.{Tree, node, Trees, no_trees, tree, node_count, node_count_all, depth, depth_all, relabel, relabel_all, children_of}
 use Rattle.model_tree.proofs.Trees.{node_count-relabel, node_count_all-relabel_all}
@@ -32,7 +33,7 @@ module _ {X : Type 0} (f g : X → ℕ) (same : (x : X) → f x ≡ g x) where
   sum_alike [] = refl
   sum_alike (x ∷ xs) = omega (arith, same x, sum_alike xs)
 
-  pub one_alike : (xs : List X) → OneOf (λ x. 2000 < f x) xs → OneOf (λ x. 2000 < g x) xs
+  pub one_alike : (xs : List X) → OneOf (λ x. greatest_depth < f x) xs → OneOf (λ x. greatest_depth < g x) xs
   one_alike [] o = o
   one_alike (x ∷ xs) (inl l) = inl (omega (arith, l, same x))
   one_alike (x ∷ xs) (inr o) = inr (one_alike xs o)
@@ -59,23 +60,23 @@ module _ {V L N : Type 0} (label : V → L) (order : V → V → Ordering) (keep
     apart : EachTwo (λ x y. ¬ (relabel label (tree_of x) ≡ relabel label (tree_of y))) xs
     apart = each_two_weaker _ _ cuts_apart xs h.ascending
 
-    pub listed_outputs : 4096 < length xs → Passes node_count depth outputs R
+    pub listed_outputs : most_outputs < length xs → Passes node_count depth outputs R
     listed_outputs l = shows_outputs (λ x. relabel label (tree_of x)) node_count depth R xs h.are apart l
 
-    pub listed_nodes : 1048576 < sum_of (λ x. node_count (tree_of x)) xs → Passes node_count depth nodes R
+    pub listed_nodes : most_nodes < sum_of (λ x. node_count (tree_of x)) xs → Passes node_count depth nodes R
     listed_nodes l = shows_nodes (λ x. relabel label (tree_of x)) node_count depth R xs h.are apart
-        (subst (λ n. 1048576 < n) (sym (sum_alike (λ x. node_count (relabel label (tree_of x))) (λ x. node_count (tree_of x)) (λ x. node_count-relabel label (tree_of x)) xs)) l)
+        (subst (λ n. most_nodes < n) (sym (sum_alike (λ x. node_count (relabel label (tree_of x))) (λ x. node_count (tree_of x)) (λ x. node_count-relabel label (tree_of x)) xs)) l)
 
   module _ (C : Cuts V → Type 0) (R : Trees L → Type 0) (xs : List (Cuts V)) (far : Option N) (h : ListsRows label order keeps Outside C R xs far) where
     apart_rows : EachTwo (λ x y. ¬ (relabel_all label (trees_of_cuts x) ≡ relabel_all label (trees_of_cuts y))) xs
     apart_rows = each_two_weaker _ _ rows_apart xs h.ascending
 
-    rows_outputs : 4096 < length xs → Passes node_count_all depth_all outputs R
+    rows_outputs : most_outputs < length xs → Passes node_count_all depth_all outputs R
     rows_outputs l = shows_outputs (λ x. relabel_all label (trees_of_cuts x)) node_count_all depth_all R xs h.are apart_rows l
 
-    rows_nodes : 1048576 < sum_of (λ x. node_count_all (trees_of_cuts x)) xs → Passes node_count_all depth_all nodes R
+    rows_nodes : most_nodes < sum_of (λ x. node_count_all (trees_of_cuts x)) xs → Passes node_count_all depth_all nodes R
     rows_nodes l = shows_nodes (λ x. relabel_all label (trees_of_cuts x)) node_count_all depth_all R xs h.are apart_rows
-        (subst (λ n. 1048576 < n) (sym (sum_alike (λ x. node_count_all (relabel_all label (trees_of_cuts x))) (λ x. node_count_all (trees_of_cuts x)) (λ x. node_count_all-relabel_all label (trees_of_cuts x)) xs)) l)
+        (subst (λ n. most_nodes < n) (sym (sum_alike (λ x. node_count_all (relabel_all label (trees_of_cuts x))) (λ x. node_count_all (trees_of_cuts x)) (λ x. node_count_all-relabel_all label (trees_of_cuts x)) xs)) l)
 
   -- ---- a part before parts
 
@@ -114,7 +115,7 @@ module _ {V L N : Type 0} (label : V → L) (order : V → V → Ordering) (keep
     module _ (still : (x y : Cuts V) → all_meant label x ≡ all_meant label y → Both C D x → Both C D y) where
       product_of : (xs : List (Cut V)) (a : Option N) → ListsCuts label order keeps Outside C P xs a → (yss : List (Cuts V)) (b : Option N) → ListsRows label order keeps Outside D Q yss b
           → (r : Found (Cuts V) N) → IsProductOf label xs a yss b r → AreFound label order keeps Outside (Both C D) (BothTrees P Q) r
-      product_of xs a h yss b k (too_much outputs) i = rows_outputs (Both C D) (BothTrees P Q) (products xs yss) _ (product label order keeps Outside total same C D P Q xs yss a b h k) (subst (λ n. 4096 < n) (sym (length_products xs yss)) i)
+      product_of xs a h yss b k (too_much outputs) i = rows_outputs (Both C D) (BothTrees P Q) (products xs yss) _ (product label order keeps Outside total same C D P Q xs yss a b h k) (subst (λ n. most_outputs < n) (sym (length_products xs yss)) i)
       product_of xs a h yss b k (too_much nodes) i = rows_nodes (Both C D) (BothTrees P Q) (products xs yss) _ (product label order keeps Outside total same C D P Q xs yss a b h k) i
       product_of xs a h yss b k (too_much depths) i = absurd i
       product_of xs a h yss b k (listed zss far) i =
@@ -140,13 +141,13 @@ module _ {V L N : Type 0} (label : V → L) (order : V → V → Ordering) (keep
         let other = alive _ _ _ _ D Q yss a h e in
         subst (λ zs. ListsCuts label order keeps Outside (MadeOver label c l D) (NodeOver c l Q) zs (Some n)) (sym z) (far_node label order keeps Outside total same c l D Q k n i other.0 other.1)
 
-    too_wide : (yss : List (Cuts V)) (a : Option N) → ListsRows label order keeps Outside D Q yss a → 1048576 < sum_of (λ ys. suc (node_count_all (trees_of_cuts ys))) yss → Passes node_count depth nodes (NodeOver c l Q)
+    too_wide : (yss : List (Cuts V)) (a : Option N) → ListsRows label order keeps Outside D Q yss a → most_nodes < sum_of (λ ys. suc (node_count_all (trees_of_cuts ys))) yss → Passes node_count depth nodes (NodeOver c l Q)
     too_wide yss a h w = shows_nodes (λ ys. node c l (relabel_all label (trees_of_cuts ys))) node_count depth (NodeOver c l Q) yss
         (each_weaker (λ ys. Q (relabel_all label (trees_of_cuts ys))) _ (λ ys q. (refl, refl, q)) yss h.are)
         (each_two_weaker _ _ (λ x y e f. rows_apart x y e (ap children_of f)) yss h.ascending)
-        (subst (λ n. 1048576 < n) (sym (sum_alike (λ ys. suc (node_count_all (relabel_all label (trees_of_cuts ys)))) (λ ys. suc (node_count_all (trees_of_cuts ys))) (λ ys. ap suc (node_count_all-relabel_all label (trees_of_cuts ys))) yss)) w)
+        (subst (λ n. most_nodes < n) (sym (sum_alike (λ ys. suc (node_count_all (relabel_all label (trees_of_cuts ys)))) (λ ys. suc (node_count_all (trees_of_cuts ys))) (λ ys. ap suc (node_count_all-relabel_all label (trees_of_cuts ys))) yss)) w)
 
-    too_tall : (yss : List (Cuts V)) (a : Option N) → ListsRows label order keeps Outside D Q yss a → OneOf (λ ys. 2000 < suc (depth_all (trees_of_cuts ys))) yss → Passes node_count depth depths (NodeOver c l Q)
+    too_tall : (yss : List (Cuts V)) (a : Option N) → ListsRows label order keeps Outside D Q yss a → OneOf (λ ys. greatest_depth < suc (depth_all (trees_of_cuts ys))) yss → Passes node_count depth depths (NodeOver c l Q)
     too_tall yss a h o = shows_deep (λ ys. node c l (relabel_all label (trees_of_cuts ys))) node_count depth (NodeOver c l Q) yss
         (each_weaker (λ ys. Q (relabel_all label (trees_of_cuts ys))) _ (λ ys q. (refl, refl, q)) yss h.are)
         (one_alike (λ ys. suc (depth_all (trees_of_cuts ys))) (λ ys. suc (depth_all (relabel_all label (trees_of_cuts ys)))) (λ ys. ap suc (sym (depth_all-relabel_all label (trees_of_cuts ys)))) yss o)

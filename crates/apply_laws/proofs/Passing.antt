@@ -1,6 +1,7 @@
 -- A load that parts pass is passed by what is over them.
 use Rattle.std.proofs.Common.{ℕ, ◌≡◌, ◌+◌, ◌<◌, ◌≤◌, inl, inr, List, [], ◌∷◌, map, length, refl, sym, ap, subst, arith}
 use Rattle.std.proofs.lemmas.List.{length-map}
+use Rattle.model_tree.specs.Limits.{most_nodes, greatest_depth, most_outputs}
 use Rattle.model_tree.specs.Tree.{Tree, node, Trees, no_trees, tree, node_count, node_count_all, depth, depth_all}
 use Rattle.model_sta.specs.Loads.{Load, outputs, nodes, depths}
 use Rattle.model_sta.specs.Sets.{Each}
@@ -33,7 +34,7 @@ module _ {X Y : Type 0} (size deep : X → ℕ) (wide tall : Y → ℕ) (f : X �
   sum_map (x ∷ xs) = omega (arith, wider x, sum_map xs)
 
   pub passes_map : (R : X → Type 0) (S : Y → Type 0) → ((x : X) → R x → S (f x)) → (a : Load) → Passes size deep a R → Passes wide tall a S
-  passes_map R S k outputs (xs, r, d, m) = (map f xs, each_map S f xs (each_weaker R (λ x. S (f x)) k xs r), different_map xs d, subst (λ n. 4096 < n) (sym (length-map xs f)) m)
+  passes_map R S k outputs (xs, r, d, m) = (map f xs, each_map S f xs (each_weaker R (λ x. S (f x)) k xs r), different_map xs d, subst (λ n. most_outputs < n) (sym (length-map xs f)) m)
   passes_map R S k nodes (xs, r, d, m) = (map f xs, each_map S f xs (each_weaker R (λ x. S (f x)) k xs r), different_map xs d, omega (arith, m, sum_map xs))
   passes_map R S k depths (x, r, m) = (f x, k x r, omega (arith, m, taller x))
 
@@ -68,14 +69,14 @@ module _ {X Y : Type 0} (of : X → Y) (size deep : Y → ℕ) (R : Y → Type 0
   sum-map [] = refl
   sum-map (x ∷ xs) = ap (λ n. size (of x) + n) (sum-map xs)
 
-  pub shows_deep : (xs : List X) → Each (λ x. R (of x)) xs → OneOf (λ x. 2000 < deep (of x)) xs → Passes size deep depths R
+  pub shows_deep : (xs : List X) → Each (λ x. R (of x)) xs → OneOf (λ x. greatest_depth < deep (of x)) xs → Passes size deep depths R
   shows_deep [] r o = absurd o
   shows_deep (x ∷ xs) r (inl l) = (of x, r.0, l)
   shows_deep (x ∷ xs) r (inr o) = shows_deep xs r.1 o
 
   module _ (xs : List X) (are : Each (λ x. R (of x)) xs) (apart : EachTwo (λ x y. ¬ (of x ≡ of y)) xs) where
-    pub shows_outputs : 4096 < length xs → Passes size deep outputs R
-    shows_outputs l = (map of xs, each_map R of xs are, each_two_map (λ x y. ¬ (x ≡ y)) of xs apart, subst (λ n. 4096 < n) (sym (length-map xs of)) l)
+    pub shows_outputs : most_outputs < length xs → Passes size deep outputs R
+    shows_outputs l = (map of xs, each_map R of xs are, each_two_map (λ x y. ¬ (x ≡ y)) of xs apart, subst (λ n. most_outputs < n) (sym (length-map xs of)) l)
 
-    pub shows_nodes : 1048576 < sum_of (λ x. size (of x)) xs → Passes size deep nodes R
-    shows_nodes l = (map of xs, each_map R of xs are, each_two_map (λ x y. ¬ (x ≡ y)) of xs apart, subst (λ n. 1048576 < n) (sym (sum-map xs)) l)
+    pub shows_nodes : most_nodes < sum_of (λ x. size (of x)) xs → Passes size deep nodes R
+    shows_nodes l = (map of xs, each_map R of xs are, each_two_map (λ x y. ¬ (x ≡ y)) of xs apart, subst (λ n. most_nodes < n) (sym (sum-map xs)) l)

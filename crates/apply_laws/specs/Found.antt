@@ -1,6 +1,7 @@
 -- What is found of terms: that there are too many or too large outputs, or a list of them.
 use Rattle.std.specs.Prelude.{ℕ, suc, ◌≡◌, ◌⊎◌, ◌*◌, ◌<◌, Bool, true, false, ◌&&◌, List, [], map, length, Option, Some, None}
 use Rattle.std.specs.declared.cmp.Ordering.{Ordering}
+use Rattle.model_tree.specs.Limits.{most_nodes, greatest_depth, most_outputs}
 use Rattle.model_tree.specs.Tree.{Tree, Trees, node_count, node_count_all, depth, depth_all}
 use Rattle.model_sta.specs.Loads.{Load, outputs, nodes, depths}
 use Rattle.model_sta.specs.Sets.{Each}
@@ -11,9 +12,9 @@ use Rattle.apply_laws.specs.Listing.{ListsCuts, ListsRows, AreNodes, has_some, f
 
 -- more than 4,096 different ones, different ones of more than 1,048,576 nodes together, or one deeper than 2,000
 abbrev pub Passes : {Y : Type 0} → (Y → ℕ) → (Y → ℕ) → Load → (Y → Type 0) → Type 0
-Passes {Y} size deep outputs R = (ys : List Y) × Each R ys × EachTwo (λ x y. ¬ (x ≡ y)) ys × (4096 < length ys)
-Passes {Y} size deep nodes R = (ys : List Y) × Each R ys × EachTwo (λ x y. ¬ (x ≡ y)) ys × (1048576 < sum_of size ys)
-Passes {Y} size deep depths R = (y : Y) × R y × (2000 < deep y)
+Passes {Y} size deep outputs R = (ys : List Y) × Each R ys × EachTwo (λ x y. ¬ (x ≡ y)) ys × (most_outputs < length ys)
+Passes {Y} size deep nodes R = (ys : List Y) × Each R ys × EachTwo (λ x y. ¬ (x ≡ y)) ys × (most_nodes < sum_of size ys)
+Passes {Y} size deep depths R = (y : Y) × R y × (greatest_depth < deep y)
 
 pub data Found (X N : Type 0) : Type 0 where
   too_much : Load → Found X N
@@ -44,8 +45,8 @@ StillTooMuch a false (listed xs far) = (xs ≡ []) × (far ≡ None)
 module _ {V L N : Type 0} (label : V → L) where
   -- what is found of a part before parts, of which the first are found to be xs and the others yss
   abbrev pub IsProductOf : List (Cut V) → Option N → List (Cuts V) → Option N → Found (Cuts V) N → Type 0
-  IsProductOf xs a yss b (too_much outputs) = 4096 < length xs * length yss
-  IsProductOf xs a yss b (too_much nodes) = 1048576 < sum_of (λ zs. node_count_all (trees_of_cuts zs)) (products xs yss)
+  IsProductOf xs a yss b (too_much outputs) = most_outputs < length xs * length yss
+  IsProductOf xs a yss b (too_much nodes) = most_nodes < sum_of (λ zs. node_count_all (trees_of_cuts zs)) (products xs yss)
   IsProductOf xs a yss b (too_much depths) = ⊥
   IsProductOf xs a yss b (listed zss far) = (map (all_meant label) zss ≡ map (all_meant label) (products xs yss)) × (far ≡ only_if (has_some xs a && has_some yss b) (first_some a b))
 
@@ -67,8 +68,8 @@ module _ {V L N : Type 0} (label : V → L) (keeps : L → Bool) (Outside : L �
   IsNodeFound c l (too_much a) (too_much b) = a ≡ b
   IsNodeFound c l (too_much a) (listed zs b) = ⊥
   IsNodeFound c l (listed yss a) (too_much outputs) = ⊥
-  IsNodeFound c l (listed yss a) (too_much nodes) = 1048576 < sum_of (λ ys. suc (node_count_all (trees_of_cuts ys))) yss
-  IsNodeFound c l (listed yss a) (too_much depths) = OneOf (λ ys. 2000 < suc (depth_all (trees_of_cuts ys))) yss
+  IsNodeFound c l (listed yss a) (too_much nodes) = most_nodes < sum_of (λ ys. suc (node_count_all (trees_of_cuts ys))) yss
+  IsNodeFound c l (listed yss a) (too_much depths) = OneOf (λ ys. greatest_depth < suc (depth_all (trees_of_cuts ys))) yss
   IsNodeFound c l (listed yss a) (listed zs b) =
       ((keeps l ≡ true) × AreNodes label c l yss zs × (b ≡ a))
       ⊎ ((keeps l ≡ false) × (zs ≡ []) × IsFarNode l (has_some yss a) b)

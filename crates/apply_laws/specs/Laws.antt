@@ -3,6 +3,7 @@ use Rattle.std.specs.Prelude.{ℕ, ◌≡◌, ◌↔◌, ◌≤◌, Bool, IsTrue
 use Rattle.std.specs.Cmp.{IsTotalOrder}
 use Rattle.std.specs.declared.cmp.Ordering.{Ordering}
 use Rattle.std.specs.declared.cmp.Ordering.TheVariants.{Equal}
+use Rattle.model_tree.specs.Limits.{most_nodes, greatest_depth, most_outputs}
 use Rattle.model_tree.specs.Tree.{Tree, node, Trees, relabel, relabel_all, node_count, depth}
 use Rattle.model_tree.specs.TreeOrder.{tree_cmp}
 use Rattle.model_sta.specs.Loads.{Load, IsTooMuch}
@@ -59,7 +60,7 @@ StatesAreFound V L N = (a : Labels V L N) (f : Sttr L) (ts : Trees V) (q c : ℕ
 -- a short list of small outputs with no number that isn't kept
 abbrev pub ListedPassesNone : Type 0 → Type 0 → Type 0 → Type 0
 ListedPassesNone V L N = (a : Labels V L N) (f : Sttr L) (t : Tree V) (q : ℕ) (xs : List (Cut V)) → IsCallFound a.label a.order a.keeps (λ l n. IsTrue (a.outside l n)) f q t (listed xs None)
-    → length xs ≤ 4096 → sum_of (λ x. node_count (tree_of x)) xs ≤ 1048576 → Each (λ x. depth (tree_of x) ≤ 2000) xs → (load : Load) → IsTooMuch load (Gives f (run q)) (relabel a.label t) → ⊥
+    → length xs ≤ most_outputs → sum_of (λ x. node_count (tree_of x)) xs ≤ most_nodes → Each (λ x. depth (tree_of x) ≤ greatest_depth) xs → (load : Load) → IsTooMuch load (Gives f (run q)) (relabel a.label t) → ⊥
 
 -- too much of what a call leads to is at a subtree
 abbrev pub ReachedIsTooMuch : Type 0 → Type 0

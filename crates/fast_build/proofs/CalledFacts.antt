@@ -7,6 +7,7 @@ use Rattle.std.proofs.lemmas.List.{length-map, get_or-map, get_or_default}
 use Rattle.std.proofs.lemmas.List.Elements.{Contains-get_or}
 use Rattle.std.proofs.lemmas.Map.Made.{AllPairs-from_IsDistinct}
 use Rattle.std.proofs.lemmas.Slice.Eq.{bytes_eq-Decides}
+use Rattle.model_tree.specs.Limits.{most_fields}
 use Rattle.model_tree.specs.Signature.{PlainSignature, names_of}
 use Rattle.model_program.specs.Syntax.{Name, Demand, TypeItem}
 use Rattle.model_grammar.specs.Syntax.{named, Rule, OutRule, LangItem, TransItem, Item}
@@ -237,8 +238,8 @@ module _ (items : List Item) (well : is_well_formed items ≡ true) (name : List
         name_there : Contains names name
         name_there = (0, omega (arith, ap length reached.first), ap (λ ns. get_or ns 0 name) reached.first)
 
-        pub few : length s.fields ≤ 8
-        few = subst (λ (g : PlainSignature). length g.fields ≤ 8) (sound_signature_from name t name_there found) (few_fields items well name t found)
+        pub few : length s.fields ≤ most_fields
+        few = subst (λ (g : PlainSignature). length g.fields ≤ most_fields) (sound_signature_from name t name_there found) (few_fields items well name t found)
 
         pub apart_from : are_apart (names_of s) ≡ true
         apart_from = subst (λ g. are_apart (names_of g) ≡ true) (sound_signature_from name t name_there found) (ctors_apart_from items well name t found)

@@ -5,6 +5,7 @@ use Rattle.std.specs.List.{list_all, position_or_len}
 use Rattle.std.specs.Option.{option_map_or}
 use Rattle.std.proofs.lemmas.Bool.Decides.{nat_tests}
 use Rattle.std.proofs.lemmas.List.{length-map}
+use Rattle.model_tree.specs.Limits.{most_fields}
 use Rattle.model_tree.specs.Signature.{Sort, wholes, truths, texts, PlainConstructor, names_of}
 use Rattle.model_form.specs.Form.{Form}
 use Rattle.model_guard.specs.Forms.{forms_in, HasOutside}
@@ -62,7 +63,7 @@ some_of : {A : Type 0} (o : Option A) → is_some o ≡ true → (x : A) × (o �
 some_of None e = absurd (cc)
 some_of (Some x) e = (x, refl)
 
-module _ (fields : List FieldItem) (known : list_all (λ f. is_some (sort_named f.sort.text)) fields ≡ true) (few : length fields ≤ 8) where
+module _ (fields : List FieldItem) (known : list_all (λ f. is_some (sort_named f.sort.text)) fields ≡ true) (few : length fields ≤ most_fields) where
   record Label (sort : Sort) (e : Expr) : Type 0 where
     of_sort : is_of_sort (plain_fields fields) sort e ≡ true
     within : (n : ℤ) → HasOutside (forms_in (plain_fields fields) e) n → ⊥
@@ -165,7 +166,7 @@ module _ (items : List Item) (well : is_well_formed items ≡ true) (name : List
   guard_stands None s = tt
   guard_stands (Some e) s = let g = sound_guard trans_sound.from.fields sound_from.sorts sound_from.few_fields e (s e refl) in (g.is, g.within)
 
-  pub few_fields : length (signature_of trans_sound.from).fields ≤ 8
+  pub few_fields : length (signature_of trans_sound.from).fields ≤ most_fields
   few_fields = rw length-map sound_from.few_fields
 
   pub ctors_apart_from : are_apart (names_of (signature_of trans_sound.from)) ≡ true

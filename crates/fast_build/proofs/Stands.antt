@@ -3,6 +3,7 @@ use Rattle.std.proofs.Common.{◌≡◌, ℕ, ◌≤◌, ◌==◌, Bool, true, f
 use Rattle.std.specs.Prelude.{not}
 use Rattle.std.specs.List.{list_any, list_all}
 use Rattle.std.specs.Option.{option_map_or}
+use Rattle.model_tree.specs.Limits.{most_fields}
 use Rattle.model_tree.specs.Signature.{PlainSignature, names_of}
 use Rattle.model_program.specs.Syntax.{Name, Demand, TypeItem}
 use Rattle.model_grammar.specs.Syntax.{Rule, LangItem, Item}
@@ -33,7 +34,7 @@ pub record LangStands (items : List Item) (l : LangItem) : Type 0 where
   pub type : TypeItem
   pub found : find_type items l.of.text ≡ Some type
   pub apart : are_apart (names_of (signature_at items l.of)) ≡ true
-  pub few : length (signature_at items l.of).fields ≤ 8
+  pub few : length (signature_at items l.of).fields ≤ most_fields
   pub rules : list_all (rule_stands items l.of (signature_at items l.of)) l.rules ≡ true
   pub guards : All (λ r. GuardStands (signature_at items l.of).fields r.guard) l.rules
 

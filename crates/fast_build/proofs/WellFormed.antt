@@ -6,6 +6,7 @@ use Rattle.std.specs.Option.{option_map_or, option_and_then}
 use Rattle.std.proofs.lemmas.List.{length-map}
 use Rattle.std.proofs.lemmas.List.Elements.{Contains-get_or}
 use Rattle.std.proofs.lemmas.Slice.Eq.{bytes_eq-Decides}
+use Rattle.model_tree.specs.Limits.{most_fields}
 use Rattle.model_tree.specs.Signature.{PlainConstructor, PlainSignature, names_of}
 use Rattle.model_program.specs.Syntax.{Name, Demand, CtorItem, TypeItem}
 use Rattle.model_grammar.specs.Syntax.{Expr, Rule, LangItem, Item}
@@ -99,7 +100,7 @@ module _ (items : List Item) (ok : is_well_formed items ≡ true) where
       type = t;
       found = s.found;
       apart = ap (λ g. are_apart (names_of g)) signature_is ∙ ap are_apart (ctor_texts t.ctors) ∙ apart_texts (names_of_ctors t.ctors) ∙ st.ctors;
-      few = subst (λ (g : PlainSignature). length g.fields ≤ 8) (sym signature_is) (rw length-map st.few_fields);
+      few = subst (λ (g : PlainSignature). length g.fields ≤ most_fields) (sym signature_is) (rw length-map st.few_fields);
       rules = all_from (rule_stands items l.of (signature_at items l.of)) l.rules rule_ok;
       guards = λ k d low. let r = get_or l.rules k d in
           subst (λ (g : PlainSignature). GuardStands g.fields r.guard) (sym signature_is) (guard_ok st r.guard (s.rules r (Contains-get_or l.rules k d low)).guard);

@@ -8,6 +8,7 @@ use Rattle.std.proofs.lemmas.List.Elements.{All-nil, All-cons, All-tail, Contain
 use Rattle.std.proofs.lemmas.Bool.{eqb-true}
 use Rattle.std.proofs.lemmas.Map.Made.{AllPairs-from_IsDistinct}
 use Rattle.std.proofs.lemmas.Slice.Eq.{bytes_eq-Decides}
+use Rattle.model_tree.specs.Limits.{most_fields}
 use Rattle.model_tree.specs.Tree.{LabelTree}
 use Rattle.model_tree.specs.Formula.{Formula, EveryAtom}
 use Rattle.model_tree.specs.Signature.{PlainConstructor, PlainSignature, ranks_of, names_of, sorts_of, HasType}
@@ -191,8 +192,8 @@ module _ (items : List Item) (well : is_well_formed items ≡ true) (name : List
     own_signature : signature_at items own.0.of ≡ t
     own_signature = sym (type_is items name own.0 own.1) ∙ typed
 
-    pub few_fields : length t.fields ≤ 8
-    few_fields = subst (λ (s : PlainSignature). length s.fields ≤ 8) own_signature own_stands.few
+    pub few_fields : length t.fields ≤ most_fields
+    few_fields = subst (λ (s : PlainSignature). length s.fields ≤ most_fields) own_signature own_stands.few
 
     pub ctors_apart : are_apart (names_of t) ≡ true
     ctors_apart = subst (λ s. are_apart (names_of s) ≡ true) own_signature own_stands.apart

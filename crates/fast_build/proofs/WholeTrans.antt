@@ -4,6 +4,7 @@ use Rattle.std.specs.List.{list_all, IsDistinct}
 use Rattle.std.proofs.lemmas.List.{length-map, get_or-map}
 use Rattle.std.proofs.lemmas.List.Elements.{Contains-get_or}
 use Rattle.std.proofs.Math.ListN.{get_or-map as get_or-map_same}
+use Rattle.model_tree.specs.Limits.{most_fields}
 use Rattle.model_tree.specs.Label.{Label}
 use Rattle.model_tree.specs.Tree.{node, LabelTree}
 use Rattle.model_tree.specs.Formula.{EveryAtom}
@@ -83,7 +84,7 @@ module _ (items : List Item) (well : is_well_formed items ≡ true) (name : List
 
   -- ---- what the functions ask for
 
-  pub few : length s.fields ≤ 8
+  pub few : length s.fields ≤ most_fields
   few = facts.few items well name t g.found names ts g.reached g.closed g.once g.founds seeds g.seeded looked ls g.kept g.from_seeds g.closed_looks g.once_looks g.founds_looks s o begins ends
 
   pub outs_stand : All (λ x. All (OutRuleStands s o looked names) x.rules) ts

@@ -2,6 +2,7 @@
 
 ghost use Rattle.std.specs.Prelude.{◌≡◌, ◌≤◌, ℕ, IfOk, List, Some, map, length, true, is_some, All, Contains};
 ghost use Rattle.std.specs.List.{list_all};
+ghost use Rattle.model_tree.specs.Limits.{most_fields};
 ghost use Rattle.fast_tree.specs.Signatures.{plain_signature};
 ghost use Rattle.fast_syntax.specs.Plain.{plain_lang};
 ghost use Rattle.model_program.specs.Syntax.{Name};
@@ -44,7 +45,7 @@ pub fn states_for(
     signature: &Signature,
     reached: &Reached,
 ) -> Result<Vec<Vec<StaRule<RowAtom>>>, Memory>
-    requires few { length signature.now.fields.items ≤ 8 }
+    requires few { length signature.now.fields.items ≤ most_fields }
     requires ctors { All (λ l. list_all (has_ctor (plain_signature signature.now)) (plain_lang l.now).rules ≡ true) reached.now.langs.items }
     requires guarded { All (λ l. All (λ r. GuardStands (plain_signature signature.now).fields r.guard) (plain_lang l.now).rules) reached.now.langs.items }
     requires named { All (λ l. All (Contains reached.now.names.keys) (demanded_in (plain_lang l.now).rules)) reached.now.langs.items }

@@ -1,6 +1,7 @@
 //! The rules of a transducer for the rules of a program.
 
 ghost use Rattle.std.specs.Prelude.{◌≤◌, IfOk, map, length, All};
+ghost use Rattle.model_tree.specs.Limits.{most_fields};
 ghost use Rattle.fast_tree.specs.Signatures.{plain_signature};
 ghost use Rattle.fast_syntax.specs.Plain.{plain_out_rule, plain_trans};
 ghost use Rattle.sttr_core.specs.Machine.{plain_out as machine_out};
@@ -27,7 +28,7 @@ fn out_rule_for(
     names: &IndexSet<Text>,
     rule: &OutRule,
 ) -> Result<SttrRule<RowAtom, RowMap>, Memory>
-    requires few { length from.now.fields.items ≤ 8 }
+    requires few { length from.now.fields.items ≤ most_fields }
     requires stands { OutRuleStands (plain_signature from.now) (plain_signature into.now) looks.now.keys names.now.keys (plain_out_rule rule.now) }
     ensures { IfOk result (λ r. IsOutRuleFor (plain_signature from.now) (plain_signature into.now) (number_in looks.now.keys) (number_in names.now.keys) (machine_out r) (plain_out_rule rule.now)) }
 {
@@ -46,7 +47,7 @@ fn out_rules_for(
     names: &IndexSet<Text>,
     rules: &[OutRule],
 ) -> Result<Vec<SttrRule<RowAtom, RowMap>>, Memory>
-    requires few { length from.now.fields.items ≤ 8 }
+    requires few { length from.now.fields.items ≤ most_fields }
     requires stand { All (OutRuleStands (plain_signature from.now) (plain_signature into.now) looks.now.keys names.now.keys) (map plain_out_rule rules.now) }
     ensures { IfOk result (λ made. AreOutRulesFor (plain_signature from.now) (plain_signature into.now) (number_in looks.now.keys) (number_in names.now.keys) (map machine_out made.items) (map plain_out_rule rules.now)) }
 {
@@ -65,7 +66,7 @@ pub fn out_states_for(
     looks: &IndexSet<Text>,
     called: &Called,
 ) -> Result<Vec<Vec<SttrRule<RowAtom, RowMap>>>, Memory>
-    requires few { length from.now.fields.items ≤ 8 }
+    requires few { length from.now.fields.items ≤ most_fields }
     requires stand { All (λ t. All (OutRuleStands (plain_signature from.now) (plain_signature into.now) looks.now.keys called.now.names.keys) (plain_trans t.now).rules) called.now.transformations.items }
     ensures { IfOk result (λ states. AreOutStatesFor (plain_signature from.now) (plain_signature into.now) (number_in looks.now.keys) (number_in called.now.names.keys) (map (λ those. map machine_out those.items) states.items) (map (λ t. (plain_trans t.now).rules) called.now.transformations.items)) }
 {

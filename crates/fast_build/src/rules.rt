@@ -2,6 +2,7 @@
 
 ghost use Rattle.std.specs.Prelude.{◌≡◌, ◌≤◌, IfOk, map, length, true, All, Contains};
 ghost use Rattle.std.specs.List.{list_all};
+ghost use Rattle.model_tree.specs.Limits.{most_fields};
 ghost use Rattle.fast_tree.specs.Signatures.{plain_signature};
 ghost use Rattle.fast_syntax.specs.View.{plain_demand};
 ghost use Rattle.fast_syntax.specs.Plain.{plain_rule};
@@ -24,7 +25,7 @@ use std::alloc::Global;
 
 /// The rule's guard.
 fn guard_for(alloc: Global, signature: &Signature, rule: &Rule) -> Result<Formula<RowAtom>, Memory>
-    requires few { length signature.now.fields.items ≤ 8 }
+    requires few { length signature.now.fields.items ≤ most_fields }
     requires guarded { GuardStands (plain_signature signature.now).fields (plain_rule rule.now).guard }
     ensures { IfOk result (λ f. IsGuardFor (plain_signature signature.now).fields (plain_rule rule.now).guard (plain_formula f)) }
 {
@@ -41,7 +42,7 @@ pub fn rule_for(
     names: &IndexSet<Text>,
     rule: &Rule,
 ) -> Result<StaRule<RowAtom>, Memory>
-    requires few { length signature.now.fields.items ≤ 8 }
+    requires few { length signature.now.fields.items ≤ most_fields }
     requires ctor { has_ctor (plain_signature signature.now) (plain_rule rule.now) ≡ true }
     requires guarded { GuardStands (plain_signature signature.now).fields (plain_rule rule.now).guard }
     requires named { All (Contains names.now.keys) (demanded_by (map plain_demand rule.now.given.items)) }
@@ -61,7 +62,7 @@ pub fn rules_for(
     names: &IndexSet<Text>,
     rules: &[Rule],
 ) -> Result<Vec<StaRule<RowAtom>>, Memory>
-    requires few { length signature.now.fields.items ≤ 8 }
+    requires few { length signature.now.fields.items ≤ most_fields }
     requires ctors { list_all (has_ctor (plain_signature signature.now)) (map plain_rule rules.now) ≡ true }
     requires guarded { All (λ r. GuardStands (plain_signature signature.now).fields r.guard) (map plain_rule rules.now) }
     requires named { All (Contains names.now.keys) (demanded_in (map plain_rule rules.now)) }

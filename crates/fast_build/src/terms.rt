@@ -1,6 +1,7 @@
 //! The terms of a transducer for the terms of a program.
 
 ghost use Rattle.std.specs.Prelude.{◌≡◌, ◌≤◌, IfOk, map, length, position};
+ghost use Rattle.model_tree.specs.Limits.{most_fields};
 ghost use Rattle.fast_tree.specs.Signatures.{plain_signature};
 ghost use Rattle.fast_syntax.specs.View.{plain_name};
 ghost use Rattle.fast_syntax.specs.Plain.{plain_out};
@@ -50,7 +51,7 @@ pub fn term_for(
     vars: &[Name],
     out: &Out,
 ) -> Result<Term<RowMap>, Memory>
-    requires few { length from.now.fields.items ≤ 8 }
+    requires few { length from.now.fields.items ≤ most_fields }
     requires stands { TermStands (plain_signature from.now) (plain_signature into.now) names.now.keys (map plain_name vars.now) (plain_out out.now) }
     ensures { IfOk result (λ term. IsTermFor (plain_signature from.now) (plain_signature into.now) (number_in names.now.keys) (map plain_name vars.now) (plain_out out.now) (plain_term term)) }
 {

@@ -1,6 +1,7 @@
 -- What the transducer of a name shows of the name, once it is searched for meetings.
 use Rattle.std.proofs.Common.{◌≡◌, ℕ, ◌<◌, ◌≤◌, ◌^◌, true, List, Option, map, Some, None, length, refl, sym, ap, subst, ◌∙◌}
 use Rattle.std.specs.Option.{option_map, option_map_or}
+use Rattle.model_tree.specs.Limits.{most_classes}
 use Rattle.model_tree.specs.Signature.{Sort, PlainSignature, sorts_of}
 use Rattle.model_program.specs.Syntax.{Name, TypeItem}
 use Rattle.model_grammar.specs.Syntax.{named, TransItem, Item}
@@ -80,7 +81,7 @@ module _ (items : List Item) (well : is_well_formed items ≡ true) (name : List
     pub numbers_low : (m.state < length names) × ((m.first < 2 ^ 32) × (m.second < 2 ^ 32))
     numbers_low = meeting_low items well own t.from.text t.into.text goes names d is built sorts labels most m meets
 
-    pub meeting_by : most ≤ 2000 → (a : Meeting) → IsMeetingFor names t.from.text m a → IsMet items (Reaches items name) (met.At a)
+    pub meeting_by : most ≤ most_classes → (a : Meeting) → IsMeetingFor names t.from.text m a → IsMet items (Reaches items name) (met.At a)
     meeting_by few a same = meeting_is items well own t.from.text t.into.text goes names d is built sorts labels most m meets few a same
 
   -- whatever place the name has

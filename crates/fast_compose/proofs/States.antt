@@ -4,6 +4,7 @@ use Rattle.std.specs.Prelude.{slice_get}
 use Rattle.std.specs.Option.{option_map}
 use Rattle.std.proofs.lemmas.List.{length-map}
 use Rattle.std.proofs.lemmas.Option.{slice_get_within, slice_get-map, get_or_from_slice_get}
+use Rattle.model_tree.specs.Limits.{most_nodes, greatest_depth, most_rules, most_classes}
 use Rattle.model_tree.specs.Tree.{LabelTree, relabel, node_count, depth}
 use Rattle.model_tree.specs.Kept.{is_kept}
 use Rattle.model_tree.specs.Signature.{Sort, PlainSignature, HasType, HasSorts, ranks_of, sorts_of}
@@ -180,7 +181,7 @@ module _ (items : List Item) (well : is_well_formed items ≡ true) (n : Name) (
         )
 
     -- a rule's place
-    pub few : (i : ℕ) (w : OutRule) → slice_get (out_rules_of items (name_at q)) i ≡ Some w → i < 4096
+    pub few : (i : ℕ) (w : OutRule) → slice_get (out_rules_of items (name_at q)) i ≡ Some w → i < most_rules
     few i w at =
         let (p, q2, own) = outs_trans items (sound items well) (name_at q) w (find_item items (name_at q)) refl (at_place (out_rules_of items (name_at q)) i w at) in
         let found = found_trans items (name_at q) p q2 own in
@@ -250,7 +251,7 @@ module _ (items : List Item) (well : is_well_formed items ≡ true) (n : Name) (
           let other = few m.state state_low m.second own_meet.2 own_meet.4 in
           (state_low, (omega (arith, one), omega (arith, other)))
 
-      pub meeting_is : most ≤ 2000 → (own : Meeting) → IsMeetingFor names from m own → IsMeeting items (Reaches items n.text) own
+      pub meeting_is : most ≤ most_classes → (own : Meeting) → IsMeetingFor names from m own → IsMeeting items (Reaches items n.text) own
       meeting_is few_most own same =
           let trees : tree_of own ≡ shown = ap (relabel label_meaning) same.tree in
           record {
@@ -261,6 +262,6 @@ module _ (items : List Item) (well : is_well_formed items ≡ true) (n : Name) (
                 (subst (λ t. run.Meet items (name_at m.state) m.first m.second t) (sym trees) own_meet)));
             type = ap (λ z. signature_named items (Some z)) same.type ∙ input_at m.state state_low ∙ ap (input_of items) (sym same.name);
             kept = subst (λ t. is_kept t ≡ true) (sym trees) (kept_if_fits d.sttr.looks.ranks sorts shown found.fits);
-            small = subst (λ t. node_count t ≤ 1048576) (sym trees) found.small;
-            shallow = subst (λ t. depth t ≤ 2000) (sym trees) (omega (arith, found.shallow, few_most));
+            small = subst (λ t. node_count t ≤ most_nodes) (sym trees) found.small;
+            shallow = subst (λ t. depth t ≤ greatest_depth) (sym trees) (omega (arith, found.shallow, few_most));
           }

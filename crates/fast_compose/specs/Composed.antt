@@ -1,5 +1,6 @@
 -- The compositions in expressions, and why one can't be made.
 use Rattle.std.specs.Prelude.{◌≡◌, ◌≤◌, ℕ, true, List, [], ◌∷◌, Some, is_some}
+use Rattle.model_tree.specs.Limits.{most_nodes, greatest_depth}
 use Rattle.model_tree.specs.Tree.{node_count, depth}
 use Rattle.model_tree.specs.Kept.{is_kept}
 use Rattle.model_grammar.specs.Syntax.{X, Claim, equal, member, empty, type_check, OutRule, Item}
@@ -43,8 +44,8 @@ module _ (items : List Item) where
     pub copies : IsFirstCopying items y u.copying.name u.copying.rule
     pub type : signature_named items (Some u.meeting.of) ≡ input_of items u.meeting.name
     pub kept : is_kept (meeting_of u) ≡ true
-    pub small : node_count (meeting_of u) ≤ 1048576
-    pub shallow : depth (meeting_of u) ≤ 2000
+    pub small : node_count (meeting_of u) ≤ most_nodes
+    pub shallow : depth (meeting_of u) ≤ greatest_depth
 
   -- the same, but all trees where they meet are large
   pub record AreLargeMeetings (x y : X) : Type 0 where

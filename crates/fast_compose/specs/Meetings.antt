@@ -1,5 +1,6 @@
 -- Rules of transformations that meet.
 use Rattle.std.specs.Prelude.{◌≡◌, ◌≤◌, ℕ, Bool, true, false, List, [], ◌∷◌, Some, get_or}
+use Rattle.model_tree.specs.Limits.{most_nodes, greatest_depth}
 use Rattle.model_tree.specs.Tree.{LabelTree, relabel, node_count, depth}
 use Rattle.model_tree.specs.Kept.{is_kept}
 use Rattle.model_program.specs.Syntax.{Name}
@@ -51,8 +52,8 @@ module _ (items : List Item) where
     pub meet : Meet items m.name m.first m.second (tree_of m)
     pub type : signature_named items (Some m.of) ≡ input_of items m.name
     pub kept : is_kept (tree_of m) ≡ true
-    pub small : node_count (tree_of m) ≤ 1048576
-    pub shallow : depth (tree_of m) ≤ 2000
+    pub small : node_count (tree_of m) ≤ most_nodes
+    pub shallow : depth (tree_of m) ≤ greatest_depth
 
   -- rules of one of them meet at the tree
   abbrev pub MeetSome : (List ℕ → Type 0) → LabelTree → Type 0

@@ -1,6 +1,7 @@
 //! The compositions of an item.
 
 ghost use Rattle.std.specs.Prelude.{◌≡◌, ◌≤◌, ◌⊎◌, OnOk, IfErr, All, Contains};
+ghost use Rattle.model_tree.specs.Limits.{most_classes};
 ghost use Rattle.model_grammar.specs.Syntax as plain;
 ghost use Rattle.model_grammar.specs.declared.Op2.TheVariants.{Compose};
 ghost use Rattle.fast_syntax.specs.Plain.{plain_item, plain_x, plain_claim};
@@ -27,7 +28,7 @@ fn pair(
     first: &X,
     second: &X,
 ) -> Result<(), ComposeStop>
-    requires shallow { limit ≤ 2000 }
+    requires shallow { limit ≤ most_classes }
     requires first_declared { AreNamesDeclared (items_of checked.now) (plain_x first.now) }
     requires second_declared { AreNamesDeclared (items_of checked.now) (plain_x second.now) }
     ensures composable { OnOk result (IsPlain (items_of checked.now) (plain_x first.now) ⊎ IsLinear (items_of checked.now) (plain_x second.now)) }
@@ -59,7 +60,7 @@ fn pair_under(
     first: &X,
     second: &X,
 ) -> Result<(), ComposeStop>
-    requires shallow { limit ≤ 2000 }
+    requires shallow { limit ≤ most_classes }
     requires first_declared { AreNamesDeclared (items_of checked.now) (plain_x first.now) }
     requires second_declared { AreNamesDeclared (items_of checked.now) (plain_x second.now) }
     ensures composable { OnOk result (op ≡ Compose → IsPlain (items_of checked.now) (plain_x first.now) ⊎ IsLinear (items_of checked.now) (plain_x second.now)) }
@@ -76,7 +77,7 @@ fn pair_under(
 #[cycle(composed)]
 #[inline(never)]
 fn composed(alloc: Global, checked: &Checked, limit: u32, e: &X) -> Result<(), ComposeStop>
-    requires shallow { limit ≤ 2000 }
+    requires shallow { limit ≤ most_classes }
     requires declared { AreNamesDeclared (items_of checked.now) (plain_x e.now) }
     ensures composable { OnOk result (AreComposable (items_of checked.now) (plain_x e.now)) }
     ensures stop { IfErr result (StopsIn (items_of checked.now) limit (plain_x e.now)) }
@@ -98,7 +99,7 @@ fn composed(alloc: Global, checked: &Checked, limit: u32, e: &X) -> Result<(), C
 // result is large, and a tree may have 2,000 levels.
 #[cycle(composed)]
 fn composed_each(alloc: Global, checked: &Checked, limit: u32, xs: &[X]) -> Result<(), ComposeStop>
-    requires shallow { limit ≤ 2000 }
+    requires shallow { limit ≤ most_classes }
     requires declared { All (λ x. AreNamesDeclared (items_of checked.now) (plain_x x)) xs.now }
     ensures composable { OnOk result (All (λ x. AreComposable (items_of checked.now) (plain_x x)) xs.now) }
     ensures stop { IfErr result (λ s. (x : X) × Contains xs.now x × StopsIn (items_of checked.now) limit (plain_x x) s) }
@@ -120,7 +121,7 @@ fn composed_in(
     limit: u32,
     claim: &Claim,
 ) -> Result<(), ComposeStop>
-    requires shallow { limit ≤ 2000 }
+    requires shallow { limit ≤ most_classes }
     requires declared { (e : plain.X) → Contains (stated (plain_claim claim.now)) e → AreNamesDeclared (items_of checked.now) e }
     ensures composable { OnOk result ((e : plain.X) → Contains (stated (plain_claim claim.now)) e → AreComposable (items_of checked.now) e) }
     ensures stop { IfErr result (λ s. (e : plain.X) × Contains (stated (plain_claim claim.now)) e × StopsIn (items_of checked.now) limit e s) }
@@ -152,7 +153,7 @@ pub fn composable(
     item: &Item,
 ) -> Result<(), ComposeStop>
     requires there { Contains (items_of checked.now) (plain_item item.now) }
-    requires shallow { limit ≤ 2000 }
+    requires shallow { limit ≤ most_classes }
     ensures composable { OnOk result (IsComposable (items_of checked.now) (plain_item item.now).body) }
     ensures stop { IfErr result (IsComposeCause (items_of checked.now) limit (plain_item item.now).body) }
 {

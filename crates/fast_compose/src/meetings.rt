@@ -2,6 +2,7 @@
 
 ghost use Rattle.std.specs.Prelude.{◌≡◌, ◌<◌, ◌≤◌, ◌^◌, ℕ, List, length, IfOk, IfErr};
 ghost use Rattle.std.specs.List.{Contains};
+ghost use Rattle.model_tree.specs.Limits.{most_classes};
 ghost use Rattle.model_meaning.specs.Reached.{Reaches};
 ghost use Rattle.fast_build.specs.Items.{items_of};
 ghost use Rattle.fast_compose.specs.Meetings.{IsMeetingFor, graver_of, is_at, IsMet, StopsMeeting};
@@ -55,7 +56,7 @@ fn met_by(
     limit: u32,
     name: &Text,
 ) -> Result<Met, ClassStop<Chain>>
-    requires shallow { limit ≤ 2000 }
+    requires shallow { limit ≤ most_classes }
     ensures met { IfOk result (IsMet (items_of checked.now) (Reaches (items_of checked.now) name.now)) }
     ensures stop { IfErr result (StopsMeeting (items_of checked.now) name.now limit) }
 {
@@ -104,7 +105,7 @@ pub fn met_by_all(
     limit: u32,
     names: &IndexSet<Text>,
 ) -> Result<Met, ClassStop<Chain>>
-    requires shallow { limit ≤ 2000 }
+    requires shallow { limit ≤ most_classes }
     ensures met { IfOk result (IsMet (items_of checked.now) (λ q. (n : List ℕ) × Contains names.now.keys n × Reaches (items_of checked.now) n q)) }
     ensures stop { IfErr result (λ s. (n : List ℕ) × Contains names.now.keys n × StopsMeeting (items_of checked.now) n limit s) }
 {

@@ -1,5 +1,6 @@
 -- What is answered of trees says of a statement.
 use Rattle.std.proofs.Common.{◌≡◌, ◌↔◌, ◌≤◌, inl, inr, ℕ, Bool, true, false, List, Option, Some, refl, sym, subst, ◌∙◌, arith}
+use Rattle.model_tree.specs.Limits.{most_classes}
 use Rattle.model_tree.specs.Tree.{LabelTree, relabel}
 use Rattle.model_tree.specs.Signature.{Sort, HasSorts, HasType, ranks_of, sorts_of}
 use Rattle.fast_tree.specs.Entries.{label_meaning}
@@ -57,7 +58,7 @@ module _ (items : List Item) (claim : Claim) (type ranks : List ℕ) (sorts : Li
       by true is = absurd (none t (record { fits = fits_there t h; accepted = is }))
       by false is = refl
 
-  pub found_of : (most : ℕ) → most ≤ 2000 → (f : Found Label) → IsAnswer (row_meaning sorts) ranks member most f → IsFoundOf items claim f
+  pub found_of : (most : ℕ) → most ≤ most_classes → (f : Found Label) → IsAnswer (row_meaning sorts) ranks member most f → IsFoundOf items claim f
   found_of most low Absent none = test.true_if (none_passes none)
   found_of most low (Shown tree) least =
       let t = relabel label_meaning tree in (

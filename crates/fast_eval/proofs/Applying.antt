@@ -9,6 +9,7 @@ use Rattle.std.specs.declared.cmp.Ordering.{Ordering}
 use Rattle.std.specs.declared.cmp.Ordering.TheVariants.{Less}
 use Rattle.std.specs.Ordering.{ordering_then, nat_cmp}
 use Rattle.std.specs.Cmp.Lexicographic.{slice_cmp}
+use Rattle.model_tree.specs.Limits.{most_nodes, greatest_depth, most_outputs}
 use Rattle.model_tree.specs.Label.{whole, row, pair}
 use Rattle.model_tree.specs.Label as model
 use Rattle.model_tree.specs.Tree.{Tree, node, Trees, no_trees, tree, relabel, relabel_all, LabelTree, node_count, depth, EveryLabel}
@@ -165,8 +166,8 @@ module _ (R : LabelTree → LabelTree → Type 0) (t : LabelTree) (light : (load
       let one : sum_by node_count (u ∷ []) ≡ node_count u + 0 = sum_by-cons node_count u [] in
       record {
         kept = kept;
-        small = at_most (node_count u) 1048576 (λ more. light loads.nodes (u ∷ [], alone, (All-nil (λ w. ¬ (u ≡ w)), tt), omega (arith, one, more)));
-        shallow = at_most (depth u) 2000 (λ more. light loads.depths (u, given, more));
+        small = at_most (node_count u) most_nodes (λ more. light loads.nodes (u ∷ [], alone, (All-nil (λ w. ¬ (u ≡ w)), tt), omega (arith, one, more)));
+        shallow = at_most (depth u) greatest_depth (λ more. light loads.depths (u, given, more));
       }
 
 -- ---- of the expression
@@ -199,8 +200,8 @@ module _ (items : List Item) (x : X) (from into : List ℕ) (d : Trans RowAtom R
         in_order = in_order;
         typed = All-weaker (GivesFrom s) (HasType (output_type items x)) (into_type s typed) (map cut_tree cs) given;
         limits = λ k e low. in_limits GivesFrom s own.light (get_or (map cut_tree cs) k e) (given k e low) (sym (kept_as (get_or (map cut_tree cs) k e)) ∙ kept k e low);
-        few = at_most (length (map cut_tree cs)) 4096 (λ more. own.light loads.outputs (map cut_tree cs, given, apart, more));
-        small = at_most (sum_by node_count (map cut_tree cs)) 1048576 (λ more. own.light loads.nodes (map cut_tree cs, given, apart, more));
+        few = at_most (length (map cut_tree cs)) most_outputs (λ more. own.light loads.outputs (map cut_tree cs, given, apart, more));
+        small = at_most (sum_by node_count (map cut_tree cs)) most_nodes (λ more. own.light loads.nodes (map cut_tree cs, given, apart, more));
       }
 
   pub refused : (most : ℕ) (t : LabelTree) → HasType (input_type items x) t → (s : ApplyStop) → IsRefused (trans_of d).sttr (trans_of d).start t s → StopsOutputs items x most t (by_outputs s)

@@ -1,5 +1,6 @@
 -- What is found of automata, and what stops the search, says of statements of their expressions.
 use Rattle.std.proofs.Common.{◌≡◌, ◌≤◌, inl, inr, ℕ, List, [], ◌∷◌, Some, sym, ap, subst}
+use Rattle.model_tree.specs.Limits.{most_classes}
 use Rattle.model_tree.specs.Tree.{LabelTree, relabel}
 use Rattle.fast_tree.specs.Entries.{label_meaning}
 use Rattle.model_tree.specs.Signature.{Sort, HasType, sorts_of}
@@ -33,14 +34,14 @@ use Rattle.fast_eval.proofs.Claims.{empty_stops}
 use Rattle.fast_eval.proofs.Stopped.{stops_one, stops_two}
 
 module _ (items : List Item) (type : List ℕ) (sorts : List Sort) (labels : sorts ≡ sorts_of (signature_named items (Some type))) (most : ℕ) (x : X) (a : Lang RowAtom) (built : IsBuiltOf items x type a) where
-  pub found_empty : most ≤ 2000 → (f : Found Label) → IsEmptyAnswer (row_meaning sorts) a.sta a.state most f → IsFoundOf items (empty x) f
+  pub found_empty : most ≤ most_classes → (f : Found Label) → IsEmptyAnswer (row_meaning sorts) a.sta a.state most f → IsFoundOf items (empty x) f
   found_empty low f answer = found_of items (empty x) type a.sta.ranks sorts built.ranks labels (accepts items type x a built) (empty_test items type x a built) most low f answer
 
   pub stopped_empty : (s : ClassStop Chain) → StopsClasses (row_meaning sorts) a.sta most s → IsStopOf items (judged_claim items (empty x)) most (by_classes s)
   stopped_empty s stop = empty_stops items most x built.carries.is_on.0 (by_classes s) (stops_one items type sorts labels x a built most s stop)
 
   module _ (y : X) (b : Lang RowAtom) (also : IsBuiltOf items y type b) where
-    pub found_equal : most ≤ 2000 → (f : Found Label) → IsEqualAnswer (row_meaning sorts) a b most f → IsFoundOf items (equal x y) f
+    pub found_equal : most ≤ most_classes → (f : Found Label) → IsEqualAnswer (row_meaning sorts) a b most f → IsFoundOf items (equal x y) f
     found_equal low f answer = found_of items (equal x y) type a.sta.ranks sorts built.ranks labels (in_one (row_meaning sorts) a b) (equal_test items type x y a b built also sorts) most low f answer
 
     pub stopped_equal : (s : ClassStop Chain) → StopsEither (row_meaning sorts) a b most s → IsStopOf items (x ∷ y ∷ []) most (by_classes s)

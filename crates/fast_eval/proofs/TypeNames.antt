@@ -3,6 +3,7 @@ use Rattle.std.proofs.Common.{◌≡◌, inl, inr, ◌≤◌, ℕ, List, Option,
 use Rattle.std.specs.Option.{option_map, option_map_or, option_and_then}
 use Rattle.std.proofs.lemmas.List.{length-map}
 use Rattle.indexmap.specs.IndexMap.{IndexMap}
+use Rattle.model_tree.specs.Limits.{most_fields}
 use Rattle.model_tree.specs.Signature.{Sort, PlainSignature, sorts_of}
 use Rattle.model_program.specs.Syntax.{Name, TypeItem}
 use Rattle.fast_fault.specs.declared.place.Pos.{Pos}
@@ -66,7 +67,7 @@ module _ (items : List Item) (type : List ℕ) where
   pub signature_there : (d : IsDeclared items type) → signature_named items (Some type) ≡ signature_of d.item
   signature_there d = ap (λ o. option_map_or signature_of o no_signature) d.found
 
-  pub few_fields : IsSound items → (d : IsDeclared items type) → length (signature_of d.item).fields ≤ 8
+  pub few_fields : IsSound items → (d : IsDeclared items type) → length (signature_of d.item).fields ≤ most_fields
   few_fields whole d =
       let (item, at, is, name) = (finds items).type type d.item d.found in
       let sound = whole.types item d.item at is in
@@ -179,12 +180,12 @@ pub name_no_outputs : (items : List Item) (type : List ℕ) (n : Name) → IsMad
 name_no_outputs items type n on = ap outputs_in (name_stands items type n on)
 
 -- a type that is told of has few fields
-pub few_of : (items : List Item) (of : List ℕ) → IsSound items → (s : PlainSignature) → Some s ≡ option_map signature_of (find_type items of) → length s.fields ≤ 8
+pub few_of : (items : List Item) (of : List ℕ) → IsSound items → (s : PlainSignature) → Some s ≡ option_map signature_of (find_type items of) → length s.fields ≤ most_fields
 few_of items of whole s e = by (find_type items of) refl e
   where
-    by : (o : Option TypeItem) → find_type items of ≡ o → Some s ≡ option_map signature_of o → length s.fields ≤ 8
+    by : (o : Option TypeItem) → find_type items of ≡ o → Some s ≡ option_map signature_of o → length s.fields ≤ most_fields
     by None found is = absurd (cc)
-    by (Some t) found is = let same : s ≡ signature_of t = cc in subst (λ (k : PlainSignature). length k.fields ≤ 8) (sym same) (few_fields items of whole (record { item = t; found = found }))
+    by (Some t) found is = let same : s ≡ signature_of t = cc in subst (λ (k : PlainSignature). length k.fields ≤ most_fields) (sym same) (few_fields items of whole (record { item = t; found = found }))
 
 -- what is so of the type of an expression
 module _ (items : List Item) (x : X) (of : List ℕ) (is : (type : List ℕ) → IsMadeAt items type x → Some of ≡ Some type) (made : (type : List ℕ) × IsMadeAt items type x) where

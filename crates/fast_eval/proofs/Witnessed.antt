@@ -1,5 +1,6 @@
 -- What is answered of trees of an automaton says of the trees of its expression.
 use Rattle.std.proofs.Common.{◌≡◌, ◌↔◌, ◌≤◌, ℕ, Bool, true, false, ◌&&◌, List, Some, refl, sym, subst, ◌∙◌, arith}
+use Rattle.model_tree.specs.Limits.{most_classes}
 use Rattle.model_tree.specs.Tree.{LabelTree, Tree, node, Trees, no_trees, tree, relabel, relabel_all, EveryLabel, EveryLabelOfAll}
 use Rattle.model_tree.specs.Signature.{Sort, HasSorts, HasType, EachHasType, PlainSignature, sorts_of}
 use Rattle.model_tree.specs.Kept.{is_kept, are_kept, is_kept_label}
@@ -43,7 +44,7 @@ module _ (items : List Item) (type : List ℕ) (sorts : List Sort) (labels : sor
       let typed = type_from_fits (signature_named items (Some type)) t (subst (λ rs. Fits rs (HasSorts (sorts_of (signature_named items (Some type)))) t) built.ranks (subst (λ s. Fits a.sta.ranks (HasSorts s) t) labels fits)) in
       record { typed = typed_by items type x a built t typed _ built.carries.is_on.1; inside = (built.carries.means t typed).0 own }
 
-  pub found_witness : (most : ℕ) → most ≤ 2000 → (f : Found Label) → IsEmptyAnswer (row_meaning sorts) a.sta a.state most f → IsWitnessOf items x f
+  pub found_witness : (most : ℕ) → most ≤ most_classes → (f : Found Label) → IsEmptyAnswer (row_meaning sorts) a.sta a.state most f → IsWitnessOf items x f
   found_witness most low Absent none = λ t h. none t (asked t h)
   found_witness most low (Shown u) least =
       let t = relabel label_meaning u in (

@@ -1,5 +1,6 @@
 -- What is found of a statement.
 use Rattle.std.specs.Prelude.{◌≡◌, ◌≤◌, true, List}
+use Rattle.model_tree.specs.Limits.{most_nodes, greatest_depth}
 use Rattle.model_tree.specs.Tree.{LabelTree, relabel, node_count, depth}
 use Rattle.model_tree.specs.Kept.{is_kept}
 use Rattle.fast_tree.specs.Entries.{label_meaning}
@@ -13,8 +14,8 @@ use Rattle.sta_ops.specs.declared.emptiness.Found.TheVariants.{Absent, Shown, To
 -- what a line may show, if its texts can be shown
 pub record IsInLimits (t : LabelTree) : Type 0 where
   pub kept : is_kept t ≡ true
-  pub small : node_count t ≤ 1048576
-  pub shallow : depth t ≤ 2000
+  pub small : node_count t ≤ most_nodes
+  pub shallow : depth t ≤ greatest_depth
 
 -- that the statement is true, a tree that shows that it is false, or that all such trees are too large
 abbrev pub IsFoundOf : List Item → Claim → Found Label → Type 0

@@ -2,6 +2,7 @@
 use Rattle.std.specs.Prelude.{◌≡◌, ◌≤◌, ℕ, List, Contains, length}
 use Rattle.std.specs.List.{All, sum_by}
 use Rattle.std.specs.declared.cmp.Ordering.TheVariants.{Less}
+use Rattle.model_tree.specs.Limits.{most_nodes, most_outputs}
 use Rattle.model_tree.specs.Tree.{LabelTree, relabel, node_count}
 use Rattle.model_tree.specs.Signature.{HasType}
 use Rattle.model_sta.specs.EachTwo.{EachTwo}
@@ -35,8 +36,8 @@ pub record AreOutputsOf (items : List Item) (x : X) (t : LabelTree) (us : List L
   pub in_order : EachTwo (λ u w. label_tree_cmp u w ≡ Less) us
   pub typed : All (HasType (output_type items x)) us
   pub limits : All IsInLimits us
-  pub few : length us ≤ 4096
-  pub small : sum_by node_count us ≤ 1048576
+  pub few : length us ≤ most_outputs
+  pub small : sum_by node_count us ≤ most_nodes
 
 -- why there is no list of outputs: the evaluation of the expression stops, an output has a far number, or outputs are too much
 abbrev pub StopsOutputs : List Item → X → ℕ → LabelTree → OutputStop → Type 0

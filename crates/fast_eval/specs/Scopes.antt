@@ -1,5 +1,6 @@
 -- Where expressions are evaluated.
 use Rattle.std.specs.Prelude.{◌≡◌, ◌⊎◌, ◌<◌, ◌≤◌, ℕ, List, Option, Some, None, get_or, length}
+use Rattle.model_tree.specs.Limits.{most_classes}
 use Rattle.model_tree.specs.Signature.{sorts_of}
 use Rattle.model_grammar.specs.Syntax.{X, Item}
 use Rattle.model_tree.specs.Tree.{LabelTree}
@@ -35,7 +36,7 @@ type_in s = s.of.now
 pub record IsScope (s : Scope) : Type 0 where
   pub built : AreBuilt (items_in s) s.built.now
   pub labels : s.theory.now ≡ sorts_of (signature_named (items_in s) (Some (type_in s)))
-  pub shallow : s.limit ≤ 2000
+  pub shallow : s.limit ≤ most_classes
 
 -- the automaton of an operand, among those that were built for names; d where there is none
 abbrev pub lang_of : Built → Operand → Lang RowAtom → Lang RowAtom

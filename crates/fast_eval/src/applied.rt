@@ -2,6 +2,7 @@
 
 ghost use Rattle.std.specs.Prelude.{◌≡◌, ◌≤◌, ℕ, List, IfOk, IfErr, map, true};
 ghost use Rattle.model_names.specs.Kinds.{transformation};
+ghost use Rattle.model_tree.specs.Limits.{most_classes};
 ghost use Rattle.model_tree.specs.Kept.{is_kept};
 ghost use Rattle.model_tree.specs.Tree.{relabel};
 ghost use Rattle.model_tree.specs.Signature.{HasType};
@@ -57,7 +58,7 @@ pub fn outputs<'t>(
     requires built { AreBuilt (items_of checked.now) built.old }
     requires made { (from into : List ℕ) × IsMadeFrom (items_of checked.now) from into (plain_x x.now) }
     requires known { IsTransKnown (items_of checked.now) built.old (plain_x x.now) }
-    requires shallow { limit ≤ 2000 }
+    requires shallow { limit ≤ most_classes }
     requires typed { HasType (input_type (items_of checked.now) (plain_x x.now)) (relabel label_meaning tree.now) }
     requires kept { is_kept (relabel label_meaning tree.now) ≡ true }
     ensures built { AreBuilt (items_of checked.now) built.new }

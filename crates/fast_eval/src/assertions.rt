@@ -1,6 +1,7 @@
 //! What is found of statements.
 
 ghost use Rattle.std.specs.Prelude.{◌≡◌, ◌≤◌, ℕ, List, IfOk, IfErr};
+ghost use Rattle.model_tree.specs.Limits.{most_classes};
 ghost use Rattle.fast_syntax.specs.Plain.{plain_x, plain_claim};
 ghost use Rattle.model_grammar.specs.Syntax as plain;
 ghost use Rattle.model_run.specs.Items.{judged_claim};
@@ -32,7 +33,7 @@ fn find_in(
     requires built { AreBuilt (items_of checked.now) built.old }
     requires made { (type : List ℕ) × IsMadeOn (items_of checked.now) type (plain_x x.now) }
     requires known { AreKnown (items_of checked.now) built.old (plain_x x.now) }
-    requires shallow { limit ≤ 2000 }
+    requires shallow { limit ≤ most_classes }
     ensures built { AreBuilt (items_of checked.now) built.new }
     ensures grown { IsGrown built.old built.new }
     ensures found { IfOk result (IsFoundOf (items_of checked.now) (plain.empty (plain_x x.now))) }
@@ -54,7 +55,7 @@ fn find_giving(
     requires built { AreBuilt (items_of checked.now) built.old }
     requires made { (from into : List ℕ) × IsMadeFrom (items_of checked.now) from into (plain_x f.now) }
     requires known { IsTransKnown (items_of checked.now) built.old (plain_x f.now) }
-    requires shallow { limit ≤ 2000 }
+    requires shallow { limit ≤ most_classes }
     ensures built { AreBuilt (items_of checked.now) built.new }
     ensures grown { IsGrown built.old built.new }
     ensures found { IfOk result (IsFoundOf (items_of checked.now) (plain.empty (plain_x f.now))) }
@@ -76,7 +77,7 @@ fn find_some(
     requires built { AreBuilt (items_of checked.now) built.old }
     requires made { (type : List ℕ) × IsMadeAt (items_of checked.now) type (plain_x x.now) }
     requires known { IsKnownAt (items_of checked.now) built.old (plain_x x.now) }
-    requires shallow { limit ≤ 2000 }
+    requires shallow { limit ≤ most_classes }
     ensures built { AreBuilt (items_of checked.now) built.new }
     ensures grown { IsGrown built.old built.new }
     ensures found { IfOk result (IsFoundOf (items_of checked.now) (plain.empty (plain_x x.now))) }
@@ -101,7 +102,7 @@ fn find_between(
     requires made { (type : List ℕ) × IsMadeOn (items_of checked.now) type (plain_x x.now) × IsMadeOn (items_of checked.now) type (plain_x y.now) }
     requires known { AreKnown (items_of checked.now) built.old (plain_x x.now) }
     requires also_known { AreKnown (items_of checked.now) built.old (plain_x y.now) }
-    requires shallow { limit ≤ 2000 }
+    requires shallow { limit ≤ most_classes }
     ensures built { AreBuilt (items_of checked.now) built.new }
     ensures grown { IsGrown built.old built.new }
     ensures found { IfOk result (IsFoundOf (items_of checked.now) (plain.equal (plain_x x.now) (plain_x y.now))) }
@@ -133,7 +134,7 @@ fn find_broken(
     requires built { AreBuilt (items_of checked.now) built.old }
     requires made { (type : List ℕ) × IsClaimOn (items_of checked.now) type (plain.type_check (plain_x check.now.x.now) (plain_x check.now.f.now) (plain_x check.now.y.now)) }
     requires known { IsClaimKnown (items_of checked.now) built.old (plain.type_check (plain_x check.now.x.now) (plain_x check.now.f.now) (plain_x check.now.y.now)) }
-    requires shallow { limit ≤ 2000 }
+    requires shallow { limit ≤ most_classes }
     ensures built { AreBuilt (items_of checked.now) built.new }
     ensures grown { IsGrown built.old built.new }
     ensures found { IfOk result (IsFoundOf (items_of checked.now) (plain.type_check (plain_x check.now.x.now) (plain_x check.now.f.now) (plain_x check.now.y.now))) }
@@ -157,7 +158,7 @@ pub fn judge(
     requires built { AreBuilt (items_of checked.now) built.old }
     requires made { (type : List ℕ) × IsClaimOn (items_of checked.now) type (plain_claim claim.now) }
     requires known { IsClaimKnown (items_of checked.now) built.old (plain_claim claim.now) }
-    requires shallow { limit ≤ 2000 }
+    requires shallow { limit ≤ most_classes }
     ensures built { AreBuilt (items_of checked.now) built.new }
     ensures grown { IsGrown built.old built.new }
     ensures found { IfOk result (IsFoundOf (items_of checked.now) (plain_claim claim.now)) }

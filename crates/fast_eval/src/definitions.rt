@@ -1,6 +1,7 @@
 //! Definitions of languages and transformations.
 
 ghost use Rattle.std.specs.Prelude.{◌≡◌, ◌≤◌, ℕ, List, Some, IfOk, IfErr, OnOk};
+ghost use Rattle.model_tree.specs.Limits.{most_classes};
 ghost use Rattle.model_grammar.specs.Syntax.{Item};
 ghost use Rattle.fast_syntax.specs.Plain.{plain_x, plain_def};
 ghost use Rattle.model_names.specs.Kinds as kinds;
@@ -34,7 +35,7 @@ fn value(
     requires built { AreBuilt (items_of checked.now) built.now }
     requires made { (type : List ℕ) × IsMadeOn (items_of checked.now) type (plain_x x.now) }
     requires named { AreNamed kinds.language built.now (plain_x x.now) }
-    requires shallow { limit ≤ 2000 }
+    requires shallow { limit ≤ most_classes }
     ensures built { IfOk result (λ o. (type : List ℕ) → IsMadeOn (items_of checked.now) type (plain_x x.now) → IsOperandOf (items_of checked.now) (plain_x x.now) type built.now o) }
     ensures counted { IfOk result (λ o. IsCounted (items_of checked.now) (plain_x x.now) (count_of o)) }
     ensures stop { IfErr result (StopsExpression (items_of checked.now) (plain_x x.now) limit) }
@@ -83,7 +84,7 @@ fn trans_value(
     requires built { AreBuilt (items_of checked.now) built.now }
     requires made { (from into : List ℕ) × IsMadeFrom (items_of checked.now) from into (plain_x f.now) }
     requires named { AreNamed kinds.transformation built.now (plain_x f.now) }
-    requires shallow { limit ≤ 2000 }
+    requires shallow { limit ≤ most_classes }
     ensures built { IfOk result (λ o. (from into : List ℕ) → IsMadeFrom (items_of checked.now) from into (plain_x f.now) → IsTransOperandOf (items_of checked.now) (plain_x f.now) from into built.now o) }
     ensures stop { IfErr result (StopsExpression (items_of checked.now) (plain_x f.now) limit) }
 {
@@ -120,7 +121,7 @@ fn define_transformation(
     requires defined { definition_of (items_of checked.now) def.now.name.text ≡ Some (plain_x def.now.value) }
     requires made { (from into : List ℕ) × IsMadeFrom (items_of checked.now) from into (plain_x def.now.value) }
     requires known { IsTransKnown (items_of checked.now) built.old (plain_x def.now.value) }
-    requires shallow { limit ≤ 2000 }
+    requires shallow { limit ≤ most_classes }
     ensures built { AreBuilt (items_of checked.now) built.new }
     ensures grown { IsGrown built.old built.new }
     ensures named { OnOk result (HasBuilt kinds.transformation built.new def.now.name.text) }
@@ -144,7 +145,7 @@ fn define_language(
     requires defined { definition_of (items_of checked.now) def.now.name.text ≡ Some (plain_x def.now.value) }
     requires made { (type : List ℕ) × IsMadeOn (items_of checked.now) type (plain_x def.now.value) }
     requires known { AreKnown (items_of checked.now) built.old (plain_x def.now.value) }
-    requires shallow { limit ≤ 2000 }
+    requires shallow { limit ≤ most_classes }
     ensures built { AreBuilt (items_of checked.now) built.new }
     ensures grown { IsGrown built.old built.new }
     ensures named { OnOk result (IsNamed built.new def.now.name.text) }
@@ -169,7 +170,7 @@ pub fn define(
     requires defined { definition_of (items_of checked.now) def.now.name.text ≡ Some (plain_x def.now.value) }
     requires made { IsMadeInto (items_of checked.now) (plain_def def.now).into (plain_x def.now.value) }
     requires known { AreKnownInto (items_of checked.now) built.old (plain_def def.now).into (plain_x def.now.value) }
-    requires shallow { limit ≤ 2000 }
+    requires shallow { limit ≤ most_classes }
     ensures built { AreBuilt (items_of checked.now) built.new }
     ensures grown { IsGrown built.old built.new }
     ensures named { OnOk result (IsDefined built.new (plain_def def.now)) }

@@ -2,6 +2,7 @@
 
 ghost use Rattle.std.specs.Prelude.{◌≡◌, ◌≤◌, ℕ, List, Some, None};
 ghost use Rattle.std.specs.Option.{option_map};
+ghost use Rattle.model_tree.specs.Limits.{most_classes};
 ghost use Rattle.fast_syntax.specs.Plain.{plain_x};
 ghost use Rattle.program_check.specs.Tells.{kind_view};
 ghost use Rattle.fast_build.specs.Items.{items_of};
@@ -85,7 +86,7 @@ pub fn ends_of<'c>(checked: &'c Checked, f: &X) -> Ends<'c>
 /// The scope of an expression.
 pub fn scope_of<'s>(checked: &'s Checked, built: &'s Built, limit: u32, x: &X) -> Scope<'s>
     requires built { AreBuilt (items_of checked.now) built.now }
-    requires shallow { limit ≤ 2000 }
+    requires shallow { limit ≤ most_classes }
     requires made { (type : List ℕ) × IsMadeAt (items_of checked.now) type (plain_x x.now) }
     ensures scope { IsScope result }
     ensures of { IsScopeOf checked.now built.now limit (plain_x x.now) result }

@@ -1,6 +1,7 @@
 //! Trees that languages have, and whether a tree is in one.
 
 ghost use Rattle.std.specs.Prelude.{◌≡◌, ◌≤◌, ◌↔◌, ℕ, List, [], ◌∷◌, IfOk, IfErr, true};
+ghost use Rattle.model_tree.specs.Limits.{most_classes};
 ghost use Rattle.model_tree.specs.Tree.{relabel, EveryLabel};
 ghost use Rattle.model_sta.specs.Automaton.{is_accepted};
 ghost use Rattle.label_core.specs.Meaning.{KeepsValue};
@@ -58,7 +59,7 @@ pub fn witness(
     requires built { AreBuilt (items_of checked.now) built.old }
     requires made { (type : List ℕ) × IsMadeOn (items_of checked.now) type (plain_x x.now) }
     requires known { AreKnown (items_of checked.now) built.old (plain_x x.now) }
-    requires shallow { limit ≤ 2000 }
+    requires shallow { limit ≤ most_classes }
     ensures built { AreBuilt (items_of checked.now) built.new }
     ensures grown { IsGrown built.old built.new }
     ensures found { IfOk result (IsWitnessOf (items_of checked.now) (plain_x x.now)) }
@@ -111,7 +112,7 @@ pub fn belongs(
     requires built { AreBuilt (items_of checked.now) built.old }
     requires made { (type : List ℕ) × IsMadeOn (items_of checked.now) type (plain_x y.now) }
     requires known { AreKnown (items_of checked.now) built.old (plain_x y.now) }
-    requires shallow { limit ≤ 2000 }
+    requires shallow { limit ≤ most_classes }
     requires typed { HasType (input_type (items_of checked.now) (plain_x y.now)) (relabel label_meaning tree.now) }
     requires kept { is_kept (relabel label_meaning tree.now) ≡ true }
     ensures built { AreBuilt (items_of checked.now) built.new }

@@ -6,6 +6,7 @@
 
 ghost use Rattle.std.specs.Prelude.{◌≡◌, ◌≤◌, length};
 ghost use Rattle.std.specs.Str.{chars};
+ghost use Rattle.model_tree.specs.Limits.{most_bytes};
 ghost use Rattle.model_program.specs.Cuts.{body_of};
 ghost use Rattle.fast_lex.specs.Kinds.{kind_of};
 ghost use Rattle.fast_lex.specs.Tokens.{IsLexed, IsBody};
@@ -108,7 +109,7 @@ fn body<'t>(text: &'t str) -> &'t str
 
 /// The tokens of a text.
 pub fn tokens<'t>(alloc: Global, text: &'t str) -> Lexed<'t>
-    requires { length text.now ≤ 1048576 }
+    requires { length text.now ≤ most_bytes }
     ensures { IsLexed text.now result }
 {
     let mut found = Vec::new(alloc);

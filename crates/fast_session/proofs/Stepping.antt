@@ -1,6 +1,7 @@
 -- What a step makes of a session.
 use Rattle.std.proofs.Common.{◌≡◌, ◌≤◌, ◌<◌, ◌+◌, ℕ, suc, true, List, ◌∷◌, Option, Some, None, map, take, length, get_or, add-one, refl, sym, ap, subst, ◌∙◌, arith}
 use Rattle.std.specs.List.{list_all}
+use Rattle.model_tree.specs.Limits.{most_classes}
 use Rattle.model_grammar.specs.Syntax.{Item}
 use Rattle.model_run.specs.Outcomes.{Outcome}
 use Rattle.program_check.specs.declared.programs.Checked.{Checked}
@@ -37,7 +38,7 @@ module _ (old : Session) (done : List Outcome) (at : IsAt old done) (item : Item
   module _ (new : Session) (same : new.checked ≡ old.checked) (limited : new.limit ≡ old.limit) (next : new.next ≡ old.next + 1) (running : new.ended ≡ None) where
     pub at_next : (o : Outcome) → IsDone (items_in old) item old.kept new.kept o → IsAt new (o ∷ done)
     at_next o did = record {
-      over = record { shallow = subst (λ n. n ≤ 2000) (sym limited) at.over.shallow };
+      over = record { shallow = subst (λ n. n ≤ most_classes) (sym limited) at.over.shallow };
       running = running;
       count = ap suc at.count ∙ (sym (add-one old.next) ∙ sym next);
       low = subst (λ its. new.next ≤ length its) (sym (ap items_of same)) (omega (arith, next, low));

@@ -1,5 +1,6 @@
 -- What is kept of the items that are done.
 use Rattle.std.specs.Prelude.{◌≡◌, ◌≤◌, true, List}
+use Rattle.model_tree.specs.Limits.{most_classes}
 use Rattle.model_grammar.specs.Syntax.{Item}
 use Rattle.model_checks.specs.Sound.{StandsIn}
 use Rattle.model_run.specs.Outcomes.{Outcome, trees_in}
@@ -27,4 +28,4 @@ pub record IsReady (a : Around) (item : Item) (k : Kept) : Type 0 where
   pub kept : IsKept (items_in a) at.before k
   pub outcomes : List Outcome
   pub told : Tells k.trees (trees_in outcomes)
-  pub shallow : a.limit ≤ 2000
+  pub shallow : a.limit ≤ most_classes

@@ -1,6 +1,7 @@
 -- The names that a name needs, and what is built for them.
 use Rattle.std.specs.Prelude.{◌≡◌, ◌⊎◌, ◌≤◌, ℕ, true, List, [], ◌∷◌, ◌++◌, Option, Some, None, length}
 use Rattle.std.specs.List.{Contains}
+use Rattle.model_tree.specs.Limits.{most_classes}
 use Rattle.model_tree.specs.Tree.{LabelTree}
 use Rattle.model_program.specs.Syntax.{Name}
 use Rattle.model_grammar.specs.Syntax.{X, named, one, two, literal, DefItem, Body, sorts, tree, lang, trans, def, assertion, Item}
@@ -59,7 +60,7 @@ pub record IsBuildable (a : Around) (names : List (List ℕ)) (item : Item) (k :
   pub built : AreBuilt (items_in a) k.built
   pub closed : AreClosedFrom (items_in a) 0 names
   pub defined : AreDefinedOf (Contains names) k.built at.before
-  pub shallow : a.limit ≤ 2000
+  pub shallow : a.limit ≤ most_classes
 
 -- of these items, the compositions of each with one of the names can be made
 abbrev pub AreComposableOf : List Item → (List ℕ → Type 0) → List Item → Type 0

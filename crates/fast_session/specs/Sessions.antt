@@ -1,5 +1,6 @@
 -- How far a session is, and what a step does.
 use Rattle.std.specs.Prelude.{◌≡◌, ◌⊎◌, ◌≤◌, ◌<◌, ℕ, true, List, ◌∷◌, None, length, take, get_or, is_some}
+use Rattle.model_tree.specs.Limits.{most_classes}
 use Rattle.model_grammar.specs.Syntax.{Item}
 use Rattle.model_run.specs.Causes.{HasCause}
 use Rattle.model_names.specs.Kinds.{Kind}
@@ -23,7 +24,7 @@ items_in s = items_of s.checked
 
 -- what is so of each session
 pub record IsOver (s : Session) : Type 0 where
-  pub shallow : s.limit ≤ 2000
+  pub shallow : s.limit ≤ most_classes
 
 -- it hasn't ended, and its items that are done had these outcomes, the last one first
 pub record IsAt (s : Session) (done : List Outcome) : Type 0 where

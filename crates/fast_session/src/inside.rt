@@ -2,6 +2,7 @@
 
 ghost use Rattle.std.specs.Prelude.{◌≡◌, ◌≤◌, ◌↔◌, true, IfOk};
 ghost use Rattle.std.specs.Str.{chars};
+ghost use Rattle.model_tree.specs.Limits.{most_classes};
 ghost use Rattle.model_tree.specs.Kept.{is_kept};
 ghost use Rattle.model_tree.specs.Signature.{HasType};
 ghost use Rattle.fast_syntax.specs.Plain.{plain_x};
@@ -51,7 +52,7 @@ pub fn is_member(
     name: &str,
     tree: &Tree<Label>,
 ) -> Result<bool, Memory>
-    requires shallow { around.now.limit ≤ 2000 }
+    requires shallow { around.now.limit ≤ most_classes }
     requires built { AreBuilt (items_in around.now) kept.old.built }
     requires language { IsNameOf (items_in around.now) language (chars name.now) }
     requires known { AreKnown (items_in around.now) kept.old.built (named_x (chars name.now)) }

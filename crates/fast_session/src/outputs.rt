@@ -2,6 +2,7 @@
 
 ghost use Rattle.std.specs.Prelude.{◌≡◌, ◌≤◌, IfOk, IfErr, map, true};
 ghost use Rattle.std.specs.Str.{chars};
+ghost use Rattle.model_tree.specs.Limits.{most_classes};
 ghost use Rattle.model_tree.specs.Kept.{is_kept};
 ghost use Rattle.model_tree.specs.Signature.{HasType};
 ghost use Rattle.model_names.specs.Kinds.{transformation};
@@ -33,7 +34,7 @@ pub fn outputs_of<'t>(
     name: &str,
     tree: &'t Tree<Label>,
 ) -> Result<Vec<Cut<'t, Label>>, Stopped>
-    requires shallow { around.now.limit ≤ 2000 }
+    requires shallow { around.now.limit ≤ most_classes }
     requires built { AreBuilt (items_in around.now) kept.old.built }
     requires named { IsNameOf (items_in around.now) transformation (chars name.now) }
     requires known { IsReadyName transformation (items_in around.now) kept.old.built (chars name.now) }

@@ -3,6 +3,7 @@
 ghost use Rattle.std.specs.Prelude.{◌≡◌, ◌≤◌, true, Some, IfErr, OnOk};
 ghost use Rattle.std.specs.List.{Contains};
 ghost use Rattle.std.specs.Str.{chars};
+ghost use Rattle.model_tree.specs.Limits.{most_classes};
 ghost use Rattle.fast_syntax.specs.Plain.{plain_item};
 ghost use Rattle.model_grammar.specs.Syntax as plain;
 ghost use Rattle.model_names.specs.Kinds.{Kind};
@@ -70,7 +71,7 @@ fn build_each(
     kept: &mut Kept,
     names: &IndexSet<Text>,
 ) -> Result<(), Halt>
-    requires shallow { around.now.limit ≤ 2000 }
+    requires shallow { around.now.limit ≤ most_classes }
     requires built { AreBuilt (items_in around.now) kept.old.built }
     requires closed { AreClosedFrom (items_in around.now) 0 names.now.keys }
     ensures more { IsBuiltMore (items_in around.now) kept.old kept.new }
@@ -87,7 +88,7 @@ fn build_each(
 
 /// Builds what the name needs.
 pub fn prepare(alloc: Global, around: &Around, kept: &mut Kept, name: &str) -> Result<(), Halt>
-    requires shallow { around.now.limit ≤ 2000 }
+    requires shallow { around.now.limit ≤ most_classes }
     requires built { AreBuilt (items_in around.now) kept.old.built }
     ensures more { IsBuiltMore (items_in around.now) kept.old kept.new }
     ensures composable { OnOk result (AreNeededComposable (items_in around.now) (chars name.now)) }

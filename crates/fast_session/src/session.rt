@@ -2,6 +2,7 @@
 
 ghost use Rattle.std.specs.Prelude.{◌≡◌, ◌≤◌, ◌↔◌, ℕ, true, List, [], None, Some, Err, IfOk, IfErr, OnOk, length, map};
 ghost use Rattle.std.specs.Str.{chars};
+ghost use Rattle.model_tree.specs.Limits.{most_classes};
 ghost use Rattle.model_tree.specs.Kept.{is_kept};
 ghost use Rattle.model_tree.specs.Signature.{HasType};
 ghost use Rattle.model_names.specs.Kinds.{Kind, language, transformation};
@@ -64,7 +65,7 @@ fn step_of(line: Option<Line>) -> Step
 impl Session {
     /// A session in which nothing is done. `limit` is how many trees may be told apart.
     pub fn new(alloc: Global, checked: Checked, limit: u32) -> Result<Session, Memory>
-        requires shallow { limit ≤ 2000 }
+        requires shallow { limit ≤ most_classes }
         ensures at { IfOk result (λ s. IsAt s []) }
         ensures program { IfOk result (λ s. s.checked ≡ checked) }
         ensures limit { IfOk result (λ s. s.limit ≡ limit) }

@@ -7,6 +7,7 @@ use Rattle.std.proofs.lemmas.List.Elements.{All-get_or}
 use Rattle.fast_fault.specs.declared.status.Status.{Status}
 use Rattle.fast_fault.specs.declared.status.Status.TheVariants.{Hold, RunRefused, Memory}
 use Rattle.fast_fault.specs.Written.{Appends}
+use Rattle.model_tree.specs.Limits.{usual_classes}
 use Rattle.model_tree.specs.Tree.{LabelTree}
 use Rattle.model_tree.specs.Signature.{PlainSignature}
 use Rattle.model_grammar.specs.Syntax.{Item}
@@ -84,7 +85,7 @@ drop_all (p ∷ ps) = drop_all ps
 -- ---- how the report ends
 
 module _ (items : List Item) (file name trees : List ℕ) (given : Given) (last : List ℕ) where
-  ends_at_needed : (kind : Kind) → given.done ≡ 0 → StopsAtNeeded items 1000 file name last → TreesEnd items file name trees kind given RunRefused last
+  ends_at_needed : (kind : Kind) → given.done ≡ 0 → StopsAtNeeded items usual_classes file name last → TreesEnd items file name trees kind given RunRefused last
   ends_at_needed language none stops = (none, stops)
   ends_at_needed transformation none stops = inl (none, stops)
   ends_at_needed a_tree none stops = (none, stops)
@@ -171,7 +172,7 @@ needed_refused items limit file name Shown place stop before after status item n
     inr (item, stop, record { needed = needed; cause = cause shown }, subst (λ p. EndsWith before after (stop_line stop file p) RunRefused status) at ends)
 
 -- what the name needs isn't built
-pub unprepared_report : (items : List Item) (file name trees : List ℕ) (kind : Kind) (placed : List PlacedTree) (status : Status) (before after : Option (List ℕ)) → IsUnprepared items 1000 file name before after status
+pub unprepared_report : (items : List Item) (file name trees : List ℕ) (kind : Kind) (placed : List PlacedTree) (status : Status) (before after : Option (List ℕ)) → IsUnprepared items usual_classes file name before after status
     → Reports (StatusReport (Writes (trees_script items file name trees kind placed))) status before after
 unprepared_report items file name trees kind placed status before after (inl (memory, same)) =
     rw memory (subst (λ z. Reports (StatusReport (Writes (trees_script items file name trees kind placed))) Memory before z) (sym same) ([], inl refl, appends_none before))

@@ -1,6 +1,7 @@
 -- What was counted so far, and what that makes of the report at each end.
 use Rattle.std.proofs.Common.{ℕ, zero, suc, ◌≡◌, ◌≤◌, ◌+◌, List, [], ◌∷◌, ◌++◌, Option, Bool, true, false, length, drop, add-one, ap, ◌∙◌, sym, subst, inl, inr, refl, arith}
 use Rattle.std.specs.Prelude.{codes, decimal}
+use Rattle.model_tree.specs.Limits.{usual_classes}
 use Rattle.fast_fault.specs.declared.status.Status.{Status}
 use Rattle.fast_fault.specs.declared.status.Status.TheVariants.{Hold, Fails, RunRefused, Memory}
 use Rattle.model_grammar.specs.Syntax.{Item}
@@ -55,7 +56,7 @@ failed_by_count (tree_verdict n false signature t ∷ outcomes) = refl
 
 -- ---- over the items
 
-pub begin_count : (items : List Item) (s : Session) (t : Tally) → items_in s ≡ items → s.limit ≡ 1000 → IsAt s [] → t.passed ≡ 0 → t.failed ≡ 0 → Counted items 0 s t
+pub begin_count : (items : List Item) (s : Session) (t : Tally) → items_in s ≡ items → s.limit ≡ usual_classes → IsAt s [] → t.passed ≡ 0 → t.failed ≡ 0 → Counted items 0 s t
 begin_count items s t program limited at passed failed =
     record { program = program; limited = limited; outcomes = []; counted = refl; at = at; before = []; come = begun; tally = record { passed = passed; failed = failed } }
 
@@ -73,7 +74,7 @@ module _ (items : List Item) (k : ℕ) (s : Session) (t : Tally) (past : Counted
     at = done.at;
     before = past.before ++ line_of done.outcome;
     come = more work (record { left = drop (k + 1) items; done = done.outcome ∷ past.outcomes }) past.before (line_of done.outcome) past.come
-        (next_is self_name items 1000 k past.outcomes done.item done.outcome (line_of done.outcome) (next_at items k s past.outcomes past.program past.counted done.item done.is) (subst (λ its. IsOutcome its (trees_in past.outcomes) done.item done.outcome) past.program done.may) refl);
+        (next_is self_name items usual_classes k past.outcomes done.item done.outcome (line_of done.outcome) (next_at items k s past.outcomes past.program past.counted done.item done.is) (subst (λ its. IsOutcome its (trees_in past.outcomes) done.item done.outcome) past.program done.may) refl);
     tally = tally;
   }
 
@@ -89,8 +90,8 @@ module _ (items : List Item) (k : ℕ) (s : Session) (t : Tally) (past : Counted
     )
   ]
     where
-      stops : ItemsEnd items 1000 self_name work RunRefused (stop_line end.stop self_name end.item.place)
-      stops = stops_here self_name items 1000 k past.outcomes end.item end.stop _ (next_at items k s past.outcomes past.program past.counted end.item end.is)
+      stops : ItemsEnd items usual_classes self_name work RunRefused (stop_line end.stop self_name end.item.place)
+      stops = stops_here self_name items usual_classes k past.outcomes end.item end.stop _ (next_at items k s past.outcomes past.program past.counted end.item end.is)
           (subst (λ l. HasCause items l (trees_in past.outcomes) end.item.body end.stop) past.limited (subst (λ its. HasCause its s.limit (trees_in past.outcomes) end.item.body end.stop) past.program end.cause)) refl
 
   pub halted_report : (n : ℕ) (before after : Option (List ℕ)) (status : Status) → IsHalted s past.outcomes before after status → Reports (StatusReport (SelfReport n items)) status before after
@@ -106,7 +107,7 @@ module _ (n : ℕ) (items : List Item) (s : Session) (t : Tally) (past : Counted
   line_is : tally_line n (length items) t ≡ self_line n items past.outcomes
   line_is = λ i. codes "self " ++ (decimal n ++ (codes ": items " ++ (decimal (length items) ++ (codes ", passed " ++ (decimal (past.tally.passed i) ++ (codes ", failed " ++ (decimal (past.tally.failed i) ++ codes "\n")))))))
 
-  with_line : (final : Status) → ItemsEnd items 1000 self_name all final [] → self_last n items all final [] ≡ tally_line n (length items) t
+  with_line : (final : Status) → ItemsEnd items usual_classes self_name all final [] → self_last n items all final [] ≡ tally_line n (length items) t
       → ((report : List ℕ) → SelfReport n items (whole final) report → StatusReport (SelfReport n items) final report) → EndsWith before after (tally_line n (length items) t) final status
       → Reports (StatusReport (SelfReport n items)) status before after
   with_line final ends last whole_is (inl (e, a)) =

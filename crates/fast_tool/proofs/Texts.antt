@@ -9,6 +9,7 @@ use Rattle.fast_fault.specs.declared.code.Code.TheVariants.{TooLong}
 use Rattle.fast_fault.specs.declared.refusal.Refusal.{Refusal}
 use Rattle.fast_fault.specs.declared.status.Status.{Status}
 use Rattle.fast_fault.specs.declared.status.Status.TheVariants.{Hold, Fails, Words, TextRefused, RunRefused, TextFault, SinkFault, Memory}
+use Rattle.model_tree.specs.Limits.{most_bytes}
 use Rattle.model_tree.specs.Signature.{PlainSignature}
 use Rattle.model_grammar.specs.Syntax.{Item}
 use Rattle.model_names.specs.Kinds.{Kind}
@@ -55,7 +56,7 @@ module _ (Refuses : List ℕ → Code → Pos → Type 0) where
   given_refused None bytes code place given refused = tt
   given_refused (Some text) bytes code place given refused = subst (λ b. Refuses b code place) given refused
 
-  longer_refused : ((bytes : List ℕ) → 1048576 < length bytes → Refuses bytes TooLong start) → (held : Option (List ℕ)) → IfSome held (λ text. 1048576 < length text) → IfSome held (λ text. Refuses text TooLong start)
+  longer_refused : ((bytes : List ℕ) → most_bytes < length bytes → Refuses bytes TooLong start) → (held : Option (List ℕ)) → IfSome held (λ text. most_bytes < length text) → IfSome held (λ text. Refuses text TooLong start)
   longer_refused too_long None longer = tt
   longer_refused too_long (Some text) longer = too_long text longer
 
@@ -103,7 +104,7 @@ module _ (Refuses : List ℕ → Code → Pos → Type 0) where
       (front, fault_of (λ ending report. IfSome held (λ bytes. IsTextRefused (Refuses bytes) file ending report)) status front fault (refused_held file held code place refused unfinished front (λ R r. record { code = code; place = place; refused = r; is = (back, joined) })), a)
 
   -- a text that isn't taken
-  pub not_taken : ((bytes : List ℕ) → 1048576 < length bytes → Refuses bytes TooLong start) → (file : List ℕ) (held : Option (List ℕ)) (status : Status) (before after : Option (List ℕ)) → IsNotTaken file held before after status → TextAnswer Refuses file held before after status
+  pub not_taken : ((bytes : List ℕ) → most_bytes < length bytes → Refuses bytes TooLong start) → (file : List ℕ) (held : Option (List ℕ)) (status : Status) (before after : Option (List ℕ)) → IsNotTaken file held before after status → TextAnswer Refuses file held before after status
   not_taken too_long file held status before after (inl (inl fault, same)) = rw fault (subst (λ z. TextAnswer Refuses file held before z TextFault) (sym same) (no_text (λ ending report. IfSome held (λ bytes. IsTextRefused (Refuses bytes) file ending report)) before))
   not_taken too_long file held status before after (inl (inr memory, same)) = rw memory (subst (λ z. TextAnswer Refuses file held before z Memory) (sym same) (no_memory_yet (λ ending report. IfSome held (λ bytes. IsTextRefused (Refuses bytes) file ending report)) before))
   not_taken too_long file held status before after (inr (longer, ends)) = refused_text file held TooLong start status before after (longer_refused Refuses too_long held longer) ends
@@ -114,10 +115,10 @@ module _ (Refuses : List ℕ → Code → Pos → Type 0) where
   unread T file held bytes (Refused r) status before after given refused told = refused_text file held r.code r.place status before after (given_refused Refuses held bytes r.code r.place given refused) told
   unread T file held bytes stops.Memory status before after given refused (memory, same) = rw memory (subst (λ z. TextAnswer Refuses file held before z Memory) (sym same) (no_memory_yet (λ ending report. IfSome held (λ bytes. IsTextRefused (Refuses bytes) file ending report)) before))
 
-pub too_long_program : (bytes : List ℕ) → 1048576 < length bytes → IsRefused bytes TooLong start
+pub too_long_program : (bytes : List ℕ) → most_bytes < length bytes → IsRefused bytes TooLong start
 too_long_program bytes longer = inl (longer, refl)
 
-pub too_long_file : (signature : PlainSignature) (bytes : List ℕ) → 1048576 < length bytes → IsFileRefused signature bytes TooLong start
+pub too_long_file : (signature : PlainSignature) (bytes : List ℕ) → most_bytes < length bytes → IsFileRefused signature bytes TooLong start
 too_long_file signature bytes longer = inl (longer, refl)
 
 held_text : (file : List ℕ) (held : Option (List ℕ)) (Reported : List Item → Ending → List ℕ → Type 0) (ending : Ending) (report : List ℕ) → IfSome held (λ bytes. IsTextRefused (IsRefused bytes) file ending report) → HeldReport file held Reported ending report

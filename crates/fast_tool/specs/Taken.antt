@@ -5,6 +5,7 @@ use Rattle.fast_fault.specs.declared.code.Code.TheVariants.{TooLong}
 use Rattle.fast_fault.specs.declared.place.Pos.{Pos}
 use Rattle.fast_fault.specs.declared.status.Status.{Status}
 use Rattle.fast_fault.specs.declared.status.Status.TheVariants as ends
+use Rattle.model_tree.specs.Limits.{most_bytes}
 use Rattle.model_tree.specs.Signature.{PlainSignature}
 use Rattle.model_grammar.specs.Syntax.{Item}
 use Rattle.model_refusals.specs.Refusals.{start}
@@ -40,7 +41,7 @@ TextAnswer Refuses file held before after status = Reports (StatusReport (λ end
 abbrev pub IsNotTaken : List ℕ → Option (List ℕ) → Option (List ℕ) → Option (List ℕ) → Status → Type 0
 IsNotTaken file held before after status =
     (((status ≡ ends.TextFault) ⊎ (status ≡ ends.Memory)) × (after ≡ before))
-    ⊎ (IfSome held (λ bytes. 1048576 < length bytes) × EndsWith before after (refusal_line TooLong file start) ends.TextRefused status)
+    ⊎ (IfSome held (λ bytes. most_bytes < length bytes) × EndsWith before after (refusal_line TooLong file start) ends.TextRefused status)
 
 -- the line of the refusal was put, or a front of it; or nothing, for want of memory
 abbrev pub IsToldOf : List ℕ → ReadStop → Option (List ℕ) → Option (List ℕ) → Status → Type 0

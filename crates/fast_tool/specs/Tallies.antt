@@ -1,5 +1,6 @@
 -- How the items are counted whose lines aren't put.
 use Rattle.std.specs.Prelude.{◌≡◌, ◌⊎◌, ℕ, zero, suc, Bool, true, false, List, ◌∷◌, ◌++◌, Option, None, Some, drop, length, codes, decimal}
+use Rattle.model_tree.specs.Limits.{usual_classes}
 use Rattle.fast_fault.specs.declared.status.Status.{Status}
 use Rattle.fast_fault.specs.declared.status.Status.TheVariants.{Hold, Fails, Memory}
 use Rattle.model_grammar.specs.Syntax.{Item}
@@ -53,10 +54,10 @@ IsHalted old done before after status = ((status ≡ Memory) × (after ≡ befor
 -- so many items of the program are done, and counted
 pub record Counted (items : List Item) (count : ℕ) (s : Session) (t : Tally) : Type 0 where
   pub program : items_in s ≡ items
-  pub limited : s.limit ≡ 1000
+  pub limited : s.limit ≡ usual_classes
   pub outcomes : List Outcome
   pub counted : length outcomes ≡ count
   pub at : IsAt s outcomes
   pub before : List ℕ
-  pub come : Comes (items_script items 1000 self_name) (record { left = drop count items; done = outcomes }) before
+  pub come : Comes (items_script items usual_classes self_name) (record { left = drop count items; done = outcomes }) before
   pub tally : IsTally t outcomes

@@ -3,6 +3,7 @@
 ghost use Rattle.std.specs.Prelude.{◌≡◌, ◌≢◌, ◌≤◌, ◌↔◌, ℕ, List, [], IfOk, IfErr, OnOk, Err, true, string_bytes, map};
 ghost use Rattle.fast_fault.specs.Written.{Appends, Rose};
 ghost use Rattle.fast_fault.specs.declared.status.Status.TheVariants.{SinkFault, TextFault};
+ghost use Rattle.model_tree.specs.Limits.{usual_classes};
 ghost use Rattle.model_tree.specs.Kept.{is_kept};
 ghost use Rattle.model_tree.specs.Signature.{HasType};
 ghost use Rattle.model_names.specs.Kinds.{Kind, language};
@@ -203,7 +204,7 @@ pub fn answer_all<K: Sink>(
     sink: &mut K,
 ) -> Status
     requires at { IsAt session.old [] }
-    requires limit { session.old.limit ≡ 1000 }
+    requires limit { session.old.limit ≡ usual_classes }
     requires named { IsNameOf (items_in session.old) (kind_asked inquiry.now.question) inquiry.now.name.now }
     requires typed { AreOfType (input_type (items_in session.old) (named_x inquiry.now.name.now)) (map plain_placed placed.now) }
     ensures report { Reports (StatusReport (Writes (trees_script (items_in session.old) file.now inquiry.now.name.now inquiry.now.trees.now (kind_asked inquiry.now.question) (map plain_placed placed.now)))) result (K.written sink.old) (K.written sink.new) }

@@ -16,7 +16,7 @@ use crate::answers::{Inquiry, answer_all};
 use crate::named::{name_of, type_of_trees};
 use crate::reading::{take_checked, take_trees};
 use crate::refusals::refuse_name;
-use crate::words::Asked;
+use crate::words::{Asked, USUAL_CLASSES};
 use fast_fault::{Memory, Sink, Status, Text, TextSource};
 use fast_session::Session;
 use program_check::Checked;
@@ -39,7 +39,7 @@ fn answer_trees<K: Sink>(
     ensures rose { result ≡ SinkFault → Rose (K.faults sink.old) (K.faults sink.new) }
     ensures sure_text { result ≢ TextFault }
 {
-    match Session::new(alloc, checked, 1000) {
+    match Session::new(alloc, checked, USUAL_CLASSES) {
         Ok(mut session) => {
             let inquiry = Inquiry {
                 question: asked.question,

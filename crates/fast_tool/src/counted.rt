@@ -1,6 +1,7 @@
 //! The program that is made from a number: its items in order, whose verdicts are counted and whose lines aren't put.
 
 ghost use Rattle.std.specs.Prelude.{◌≡◌, ◌≢◌, ◌≤◌, ◌<◌, ◌-◌, ◌^◌, List, [], ◌∷◌, IfOk, IfErr, OnOk, Err, length, string_bytes};
+ghost use Rattle.model_tree.specs.Limits.{usual_classes};
 ghost use Rattle.fast_fault.specs.Written.{Rose};
 ghost use Rattle.fast_fault.specs.declared.status.Status.TheVariants.{SinkFault, TextFault};
 ghost use Rattle.fast_fault.specs.declared.status.Status.TheVariants as ends;
@@ -19,6 +20,7 @@ use crate::generator::self_text;
 use crate::lines::line_text;
 use crate::reading::{read_checked, tell_unread};
 use crate::refusals::{put_last, refuse_item};
+use crate::words::USUAL_CLASSES;
 use fast_fault::{Memory, Sink, Status};
 use fast_session::{Halt, Line, Session, Step};
 use program_check::Checked;
@@ -138,7 +140,7 @@ fn tell_tally<K: Sink>(
 /// Does the items in order, and puts the line of their counts, or that of the refusal at which the run stops.
 fn count_items<K: Sink>(alloc: Global, number: u32, session: &mut Session, sink: &mut K) -> Status
     requires at { IsAt session.old [] }
-    requires limit { session.old.limit ≡ 1000 }
+    requires limit { session.old.limit ≡ usual_classes }
     ensures report { Reports (StatusReport (SelfReport number (items_in session.old))) result (K.written sink.old) (K.written sink.new) }
     ensures later { K.faults sink.old ≤ K.faults sink.new }
     ensures rose { result ≡ SinkFault → Rose (K.faults sink.old) (K.faults sink.new) }
@@ -174,7 +176,7 @@ pub fn run_self<K: Sink>(alloc: Global, number: u32, sink: &mut K) -> Status
         Ok(checked) => checked,
         Err(stop) => return tell_unread(alloc, sink, NAME, stop),
     };
-    match Session::new(alloc, checked, 1000) {
+    match Session::new(alloc, checked, USUAL_CLASSES) {
         Ok(mut session) => count_items(alloc, number, &mut session, sink),
         Err(Memory) => Status::Memory,
     }

@@ -1,6 +1,7 @@
 //! The items of a program in order, and one line for each put.
 
 ghost use Rattle.std.specs.Prelude.{◌≡◌, ◌≢◌, ◌≤◌, ◌<◌, List, [], IfOk, IfErr, OnOk, Err, length};
+ghost use Rattle.model_tree.specs.Limits.{most_classes};
 ghost use Rattle.fast_fault.specs.Written.{Appends, Rose};
 ghost use Rattle.fast_fault.specs.declared.status.Status.TheVariants.{SinkFault, TextFault};
 ghost use Rattle.fast_syntax.specs.Plain.{plain_program};
@@ -107,7 +108,7 @@ pub fn run_program<K: Sink>(
     limit: u32,
     sink: &mut K,
 ) -> Status
-    requires shallow { limit ≤ 2000 }
+    requires shallow { limit ≤ most_classes }
     ensures report { Reports (StatusReport (RunReport file.now limit (plain_program checked.program))) result (K.written sink.old) (K.written sink.new) }
     ensures later { K.faults sink.old ≤ K.faults sink.new }
     ensures rose { result ≡ SinkFault → Rose (K.faults sink.old) (K.faults sink.new) }

@@ -1,6 +1,7 @@
 //! The top call: the words, the text, and what the command does with the program.
 
 ghost use Rattle.std.specs.Prelude.{◌≡◌, ◌≢◌, ◌≤◌, ℕ, List, Option, IfOk, IfSome, map, string_bytes, true};
+ghost use Rattle.model_tree.specs.Limits.{most_classes};
 ghost use Rattle.fast_fault.specs.Written.{Rose};
 ghost use Rattle.fast_fault.specs.declared.status.Status.TheVariants.{SinkFault, TextFault};
 ghost use Rattle.fast_syntax.specs.Plain.{plain_program};
@@ -13,7 +14,7 @@ use crate::counted::run_self;
 use crate::items::run_program;
 use crate::reading::take_checked;
 use crate::refusals::put_last;
-use crate::words::{Command, read_words};
+use crate::words::{Command, USUAL_CLASSES, read_words};
 use fast_fault::{Memory, Sink, Status, TextSource};
 use program_check::Checked;
 use std::alloc::Global;
@@ -67,13 +68,13 @@ fn run_file<T: TextSource, K: Sink>(
     texts: &mut T,
     sink: &mut K,
 ) -> Status
-    requires few { IfSome limit (λ n. n ≤ 2000) }
+    requires few { IfSome limit (λ n. n ≤ most_classes) }
     ensures report { Reports (StatusReport (CommandReport (run_form file.now limit) (T.held texts.old))) result (K.written sink.old) (K.written sink.new) }
     ensures rose { result ≡ SinkFault → Rose (K.faults sink.old) (K.faults sink.new) }
     ensures take_rose { result ≡ TextFault → Rose (T.faults texts.old) (T.faults texts.new) }
 {
     match take_checked(alloc, file, texts, sink) {
-        Ok(checked) => run_program(alloc, file, checked, limit.unwrap_or(1000), sink),
+        Ok(checked) => run_program(alloc, file, checked, limit.unwrap_or(USUAL_CLASSES), sink),
         Err(status) => status,
     }
 }

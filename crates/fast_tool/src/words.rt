@@ -4,6 +4,12 @@ ghost use Rattle.std.specs.Prelude.{◌≡◌, ℕ, [], ◌∷◌, true, false, 
 ghost use Rattle.model_run.specs.Words.{CommandForm, AreWordsOf};
 ghost use Rattle.fast_tool.specs.Commands.{command_form, verb_asked, IsNumber};
 
+/// The most classes of a table that may be asked for.
+const MOST_CLASSES: u32 = 2_000;
+
+/// The classes of a table where none are asked for.
+pub(crate) const USUAL_CLASSES: u32 = 1_000;
+
 /// What is asked of trees.
 #[derive(Clone, Copy)]
 pub enum Question {
@@ -105,7 +111,7 @@ fn of_run<'w>(file: &'w str, option: &str, number: &str) -> Option<Command<'w>>
     if file.is_empty() || option != "--classes" {
         return None;
     }
-    match number_of(number, 2000) {
+    match number_of(number, MOST_CLASSES) {
         Some(limit) => Some(Command::Run {
             file,
             limit: Some(limit),

@@ -5,6 +5,7 @@ use Rattle.std.proofs.Math.Nat.{mul-le-mul}
 use Rattle.std.specs.Prelude.{FitsSigned}
 use Rattle.std.specs.Int.{w64, w128}
 use Rattle.std.proofs.lemmas.Int.{ints, unsigned_abs-mul, fits_signed_from_abs, to_z-of_z}
+use Rattle.model_tree.specs.Limits.{greatest_divisor}
 use Rattle.model_form.specs.Form.{terms_value, remainders_value, value, modulo}
 use Rattle.model_form.specs.Ranges.{AreFields, AreRemainders, IsCoefficient}
 use Rattle.lin_form.specs.declared.form.FieldTerm.{FieldTerm}
@@ -30,7 +31,7 @@ fields_step ts k d values h = rw (add-one k) (by ts k h)
     by (t ∷ ts) (suc k) h = by ts k (omega arith)
 
 pub remainder_at : (ts : List RemTerm) (k : ℕ) (d : RemTerm) → AreRemainders (plain_remainders ts) → k < length ts
-    → IsCoefficient (get_or ts k d).coefficient × (0 < (get_or ts k d).divisor) × ((get_or ts k d).divisor ≤ 4096)
+    → IsCoefficient (get_or ts k d).coefficient × (0 < (get_or ts k d).divisor) × ((get_or ts k d).divisor ≤ greatest_divisor)
 remainder_at [] k d h l = absurd (omega arith)
 remainder_at (t ∷ ts) zero d h l = (h.1, h.2, h.3)
 remainder_at (t ∷ ts) (suc k) d h l = remainder_at ts k d h.4 (omega arith)
@@ -79,6 +80,6 @@ sum_is s p m n k h g e l =
     }
 
 -- a term that a loop is at
-pub remainder_item : (ts items : List RemTerm) (k : ℕ) (t : RemTerm) → AreRemainders (plain_remainders ts) → items ≡ ts → t ≡ get_or items k t → k < length items → IsCoefficient t.coefficient × (0 < t.divisor) × (t.divisor ≤ 4096)
+pub remainder_item : (ts items : List RemTerm) (k : ℕ) (t : RemTerm) → AreRemainders (plain_remainders ts) → items ≡ ts → t ≡ get_or items k t → k < length items → IsCoefficient t.coefficient × (0 < t.divisor) × (t.divisor ≤ greatest_divisor)
 remainder_item ts items k t h e is l =
-    subst (λ (x : RemTerm). IsCoefficient x.coefficient × (0 < x.divisor) × (x.divisor ≤ 4096)) (sym is) (remainder_at items k t (subst (λ us. AreRemainders (plain_remainders us)) (sym e) h) l)
+    subst (λ (x : RemTerm). IsCoefficient x.coefficient × (0 < x.divisor) × (x.divisor ≤ greatest_divisor)) (sym is) (remainder_at items k t (subst (λ us. AreRemainders (plain_remainders us)) (sym e) h) l)

@@ -6,6 +6,7 @@ use Rattle.std.proofs.Math.Nat.{mul-le-mul}
 use Rattle.std.proofs.lemmas.Int.{ints, unsigned_abs-mul}
 use Rattle.std.proofs.lemmas.Bool.{eqb-true}
 use Rattle.std.specs.Ordering.{int_eq}
+use Rattle.model_tree.specs.Limits.{greatest_divisor}
 use Rattle.model_form.specs.Form.{Form, form, Remainders, no_remainders, remainder, remainders_of, Term}
 use Rattle.model_form.specs.Same.{same_form}
 use Rattle.model_form.specs.Sums.{Sum, add_fields, add_like, add_remainders, add_form, is_like, without_zeros, started}
@@ -83,7 +84,7 @@ apart_alike f g k m (remainder b q n rs) e h =
     let like = both_out (k == m) (same_form f g) e in
     ((λ i. (eqb-true k m like.0 i == n) && same_laws.congr f g q like.1 i) ∙ h.0, apart_alike f g k m rs e h.1)
 
-pub like_step : (m : ℕ) (c : ℤ) (g : Form) (n : ℕ) (a : ℤ) (further rs : Remainders) → IsWithin 1 c → 0 < n → n ≤ 4096 → IsApart g n further → LikesBefore m (remainder a g n further) rs → LikesBefore m further (add_like c g n rs)
+pub like_step : (m : ℕ) (c : ℤ) (g : Form) (n : ℕ) (a : ℤ) (further rs : Remainders) → IsWithin 1 c → 0 < n → n ≤ greatest_divisor → IsApart g n further → LikesBefore m (remainder a g n further) rs → LikesBefore m further (add_like c g n rs)
 like_step m c g n a further no_remainders w p q s h = (inr (let l : 1 * 2 ^ 62 ≤ suc m * 2 ^ 62 = omega arith in (omega arith), s), p, q, tt)
 like_step m c g n a further (remainder b f k rs) w p q s h = by (is_like f k g n) refl (like_step m c g n a further rs w p q s h.3) h.0
   where

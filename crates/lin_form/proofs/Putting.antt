@@ -4,6 +4,7 @@ use Rattle.std.proofs.Math.IntN.{ℤ, pos, ◌+ℤ◌, ◌*ℤ◌}
 use Rattle.std.proofs.lemmas.Int.{ints, to_z-of_z}
 use Rattle.std.proofs.Common.{to_z, of_z, Result, Ok, Err, MatchResult}
 use Rattle.std.specs.Int.{w64, w128}
+use Rattle.model_tree.specs.Limits.{greatest_divisor}
 use Rattle.math_int.proofs.Floors.{euclid_range}
 use Rattle.model_form.specs.Form.{Form, form, Term, Remainders, no_remainders, remainder, constant_of, modulo}
 use Rattle.model_form.specs.Sums.{Sum, add_form, number_form, remainder_form}
@@ -26,18 +27,18 @@ past_end [] k d h = refl
 past_end (x ∷ xs) zero d h = absurd (omega arith)
 past_end (x ∷ xs) (suc k) d h = past_end xs k d (omega arith)
 
-modulo_small : (c : ℤ) (k : ℕ) → 0 < k → k ≤ 4096 → unsigned_abs (modulo c k) ≤ 4096
+modulo_small : (c : ℤ) (k : ℕ) → 0 < k → k ≤ greatest_divisor → unsigned_abs (modulo c k) ≤ greatest_divisor
 modulo_small c k h l = let r = euclid_range c (pos k) (omega (arith, ints)) in let low = r.0 in let high = r.1 in omega (arith, ints)
 
-pub remainder_constant : (f : Form) (k : ℕ) → 0 < k → k ≤ 4096 → unsigned_abs (constant_of (remainder_form f k)) ≤ 4096
+pub remainder_constant : (f : Form) (k : ℕ) → 0 < k → k ≤ greatest_divisor → unsigned_abs (constant_of (remainder_form f k)) ≤ greatest_divisor
 remainder_constant (form c [] no_remainders) k h l = modulo_small c k h l
 remainder_constant (form c (t ∷ ts) rs) k h l = omega arith
 remainder_constant (form c [] (remainder a f m rs)) k h l = omega arith
 
-pub constant_grows : (i : ℕ) (s by a : ℤ) → IsCoefficient by → unsigned_abs a ≤ 4096 → unsigned_abs s ≤ 2 ^ 98 + i * 2 ^ 43 → unsigned_abs (s +ℤ (by *ℤ a)) ≤ 2 ^ 98 + (i + 1) * 2 ^ 43
+pub constant_grows : (i : ℕ) (s by a : ℤ) → IsCoefficient by → unsigned_abs a ≤ greatest_divisor → unsigned_abs s ≤ 2 ^ 98 + i * 2 ^ 43 → unsigned_abs (s +ℤ (by *ℤ a)) ≤ 2 ^ 98 + (i + 1) * 2 ^ 43
 constant_grows i s by a b h l =
     let x : unsigned_abs by ≤ 2 ^ 31 = (let y : unsigned_abs by < 2 ^ 31 = b in omega arith) in
-    let p = small_product by a (2 ^ 31) 4096 (2 ^ 43) x h (lit≤ tt) in
+    let p = small_product by a (2 ^ 31) greatest_divisor (2 ^ 43) x h (lit≤ tt) in
     let t = small_sum (2 ^ 98 + i * 2 ^ 43) (2 ^ 43) s (by *ℤ a) l p in
     omega arith
 

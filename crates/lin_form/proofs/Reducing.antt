@@ -5,6 +5,7 @@ use Rattle.std.proofs.Math.IntN.{ℤ, pos, ◌+ℤ◌, ◌*ℤ◌}
 use Rattle.std.proofs.lemmas.Int.{ints}
 use Rattle.std.proofs.lemmas.Bool.{eqb-true}
 use Rattle.std.specs.Ordering.{int_eq}
+use Rattle.model_tree.specs.Limits.{greatest_divisor}
 use Rattle.model_tree.specs.Range.{IsLabelNumber}
 use Rattle.math_int.proofs.Floors.{euclid_range}
 use Rattle.model_form.specs.Form.{height, heights, Form, form, Remainders, no_remainders, remainder, Term, modulo}
@@ -116,17 +117,17 @@ all_open_after m by rs s t h e = all_open_reduced m by rs s h ∙ ap (λ x. redu
 
 -- ---- how great they are
 
-pub modulo_small : (c : ℤ) (m : ℕ) → 0 < m → m ≤ 4096 → unsigned_abs (modulo c m) < 4096
+pub modulo_small : (c : ℤ) (m : ℕ) → 0 < m → m ≤ greatest_divisor → unsigned_abs (modulo c m) < greatest_divisor
 modulo_small c m h l = let r = euclid_range c (pos m) (omega (arith, ints)) in let low = r.0 in let high = r.1 in omega (arith, ints)
 
-pub small_within : (c : ℤ) (m : ℕ) → 0 < m → m ≤ 4096 → IsWithin 1 (modulo c m)
+pub small_within : (c : ℤ) (m : ℕ) → 0 < m → m ≤ greatest_divisor → IsWithin 1 (modulo c m)
 small_within c m h l = let s = modulo_small c m h l in omega arith
 
-totals_small : (m : ℕ) (cs : List ℤ) → 0 < m → m ≤ 4096 → AreTotals 1 (reduced_totals m cs)
+totals_small : (m : ℕ) (cs : List ℤ) → 0 < m → m ≤ greatest_divisor → AreTotals 1 (reduced_totals m cs)
 totals_small m [] h l = tt
 totals_small m (c ∷ cs) h l = (small_within c m h l, totals_small m cs h l)
 
-likes_small : (m n : ℕ) (rs : Remainders) → 0 < m → m ≤ 4096 → AreLikes n rs → AreLikes 1 (reduced_terms m rs)
+likes_small : (m n : ℕ) (rs : Remainders) → 0 < m → m ≤ greatest_divisor → AreLikes n rs → AreLikes 1 (reduced_terms m rs)
 likes_small m n no_remainders h l g = tt
 likes_small m n (remainder a f k rs) h l g = (small_within a m h l, g.1, g.2, likes_small m n rs h l g.3)
 
@@ -150,7 +151,7 @@ pub record IsHeld (s : Sum) : Type 0 where
   pub apart : AreApart s.terms
   pub inner : AreInner s.terms
 
-pub held_reduced : (m : ℕ) (s t : Sum) → 0 < m → m ≤ 4096 → t ≡ reduced m s → IsHeld s → IsReduced m t
+pub held_reduced : (m : ℕ) (s t : Sum) → 0 < m → m ≤ greatest_divisor → t ≡ reduced m s → IsHeld s → IsReduced m t
 held_reduced m s t h l e g = subst (IsReduced m) (sym e) (record {
   gathered = record {
     eight = length-reduced m s.totals ∙ g.eight;
@@ -163,7 +164,7 @@ held_reduced m s t h l e g = subst (IsReduced m) (sym e) (record {
   same = reduced_twice m s h;
 })
 
-pub like_more : (n : ℕ) (c : ℤ) (g : Form) (k : ℕ) (rs : Remainders) → IsWithin 1 c → 0 < k → k ≤ 4096 → AreLikes n rs → AreLikes (suc n) (add_like c g k rs)
+pub like_more : (n : ℕ) (c : ℤ) (g : Form) (k : ℕ) (rs : Remainders) → IsWithin 1 c → 0 < k → k ≤ greatest_divisor → AreLikes n rs → AreLikes (suc n) (add_like c g k rs)
 like_more n c g k no_remainders w p q h = ((let e : 1 * 2 ^ 62 ≤ suc n * 2 ^ 62 = omega arith in (omega arith)), p, q, tt)
 like_more n c g k (remainder a f m rs) w p q h = by (is_like f m g k) (like_more n c g k rs w p q h.3)
   where
@@ -175,7 +176,7 @@ like_more n c g k (remainder a f m rs) w p q h = by (is_like f m g k) (like_more
     by true r = (sum_within n a c h.0 w, h.1, h.2, later rs h.3)
     by false r = (more_within n a h.0, h.1, h.2, r)
 
-pub held_term : (n : ℕ) (c : ℤ) (f : Form) (k : ℕ) (s : Sum) → IsWithin 1 c → 0 < k → k ≤ 4096 → IsInner f → IsGathered n s → IsHeld (add_term c f k s)
+pub held_term : (n : ℕ) (c : ℤ) (f : Form) (k : ℕ) (s : Sum) → IsWithin 1 c → 0 < k → k ≤ greatest_divisor → IsInner f → IsGathered n s → IsHeld (add_term c f k s)
 held_term n c f k s w p q i g = record { eight = g.eight; bound = suc n; likes = like_more n c f k s.terms w p q g.likes; apart = add_like_apart c f k s.terms g.apart; inner = add_like_inner c f k s.terms i g.inner }
 
 pub held_outer : (n : ℕ) (by c : ℤ) (ts : List Term) (s : Sum) → IsGathered n s → IsHeld (add_outer by c ts s)
@@ -183,32 +184,32 @@ held_outer n by c ts s g = record { eight = length-add_fields by ts s.totals ∙
 
 -- ---- nothing is outside
 
-fields_small : (m n : ℕ) (cs : List ℤ) (z : ℤ) → 0 < m → m ≤ 4096 → IsOfFields z (fields_from n (reduced_totals m cs)) → unsigned_abs z < 4096
+fields_small : (m n : ℕ) (cs : List ℤ) (z : ℤ) → 0 < m → m ≤ greatest_divisor → IsOfFields z (fields_from n (reduced_totals m cs)) → unsigned_abs z < greatest_divisor
 fields_small m n [] z h l i = absurd i
 fields_small m n (c ∷ cs) z h l i = by (int_eq (modulo c m) (pos 0)) (fields_small m (suc n) cs z h l) i
   where
-    by : (b : Bool) → (IsOfFields z (fields_from (suc n) (reduced_totals m cs)) → unsigned_abs z < 4096)
-        → IsOfFields z (cond b (fields_from (suc n) (reduced_totals m cs)) (record { field = n; coefficient = modulo c m } ∷ fields_from (suc n) (reduced_totals m cs))) → unsigned_abs z < 4096
+    by : (b : Bool) → (IsOfFields z (fields_from (suc n) (reduced_totals m cs)) → unsigned_abs z < greatest_divisor)
+        → IsOfFields z (cond b (fields_from (suc n) (reduced_totals m cs)) (record { field = n; coefficient = modulo c m } ∷ fields_from (suc n) (reduced_totals m cs))) → unsigned_abs z < greatest_divisor
     by true r i = r i
-    by false r (inl e) = subst (λ x. unsigned_abs x < 4096) (sym e) (modulo_small c m h l)
+    by false r (inl e) = subst (λ x. unsigned_abs x < greatest_divisor) (sym e) (modulo_small c m h l)
     by false r (inr i) = r i
 
-terms_small : (m : ℕ) (rs : Remainders) (z : ℤ) → 0 < m → m ≤ 4096 → IsOfRemainders z (without_zeros (reduced_terms m rs)) → unsigned_abs z < 4096
+terms_small : (m : ℕ) (rs : Remainders) (z : ℤ) → 0 < m → m ≤ greatest_divisor → IsOfRemainders z (without_zeros (reduced_terms m rs)) → unsigned_abs z < greatest_divisor
 terms_small m no_remainders z h l i = absurd i
 terms_small m (remainder a f k rs) z h l i = by (int_eq (modulo a m) (pos 0)) (terms_small m rs z h l) i
   where
-    by : (b : Bool) → (IsOfRemainders z (without_zeros (reduced_terms m rs)) → unsigned_abs z < 4096)
-        → IsOfRemainders z (cond b (without_zeros (reduced_terms m rs)) (remainder (modulo a m) f k (without_zeros (reduced_terms m rs)))) → unsigned_abs z < 4096
+    by : (b : Bool) → (IsOfRemainders z (without_zeros (reduced_terms m rs)) → unsigned_abs z < greatest_divisor)
+        → IsOfRemainders z (cond b (without_zeros (reduced_terms m rs)) (remainder (modulo a m) f k (without_zeros (reduced_terms m rs)))) → unsigned_abs z < greatest_divisor
     by true r i = r i
-    by false r (inl e) = subst (λ x. unsigned_abs x < 4096) (sym e) (modulo_small a m h l)
+    by false r (inl e) = subst (λ x. unsigned_abs x < greatest_divisor) (sym e) (modulo_small a m h l)
     by false r (inr i) = r i
 
-pub reduced_inside : (m : ℕ) (s : Sum) → 0 < m → m ≤ 4096 → IsReduced m s → (n : ℤ) → IsOutside (form_of_sum s) n → ⊥
+pub reduced_inside : (m : ℕ) (s : Sum) → 0 < m → m ≤ greatest_divisor → IsReduced m s → (n : ℤ) → IsOutside (form_of_sum s) n → ⊥
 reduced_inside m s h l g n o = none (subst (λ t. IsOutside (form_of_sum t) n) (sym g.same) o)
   where
     none : IsOutside (form_of_sum (reduced m s)) n → ⊥
     none (inl x) = x.1 (subst IsLabelNumber (sym x.0) (let c = modulo_small s.constant m h l in omega (arith, ints)))
-    none (inr x) = x.1 (let small : unsigned_abs n < 4096 = elim x.0 as (λ _. unsigned_abs n < 4096) [ inl i ↦ fields_small m 0 s.totals n h l i | inr i ↦ terms_small m s.terms n h l i ] in (omega arith))
+    none (inr x) = x.1 (let small : unsigned_abs n < greatest_divisor = elim x.0 as (λ _. unsigned_abs n < greatest_divisor) [ inl i ↦ fields_small m 0 s.totals n h l i | inr i ↦ terms_small m s.terms n h l i ] in (omega arith))
 
 -- ---- lists of which the first elements are done
 
@@ -269,7 +270,7 @@ likes_drop ts k d h = rw (add-one k) (go ts k h)
     go (t ∷ ts) zero h = refl
     go (t ∷ ts) (suc k) h = go ts k (omega arith)
 
-pub divisor_at : (n : ℕ) (ts : List Like) (k : ℕ) (d : Like) → AreLikes n (plain_likes ts) → k < length ts → (0 < (get_or ts k d).divisor) × ((get_or ts k d).divisor ≤ 4096)
+pub divisor_at : (n : ℕ) (ts : List Like) (k : ℕ) (d : Like) → AreLikes n (plain_likes ts) → k < length ts → (0 < (get_or ts k d).divisor) × ((get_or ts k d).divisor ≤ greatest_divisor)
 divisor_at n [] k d h l = absurd (omega arith)
 divisor_at n (t ∷ ts) zero d h l = (h.1, h.2)
 divisor_at n (t ∷ ts) (suc k) d h l = divisor_at n ts k d h.3 (omega arith)

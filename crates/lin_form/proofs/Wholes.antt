@@ -11,7 +11,7 @@ use Rattle.lin_form.specs.declared.form.RemTerm.{RemTerm}
 use Rattle.lin_form.specs.declared.sum.Like.{Like}
 use Rattle.lin_form.specs.Terms.{plain_remainders}
 use Rattle.lin_form.specs.Gathered.{plain_likes}
-use Rattle.lin_form.specs.Whole.{IsWhole, IsInner, AreInner, IsSound}
+use Rattle.lin_form.specs.Whole.{IsWhole, IsInner, AreInner, IsSound, deepest}
 
 -- ---- what is so of the form
 
@@ -27,7 +27,7 @@ inner_divided : (rs : Remainders) → AreRemainders rs → AreInner rs → AreDi
 inner_divided no_remainders h i = tt
 inner_divided (remainder a f k rs) h i = (h.2, i.0.0.divided, inner_divided rs h.4 i.1)
 
-pub inner_low : (rs : Remainders) → AreInner rs → heights rs ≤ 4096
+pub inner_low : (rs : Remainders) → AreInner rs → heights rs ≤ deepest
 inner_low no_remainders i = omega arith
 inner_low (remainder a f k rs) i = let low = i.0.1 in let rest = inner_low rs i.1 in omega arith
 

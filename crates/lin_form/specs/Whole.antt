@@ -1,18 +1,23 @@
 -- What is so of each form that a program has, at every depth: which fields and divisors, and how deep remainders nest.
-use Rattle.std.specs.Prelude.{◌≡◌, ℕ, ◌≤◌}
+use Rattle.std.specs.Prelude.{◌≡◌, ℕ, suc, ◌≤◌}
+use Rattle.model_tree.specs.Limits.{most_fields}
 use Rattle.model_form.specs.Form.{Form, Remainders, no_remainders, remainder, remainders_of, height, heights}
 use Rattle.model_form.specs.Over.{IsOver, IsDivided}
 use Rattle.model_form.specs.Ranges.{IsForm}
 
--- over the eight fields, by divisors that are at least 1, and at most 4096 remainders stand in one another
+-- how many remainders may stand in one another
+abbrev pub deepest : ℕ
+deepest = 4096
+
+-- over the eight fields, by divisors that are at least 1, and not too many remainders stand in one another
 pub record IsWhole (f : Form) : Type 0 where
-  pub over : IsOver 8 f
+  pub over : IsOver most_fields f
   pub divided : IsDivided f
-  pub low : height f ≤ 4097
+  pub low : height f ≤ suc deepest
 
 -- what may stand in a remainder
 abbrev pub IsInner : Form → Type 0
-IsInner f = IsWhole f × (height f ≤ 4096)
+IsInner f = IsWhole f × (height f ≤ deepest)
 
 abbrev pub AreInner : Remainders → Type 0
 AreInner no_remainders = Unit {0}

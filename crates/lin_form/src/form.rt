@@ -3,6 +3,7 @@
 ghost use Rattle.std.specs.Prelude.{◌≡◌, ℤ, ◌<◌, map, IfOk};
 ghost use Rattle.model_form.specs.Form.{constant_of, fields_of, remainders_of, height, heights};
 ghost use Rattle.model_form.specs.Sums.{number_form, field_form};
+ghost use Rattle.model_tree.specs.Limits.{most_fields};
 ghost use Rattle.model_tree.specs.Range.{IsLabelNumber};
 ghost use Rattle.model_form.specs.Ranges.{IsForm};
 ghost use Rattle.lin_form.specs.Terms.{plain_fields, plain_remainders};
@@ -11,6 +12,12 @@ ghost use Rattle.lin_form.specs.Whole.{IsWhole};
 use fast_fault::Memory;
 use std::alloc::Global;
 use std::marker::Model;
+
+/// The greatest number that a remainder is taken by.
+pub const GREATEST_DIVISOR: i128 = 4_096;
+
+/// Parts of a sum; no text has so many.
+pub const MOST_PARTS: usize = 1_048_576;
 
 /// The most remainders that may stand in one another in a form. A form that would nest deeper is told as want of memory,
 /// since going over it takes as much of the stack.
@@ -82,7 +89,7 @@ impl Form {
 
     /// The form of a field.
     pub fn field(alloc: Global, field: u32) -> Result<Form, Memory>
-        requires { field < 8 }
+        requires { field < most_fields }
         ensures { IfOk result (λ form. form ≡ field_form field) }
     {
         let mut fields = Vec::new(alloc);

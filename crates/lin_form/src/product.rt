@@ -2,6 +2,7 @@
 
 ghost use Rattle.std.specs.Prelude.{◌≡◌, ◌≢◌, ◌<◌, ◌≤◌, ℤ, pos, MatchResult};
 ghost use Rattle.model_form.specs.Sums.{product_form, remainder_form, scaled_fields, scaled_remainders};
+ghost use Rattle.model_tree.specs.Limits.{greatest_divisor};
 ghost use Rattle.model_tree.specs.Range.{IsLabelNumber};
 ghost use Rattle.model_form.specs.Ranges.{IsCoefficient, IsForm, IsOutside, IsOfFields, IsOfRemainders, AreFields, AreRemainders};
 ghost use Rattle.lin_form.specs.Terms.{plain_fields, plain_remainders};
@@ -36,7 +37,7 @@ impl Form {
     /// The form's remainder by a number.
     pub fn remainder(&self, alloc: Global, by: u32) -> Result<Form, FormStop>
         requires some { 0 < by }
-        requires few { by ≤ 4096 }
+        requires few { by ≤ greatest_divisor }
         ensures { MatchResult result (λ form. form ≡ remainder_form self.now by) (λ stop. stop ≡ FormStop.Memory) }
     {
         self.copy(alloc)?.into_remainder(alloc, by)
@@ -46,7 +47,7 @@ impl Form {
     /// would nest deeper than the deepest is told as want of memory.
     pub fn into_remainder(self, alloc: Global, by: u32) -> Result<Form, FormStop>
         requires some { 0 < by }
-        requires few { by ≤ 4096 }
+        requires few { by ≤ greatest_divisor }
         ensures { MatchResult result (λ form. form ≡ remainder_form self by) (λ stop. stop ≡ FormStop.Memory) }
     {
         if self.fields.is_empty() && self.remainders.is_empty() {

@@ -1,6 +1,7 @@
 //! Forms made simpler.
 
 ghost use Rattle.std.specs.Prelude.{◌≡◌, ℕ, ℤ, pos, ◌+◌, ◌<◌, ◌≤◌, ◌^◌, MatchResult, OnOk, unsigned_abs};
+ghost use Rattle.model_tree.specs.Limits.{greatest_divisor};
 ghost use Rattle.model_form.specs.Form.{remainders_of};
 ghost use Rattle.model_form.specs.Sums.{add_form, form_of_sum, remainder_form, started};
 ghost use Rattle.model_form.specs.Ranges.{IsCoefficient, IsForm, IsOutside};
@@ -57,7 +58,7 @@ impl Sum {
     ) -> Result<(), FormStop>
         requires coefficient { IsCoefficient coefficient }
         requires some { 0 < divisor }
-        requires few { divisor ≤ 4096 }
+        requires few { divisor ≤ greatest_divisor }
         requires constant { unsigned_abs self.old.constant ≤ 2 ^ 126 }
         requires gathered { (m : ℕ) × (m ≤ 2 ^ 64 + 16) × IsGathered m (plain_sum self.old) }
         requires inner { (m : ℕ) × IsGathered m (plain_sum inner.now) }
@@ -72,7 +73,7 @@ impl Sum {
     // The sum as it stands in a remainder.
     fn opened(&self, alloc: Global, by: u32) -> Result<Sum, FormStop>
         requires some { 0 < by }
-        requires few { by ≤ 4096 }
+        requires few { by ≤ greatest_divisor }
         requires gathered { (m : ℕ) × IsGathered m (plain_sum self.now) }
         ensures { MatchResult result (λ sum. (plain_sum sum ≡ inside by (plain_sum self.now)) × IsReduced by (plain_sum sum)) (λ stop. stop ≡ FormStop.Memory) }
     {
@@ -132,9 +133,9 @@ fn add_term_open(
     by: u32,
 ) -> Result<(), Memory>
     requires some { 0 < by }
-    requires few { by ≤ 4096 }
+    requires few { by ≤ greatest_divisor }
     requires divisor_some { 0 < divisor }
-    requires divisor_few { divisor ≤ 4096 }
+    requires divisor_few { divisor ≤ greatest_divisor }
     requires inner { IsInner inner.now }
     requires sum { IsReduced by (plain_sum sum.old) }
     ensures sum { OnOk result (plain_sum sum.new ≡ reduced by (add_term_open by coefficient inner.now divisor (plain_sum sum.old))) }
@@ -159,8 +160,8 @@ fn add_open(
     by: u32,
 ) -> Result<(), Memory>
     requires some { 0 < by }
-    requires few { by ≤ 4096 }
-    requires coefficient { unsigned_abs coefficient ≤ 4096 }
+    requires few { by ≤ greatest_divisor }
+    requires coefficient { unsigned_abs coefficient ≤ greatest_divisor }
     requires sum { IsReduced by (plain_sum sum.old) }
     ensures sum { OnOk result (plain_sum sum.new ≡ reduced by (add_open by coefficient form.now (plain_sum sum.old))) }
     ensures reduced { OnOk result (IsReduced by (plain_sum sum.new)) }

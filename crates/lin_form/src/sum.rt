@@ -4,6 +4,7 @@ ghost use Rattle.std.specs.Prelude.{◌≡◌, ℕ, ℤ, pos, ◌+◌, ◌<◌, 
 ghost use Rattle.std.specs.Int.{w128};
 ghost use Rattle.model_form.specs.Form.{constant_of, remainders_of};
 ghost use Rattle.model_form.specs.Sums.{add_fields, add_like, add_remainders, add_form, is_like, fields_from, without_zeros, form_of_sum, remainder_form, sum_form, started, sign};
+ghost use Rattle.model_tree.specs.Limits.{most_fields, greatest_divisor, most_parts};
 ghost use Rattle.model_tree.specs.Range.{IsLabelNumber};
 ghost use Rattle.model_form.specs.Ranges.{IsCoefficient, IsForm, IsOutside, IsOfFields, IsOfRemainders, AreFields, AreRemainders, AreApart};
 ghost use Rattle.lin_form.specs.Within.{AreTotals, AreLikes, IsGathered, LikesBefore, IsWithin};
@@ -44,7 +45,7 @@ pub(crate) struct Sum {
 impl Form {
     /// The form of a sum.
     pub fn of_sum(alloc: Global, parts: &[Signed]) -> Result<Form, FormStop>
-        requires { length parts.now ≤ 1048576 }
+        requires { length parts.now ≤ most_parts }
         ensures form { MatchResult result (λ form. form ≡ sum_form (plain_parts parts.now)) (λ stop. StopsAt (IsOutside (sum_form (plain_parts parts.now))) stop) }
         ensures in_range { MatchResult result (λ form. (n : ℤ) → IsOutside form n → ⊥) (λ _. Unit {0}) }
     {
@@ -92,7 +93,7 @@ impl Sum {
     ) -> Result<(), FormStop>
         requires coefficient { IsCoefficient coefficient }
         requires some { 0 < divisor }
-        requires few { divisor ≤ 4096 }
+        requires few { divisor ≤ greatest_divisor }
         requires constant { unsigned_abs self.old.constant ≤ 2 ^ 126 }
         requires gathered { (m : ℕ) × (m ≤ 2 ^ 64 + 16) × IsGathered m (plain_sum self.old) }
         ensures sum { MatchResult result (λ _. plain_sum self.new ≡ add_form coefficient (remainder_form inner divisor) (plain_sum self.old)) (λ stop. stop ≡ FormStop.Memory) }
@@ -141,7 +142,7 @@ fn product(by: i128, coefficient: i64) -> i128
 pub(crate) fn add_fields(totals: &mut [i128], by: i128, terms: &[FieldTerm])
     requires by { unsigned_abs by ≤ 2 ^ 31 }
     requires terms { AreFields 0 (plain_fields terms.now) }
-    requires eight { length totals.old ≡ 8 }
+    requires eight { length totals.old ≡ most_fields }
     requires small { (m : ℕ) × (m ≤ 2 ^ 64 + 16) × AreTotals m totals.old }
     ensures { totals.new ≡ add_fields by (plain_fields terms.now) totals.old }
 {
@@ -207,7 +208,7 @@ pub(crate) fn add_like(
 }
 
 fn kept_fields(alloc: Global, totals: &[i128]) -> Result<Vec<FieldTerm>, FormStop>
-    requires { length totals.now ≡ 8 }
+    requires { length totals.now ≡ most_fields }
     ensures { MatchResult result (λ kept. (plain_fields kept.items ≡ fields_from 0 totals.now) × AreFields 0 (plain_fields kept.items)) (λ stop. StopsAt (λ n. IsOfFields n (fields_from 0 totals.now) × (IsCoefficient n → ⊥)) stop) }
 {
     let mut kept = Vec::new(alloc);

@@ -1,6 +1,7 @@
 //! The value of a form, exact.
 
 ghost use Rattle.std.specs.Prelude.{◌≡◌, ℕ, pos, ◌*ℤ◌, ◌<◌, ◌≤◌, ◌^◌, unsigned_abs, slice_index_or};
+ghost use Rattle.model_tree.specs.Limits.{greatest_divisor};
 ghost use Rattle.model_form.specs.Form.{value, terms_value, modulo};
 ghost use Rattle.model_form.specs.Ranges.{AreFields, IsCoefficient};
 ghost use Rattle.lin_form.specs.Terms.{plain_fields};
@@ -40,7 +41,7 @@ fn field_value(coefficient: i64, value: LabelInt) -> i128
 fn remainder_value(coefficient: i64, inner: i128, divisor: u32) -> i128
     requires coefficient { IsCoefficient coefficient }
     requires some { 0 < divisor }
-    requires few { divisor ≤ 4096 }
+    requires few { divisor ≤ greatest_divisor }
     ensures value { result ≡ coefficient *ℤ modulo inner divisor }
     ensures small { unsigned_abs result ≤ 2 ^ 43 }
 {

@@ -12,6 +12,7 @@ use Rattle.fast_fault.specs.declared.code.Code.TheVariants.{WrongSort}
 use Rattle.fast_fault.specs.declared.place.Pos.{Pos}
 use Rattle.fast_fault.specs.declared.refusal.Refusal.{Refusal}
 use Rattle.math_int.proofs.Floors.{euclid_range}
+use Rattle.model_tree.specs.Limits.{greatest_divisor, most_fields}
 use Rattle.model_tree.specs.Range.{is_label_number}
 use Rattle.model_tree.specs.Signature.{Sort, wholes, truths, texts, PlainField}
 use Rattle.model_program.specs.Syntax.{FieldItem}
@@ -79,10 +80,10 @@ kept_in f e = ap (λ b. cond b (Some f) None) e
 number_in : (n : ℤ) → is_label_number n ≡ true → is_in_range (number_form n) ≡ true
 number_in n e = ap (λ b. b && true) e
 
-modulo_in : (z : ℤ) (k : ℕ) → 0 < k → k ≤ 4096 → is_label_number (modulo z k) ≡ true
+modulo_in : (z : ℤ) (k : ℕ) → 0 < k → k ≤ greatest_divisor → is_label_number (modulo z k) ≡ true
 modulo_in z k low few = let range = euclid_range z (pos k) (omega (arith, ints)) in constant_in (modulo z k) (omega (arith, ints, range.0, range.1))
 
-remainder_in : (f : Form) (k : ℕ) → 0 < k → k ≤ 4096 → is_in_range (remainder_form f k) ≡ true
+remainder_in : (f : Form) (k : ℕ) → 0 < k → k ≤ greatest_divisor → is_in_range (remainder_form f k) ≡ true
 remainder_in (form c [] no_remainders) k low few = number_in (modulo c k) (modulo_in c k low few)
 remainder_in (form c [] (remainder a f m rs)) k low few = refl
 remainder_in (form c (t ∷ ts) rs) k low few = refl
@@ -131,17 +132,17 @@ record Divides (e : Expr) : Type 0 where
   pub is : is_divisor e ≡ true
   pub by : checks.divisor_of e ≡ Some (divisor_of e)
   pub low : 0 < divisor_of e
-  pub few : divisor_of e ≤ 4096
+  pub few : divisor_of e ≤ greatest_divisor
 
 divisor_is : (e : Expr) → is_some (checks.divisor_of e) ≡ true → Divides e
 divisor_is (field place name) e = absurd (cc)
-divisor_is (number place (pos n)) e = inside (nat_lt 0 n && nat_le n 4096) refl e
+divisor_is (number place (pos n)) e = inside (nat_lt 0 n && nat_le n greatest_divisor) refl e
   where
-    bounds : (nat_lt 0 n && nat_le n 4096) ≡ true → (0 < n) × (n ≤ 4096)
+    bounds : (nat_lt 0 n && nat_le n greatest_divisor) ≡ true → (0 < n) × (n ≤ greatest_divisor)
     bounds e = (grind (arith, nat_tests), grind (arith, nat_tests))
 
-    inside : (b : Bool) → (nat_lt 0 n && nat_le n 4096) ≡ b → is_some (cond b (Some n) None) ≡ true → Divides (number place (pos n))
-    inside true is e = record { is = is; by = ap (λ b. cond b (Some n) None) is ∙ ap (λ b. Some (cond b n 1)) (sym is); low = subst (λ m. 0 < m) (ap (λ b. cond b n 1) (sym is)) (bounds is).0; few = subst (λ m. m ≤ 4096) (ap (λ b. cond b n 1) (sym is)) (bounds is).1 }
+    inside : (b : Bool) → (nat_lt 0 n && nat_le n greatest_divisor) ≡ b → is_some (cond b (Some n) None) ≡ true → Divides (number place (pos n))
+    inside true is e = record { is = is; by = ap (λ b. cond b (Some n) None) is ∙ ap (λ b. Some (cond b n 1)) (sym is); low = subst (λ m. 0 < m) (ap (λ b. cond b n 1) (sym is)) (bounds is).0; few = subst (λ m. m ≤ greatest_divisor) (ap (λ b. cond b n 1) (sym is)) (bounds is).1 }
     inside false is e = absurd (cc)
 divisor_is (number place (negsuc n)) e = absurd (cc)
 divisor_is (text place t) e = absurd (cc)
@@ -240,7 +241,7 @@ module _ (fields : List FieldItem) where
     pub is : is_text (plain_fields fields) e ≡ true
     pub within : AreInRange (forms_in (plain_fields fields) e)
 
-  module _ (known : list_all (λ f. is_some (sort_named f.sort.text)) fields ≡ true) (few : length fields ≤ 8) where
+  module _ (known : list_all (λ f. is_some (sort_named f.sort.text)) fields ≡ true) (few : length fields ≤ most_fields) where
     abbrev Sound : Sort → Expr → Type 0
     Sound sort e = IsSoundLabel fields sort e
 
@@ -499,7 +500,7 @@ pub record SoundText (fields : List PlainField) (e : Expr) : Type 0 where
   pub is : is_text fields e ≡ true
   pub within : (n : ℤ) → HasOutside (forms_in fields e) n → ⊥
 
-module _ (fields : List FieldItem) (known : list_all (λ f. is_some (sort_named f.sort.text)) fields ≡ true) (few : length fields ≤ 8) where
+module _ (fields : List FieldItem) (known : list_all (λ f. is_some (sort_named f.sort.text)) fields ≡ true) (few : length fields ≤ most_fields) where
   pub sound_guard : (e : Expr) → IsSoundLabel fields truths e → SoundGuard (plain_fields fields) e
   sound_guard e h = let g = guard_of fields known few e h in record { is = g.is; within = none_outside (forms_in (plain_fields fields) e) g.within }
 

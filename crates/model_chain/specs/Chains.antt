@@ -1,5 +1,6 @@
 -- Chains of Cooper's method: the choices that lead from literals through systems to a solution or a wide number.
 use Rattle.std.specs.Prelude.{ℕ, suc, ℤ, pos, neg_ℤ, ◌≡◌, ◌-◌, ◌^◌, ◌<◌, Bool, true, false, cond, ◌⊎◌, List, [], ◌∷◌, ◌++◌, map, length, slice_index_or}
+use Rattle.model_tree.specs.Limits.{most_fields}
 use Rattle.model_tree.specs.Range.{label_bits, IsLabelNumber}
 use Rattle.math_cooper.specs.System.{Condition}
 use Rattle.math_cooper.specs.Puts.{Put, Passes128, IsSolution}
@@ -25,7 +26,7 @@ greatest = pos (2 ^ label_bits - 1)
 -- the system that literals with sides begin with: the literals' conditions, the new variables', and the bounds'
 abbrev pub first_system : List Literal → Bool → List Bool → List Condition
 first_system ls bounded sides = let R = remainders_in ls in
-    literals_conditions R ls sides ++ remainders_conditions R 8 R ++ cond bounded (bounds_conditions R least greatest ls 0 8) []
+    literals_conditions R ls sides ++ remainders_conditions R most_fields R ++ cond bounded (bounds_conditions R least greatest ls 0 most_fields) []
 
 abbrev pub count_variables : List Literal → ℕ
 count_variables ls = width (remainders_in ls)
@@ -57,7 +58,7 @@ HasWide C = IsChosen C × Passes128 (count_variables C.literals) (first_system C
 
 -- a solution is outside the label range: one of its fields is
 abbrev pub HasFarValue : List ℤ → Type 0
-HasFarValue values = (k : ℕ) × (k < 8) × (IsLabelNumber (slice_index_or values k (pos 0)) → ⊥)
+HasFarValue values = (k : ℕ) × (k < most_fields) × (IsLabelNumber (slice_index_or values k (pos 0)) → ⊥)
 
 -- the chain is unbounded, no number of it is outside 128 bits, and its solution is outside the label range
 abbrev pub IsFar : Chain → Type 0

@@ -3,6 +3,7 @@ use Rattle.std.specs.Prelude.{ℕ, zero, suc, ℤ, pos, negsuc, ◌+ℤ◌, ◌-
 use Rattle.std.specs.List.{All}
 use Rattle.std.specs.Ordering.{int_eq}
 use Rattle.std.specs.Prelude.{int_lt}
+use Rattle.model_tree.specs.Limits.{most_fields}
 use Rattle.math_cooper.specs.Line.{AtLeastZero, DividedBy}
 use Rattle.math_cooper.specs.System.{Condition}
 use Rattle.model_form.specs.Form.{Form, form, Term, Remainders, no_remainders, remainder, constant_of, value}
@@ -84,7 +85,7 @@ remainders_in ls = seen_in ls []
 -- ---- a form as a row of coefficients: those of the fields at 0 to 7, then those of the remainders
 
 abbrev pub width : List Remainder → ℕ
-width R = 8 + length R
+width R = most_fields + length R
 
 abbrev pub zeros : List Remainder → List ℤ
 zeros R = replicate (width R) (pos 0)
@@ -95,7 +96,7 @@ add_at n a row = slice_set row n (slice_index_or row n (pos 0) +ℤ a)
 
 abbrev pub add_places : List Remainder → ℤ → Remainders → List ℤ → List ℤ
 add_places R by no_remainders row = row
-add_places R by (remainder a f k rs) row = add_places R by rs (add_at (8 + place (record { inner = f; divisor = k }) R) (by *ℤ a) row)
+add_places R by (remainder a f k rs) row = add_places R by rs (add_at (most_fields + place (record { inner = f; divisor = k }) R) (by *ℤ a) row)
 
 -- the coefficients of the form, each times a number, more
 abbrev pub add_terms : List Remainder → ℤ → Form → List ℤ → List ℤ

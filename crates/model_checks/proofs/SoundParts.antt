@@ -7,6 +7,7 @@ use Rattle.std.specs.Option.{option_map, option_map_or, option_and_then}
 use Rattle.fast_fault.specs.declared.code.Code.{Code}
 use Rattle.fast_fault.specs.declared.place.Pos.{Pos}
 use Rattle.fast_fault.specs.declared.code.Code.TheVariants.{DuplicateName, UnknownName, WrongKind, WrongType, WrongRank, DuplicateVariable, NoLeaf, TooMany}
+use Rattle.model_tree.specs.Limits.{most_rules, most_fields}
 use Rattle.model_tree.specs.Signature.{Sort, truths}
 use Rattle.model_label.specs.Fields.{same_sort}
 use Rattle.model_label.proofs.Sorted.{one_sort}
@@ -30,7 +31,7 @@ some_fails code place e = absurd (cc)
 
 -- ---- types
 
-few_fields : (fields : List FieldItem) → is_empty (field_limit fields) ≡ true → length fields ≤ 8
+few_fields : (fields : List FieldItem) → is_empty (field_limit fields) ≡ true → length fields ≤ most_fields
 few_fields fields e = at_most (λ f. failure TooMany f.name.place) fields 8 (λ x e. some_fails TooMany x.name.place e) e
 
 pub sound_type : (t : TypeItem) → is_empty (type_failures t) ≡ true → IsSoundType t
@@ -211,8 +212,8 @@ sound_rule items of r types h sound e =
       given = λ d at. sound_demand items of r.vars d types h (of_each (demand_failures items of r.vars) r.given d (empty_second guard given after_vars) at);
     }
 
-few_rules : (rules : List Rule) → is_empty (rule_limit rules) ≡ true → length rules ≤ 4096
-few_rules rules e = at_most (λ r. failure TooMany r.ctor.place) rules 4096 (λ x e. some_fails TooMany x.ctor.place e) e
+few_rules : (rules : List Rule) → is_empty (rule_limit rules) ≡ true → length rules ≤ most_rules
+few_rules rules e = at_most (λ r. failure TooMany r.ctor.place) rules most_rules (λ x e. some_fails TooMany x.ctor.place e) e
 
 -- ---- languages and transformations
 
@@ -256,7 +257,7 @@ sound_trans items before t types sound e =
       into = into.type;
       found_into = into.found;
       named_into = into.named;
-      few = subst (λ (n : ℕ). n ≤ 4096) (length-map t.rules (λ (r : OutRule). r.rule)) (few_rules (map (λ r. r.rule) t.rules) (empty_first heads rules after_into));
+      few = subst (λ (n : ℕ). n ≤ most_rules) (length-map t.rules (λ (r : OutRule). r.rule)) (few_rules (map (λ r. r.rule) t.rules) (empty_first heads rules after_into));
       rules = λ r at. sound_rule items t.from r.rule types from (sound t.from.text from.type from.found) (empty_first (rule_failures items t.from r.rule) (out_failures items t.from t.into r.rule.vars r.out) (each r at));
       outs = λ r at. empty_second (rule_failures items t.from r.rule) (out_failures items t.from t.into r.rule.vars r.out) (each r at);
     }

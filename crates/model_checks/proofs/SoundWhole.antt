@@ -2,6 +2,7 @@
 use Rattle.std.proofs.Common.{◌≡◌, Bool, true, false, List, [], ◌∷◌, ◌++◌, Some, sym, ap, ◌∙◌, subst}
 use Rattle.std.specs.Prelude.{is_some, find}
 use Rattle.std.specs.Option.{option_map_or}
+use Rattle.model_tree.specs.Limits.{most_items}
 use Rattle.fast_fault.specs.declared.code.Code.TheVariants.{DuplicateType, DuplicateName, TooMany}
 use Rattle.model_program.specs.Syntax.{Name, TypeItem}
 use Rattle.model_grammar.specs.Syntax.{Body, sorts, tree, lang, trans, def, assertion, Item}
@@ -45,7 +46,7 @@ sound items e = record {
   transformations = λ item t at is. sound_trans items at.before t types_there sound_types (subst (λ (b : Body). is_empty (body_failures items at.before b) ≡ true) is (each_item items e item at));
   found_type = λ item t at is. find_own_type item t at is;
   found_item = λ item name at is. subst (λ (l : List Item). find_item l name.text ≡ Some item) (sym at.is) (finds_first (declares name.text) at.before at.behind item (named_before items at.before item.body name is (each_item items e item at)) (declares_own item name is));
-  few = at_most (λ item. failure TooMany item.place) items 10000 (λ x e. some_fails TooMany x.place e) (empty_first (item_limit items) (failures_behind items [] items) e);
+  few = at_most (λ item. failure TooMany item.place) items most_items (λ x e. some_fails TooMany x.place e) (empty_first (item_limit items) (failures_behind items [] items) e);
 }
   where
     own_type : (item : Item) (t : TypeItem) (at : StandsIn items item) → item.body ≡ sorts t → is_empty (type_again items at.before t.name ++ type_failures t) ≡ true

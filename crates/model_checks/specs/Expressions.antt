@@ -1,6 +1,7 @@
 -- What may fail in an expression of a language, a transformation or a tree.
 use Rattle.std.specs.Prelude.{ℕ, suc, Bool, true, false, ◌&&◌, List, [], ◌++◌, Option, Some, None, is_some, nat_le, length, not}
 use Rattle.std.specs.Option.{option_map_or, option_and_then}
+use Rattle.model_tree.specs.Limits.{most_around}
 use Rattle.fast_fault.specs.declared.code.Code.TheVariants.{UnknownName, WrongKind, WrongType, UsedTooEarly, TooMany}
 use Rattle.fast_fault.specs.declared.place.Pos.{Pos}
 use Rattle.fast_fault.specs.declared.refusal.Refusal.{Refusal}
@@ -46,7 +47,7 @@ expected_as a_tree type = type
 
 -- a 65th operation, inside so many others
 abbrev pub nesting_failures : ℕ → Pos → List Refusal
-nesting_failures around place = fails_if (nat_le 64 around) TooMany place
+nesting_failures around place = fails_if (nat_le most_around around) TooMany place
 
 -- the items of a program, and those before the one that the expression stands in
 module _ (items before : List Item) where

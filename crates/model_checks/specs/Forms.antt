@@ -2,6 +2,7 @@
 -- and each remainder by a number from 1 to 4096, and with every number in its range.
 use Rattle.std.specs.Prelude.{ℕ, ℤ, pos, negsuc, ◌^◌, Bool, true, false, ◌&&◌, ◌||◌, List, [], ◌∷◌, Option, Some, None, cond, is_some, nat_lt, nat_le, unsigned_abs, not}
 use Rattle.std.specs.Option.{option_and_then, option_map}
+use Rattle.model_tree.specs.Limits.{most_fields, greatest_divisor}
 use Rattle.model_tree.specs.Range.{is_label_number}
 use Rattle.model_tree.specs.Signature.{wholes}
 use Rattle.model_grammar.specs.declared.Chain.TheVariants.{Disjunction, Conjunction, Sum, Product}
@@ -42,7 +43,7 @@ is_out_of_range (Some f) = not (is_in_range f)
 -- ---- divisors
 
 abbrev pub divisor_in : ℤ → Option ℕ
-divisor_in (pos n) = cond (nat_lt 0 n && nat_le n 4096) (Some n) None
+divisor_in (pos n) = cond (nat_lt 0 n && nat_le n greatest_divisor) (Some n) None
 divisor_in (negsuc n) = None
 
 -- a written number from 1 to 4096
@@ -60,7 +61,7 @@ divisor_of (chain kind place parts) = None
 
 -- the form of one of the first eight whole numbers
 abbrev pub form_numbered : ℕ → Option Form
-form_numbered n = cond (nat_lt n 8) (Some (field_form n)) None
+form_numbered n = cond (nat_lt n most_fields) (Some (field_form n)) None
 
 -- the form of a field that is a whole number, by its number among these
 abbrev pub form_of_field : Scope → List ℕ → Option Form

@@ -4,6 +4,7 @@ use Rattle.std.specs.Option.{option_map}
 use Rattle.fast_fault.specs.declared.code.Code.TheVariants.{UnknownField, WrongSort, NotLinear, BadModulus, NumberRange, TooMany}
 use Rattle.fast_fault.specs.declared.place.Pos.{Pos}
 use Rattle.fast_fault.specs.declared.refusal.Refusal.{Refusal}
+use Rattle.model_tree.specs.Limits.{longest_text}
 use Rattle.model_tree.specs.Signature.{Sort, wholes, truths}
 use Rattle.model_program.specs.Syntax.{FieldItem}
 use Rattle.model_grammar.specs.declared.Chain.TheVariants.{Disjunction, Conjunction, Sum, Product}
@@ -45,7 +46,7 @@ module _ (scope : Scope) where
     pub label_failures : Expr → List Refusal
     label_failures (field place name) = unknown_field scope name place
     label_failures (number place n) = fails_if (not (is_label_number n)) NumberRange place
-    label_failures (text place t) = fails_if (not (nat_le (length (encode_utf8_all t)) 4096)) TooMany place
+    label_failures (text place t) = fails_if (not (nat_le (length (encode_utf8_all t)) longest_text)) TooMany place
     label_failures (truth place b) = []
     label_failures (negation place e) = label_failures e ++ needs_sort scope truths e
     label_failures (compare place rel a b) = label_failures a ++ (label_failures b ++ compared scope rel a b)

@@ -3,6 +3,7 @@
 use Rattle.std.specs.Prelude.{Bool, true, false, List, [], ◌∷◌, ◌++◌, Option, Some, None, map, is_some, slice_get}
 use Rattle.std.specs.List.{flat_map}
 use Rattle.std.specs.Option.{option_map_or, option_and_then}
+use Rattle.model_tree.specs.Limits.{most_items}
 use Rattle.fast_fault.specs.declared.code.Code.TheVariants.{DuplicateType, DuplicateName, WrongKind, WrongType, TooMany}
 use Rattle.fast_fault.specs.declared.refusal.Refusal.{Refusal}
 use Rattle.model_program.specs.Syntax.{Name}
@@ -84,7 +85,7 @@ module _ (items before : List Item) where
 
 -- there is a 10,001st item
 abbrev pub item_limit : List Item → List Refusal
-item_limit items = option_map_or (λ item. failure TooMany item.place) (slice_get items 10000) []
+item_limit items = option_map_or (λ item. failure TooMany item.place) (slice_get items most_items) []
 
 -- of the items behind those before
 abbrev pub failures_behind : List Item → List Item → List Item → List Refusal

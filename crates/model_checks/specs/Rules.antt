@@ -4,6 +4,7 @@ use Rattle.std.specs.List.{flat_map}
 use Rattle.std.specs.Option.{option_map, option_map_or}
 use Rattle.fast_fault.specs.declared.code.Code.TheVariants.{UnknownName, WrongKind, WrongType, WrongRank, DuplicateVariable, TooMany}
 use Rattle.fast_fault.specs.declared.refusal.Refusal.{Refusal}
+use Rattle.model_tree.specs.Limits.{most_rules}
 use Rattle.model_tree.specs.Signature.{truths}
 use Rattle.model_program.specs.Syntax.{Name, FieldItem, CtorItem, TypeItem, Demand}
 use Rattle.model_grammar.specs.Syntax.{Expr, Rule, OutRule, Out, child, call, node, Outs, no_out, and_out, LangItem, TransItem, Body, sorts, tree, lang, trans, def, assertion, Item}
@@ -71,7 +72,7 @@ count_outs (and_out out outs) = suc (count_outs outs)
 
 -- there is a 4,097th rule
 abbrev pub rule_limit : List Rule → List Refusal
-rule_limit rules = option_map_or (λ r. failure TooMany r.ctor.place) (slice_get rules 4096) []
+rule_limit rules = option_map_or (λ r. failure TooMany r.ctor.place) (slice_get rules most_rules) []
 
 module _ (items : List Item) where
   -- a type that is declared, by its name

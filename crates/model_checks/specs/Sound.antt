@@ -1,6 +1,7 @@
 -- What is so of each well-formed program.
 use Rattle.std.specs.Prelude.{◌≡◌, ℕ, ◌≤◌, ◌&&◌, Bool, true, List, [], ◌∷◌, ◌++◌, Option, Some, Contains, length, map, is_some, not}
 use Rattle.std.specs.List.{list_any, list_all}
+use Rattle.model_tree.specs.Limits.{most_items, most_rules, most_fields}
 use Rattle.model_tree.specs.Signature.{Sort, truths}
 use Rattle.model_program.specs.Syntax.{Name, FieldItem, CtorItem, TypeItem, Demand}
 use Rattle.model_grammar.specs.Syntax.{Expr, Rule, OutRule, LangItem, TransItem, sorts, lang, trans, Item}
@@ -30,7 +31,7 @@ pub record IsSoundType (t : TypeItem) : Type 0 where
   pub leaf : list_any (λ c. is_rank 0 c.rank) t.ctors ≡ true
   pub fields : are_distinct (names_of_fields t.fields) ≡ true
   pub sorts : list_all (λ f. is_some (sort_named f.sort.text)) t.fields ≡ true
-  pub few_fields : length t.fields ≤ 8
+  pub few_fields : length t.fields ≤ most_fields
   pub ctors : are_distinct (names_of_ctors t.ctors) ≡ true
   pub ranks : list_all (λ c. is_rank_in_range c.rank) t.ctors ≡ true
 
@@ -65,7 +66,7 @@ pub record IsSoundLang (items : List Item) (l : LangItem) : Type 0 where
   pub type : TypeItem
   pub found : find_type items l.of.text ≡ Some type
   pub named : type.name.text ≡ l.of.text
-  pub few : length l.rules ≤ 4096
+  pub few : length l.rules ≤ most_rules
   pub rules : (r : Rule) → Contains l.rules r → IsSoundRule items type r
 
 -- A transformation is between two declared types.
@@ -76,7 +77,7 @@ pub record IsSoundTrans (items : List Item) (t : TransItem) : Type 0 where
   pub into : TypeItem
   pub found_into : find_type items t.into.text ≡ Some into
   pub named_into : into.name.text ≡ t.into.text
-  pub few : length t.rules ≤ 4096
+  pub few : length t.rules ≤ most_rules
   pub rules : (r : OutRule) → Contains t.rules r → IsSoundRule items from r.rule
   pub outs : (r : OutRule) → Contains t.rules r → is_empty (out_failures items t.from t.into r.rule.vars r.out) ≡ true
 
@@ -95,7 +96,7 @@ pub record IsSound (items : List Item) : Type 0 where
   -- each is the one that is found by its name
   pub found_type : (item : Item) (t : TypeItem) → StandsIn items item → item.body ≡ sorts t → find_type items t.name.text ≡ Some t
   pub found_item : (item : Item) (name : Name) → StandsIn items item → own_name item.body ≡ Some name → find_item items name.text ≡ Some item
-  pub few : length items ≤ 10000
+  pub few : length items ≤ most_items
 
 -- a well-formed program is sound
 abbrev pub AreSound : Type 0

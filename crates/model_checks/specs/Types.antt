@@ -2,6 +2,7 @@
 use Rattle.std.specs.Prelude.{ℕ, ℤ, pos, negsuc, Bool, false, ◌==◌, List, [], ◌∷◌, ◌++◌, map, is_some, nat_le, slice_get, not}
 use Rattle.std.specs.List.{list_any, flat_map}
 use Rattle.std.specs.Option.{option_map_or}
+use Rattle.model_tree.specs.Limits.{most_fields, most_children}
 use Rattle.fast_fault.specs.declared.code.Code.{Code}
 use Rattle.fast_fault.specs.declared.code.Code.TheVariants.{NoLeaf, DuplicateName, UnknownName, TooMany}
 use Rattle.fast_fault.specs.declared.refusal.Refusal.{Refusal}
@@ -29,7 +30,7 @@ is_rank count (negsuc n) = false
 
 -- from 0 to 8
 abbrev pub is_rank_in_range : ℤ → Bool
-is_rank_in_range (pos n) = nat_le n 8
+is_rank_in_range (pos n) = nat_le n most_children
 is_rank_in_range (negsuc n) = false
 
 -- the sort of a field is unknown
@@ -42,7 +43,7 @@ ctor_failures c = fails_if (not (is_rank_in_range c.rank)) TooMany c.name.place
 
 -- there is a ninth field
 abbrev pub field_limit : List FieldItem → List Refusal
-field_limit fields = option_map_or (λ f. failure TooMany f.name.place) (slice_get fields 8) []
+field_limit fields = option_map_or (λ f. failure TooMany f.name.place) (slice_get fields most_fields) []
 
 -- A type has a constructor of rank 0, different fields of known sorts, and different constructors.
 abbrev pub type_failures : TypeItem → List Refusal

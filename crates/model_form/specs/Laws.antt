@@ -1,6 +1,7 @@
 -- What the definitions have in common.
 use Rattle.std.specs.Prelude.{◌≡◌, ℕ, ℤ, ◌*ℤ◌, List, true}
 use Rattle.std.specs.Cmp.{IsEquivalence}
+use Rattle.model_tree.specs.Limits.{most_fields}
 use Rattle.model_form.specs.Form.{Form, form, Term, Remainders, remainder, value, modulo}
 use Rattle.model_form.specs.Same.{same_form}
 use Rattle.model_form.specs.Sums.{Part, sum_form, product_form, remainder_form, subst_form}
@@ -39,4 +40,4 @@ ValueAfterPutting = (f : Form) (gs : List Form) (values : List ℤ) → AreForms
 
 -- a form made simpler has the form's value
 abbrev pub ValueOfSimpler : Type 0
-ValueOfSimpler = (f : Form) (values : List ℤ) → IsOver 8 f → IsDivided f → value (simpler_form f) values ≡ value f values
+ValueOfSimpler = (f : Form) (values : List ℤ) → IsOver most_fields f → IsDivided f → value (simpler_form f) values ≡ value f values

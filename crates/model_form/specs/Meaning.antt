@@ -1,12 +1,13 @@
 -- What the laws on values take: the value of a list of parts, and forms over at most eight fields.
 use Rattle.std.specs.Prelude.{ℤ, pos, ◌+ℤ◌, ◌*ℤ◌, ◌<◌, List, [], ◌∷◌, map}
+use Rattle.model_tree.specs.Limits.{most_fields}
 use Rattle.model_form.specs.Form.{Form, Term, fields_of, value}
 use Rattle.model_form.specs.Sums.{Part, sign}
 
 -- the fields are numbered from 0 to 7
 abbrev pub AreLow : List Term → Type 0
 AreLow [] = Unit {0}
-AreLow (t ∷ ts) = (t.field < 8) × AreLow ts
+AreLow (t ∷ ts) = (t.field < most_fields) × AreLow ts
 
 abbrev pub parts_value : List Part → List ℤ → ℤ
 parts_value [] values = pos 0

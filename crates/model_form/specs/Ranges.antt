@@ -1,5 +1,6 @@
 -- The range of coefficients, and what is so of each form that a program has.
 use Rattle.std.specs.Prelude.{◌≡◌, ◌≢◌, ℕ, suc, ℤ, pos, ◌<◌, ◌≤◌, ◌^◌, ◌⊎◌, unsigned_abs, false, List, [], ◌∷◌}
+use Rattle.model_tree.specs.Limits.{most_fields, greatest_divisor}
 use Rattle.model_tree.specs.Range.{IsLabelNumber}
 use Rattle.model_form.specs.Form.{Form, form, Remainders, no_remainders, remainder, Term}
 use Rattle.model_form.specs.Sums.{is_like, subst_form}
@@ -36,7 +37,7 @@ abbrev mutual
 -- fields by number, from this one on to 7, each once, with coefficients in range that are not 0
 abbrev pub AreFields : ℕ → List Term → Type 0
 AreFields from [] = Unit {0}
-AreFields from (t ∷ ts) = (from ≤ t.field) × (t.field < 8) × (t.coefficient ≢ pos 0) × IsCoefficient t.coefficient × AreFields (suc t.field) ts
+AreFields from (t ∷ ts) = (from ≤ t.field) × (t.field < most_fields) × (t.coefficient ≢ pos 0) × IsCoefficient t.coefficient × AreFields (suc t.field) ts
 
 -- no later term is like this one
 abbrev pub IsApart : Form → ℕ → Remainders → Type 0
@@ -50,7 +51,7 @@ AreApart (remainder a f k rs) = IsApart f k rs × AreApart rs
 -- coefficients in range that are not 0, and divisors from 1 to 4096
 abbrev pub AreRemainders : Remainders → Type 0
 AreRemainders no_remainders = Unit {0}
-AreRemainders (remainder a f k rs) = (a ≢ pos 0) × IsCoefficient a × (0 < k) × (k ≤ 4096) × AreRemainders rs
+AreRemainders (remainder a f k rs) = (a ≢ pos 0) × IsCoefficient a × (0 < k) × (k ≤ greatest_divisor) × AreRemainders rs
 
 -- the constant is in range, like terms are merged, and no coefficient is 0
 abbrev pub IsForm : Form → Type 0

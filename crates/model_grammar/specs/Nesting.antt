@@ -1,5 +1,6 @@
 -- How deep parentheses are nested, counted on tokens alone.
 use Rattle.std.specs.Prelude.{ℕ, ◌+◌, Bool, false, nat_lt, if◌then◌else◌, List, [], ◌∷◌, Option, Some, None}
+use Rattle.model_tree.specs.Limits.{most_open, most_open_in_labels}
 use Rattle.fast_fault.specs.declared.place.Pos.{Pos}
 use Rattle.model_program.specs.declared.Word.{Word}
 use Rattle.model_program.specs.declared.Word.TheVariants.{TypeWord, Tree, Lang, Trans, Def, Where, To, AssertTrue, AssertFalse, RoundOpen, RoundClose, SquareOpen, SquareClose}
@@ -50,13 +51,13 @@ abbrev pub level : List Mark → ℕ
 level (round ∷ marks) = 1 + level marks
 level _ = 0
 
--- 64 since `[`, `where` or `to`, and 2,000 since an item's or the text's start
+-- that of labels since `[`, `where` or `to`, and that of expressions since an item's or the text's start
 abbrev pub limit : List Mark → ℕ
-limit [] = 2000
+limit [] = most_open
 limit (round ∷ marks) = limit marks
-limit (square ∷ marks) = 64
-limit (part ∷ marks) = 64
-limit (item ∷ marks) = 2000
+limit (square ∷ marks) = most_open_in_labels
+limit (part ∷ marks) = most_open_in_labels
+limit (item ∷ marks) = most_open
 
 abbrev pub passes : Word → List Mark → Bool
 passes RoundOpen marks = nat_lt (limit marks) (level (round ∷ marks))

@@ -6,6 +6,7 @@ use Rattle.std.proofs.Math.ListN.{set}
 use Rattle.std.specs.Ordering.{int_eq}
 use Rattle.std.proofs.lemmas.Bool.Decides.{nat_tests}
 use Rattle.std.proofs.lemmas.List.{get_or-set_other}
+use Rattle.model_tree.specs.Limits.{most_fields}
 use Rattle.model_form.specs.Form.{Form, form, Remainders, no_remainders, remainder, Term, fields_of}
 use Rattle.model_form.specs.Over.{AreBelow, IsOver, AreOver}
 use Rattle.model_form.specs.Sums.{Sum, Part, started, number_form, add_fields, add_like, add_remainders, add_form, add_parts, fields_from, without_zeros, sign, is_like, sum_form, product_form, scaled_fields, scaled_remainders, remainder_form, subst_form, put_fields, put_remainders}
@@ -20,11 +21,11 @@ abbrev pub AreFormsOver : ℕ → List Form → Type 0
 AreFormsOver n [] = Unit {0}
 AreFormsOver n (g ∷ gs) = IsOver n g × AreFormsOver n gs
 
-pub below_low : (n : ℕ) → n ≤ 8 → (ts : List Term) → AreBelow n ts → AreLow ts
+pub below_low : (n : ℕ) → n ≤ most_fields → (ts : List Term) → AreBelow n ts → AreLow ts
 below_low n few [] h = tt
 below_low n few (t ∷ ts) h = (omega (arith, few, h.0), below_low n few ts h.1)
 
-pub over_low : (n : ℕ) → n ≤ 8 → (f : Form) → IsOver n f → AreLow (fields_of f)
+pub over_low : (n : ℕ) → n ≤ most_fields → (f : Form) → IsOver n f → AreLow (fields_of f)
 over_low n few (form c ts rs) h = below_low n few ts h.0
 
 module _ (n : ℕ) where

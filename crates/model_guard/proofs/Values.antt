@@ -3,6 +3,7 @@ use Rattle.std.proofs.Common.{◌≡◌, ℕ, suc, ◌<◌, ◌≤◌, ◌&&◌,
 use Rattle.std.proofs.Math.IntN.{ℤ, pos, negsuc, ◌+ℤ◌, ◌*ℤ◌, neg_ℤ}
 use Rattle.std.specs.Int.{int_rem_euclid}
 use Rattle.std.proofs.lemmas.Int.{ints}
+use Rattle.model_tree.specs.Limits.{most_fields}
 use Rattle.model_tree.specs.Label.{Field, whole, truth, text}
 use Rattle.model_tree.specs.Signature.{Sort, wholes, truths, PlainField, sort_of}
 use Rattle.model_grammar.specs.declared.Chain.TheVariants.{Disjunction, Conjunction, Sum, Product}
@@ -104,7 +105,7 @@ module _ (fields : List PlainField) (n : ℕ) (low : (name : List ℕ) → has_f
 
 -- ---- values
 
-parts_low : (n : ℕ) → n ≤ 8 → (ps : List Part) → ArePartsOver n ps → ArePartsLow ps
+parts_low : (n : ℕ) → n ≤ most_fields → (ps : List Part) → ArePartsOver n ps → ArePartsLow ps
 parts_low n few [] o = tt
 parts_low n few (p ∷ ps) o = (over_low n few p.added o.0, parts_low n few ps o.1)
 
@@ -139,7 +140,7 @@ divisor_value (compare place rel a b) fields values h = cc
 divisor_value (minus place e) fields values h = cc
 divisor_value (chain kind place parts) fields values h = cc
 
-module _ (fields : List PlainField) (values : List Field) (few : length fields ≤ 8) (sorts : map sort_of values ≡ map (λ f. f.sort) fields) where
+module _ (fields : List PlainField) (values : List Field) (few : length fields ≤ most_fields) (sorts : map sort_of values ≡ map (λ f. f.sort) fields) where
   abbrev at : Form → ℤ
   at f = value f (wholes_in values)
 

@@ -1,5 +1,6 @@
 -- The linear form of a whole number, and which expressions are whole numbers. Whole numbers are numbered from 0 in the order of the type.
 use Rattle.std.specs.Prelude.{ℕ, ℤ, pos, negsuc, ◌&&◌, ◌||◌, Bool, true, false, cond, List, [], ◌∷◌, ◌++◌, Contains, nat_lt, nat_le}
+use Rattle.model_tree.specs.Limits.{greatest_divisor}
 use Rattle.model_tree.specs.Label.{Field, whole}
 use Rattle.model_tree.specs.Label as label
 use Rattle.model_tree.specs.Signature.{wholes, PlainField}
@@ -30,7 +31,7 @@ times f g = cond (is_constant g) (product_form (constant_of g) f) (product_form 
 -- a written number from 1 to 4096
 abbrev pub is_divisor : Expr → Bool
 is_divisor (field place name) = false
-is_divisor (number place (pos n)) = nat_lt 0 n && nat_le n 4096
+is_divisor (number place (pos n)) = nat_lt 0 n && nat_le n greatest_divisor
 is_divisor (number place (negsuc n)) = false
 is_divisor (text place t) = false
 is_divisor (truth place b) = false

@@ -6,6 +6,7 @@
 #![tactic(auto)]
 
 ghost use Rattle.std.specs.Prelude.{◌≡◌, ◌≤◌, ◌<◌, ℕ, true, List, map, length};
+ghost use Rattle.model_tree.specs.Limits.{most_fields};
 ghost use Rattle.model_tree.specs.Label.{Field};
 ghost use Rattle.model_tree.specs.Signature.{PlainField, sort_of, wholes, truths};
 ghost use Rattle.model_grammar.specs.Syntax.{Expr};
@@ -16,7 +17,7 @@ ghost use Rattle.model_guard.specs.Guards.{is_guard};
 
 /// The form of a whole number has its value, where each field has a value of its sort.
 pub fn forms_have_values()
-    ensures value { (fields : List PlainField) (values : List Field) (e : Expr) → length fields ≤ 8 → map sort_of values ≡ map (λ f. f.sort) fields → is_whole fields e ≡ true → value (form_of fields e) (wholes_in values) ≡ as_whole (value_of fields values e) }
+    ensures value { (fields : List PlainField) (values : List Field) (e : Expr) → length fields ≤ most_fields → map sort_of values ≡ map (λ f. f.sort) fields → is_whole fields e ≡ true → value (form_of fields e) (wholes_in values) ≡ as_whole (value_of fields values e) }
     ensures sort { (fields : List PlainField) (values : List Field) (e : Expr) → map sort_of values ≡ map (λ f. f.sort) fields → is_whole fields e ≡ true → sort_of (value_of fields values e) ≡ wholes }
     ensures guard { (fields : List PlainField) (values : List Field) (e : Expr) → map sort_of values ≡ map (λ f. f.sort) fields → is_guard fields e ≡ true → sort_of (value_of fields values e) ≡ truths }
 {}

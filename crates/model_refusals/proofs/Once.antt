@@ -6,6 +6,7 @@ use Rattle.std.specs.Str.{chars, IsUtf8, all_scalars}
 use Rattle.std.proofs.Math.Utf8.{scalar}
 use Rattle.std.proofs.lemmas.Str.{encode_same, length-encode, len_utf8_bounds}
 use Rattle.std.proofs.lemmas.List.{length-append, append_cancel_left}
+use Rattle.model_tree.specs.Limits.{most_bytes}
 use Rattle.fast_fault.specs.declared.place.Pos.{Pos}
 use Rattle.fast_fault.specs.declared.code.Code.{Code}
 use Rattle.fast_fault.specs.declared.code.Code.TheVariants as code
@@ -91,7 +92,7 @@ same_wrong {A} form bytes a b p q end are_a are_b at_p at_q =
 abbrev IsOnly : Code → Pos → Code → Pos → Type 0
 IsOnly c p d q = (d ≡ c) × (q ≡ p)
 
-only_long : {A : Type 0} (form : A → List Lexeme → Type 0) (bytes : List ℕ) (d : Code) (q : Pos) → 1048576 < length bytes → IsRefusal form bytes d q → IsOnly code.TooLong start d q
+only_long : {A : Type 0} (form : A → List Lexeme → Type 0) (bytes : List ℕ) (d : Code) (q : Pos) → most_bytes < length bytes → IsRefusal form bytes d q → IsOnly code.TooLong start d q
 only_long form bytes code.TooLong q long other = (refl, other.1)
 only_long form bytes code.NotUtf8 q long other = let s = other.0 in absurd (omega arith)
 only_long form bytes code.Token q long other = let s = other.0 in absurd (omega arith)
@@ -99,7 +100,7 @@ only_long form bytes code.Nested q long other = let s = other.1.short in absurd 
 only_long form bytes code.Syntax q long other = let s = other.1.tokens_of.short in absurd (omega arith)
 only_long form bytes d q long other = absurd other
 
-only_bad : {A : Type 0} (form : A → List Lexeme → Type 0) (bytes : List ℕ) (p : Pos) (d : Code) (q : Pos) → length bytes ≤ 1048576 → IsBadUtf8At bytes p → IsRefusal form bytes d q → IsOnly code.NotUtf8 p d q
+only_bad : {A : Type 0} (form : A → List Lexeme → Type 0) (bytes : List ℕ) (p : Pos) (d : Code) (q : Pos) → length bytes ≤ most_bytes → IsBadUtf8At bytes p → IsRefusal form bytes d q → IsOnly code.NotUtf8 p d q
 only_bad form bytes p code.TooLong q short bad other = let l = other.0 in absurd (omega arith)
 only_bad form bytes p code.NotUtf8 q short bad other = (refl, same_bad bytes q p other.1 bad)
 only_bad form bytes p code.Token q short bad other = absurd (bad_or_whole bytes p bad other.1)
@@ -107,7 +108,7 @@ only_bad form bytes p code.Nested q short bad other = absurd (bad_or_whole bytes
 only_bad form bytes p code.Syntax q short bad other = absurd (bad_or_whole bytes p bad other.1.tokens_of.encoded)
 only_bad form bytes p d q short bad other = absurd other
 
-only_stop : {A : Type 0} (form : A → List Lexeme → Type 0) (bytes : List ℕ) (p : Pos) (d : Code) (q : Pos) → length bytes ≤ 1048576 → IsUtf8 bytes → StopsAt (chars bytes) p → IsRefusal form bytes d q → IsOnly code.Token p d q
+only_stop : {A : Type 0} (form : A → List Lexeme → Type 0) (bytes : List ℕ) (p : Pos) (d : Code) (q : Pos) → length bytes ≤ most_bytes → IsUtf8 bytes → StopsAt (chars bytes) p → IsRefusal form bytes d q → IsOnly code.Token p d q
 only_stop form bytes p code.TooLong q short whole stops other = let l = other.0 in absurd (omega arith)
 only_stop form bytes p code.NotUtf8 q short whole stops other = absurd (bad_or_whole bytes q other.1 whole)
 only_stop form bytes p code.Token q short whole stops other = (refl, same_stop (chars bytes) q p other.2 stops)

@@ -2,6 +2,7 @@
 -- these are no tokens, a parenthesis is nested too deep, or the tokens are none of the form.
 use Rattle.std.specs.Prelude.{◌≡◌, ℕ, ◌≤◌, ◌<◌, List, length, Some, None}
 use Rattle.std.specs.Str.{chars, IsUtf8}
+use Rattle.model_tree.specs.Limits.{most_bytes}
 use Rattle.fast_fault.specs.declared.place.Pos.{Pos}
 use Rattle.fast_fault.specs.declared.code.Code.{Code}
 use Rattle.fast_fault.specs.declared.code.Code.TheVariants.{TooLong, NotUtf8, Token, Nested, Syntax}
@@ -17,7 +18,7 @@ start = record { line = 1; column = 1 }
 
 -- The bytes aren't too many, they are characters, and these are the tokens.
 pub record AreTokensOf (bytes : List ℕ) (tokens : List Lexeme) : Type 0 where
-  pub short : length bytes ≤ 1048576
+  pub short : length bytes ≤ most_bytes
   pub encoded : IsUtf8 bytes
   pub are : AreTokens (chars bytes) tokens
 
@@ -28,9 +29,9 @@ pub record AreShallowTokens (bytes : List ℕ) (tokens : List Lexeme) : Type 0 w
 
 -- the refusals that don't ask what the tokens spell
 abbrev pub IsEarlyRefusal : List ℕ → Code → Pos → Type 0
-IsEarlyRefusal bytes TooLong place = (1048576 < length bytes) × (place ≡ start)
-IsEarlyRefusal bytes NotUtf8 place = (length bytes ≤ 1048576) × IsBadUtf8At bytes place
-IsEarlyRefusal bytes Token place = (length bytes ≤ 1048576) × IsUtf8 bytes × StopsAt (chars bytes) place
+IsEarlyRefusal bytes TooLong place = (most_bytes < length bytes) × (place ≡ start)
+IsEarlyRefusal bytes NotUtf8 place = (length bytes ≤ most_bytes) × IsBadUtf8At bytes place
+IsEarlyRefusal bytes Token place = (length bytes ≤ most_bytes) × IsUtf8 bytes × StopsAt (chars bytes) place
 IsEarlyRefusal bytes Nested place = (tokens : List Lexeme) × AreTokensOf bytes tokens × (nested_at tokens ≡ Some place)
 IsEarlyRefusal bytes code place = ⊥
 

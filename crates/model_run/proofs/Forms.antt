@@ -1,6 +1,7 @@
 -- The words have one form at most.
 use Rattle.std.proofs.Common.{◌≡◌, ℕ, ◌≤◌, List, [], Option, Some, None, get_or, length, decimal, sym, ap, ◌∙◌, arith}
 use Rattle.std.proofs.lemmas.Fmt.{decimal_injective}
+use Rattle.model_tree.specs.Limits.{most_classes}
 use Rattle.model_run.specs.Words.{CommandForm, check_form, run_form, apply_form, accepts_form, self_form, AreWordsOf}
 
 -- the word with this number
@@ -26,7 +27,7 @@ has_letter words (apply_form file name trees) (n, m, k, e) = ap letter e
 has_letter words (accepts_form file name trees) (n, m, k, e) = ap letter e
 has_letter words (self_form k) (low, high, e) = ap letter e
 
-one_number : (m n : ℕ) → m ≤ 2000 → n ≤ 2000 → decimal m ≡ decimal n → m ≡ n
+one_number : (m n : ℕ) → m ≤ most_classes → n ≤ most_classes → decimal m ≡ decimal n → m ≡ n
 one_number m n low high e = decimal_injective m n (omega arith) (omega arith) e
 
 -- two forms of one kind with the same words are the same

@@ -2,6 +2,7 @@
 use Rattle.std.specs.Prelude.{◌≡◌, ◌⊎◌, ◌<◌, ℕ, ℤ, false, List, Some}
 use Rattle.std.specs.List.{All, Contains}
 use Rattle.std.specs.declared.cmp.Ordering.TheVariants.{Less}
+use Rattle.model_tree.specs.Limits.{most_nodes, greatest_depth}
 use Rattle.model_tree.specs.Tree.{LabelTree, node_count, depth}
 use Rattle.model_tree.specs.Signature.{PlainSignature}
 use Rattle.model_grammar.specs.Syntax.{X, OutRule, Body, Item}
@@ -68,10 +69,10 @@ pub record IsTooWide (items : List Item) (es : List X) (width : ℕ) : Type 0 wh
 pub record AreAllLarge (Right : LabelTree → Type 0) : Type 0 where
   pub tree : LabelTree
   pub right : Right tree
-  pub large : (t : LabelTree) → Right t → 1048576 < node_count t
+  pub large : (t : LabelTree) → Right t → most_nodes < node_count t
 
 abbrev pub IsLarge : LabelTree → Type 0
-IsLarge t = (1048576 < node_count t) ⊎ (2000 < depth t)
+IsLarge t = (most_nodes < node_count t) ⊎ (greatest_depth < depth t)
 
 -- At a tree that is given to a transformation: an output has a number without 64 bits; one of the relations of which the
 -- transformation is made has too much at a part of the tree.

@@ -7,6 +7,7 @@ use Rattle.fast_fault.specs.declared.code.Code.{Code}
 use Rattle.fast_fault.specs.declared.status.Status.{Status}
 use Rattle.fast_fault.specs.declared.status.Status.TheVariants.{Hold, Fails, Words, TextRefused, RunRefused, TextFault, SinkFault, Memory}
 use Rattle.fast_fault.specs.Written.{Appends}
+use Rattle.model_tree.specs.Limits.{most_nodes, most_outputs}
 use Rattle.model_tree.specs.Tree.{LabelTree, node_count}
 use Rattle.model_program.specs.Syntax.{Name}
 use Rattle.model_grammar.specs.Syntax.{X, named, Item}
@@ -82,8 +83,8 @@ pub record AreOutputs (items : List Item) (x : X) (t : LabelTree) (us : List Lab
   pub all : (u : LabelTree) → IsRelated items x t u → Contains us u
   pub in_order : EachTwo (λ u w. label_tree_cmp u w ≡ Less) us
   pub printable : All IsPrintable us
-  pub few : length us ≤ 4096
-  pub small : sum_by node_count us ≤ 1048576
+  pub few : length us ≤ most_outputs
+  pub small : sum_by node_count us ≤ most_nodes
 
 -- the lines of a tree: its outputs, or whether it is in the language
 abbrev pub AreLinesOf : List Item → X → Kind → ℕ → LabelTree → List ℕ → Type 0

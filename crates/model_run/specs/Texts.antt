@@ -5,6 +5,7 @@ use Rattle.fast_fault.specs.declared.place.Pos.{Pos}
 use Rattle.fast_fault.specs.declared.code.Code.{Code}
 use Rattle.fast_fault.specs.declared.code.Code.TheVariants.{UnknownName, WrongKind, WrongRank, WrongSort, NumberRange, TooMany}
 use Rattle.fast_fault.specs.declared.refusal.Refusal.{Refusal}
+use Rattle.model_tree.specs.Limits.{longest_text}
 use Rattle.model_tree.specs.Label.{Label, whole, row}
 use Rattle.model_tree.specs.Tree.{node, Trees, no_trees, tree, LabelTree}
 use Rattle.model_tree.specs.Kept.{is_kept_field}
@@ -71,7 +72,7 @@ range_failures (number place n) = fails_if (not (is_kept_field (whole n))) Numbe
 range_failures e = []
 
 abbrev pub length_failures : Expr → List Refusal
-length_failures (text place t) = fails_if (nat_lt 4096 (length (encode_utf8_all t))) TooMany place
+length_failures (text place t) = fails_if (nat_lt longest_text (length (encode_utf8_all t))) TooMany place
 length_failures e = []
 
 -- of the labels of a tree

@@ -9,3 +9,4 @@ pub mod Signature
 pub mod Printed
 pub mod Kept
 pub mod Scalars
+pub mod Limits

@@ -2,6 +2,7 @@
 
 ghost use Rattle.std.specs.Prelude.{◌≡◌, ◌<◌, ◌≤◌, ◌+◌, ◌++◌, ◌&&◌, not, List, [], OnOk, IfOk, Some, None, map, length, is_some};
 ghost use Rattle.std.specs.Option.{option_map, option_and_then, option_map_or};
+ghost use Rattle.model_tree.specs.Limits.{most_around};
 ghost use Rattle.fast_fault.specs.declared.code.Code.TheVariants as code;
 ghost use Rattle.model_grammar.specs.Syntax as plain;
 ghost use Rattle.model_names.specs.Declared.{find_item};
@@ -149,8 +150,8 @@ fn expected_as<'p>(kind: Kind, item: &Option<DeclaredType<'p>>) -> Option<Declar
 
 /// One operation more around; where there are too many already, it doesn't matter how many.
 fn deeper(around: usize) -> usize
-    ensures few { around < 64 → result ≡ around + 1 }
-    ensures many { 64 ≤ around → result ≡ around }
+    ensures few { around < most_around → result ≡ around + 1 }
+    ensures many { most_around ≤ around → result ≡ around }
 {
     if around < MOST_AROUND {
         around + 1

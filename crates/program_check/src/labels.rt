@@ -8,6 +8,7 @@ ghost use Rattle.fast_tree.specs.Signatures.{plain_sort};
 ghost use Rattle.fast_syntax.specs.View.{plain_field};
 ghost use Rattle.fast_syntax.specs.Plain.{plain_expr};
 ghost use Rattle.fast_syntax.specs.Slices.{plain_operands, plain_sum_parts, plain_prod_parts};
+ghost use Rattle.model_tree.specs.Limits.{longest_text, greatest_divisor};
 ghost use Rattle.model_tree.specs.Signature.{wholes, truths};
 ghost use Rattle.model_form.specs.Sums.{sum_form, product_form};
 ghost use Rattle.model_label.specs.Fields.{same_sort, number_at};
@@ -24,14 +25,14 @@ ghost use Rattle.program_check.specs.Notes.{Notes};
 ghost use Rattle.program_check.specs.Known.{plain_scope, IsKnown, form_made, is_range, IsMade, AreTruths, plain_added, joined, sort_failures, sides_failures, next_failures, next_form, step_failures, step_form};
 
 use crate::checker::Checker;
-use crate::limits::{GREATEST_DIVISOR, LONGEST_TEXT, MOST_FIELDS, MOST_PARTS};
+use crate::limits::{LONGEST_TEXT, MOST_FIELDS};
 use crate::signatures::own_sort;
 use crate::types::sort_named;
 use fast_fault::{Code, Memory, Pos, Text};
 use fast_syntax::FieldItem;
 use fast_syntax::expressions::{Expr, Node, ProdPart, SumPart};
 use fast_tree::Sort;
-use lin_form::{Form, FormStop, Signed};
+use lin_form::{Form, FormStop, GREATEST_DIVISOR, MOST_PARTS, Signed};
 use model_grammar::Rel;
 use std::alloc::Global;
 
@@ -224,7 +225,7 @@ fn with_part(
 /// The number, where it is from 1 to 4,096.
 fn divisor_in(number: i128) -> Option<u32>
     ensures is { result ≡ divisor_in number }
-    ensures within { IfSome result (λ k. (0 < k) × (k ≤ 4096)) }
+    ensures within { IfSome result (λ k. (0 < k) × (k ≤ greatest_divisor)) }
 {
     if 1 <= number && number <= GREATEST_DIVISOR {
         Some(number as u32)
@@ -236,7 +237,7 @@ fn divisor_in(number: i128) -> Option<u32>
 /// A written number from 1 to 4,096.
 fn divisor_of(e: &Expr) -> Option<u32>
     ensures is { result ≡ divisor_of (plain_expr e.now) }
-    ensures within { IfSome result (λ k. (0 < k) × (k ≤ 4096)) }
+    ensures within { IfSome result (λ k. (0 < k) × (k ≤ greatest_divisor)) }
 {
     match &e.node {
         Node::Num(number) => divisor_in(*number),
@@ -250,7 +251,7 @@ fn remainder(
     form: Option<Form>,
     divisor: Option<u32>,
 ) -> Result<Option<Form>, Memory>
-    requires { IfSome divisor (λ k. (0 < k) × (k ≤ 4096)) }
+    requires { IfSome divisor (λ k. (0 < k) × (k ≤ greatest_divisor)) }
     ensures { IfOk result (λ made. made ≡ remainder_of form divisor) }
 {
     let (Some(form), Some(divisor)) = (form, divisor) else {
@@ -317,7 +318,7 @@ impl Checker<'_> {
     }
 
     fn check_text(&mut self, text: &Text, place: Pos) -> Known
-        ensures noted { Notes self.old self.new (fails_if (not (nat_le (length (encode_utf8_all text.now)) 4096)) code.TooMany place) }
+        ensures noted { Notes self.old self.new (fails_if (not (nat_le (length (encode_utf8_all text.now)) longest_text)) code.TooMany place) }
         ensures known { result ≡ record { sort = Some Sort.Text; has_field = false; form = None } }
     {
         self.note_if(text.as_str().len() > LONGEST_TEXT, Code::TooMany, place);

@@ -17,9 +17,3 @@ pub(crate) const MOST_AROUND: usize = 64;
 
 /// Bytes of a text in a label.
 pub(crate) const LONGEST_TEXT: usize = 4_096;
-
-/// The greatest number that a remainder is taken by.
-pub(crate) const GREATEST_DIVISOR: i128 = 4_096;
-
-/// Parts of a sum; no text has so many.
-pub(crate) const MOST_PARTS: usize = 1_048_576;

@@ -11,6 +11,7 @@ use Rattle.record_label.specs.PlainMaps.{plain_entry}
 use Rattle.record_label.specs.Written.{plain_written, written_for, written_for_each}
 use Rattle.record_label.specs.declared.written.Written.{Written as Kept}
 use Rattle.flat_label.specs.declared.texts.TextSide.{TextSide}
+use Rattle.model_tree.specs.Limits.{most_fields}
 use Rattle.model_tree.specs.Label.{whole, truth}
 use Rattle.model_tree.specs.Signature.{Sort, wholes, truths, texts, PlainField}
 use Rattle.model_tree.specs.Formula.{Formula}
@@ -29,7 +30,7 @@ use Rattle.record_label.proofs.FormFacts.{outside_left, outside_right}
 use Rattle.record_label.proofs.GuardFacts.{text_value, side_fits, whole_of_sort, truth_of_sort}
 
 module _ (fields : List PlainField) where
-  pub number_entry : length fields ≤ 8 → (e : Expr) (f : Form) → is_whole fields e ≡ true → f ≡ form_of fields e → IsEntryOf fields e wholes (number_by f)
+  pub number_entry : length fields ≤ most_fields → (e : Expr) (f : Form) → is_whole fields e ≡ true → f ≡ form_of fields e → IsEntryOf fields e wholes (number_by f)
   number_entry few e f h is = subst (λ g. IsEntryOf fields e wholes (number_by g)) (sym is) (record {
     makes = λ values sorts. ap whole (form_value fields values few sorts e h) ∙ sym (whole_of_sort (value_of fields values e) (whole_sort fields values e sorts h));
     written = refl;

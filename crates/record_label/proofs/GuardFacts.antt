@@ -7,6 +7,7 @@ use Rattle.std.proofs.lemmas.Int.{ints}
 use Rattle.std.proofs.lemmas.List.Elements.{Contains-append_left, Contains-append_right}
 use Rattle.std.proofs.lemmas.List.{take_more, map-append}
 use Rattle.fast_fault.specs.declared.place.Pos.{Pos}
+use Rattle.model_tree.specs.Limits.{most_fields}
 use Rattle.model_tree.specs.Label.{Field, whole, truth, text}
 use Rattle.model_tree.specs.Signature.{PlainField, sort_of, wholes, truths, texts}
 use Rattle.model_tree.specs.Formula.{Formula, yes, no, atom, negation, all_of, some_of, Formulas, no_formulas, formula, formulas_of, EveryAtom, EveryAtomOfAll}
@@ -255,7 +256,7 @@ module _ (fields : List PlainField) where
         compared_guard p rel (agreement_of f g) other asks.0 (tests_guard guards.0 guards.1 f g (of_a guards.0) (of_b guards.1))
 
     -- a comparison of two whole numbers
-    number_guard : length fields ≤ 8 → (p : Pos) (rel : Rel) → is_numeric fields a ≡ true → is_whole fields a ≡ true → is_whole fields b ≡ true → IsGuardOf fields (syntax.compare p rel a b) (compared_by_forms rel (form_of fields a) (form_of fields b))
+    number_guard : length fields ≤ most_fields → (p : Pos) (rel : Rel) → is_numeric fields a ≡ true → is_whole fields a ≡ true → is_whole fields b ≡ true → IsGuardOf fields (syntax.compare p rel a b) (compared_by_forms rel (form_of fields a) (form_of fields b))
     number_guard few p rel numeric left right = subst (λ w. IsGuard fields (λ values. is_true fields values (syntax.compare p rel a b)) (cond w (Left (compare_of (comparison rel (form_of fields a) (form_of fields b))) ∷ []) (written_in_both fields a b)) (compared_by_forms rel (form_of fields a) (form_of fields b))) (sym numeric) (by rel)
       where
         over_a : IsOver (count_of wholes (map (λ f. f.sort) fields)) (form_of fields a)
@@ -290,10 +291,10 @@ module _ (fields : List PlainField) where
     pub others_compared : (p : Pos) (rel : Rel) → is_numeric fields a ≡ false → is_text fields a ≡ false → is_guard fields (syntax.compare p rel a b) ≡ true → (is_guard fields a ≡ true) × (is_guard fields b ≡ true)
     others_compared p rel other no_text guard = guards_only (is_guard fields a) (is_guard fields b) (is_text fields a) (is_text fields b) no_text (comparable rel other guard).1
 
-    number_comparison : length fields ≤ 8 → (p : Pos) (rel : Rel) → is_numeric fields a ≡ true → is_guard fields (syntax.compare p rel a b) ≡ true → IsGuardOf fields (syntax.compare p rel a b) (compared_by_forms rel (form_of fields a) (form_of fields b))
+    number_comparison : length fields ≤ most_fields → (p : Pos) (rel : Rel) → is_numeric fields a ≡ true → is_guard fields (syntax.compare p rel a b) ≡ true → IsGuardOf fields (syntax.compare p rel a b) (compared_by_forms rel (form_of fields a) (form_of fields b))
     number_comparison few p rel numeric guard = let both = numbers_compared p rel numeric guard in number_guard few p rel numeric both.0 both.1
 
-    compared_is : length fields ≤ 8 → (p : Pos) (rel : Rel) → is_guard fields (syntax.compare p rel a b) ≡ true → (is_guard fields a ≡ true → IsGuardOf fields a (formula_in fields a)) → (is_guard fields b ≡ true → IsGuardOf fields b (formula_in fields b))
+    compared_is : length fields ≤ most_fields → (p : Pos) (rel : Rel) → is_guard fields (syntax.compare p rel a b) ≡ true → (is_guard fields a ≡ true → IsGuardOf fields a (formula_in fields a)) → (is_guard fields b ≡ true → IsGuardOf fields b (formula_in fields b))
         → IsGuardOf fields (syntax.compare p rel a b) (formula_in fields (syntax.compare p rel a b))
     compared_is few p rel guard of_a of_b = by (is_numeric fields a) refl
       where
@@ -305,7 +306,7 @@ module _ (fields : List PlainField) where
         by true e = subst (λ w. IsGuardOf fields (syntax.compare p rel a b) (cond w (compared_by_forms rel (form_of fields a) (form_of fields b)) (compared_as rel (comparison_of fields a b) (formula_in fields a) (formula_in fields b)))) (sym e) (number_comparison few p rel e guard)
         by false e = subst (λ w. IsGuardOf fields (syntax.compare p rel a b) (cond w (compared_by_forms rel (form_of fields a) (form_of fields b)) (compared_as rel (comparison_of fields a b) (formula_in fields a) (formula_in fields b)))) (sym e) (by_text e (comparison_of fields a b) refl)
 
-  module _ (few : length fields ≤ 8) where
+  module _ (few : length fields ≤ most_fields) where
     mutual
       -- the formula of a guard is the guard
       pub guard_is : (e : syntax.Expr) → is_guard fields e ≡ true → IsGuardOf fields e (formula_in fields e)

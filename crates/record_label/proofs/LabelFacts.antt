@@ -2,6 +2,7 @@
 use Rattle.std.proofs.Common.{◌≡◌, ◌≤◌, List, map, Contains, refl, ap, sym, ◌∙◌, subst, arith}
 use Rattle.std.proofs.Math.IntN.{ℤ}
 use Rattle.std.proofs.lemmas.List.Elements.{Contains-append_left, Contains-append_right}
+use Rattle.model_tree.specs.Limits.{most_fields}
 use Rattle.model_tree.specs.Label.{Label, row, pair}
 use Rattle.model_tree.specs.Signature.{Sort, wholes, HasSorts}
 use Rattle.model_tree.specs.Formula.{Formula, yes, no, atom, negation, all_of, some_of, Formulas, no_formulas, formula, formula_holds, EveryAtom, EveryAtomOfAll}
@@ -26,7 +27,7 @@ module _ {A : Type 0} (P : A → Type 0) where
     every_of_all no_formulas h = tt
     every_of_all (formula f fs) h = (every f (λ a c. h a (Contains-append_left (atoms_in f) (atoms_in_all fs) a c)), every_of_all fs (λ a c. h a (Contains-append_right (atoms_in f) (atoms_in_all fs) a c)))
 
-module _ (sorts : List Sort) (entries : List Entry) (few : count_of wholes sorts ≤ 8) (fit : EntriesFit sorts entries) where
+module _ (sorts : List Sort) (entries : List Entry) (few : count_of wholes sorts ≤ most_fields) (fit : EntriesFit sorts entries) where
   low : AreFormsLow (forms_of entries)
   low = forms_low sorts few (forms_of entries) (forms_over sorts entries fit)
 

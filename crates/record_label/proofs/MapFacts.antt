@@ -5,6 +5,7 @@ use Rattle.std.proofs.lemmas.List.{get_or-map as get_or-map_at, length-map, take
 use Rattle.std.proofs.lemmas.List.Elements.{Contains-get_or}
 use Rattle.std.proofs.lemmas.List.Folds.{list_all-append}
 use Rattle.std.specs.List.{list_all}
+use Rattle.model_tree.specs.Limits.{most_fields}
 use Rattle.model_tree.specs.Kept.{is_kept_field}
 use Rattle.fast_tree.specs.declared.label.Value.{Value}
 use Rattle.fast_tree.specs.Entries.{field_of}
@@ -128,7 +129,7 @@ module _ (sorts : List Sort) where
   forms_over (truth_by f ∷ entries) h = forms_over entries h.1
   forms_over (text_by s ∷ entries) h = forms_over entries h.1
 
-  pub forms_low : count_of wholes sorts ≤ 8 → (gs : List Form) → AreFormsOver (count_of wholes sorts) gs → AreFormsLow gs
+  pub forms_low : count_of wholes sorts ≤ most_fields → (gs : List Form) → AreFormsOver (count_of wholes sorts) gs → AreFormsLow gs
   forms_low few [] h = tt
   forms_low few (g ∷ gs) h = (over_low (count_of wholes sorts) few g h.0, forms_low few gs h.1)
 

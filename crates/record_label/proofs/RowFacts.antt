@@ -7,6 +7,7 @@ use Rattle.std.specs.List.{list_all}
 use Rattle.std.proofs.lemmas.Bool.{lt-ltb, ltb-true}
 use Rattle.std.proofs.lemmas.List.{length-map}
 use Rattle.std.proofs.lemmas.List.Elements.{All-nil, All-cons, All-head, All-tail}
+use Rattle.model_tree.specs.Limits.{most_fields}
 use Rattle.model_tree.specs.Label.{Field, whole, truth, text, Label, row, pair}
 use Rattle.model_tree.specs.Signature.{Sort, wholes, truths, texts, sort_of, have_sorts, HasSorts}
 use Rattle.fast_tree.specs.declared.signature.Sort.{Sort as Coded}
@@ -85,7 +86,7 @@ pub sides_fit : (sorts : List Sort) (fields : List Field) (a : TextAtom) → map
 sides_fit sorts fields a is fits = subst (λ n. SidesFit n a) (ap (count_of texts) (sym is) ∙ sym (count_of_texts fields)) fits
 
 -- a comparison holds of the numbers of a label, of which the first eight are looked at
-pub compare_is : (sorts : List Sort) (fields : List Field) (c : Compare) (ns : List ℤ) → count_of wholes sorts ≤ 8 → CompareFits (count_of wholes sorts) c → AgreeBelow 8 ns (wholes_in fields) → compare_holds (plain_compare c) ns ≡ compare_at c (wholes_label (wholes_in fields))
+pub compare_is : (sorts : List Sort) (fields : List Field) (c : Compare) (ns : List ℤ) → count_of wholes sorts ≤ most_fields → CompareFits (count_of wholes sorts) c → AgreeBelow 8 ns (wholes_in fields) → compare_holds (plain_compare c) ns ≡ compare_at c (wholes_label (wholes_in fields))
 compare_is sorts fields c ns few fits same =
     agree (count_of wholes sorts) c ns (wholes_in fields) (λ k l. same k (omega (arith, l, few))) fits ∙ ap (compare_holds (plain_compare c)) (sym (wholes_back (wholes_in fields)))
 
@@ -98,8 +99,8 @@ count_few sort (s ∷ sorts) = by (same_sort s sort) (count_few sort sorts)
     by false h = omega (arith, h)
 
 -- there are no more whole numbers than fields
-pub few_wholes : (fields : List Coded) (sorts : List Sort) → length fields ≤ 8 → map plain_sort fields ≡ sorts → count_of wholes sorts ≤ 8
-few_wholes fields sorts few is = subst (λ seen. count_of wholes seen ≤ 8) is (let all = count_few wholes (map plain_sort fields) in let many = length-map fields plain_sort in omega (arith, all, many, few))
+pub few_wholes : (fields : List Coded) (sorts : List Sort) → length fields ≤ most_fields → map plain_sort fields ≡ sorts → count_of wholes sorts ≤ most_fields
+few_wholes fields sorts few is = subst (λ seen. count_of wholes seen ≤ most_fields) is (let all = count_few wholes (map plain_sort fields) in let many = length-map fields plain_sort in omega (arith, all, many, few))
 
 abbrev HasThree : List Sort → Label → Type 0
 HasThree sorts = HasParts (IsWholes (count_of wholes sorts)) (HasParts (IsBools (count_of truths sorts)) (IsTexts (count_of texts sorts)))

@@ -1,6 +1,7 @@
 //! The form of a whole number.
 
 ghost use Rattle.std.specs.Prelude.{◌≡◌, ◌<◌, ◌≤◌, pos, cond, ◌++◌, IfOk, MatchResult, length};
+ghost use Rattle.model_tree.specs.Limits.{most_fields, greatest_divisor};
 ghost use Rattle.model_tree.specs.Signature.{wholes};
 ghost use Rattle.model_label.specs.Fields.{has_field, number_at};
 ghost use Rattle.model_form.specs.Sums.{number_form, field_form, sum_form};
@@ -16,7 +17,7 @@ use crate::lookups::{has_field, number_of};
 use fast_fault::{Memory, Text};
 use fast_syntax::expressions::{Expr, Node, ProdPart, SumPart};
 use fast_tree::{Signature, Sort};
-use lin_form::{Form, FormStop, Signed};
+use lin_form::{Form, FormStop, GREATEST_DIVISOR, MOST_PARTS, Signed};
 use std::alloc::Global;
 
 /// The form of a written number.
@@ -31,7 +32,7 @@ fn number(alloc: Global, value: i128) -> Result<Form, FormStop>
 
 /// The form of the field with this name, or of 0 where it is no whole number.
 fn field(alloc: Global, name: &Text, signature: &Signature) -> Result<Form, Memory>
-    requires { length signature.now.fields.items ≤ 8 }
+    requires { length signature.now.fields.items ≤ most_fields }
     ensures { IfOk result (λ form. form ≡ cond (has_field (plain_signature signature.now).fields wholes name.now) (field_form (number_at (plain_signature signature.now).fields wholes name.now)) (number_form (pos 0))) }
 {
     if !has_field(signature, Sort::Int, name) {
@@ -61,10 +62,10 @@ fn times(alloc: Global, left: &Form, right: &Form) -> Result<Form, FormStop>
 fn divisor_of(expr: &Expr) -> u32
     ensures value { result ≡ divisor_of (plain_expr expr.now) }
     ensures some { 0 < result }
-    ensures few { result ≤ 4096 }
+    ensures few { result ≤ greatest_divisor }
 {
     if let Node::Num(number) = &expr.node {
-        if *number >= 1 && *number <= 4096 {
+        if *number >= 1 && *number <= GREATEST_DIVISOR {
             return *number as u32;
         }
     }
@@ -85,7 +86,7 @@ fn step(alloc: Global, before: Form, part: &ProdPart, own: &Form) -> Result<Form
 fn sum(alloc: Global, parts: &[Signed]) -> Result<Form, FormStop>
     ensures { MatchResult result (λ form. form ≡ sum_form (plain_parts parts.now)) (λ stop. StopsAt (IsOutside (sum_form (plain_parts parts.now))) stop) }
 {
-    if parts.len() > 1_048_576 {
+    if parts.len() > MOST_PARTS {
         return Err(FormStop::Memory);
     }
     Form::of_sum(alloc, parts)
@@ -94,7 +95,7 @@ fn sum(alloc: Global, parts: &[Signed]) -> Result<Form, FormStop>
 /// The form of a whole number. Anything else counts as 0.
 #[cycle(forms)]
 pub fn form_of(alloc: Global, expr: &Expr, signature: &Signature) -> Result<Form, FormStop>
-    requires { length signature.now.fields.items ≤ 8 }
+    requires { length signature.now.fields.items ≤ most_fields }
     ensures { MatchResult result (λ form. form ≡ form_of (plain_signature signature.now).fields (plain_expr expr.now)) (λ stop. StopsAt (HasOutside (forms_in (plain_signature signature.now).fields (plain_expr expr.now))) stop) }
 {
     match &expr.node {
@@ -110,7 +111,7 @@ pub fn form_of(alloc: Global, expr: &Expr, signature: &Signature) -> Result<Form
 /// The forms of the parts of a sum.
 #[cycle(forms)]
 fn added(alloc: Global, parts: &[SumPart], signature: &Signature) -> Result<Vec<Signed>, FormStop>
-    requires { length signature.now.fields.items ≤ 8 }
+    requires { length signature.now.fields.items ≤ most_fields }
     ensures { MatchResult result (λ made. plain_parts made.items ≡ added (plain_signature signature.now).fields (plain_sum_parts parts.now)) (λ stop. StopsAt (HasOutside (forms_in_all (plain_signature signature.now).fields (plain_sum_parts parts.now))) stop) }
 {
     let mut made = Vec::new(alloc);
@@ -127,7 +128,7 @@ fn added(alloc: Global, parts: &[SumPart], signature: &Signature) -> Result<Vec<
 /// The form of a product, from the left.
 #[cycle(forms)]
 fn multiplied(alloc: Global, parts: &[ProdPart], signature: &Signature) -> Result<Form, FormStop>
-    requires { length signature.now.fields.items ≤ 8 }
+    requires { length signature.now.fields.items ≤ most_fields }
     ensures { MatchResult result (λ form. form ≡ multiplied (plain_signature signature.now).fields (number_form (pos 1)) (plain_prod_parts parts.now)) (λ stop. StopsAt (HasOutside (forms_in_all (plain_signature signature.now).fields (plain_prod_parts parts.now) ++ steps (plain_signature signature.now).fields (number_form (pos 1)) (plain_prod_parts parts.now))) stop) }
 {
     let mut form = Form::number(alloc, 1)?;

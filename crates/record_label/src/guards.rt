@@ -1,6 +1,7 @@
 //! The formula of a label expression.
 
 ghost use Rattle.std.specs.Prelude.{◌≡◌, ◌≤◌, ◌++◌, true, IfOk, MatchResult, Some, None, cond, length, map};
+ghost use Rattle.model_tree.specs.Limits.{most_fields};
 ghost use Rattle.model_tree.specs.Formula as plain;
 ghost use Rattle.model_label.specs.Tests.{is_text};
 ghost use Rattle.model_guard.specs.Forms.{form_of, forms_in, forms_in_all, HasOutside};
@@ -31,7 +32,7 @@ pub(crate) fn side(
     expr: &Expr,
     signature: &Signature,
 ) -> Result<Option<TextSide>, Memory>
-    requires { length signature.now.fields.items ≤ 8 }
+    requires { length signature.now.fields.items ≤ most_fields }
     ensures { IfOk result (λ found. found ≡ cond (is_text (plain_signature signature.now).fields (plain_expr expr.now)) (Some (side_of (plain_signature signature.now).fields (plain_expr expr.now))) None) }
 {
     match &expr.node {
@@ -53,7 +54,7 @@ fn comparison(
     right: &Expr,
     signature: &Signature,
 ) -> Result<Option<TextAtom>, Memory>
-    requires { length signature.now.fields.items ≤ 8 }
+    requires { length signature.now.fields.items ≤ most_fields }
     ensures { IfOk result (λ found. found ≡ comparison_of (plain_signature signature.now).fields (plain_expr left.now) (plain_expr right.now)) }
 {
     if let Some(left) = side(alloc, left, signature)? {
@@ -143,7 +144,7 @@ fn compared_numbers(
     right: &Expr,
     signature: &Signature,
 ) -> Result<Formula<RowAtom>, FormStop>
-    requires { length signature.now.fields.items ≤ 8 }
+    requires { length signature.now.fields.items ≤ most_fields }
     ensures { MatchResult result (λ made. plain_formula made ≡ compared_by_forms rel (form_of (plain_signature signature.now).fields (plain_expr left.now)) (form_of (plain_signature signature.now).fields (plain_expr right.now))) (λ stop. StopsAt (HasOutside (forms_in (plain_signature signature.now).fields (plain_expr left.now) ++ forms_in (plain_signature signature.now).fields (plain_expr right.now))) stop) }
 {
     let first = form_of(alloc, left, signature)?;
@@ -158,7 +159,7 @@ fn formula_of(
     expr: &Expr,
     signature: &Signature,
 ) -> Result<Formula<RowAtom>, FormStop>
-    requires { length signature.now.fields.items ≤ 8 }
+    requires { length signature.now.fields.items ≤ most_fields }
     ensures { MatchResult result (λ made. plain_formula made ≡ formula_in (plain_signature signature.now).fields (plain_expr expr.now)) (λ stop. StopsAt (HasOutside (forms_in (plain_signature signature.now).fields (plain_expr expr.now))) stop) }
 {
     match &expr.node {
@@ -195,7 +196,7 @@ fn formulas_of(
     parts: &[Expr],
     signature: &Signature,
 ) -> Result<Vec<Formula<RowAtom>>, FormStop>
-    requires { length signature.now.fields.items ≤ 8 }
+    requires { length signature.now.fields.items ≤ most_fields }
     ensures { MatchResult result (λ made. map plain_formula made.items ≡ map (formula_in (plain_signature signature.now).fields) (map plain_expr parts.now)) (λ stop. StopsAt (HasOutside (forms_in_all (plain_signature signature.now).fields (unmarked (map plain_expr parts.now)))) stop) }
 {
     let mut formulas = Vec::new(alloc);
@@ -211,7 +212,7 @@ pub fn guard_of(
     expr: &Expr,
     signature: &Signature,
 ) -> Result<Formula<RowAtom>, Memory>
-    requires few { length signature.now.fields.items ≤ 8 }
+    requires few { length signature.now.fields.items ≤ most_fields }
     requires guard { is_guard (plain_signature signature.now).fields (plain_expr expr.now) ≡ true }
     requires within { AreWithin (forms_in (plain_signature signature.now).fields (plain_expr expr.now)) }
     ensures guard { IfOk result (λ guard. IsGuardOf (plain_signature signature.now).fields (plain_expr expr.now) (plain_formula guard)) }

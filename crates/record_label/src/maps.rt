@@ -1,6 +1,7 @@
 //! Maps of labels: an entry for each field of the labels that they make.
 
 ghost use Rattle.std.specs.Prelude.{◌≡◌, ◌≤◌, true, List, map, IfOk, length};
+ghost use Rattle.model_tree.specs.Limits.{most_fields};
 ghost use Rattle.model_tree.specs.Signature.{sorts_of};
 ghost use Rattle.model_guard.specs.Forms.{form_of, forms_in};
 ghost use Rattle.fast_tree.specs.Signatures.{plain_signature, plain_sort};
@@ -40,7 +41,7 @@ pub struct RowMap {
 
 /// The form of a whole number that is in range.
 fn form_in_range(alloc: Global, expr: &Expr, from: &Signature) -> Result<Form, Memory>
-    requires few { length from.now.fields.items ≤ 8 }
+    requires few { length from.now.fields.items ≤ most_fields }
     requires within { AreWithin (forms_in (plain_signature from.now).fields (plain_expr expr.now)) }
     ensures { IfOk result (λ form. form ≡ form_of (plain_signature from.now).fields (plain_expr expr.now)) }
 {
@@ -53,7 +54,7 @@ fn form_in_range(alloc: Global, expr: &Expr, from: &Signature) -> Result<Form, M
 
 /// The entry that an expression of this sort is.
 fn entry_of(alloc: Global, expr: &Expr, sort: Sort, from: &Signature) -> Result<RowEntry, Memory>
-    requires few { length from.now.fields.items ≤ 8 }
+    requires few { length from.now.fields.items ≤ most_fields }
     requires sorted { is_of_sort (plain_signature from.now).fields (plain_sort sort) (plain_expr expr.now) ≡ true }
     requires within { AreWithin (forms_in (plain_signature from.now).fields (plain_expr expr.now)) }
     ensures { IfOk result (λ entry. IsEntryOf (plain_signature from.now).fields (plain_expr expr.now) (plain_sort sort) (plain_entry entry)) }
@@ -97,7 +98,7 @@ pub fn map_of(
     from: &Signature,
     into: &Signature,
 ) -> Result<RowMap, Memory>
-    requires few { length from.now.fields.items ≤ 8 }
+    requires few { length from.now.fields.items ≤ most_fields }
     requires sorted { AreOfSorts (plain_signature from.now).fields (map plain_expr labels.now) (sorts_of (plain_signature into.now)) }
     requires within { AreWithin (forms_in_each (plain_signature from.now).fields (map plain_expr labels.now)) }
     ensures entries { IfOk result (λ made. AreEntriesOf (plain_signature from.now).fields (map plain_expr labels.now) (sorts_of (plain_signature into.now)) (map plain_entry made.entries.items)) }

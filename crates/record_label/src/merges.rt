@@ -1,6 +1,7 @@
 //! Labels of fields of several sorts from their whole numbers, truth values and texts.
 
 ghost use Rattle.std.specs.Prelude.{◌≡◌, ◌≤◌, IfOk, length, map};
+ghost use Rattle.model_tree.specs.Limits.{most_fields};
 ghost use Rattle.model_tree.specs.Label.{row};
 ghost use Rattle.model_tree.specs.Signature as model;
 ghost use Rattle.fast_tree.specs.Entries.{label_meaning};
@@ -13,9 +14,9 @@ use std::alloc::Global;
 
 /// How many of the sorts are this one.
 pub fn count(sorts: &[Sort], sort: Sort) -> u32
-    requires { length sorts.now ≤ 8 }
+    requires { length sorts.now ≤ most_fields }
     ensures count { result ≡ count_of (plain_sort sort) (map plain_sort sorts.now) }
-    ensures few { result ≤ 8 }
+    ensures few { result ≤ most_fields }
 {
     let mut count = 0;
     for other in sorts {

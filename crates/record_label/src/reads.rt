@@ -2,6 +2,7 @@
 
 ghost use Rattle.std.specs.Prelude.{◌≡◌, ◌<◌, ℕ, pos, length, map, false, slice_index_or, slice_get};
 ghost use Rattle.std.specs.Option.{option_map};
+ghost use Rattle.model_tree.specs.Limits.{most_fields};
 ghost use Rattle.fast_tree.specs.Entries.{field_of};
 ghost use Rattle.flat_label.specs.Texts.{SideFits, side_text, texts_label};
 ghost use Rattle.model_guard.specs.Forms.{wholes_in};
@@ -29,7 +30,7 @@ fn whole_at(values: &[Value], number: u32) -> LabelInt
 
 /// The first eight whole numbers. Where there are fewer the rest are 0.
 pub fn wholes(values: &[Value]) -> [LabelInt; 8]
-    ensures { (k : ℕ) → k < 8 → slice_index_or result k (pos 0) ≡ slice_index_or (wholes_in (map field_of values.now)) k (pos 0) }
+    ensures { (k : ℕ) → k < most_fields → slice_index_or result k (pos 0) ≡ slice_index_or (wholes_in (map field_of values.now)) k (pos 0) }
 {
     let mut wholes = [0; 8];
     for k in 0..8 {

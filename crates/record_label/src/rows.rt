@@ -1,6 +1,7 @@
 //! The theory of labels of several fields.
 
 ghost use Rattle.std.specs.Prelude.{◌≡◌, ◌<◌, ◌≤◌, ◌↔◌, ℕ, IsTrue, IfOk, length, map, pos, slice_index_or};
+ghost use Rattle.model_tree.specs.Limits.{most_fields};
 ghost use Rattle.model_tree.specs.Signature.{wholes, truths, texts};
 ghost use Rattle.model_tree.specs.Signature as model;
 ghost use Rattle.fast_tree.specs.Signatures.{plain_signature};
@@ -46,7 +47,7 @@ impl Model for RowLabels {
 
     ghost view = { λ t. map plain_sort t.sorts.items };
 
-    ghost invariant = { λ t. length t.sorts.items ≤ 8 };
+    ghost invariant = { λ t. length t.sorts.items ≤ most_fields };
 }
 
 /// Whether the side speaks of one of so many texts.
@@ -91,7 +92,7 @@ fn chain_of_numbers(chain: PairChain<Chain, PairChain<Never, Never>>) -> Chain
 impl RowLabels {
     /// The labels of a type of at most eight fields.
     pub fn new(alloc: Global, input: &Signature) -> Result<RowLabels, Memory>
-        requires { length input.now.fields.items ≤ 8 }
+        requires { length input.now.fields.items ≤ most_fields }
         ensures { IfOk result (λ theory. theory ≡ model.sorts_of (plain_signature input.now)) }
     {
         let mut sorts = Vec::new(alloc);
@@ -124,8 +125,8 @@ impl RowLabels {
 
     /// The whole numbers of a label. These labels have eight at most, and where they have fewer the rest are 0.
     pub(crate) fn numbers(&self, value: &Label) -> [LabelInt; 8]
-        ensures few { count_of wholes self.now ≤ 8 }
-        ensures numbers { (k : ℕ) → k < 8 → slice_index_or result k (pos 0) ≡ slice_index_or (wholes_in (map field_of (entries_of value.now))) k (pos 0) }
+        ensures few { count_of wholes self.now ≤ most_fields }
+        ensures numbers { (k : ℕ) → k < most_fields → slice_index_or result k (pos 0) ≡ slice_index_or (wholes_in (map field_of (entries_of value.now))) k (pos 0) }
     {
         // a look at the fields says how few they are
         let _ = &self.sorts;

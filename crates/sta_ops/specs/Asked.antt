@@ -1,5 +1,6 @@
 -- What is said of trees that are asked for.
 use Rattle.std.specs.Prelude.{◌≡◌, ℕ, ◌≤◌, ◌<◌, Bool, true, not, cond, List}
+use Rattle.model_tree.specs.Limits.{most_nodes}
 use Rattle.model_tree.specs.Label.{Label}
 use Rattle.model_tree.specs.Tree.{LabelTree, relabel, node_count, depth}
 use Rattle.model_sta.specs.Sets.{Row, has, Fits}
@@ -29,14 +30,14 @@ module _ (ranks : List ℕ) (D keeps : Label → Type 0) (member : LabelTree →
     pub fits : Fits ranks keeps t
     pub accepted : member t ≡ true
     pub least : (u : LabelTree) → IsAskedTree u → node_count t ≤ node_count u
-    pub small : node_count t ≤ 1048576
+    pub small : node_count t ≤ most_nodes
     pub shallow : depth t ≤ most
 
   -- there are trees that are asked for, and each has more nodes than one that is shown
   pub record HasBigAsked : Type 0 where
     pub tree : LabelTree
     pub right : IsAskedTree tree
-    pub big : (t : LabelTree) → IsAskedTree t → 1048576 < node_count t
+    pub big : (t : LabelTree) → IsAskedTree t → most_nodes < node_count t
 
 module _ {A V W : Type 0} {label_of : V → Label} {holds : A → Label → Bool} (M : Meaning label_of holds W) (ranks : List ℕ) (member : LabelTree → Bool) (most : ℕ) where
   abbrev pub IsAnswer : Found V → Type 0

@@ -6,6 +6,7 @@ use Rattle.std.specs.declared.cmp.Ordering.TheVariants.{Equal}
 use Rattle.std.specs.List.{All}
 use Rattle.std.proofs.lemmas.List.{length-map}
 use Rattle.std.proofs.lemmas.List.Elements.{All-nil, All-cons, All-head}
+use Rattle.model_tree.specs.Limits.{most_nodes, greatest_depth, most_outputs}
 use Rattle.model_tree.specs.Label.{Label}
 use Rattle.model_tree.specs.Tree.{Tree, relabel, node_count, depth}
 use Rattle.model_sta.specs.Sets.{Each}
@@ -34,7 +35,7 @@ module _ {V : Type 0} where
   nodes_are [] = refl
   nodes_are (o ∷ outs) = omega (arith, o.nodes_are, nodes_are outs)
 
-  all_shallow : (outs : List (Out V)) → Each (λ x. depth (tree_of x) ≤ 2000) (map out_cut outs)
+  all_shallow : (outs : List (Out V)) → Each (λ x. depth (tree_of x) ≤ greatest_depth) (map out_cut outs)
   all_shallow [] = tt
   all_shallow (o ∷ outs) = (omega (arith, o.levels_are, o.shallow), all_shallow outs)
 
@@ -42,8 +43,8 @@ module _ {V : Type 0} (label : V → Label) (order : V → V → Ordering) (tota
   pub outputs_are : (l : Listing V) → l.far ≡ None → IsCallFound label order keeps Outside f q t (listed (map out_cut l.outs.items) l.far) → AreOutputs label order f q t (map out_cut l.outs.items)
   outputs_are l e h =
       let found = subst (λ far. IsCallFound label order keeps Outside f q t (listed (map out_cut l.outs.items) far)) e h in
-      let few : length (map out_cut l.outs.items) ≤ 4096 = omega (arith, length-map l.outs.items out_cut, l.few) in
-      let light : sum_of (λ x. node_count (tree_of x)) (map out_cut l.outs.items) ≤ 1048576 = omega (arith, nodes_are l.outs.items, l.light) in
+      let few : length (map out_cut l.outs.items) ≤ most_outputs = omega (arith, length-map l.outs.items out_cut, l.few) in
+      let light : sum_of (λ x. node_count (tree_of x)) (map out_cut l.outs.items) ≤ most_nodes = omega (arith, nodes_are l.outs.items, l.light) in
       record {
         cuts = found.each;
         given = found.are;

@@ -2,6 +2,7 @@
 use Rattle.std.proofs.Common.{ℕ, suc, ◌≡◌, ◌+◌, ◌<◌, inl, inr, Bool, List, [], ◌∷◌, ◌++◌, map, length, Option, Some, refl, sym, ap, subst, ◌∙◌, arith, append_assoc}
 use Rattle.std.specs.Prelude.{ℤ}
 use Rattle.std.proofs.lemmas.List.{map-append, length-map}
+use Rattle.model_tree.specs.Limits.{most_nodes, greatest_depth}
 use Rattle.model_tree.specs.Label.{Label}
 use Rattle.model_tree.specs.Tree.{node_count_all, depth_all}
 use Rattle.model_sttr.specs.Cuts.{Cut, keep, new, Cuts, trees_of_cuts}
@@ -54,16 +55,16 @@ module _ {V : Type 0} where
   row_sum (y ∷ rows) = omega (arith, y.nodes_are, row_sum rows)
 
   -- a row for which there is no room, behind rows for which there is
-  pub roomless : (label : V → Label) (c : ℕ) (l : Label) (far : Option ℤ) (left : ℕ) (before rest more last all : List (Row V)) (row : Row V) (load : Load) → before ++ (rest ++ last) ≡ all → rest ≡ row ∷ more → left + sum_of (λ y. y.nodes + 1) before ≡ 1048576 → IsRoomless left row load
+  pub roomless : (label : V → Label) (c : ℕ) (l : Label) (far : Option ℤ) (left : ℕ) (before rest more last all : List (Row V)) (row : Row V) (load : Load) → before ++ (rest ++ last) ≡ all → rest ≡ row ∷ more → left + sum_of (λ y. y.nodes + 1) before ≡ most_nodes → IsRoomless left row load
       → IsNodeFound label keeps Outside c l (listed (map row_cuts all) far) (too_much (load_of load))
   roomless label c l far left before rest more last all row Outputs e is n h = absurd h
   roomless label c l far left before rest more last all row Nodes e is n h =
       let whole = ap (sum_of (λ y. y.nodes + 1)) (sym (next_whole before rest more row last all e is)) in
       omega (arith, whole, h, n, row_sum all, sum_append (λ y. y.nodes + 1) (before ++ row ∷ []) (more ++ last), sum_push (λ y. y.nodes + 1) before row)
   roomless label c l far left before rest more last all row Depth e is n h =
-      subst (λ rows. OneOf (λ ys. 2000 < suc (depth_all (trees_of_cuts ys))) (map row_cuts rows)) (next_whole before rest more row last all e is)
-      (subst (OneOf (λ ys. 2000 < suc (depth_all (trees_of_cuts ys)))) (sym (ap (map row_cuts) (append_assoc before (row ∷ []) (more ++ last)) ∙ map-append row_cuts before (row ∷ (more ++ last))))
-      (one_right (λ ys. 2000 < suc (depth_all (trees_of_cuts ys))) (map row_cuts before) (row_cuts row ∷ map row_cuts (more ++ last)) (inl (omega (arith, h, row.levels_are)))))
+      subst (λ rows. OneOf (λ ys. greatest_depth < suc (depth_all (trees_of_cuts ys))) (map row_cuts rows)) (next_whole before rest more row last all e is)
+      (subst (OneOf (λ ys. greatest_depth < suc (depth_all (trees_of_cuts ys)))) (sym (ap (map row_cuts) (append_assoc before (row ∷ []) (more ++ last)) ∙ map-append row_cuts before (row ∷ (more ++ last))))
+      (one_right (λ ys. greatest_depth < suc (depth_all (trees_of_cuts ys))) (map row_cuts before) (row_cuts row ∷ map row_cuts (more ++ last)) (inl (omega (arith, h, row.levels_are)))))
 
 -- where the label has a number outside
 pub far_built : {V : Type 0} (label : V → Label) (c : ℕ) (l : Label) (rows : FoundRows V) (listing : RowListing V) (n : ℤ) (outs : List (Out V)) (s : Bool) (far : Option ℤ) → rows ≡ Listed listing → Outside l n → outs ≡ [] → s ≡ has_some (map row_cuts listing.rows.items) listing.far → far ≡ only_if s (Some n)

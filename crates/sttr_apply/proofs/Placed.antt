@@ -4,6 +4,7 @@ use Rattle.std.proofs.lemmas.List.{length-map, get_or-map, map-append, get_or_at
 use Rattle.std.specs.List.{All}
 use Rattle.std.proofs.lemmas.List.Elements.{All-push}
 use Rattle.std.proofs.lemmas.Simd.{map-map}
+use Rattle.model_tree.specs.Limits.{most_nodes}
 use Rattle.model_tree.specs.Formula.{EveryAtom}
 use Rattle.sta_core.specs.Machine.{plain_rule}
 use Rattle.sta_core.proofs.Meaning.{All_from_map}
@@ -94,7 +95,7 @@ module _ {V L : Type 0} (f : V → L) where
     nodes-relabel_all (tree t ts) = ap₂ (λ a b. a ++ b) (nodes-relabel t) (nodes-relabel_all ts) ∙ sym (map-append (relabel f) (nodes_of t) (nodes_of_all ts))
 
 module _ {V : Type 0} (label : V → Label) (looks : List (List (Rule Label))) (root : Tree V) (sizes : List Size) (rows : List Row) (scene : IsScene label looks root sizes rows) where
-  pub placed_low : (n : ℕ) (t : Tree V) → StandsAt n (nodes_of t) (nodes_of root) → n + node_count t ≤ 1048576
+  pub placed_low : (n : ℕ) (t : Tree V) → StandsAt n (nodes_of t) (nodes_of root) → n + node_count t ≤ most_nodes
   placed_low n t h =
       let low = stands_low n (nodes_of t) (nodes_of root) h in
       let here = length-nodes_of t in

@@ -9,6 +9,7 @@ use Rattle.sta_core.proofs.Meaning.{All_from_map}
 use Rattle.std.specs.Cmp.{IsTotalOrder}
 use Rattle.std.specs.declared.cmp.Ordering.{Ordering}
 use Rattle.std.specs.declared.cmp.Ordering.TheVariants.{Equal}
+use Rattle.model_tree.specs.Limits.{greatest_depth}
 use Rattle.model_tree.specs.Label.{Label}
 use Rattle.model_tree.specs.Tree.{Tree, node, trees_of, children_of, label_of, relabel, relabel_all, depth}
 use Rattle.model_sta.specs.Loads.{depths}
@@ -127,7 +128,7 @@ module _ {V : Type 0} (label : V → Label) (order : V → V → Ordering) (tota
   given (node c v vs ∷ us) zero t l e = ap (relabel label) (sym e)
   given (u ∷ us) (suc j) t l e = given us j t (omega arith) e
 
-  pub kept_deep : (j : ℕ) (t : Tree V) → j < length ts → t ≡ get_or ts j t → 2000 < depth t → IsTermFound {N = ℤ} label order keeps Outside f (children_of tree) (label (label_of tree)) (on identity j) (too_much depths)
+  pub kept_deep : (j : ℕ) (t : Tree V) → j < length ts → t ≡ get_or ts j t → greatest_depth < depth t → IsTermFound {N = ℤ} label order keeps Outside f (children_of tree) (label (label_of tree)) (on identity j) (too_much depths)
   kept_deep j t low at deep = (relabel label t, subst (λ us. GivesAt f identity j (relabel_all label us) (relabel label t)) are (given ts j t low at), omega (arith, deep, depth-relabel label t))
 
 module _ {V : Type 0} (label : V → Label) (order : V → V → Ordering) (f : Sttr Label) (tree : Tree V) (ts : List (Tree V)) (are : trees_of ts ≡ children_of tree) where

@@ -1,5 +1,6 @@
 -- Why there is no node over a row.
 use Rattle.std.specs.Prelude.{ℕ, ◌+◌, ◌<◌, ◌≤◌}
+use Rattle.model_tree.specs.Limits.{greatest_depth}
 use Rattle.sttr_apply.specs.declared.outs.Load.{Load}
 use Rattle.sttr_apply.specs.declared.outs.Load.TheVariants.{Outputs, Nodes, Depth}
 use Rattle.sttr_apply.specs.declared.outs.Row.{Row}
@@ -8,4 +9,4 @@ use Rattle.sttr_apply.specs.declared.outs.Row.{Row}
 abbrev pub IsRoomless : {V : Type 0} → ℕ → Row V → Load → Type 0
 IsRoomless left row Outputs = ⊥
 IsRoomless left row Nodes = left < row.nodes + 1
-IsRoomless left row Depth = 2000 ≤ row.levels
+IsRoomless left row Depth = greatest_depth ≤ row.levels

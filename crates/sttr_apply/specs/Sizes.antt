@@ -1,5 +1,6 @@
 -- Sizes of trees, and the places of trees among the nodes of another one.
 use Rattle.std.specs.Prelude.{ℕ, ◌≡◌, ◌≤◌, List, ◌++◌, map, length}
+use Rattle.model_tree.specs.Limits.{most_nodes}
 use Rattle.model_tree.specs.Label.{Label}
 use Rattle.model_tree.specs.Tree.{Tree, node_count, depth, relabel}
 use Rattle.model_sta.specs.Automaton.{Rule}
@@ -17,6 +18,6 @@ StandsAt {X} n xs ys = (before : List X) × (after : List X) × (n ≡ length be
 -- the sizes and the marks are those of the nodes of a tree, which isn't too large
 module _ {V : Type 0} (label : V → Label) (looks : List (List (Rule Label))) (root : Tree V) (sizes : List Size) (rows : List Row) where
   pub record IsScene : Type 0 where
-    pub few : node_count root ≤ 1048576
+    pub few : node_count root ≤ most_nodes
     pub sizes_are : sizes ≡ map size_of (nodes_of root)
     pub rows_are : rows ≡ marks_of looks (relabel label root)

@@ -18,5 +18,5 @@ mod stop;
 mod terms;
 
 pub use apply::outputs;
-pub use outs::Load;
+pub use outs::{Load, MOST_LEVELS, MOST_NODES};
 pub use stop::ApplyStop;

@@ -1,6 +1,7 @@
 //! New nodes over rows of parts.
 
 ghost use Rattle.std.specs.Prelude.{◌≡◌, ◌+◌, ◌<◌, ◌^◌, true, map, Some, IfOk, IfErr};
+ghost use Rattle.model_tree.specs.Limits.{greatest_depth};
 ghost use Rattle.model_sttr.specs.Cuts.{new};
 ghost use Rattle.label_core.specs.Meaning.{KeepsValue};
 ghost use Rattle.apply_laws.specs.Listing.{only_if};
@@ -19,7 +20,7 @@ use std::alloc::Global;
 /// What is left of so many nodes without those of a node over the row.
 fn room<'t, V>(left: u64, row: &Row<'t, V>) -> Result<u64, Load>
     ensures left { IfOk result (λ now. now + (row.now.nodes + 1) ≡ left) }
-    ensures shallow { IfOk result (λ _. row.now.levels < 2000) }
+    ensures shallow { IfOk result (λ _. row.now.levels < greatest_depth) }
     ensures none { IfErr result (IsRoomless left row.now) }
 {
     if row.levels >= MOST_LEVELS {
@@ -33,7 +34,7 @@ fn room<'t, V>(left: u64, row: &Row<'t, V>) -> Result<u64, Load>
 
 /// The node over the row.
 fn node_over<'t, V>(constructor: u32, label: V, row: Row<'t, V>) -> Out<'t, V>
-    requires shallow { row.levels < 2000 }
+    requires shallow { row.levels < greatest_depth }
     requires nodes { row.nodes + 1 < 2 ^ 64 }
     ensures cut { out_cut result ≡ new constructor label (row_cuts row.entry) }
     ensures nodes { result.nodes ≡ row.entry.nodes + 1 }

@@ -1,6 +1,7 @@
 //! Outputs with their sizes, and what is found of calls.
 
 ghost use Rattle.std.specs.Prelude.{◌≡◌, ◌≤◌, length, map};
+ghost use Rattle.model_tree.specs.Limits.{most_nodes, greatest_depth, most_outputs};
 ghost use Rattle.model_tree.specs.Tree.{node_count, node_count_all, depth, depth_all};
 ghost use Rattle.model_sttr.specs.Cuts.{tree_of, trees_of_cuts};
 ghost use Rattle.fast_cut.specs.Cuts.{plain_cut};
@@ -34,7 +35,7 @@ pub struct Out<'t, V> {
     pub levels: u64,
     ghost nodes_are: { nodes ≡ node_count (tree_of (plain_cut cut)) },
     ghost levels_are: { levels ≡ depth (tree_of (plain_cut cut)) },
-    ghost shallow: { levels ≤ 2000 },
+    ghost shallow: { levels ≤ greatest_depth },
 }
 
 /// The parts of a node, with their size.
@@ -45,7 +46,7 @@ pub struct Row<'t, V> {
     pub levels: u64,
     ghost nodes_are: { nodes ≡ node_count_all (trees_of_cuts (cuts_in (map plain_cut parts.items))) },
     ghost levels_are: { levels ≡ depth_all (trees_of_cuts (cuts_in (map plain_cut parts.items))) },
-    ghost shallow: { levels ≤ 2000 },
+    ghost shallow: { levels ≤ greatest_depth },
 }
 
 /// The kept outputs in order, each once, and a number of an output that isn't kept.
@@ -53,8 +54,8 @@ pub struct Row<'t, V> {
 pub struct Listing<'t, V> {
     pub outs: Vec<Out<'t, V>>,
     pub far: Option<i128>,
-    ghost few: { length outs.items ≤ 4096 },
-    ghost light: { sum_of (λ o. o.nodes) outs.items ≤ 1048576 },
+    ghost few: { length outs.items ≤ most_outputs },
+    ghost light: { sum_of (λ o. o.nodes) outs.items ≤ most_nodes },
 }
 
 /// The same of the parts of a node.
@@ -62,7 +63,7 @@ pub struct Listing<'t, V> {
 pub struct RowListing<'t, V> {
     pub rows: Vec<Row<'t, V>>,
     pub far: Option<i128>,
-    ghost few: { length rows.items ≤ 4096 },
+    ghost few: { length rows.items ≤ most_outputs },
 }
 
 /// What is found of a term: that there is too much, or a list.

@@ -1,6 +1,7 @@
 //! Parts of a node, one before others.
 
 ghost use Rattle.std.specs.Prelude.{◌≡◌, ◌+◌, ◌<◌, ◌^◌, ◌++◌, map, IfOk, OnSome, IfSome, IfNone};
+ghost use Rattle.model_tree.specs.Limits.{most_nodes};
 ghost use Rattle.model_sttr.specs.Cuts.{cut};
 ghost use Rattle.apply_laws.specs.Meant.{meant};
 ghost use Rattle.apply_laws.specs.Listing.{products, has_some, first_some, only_if};
@@ -113,7 +114,7 @@ fn product<'t, T: Theory>(
     firsts: Vec<Out<'t, T::Value>>,
     rests: Vec<Row<'t, T::Value>>,
 ) -> Result<Option<Vec<Row<'t, T::Value>>>, Memory>
-    ensures none { IfOk result (λ r. IfNone r (1048576 < product_nodes firsts.entry.items rests.entry.items)) }
+    ensures none { IfOk result (λ r. IfNone r (most_nodes < product_nodes firsts.entry.items rests.entry.items)) }
     ensures rows { IfOk result (λ r. IfSome r (λ rows. meant_rows T.label_of rows.items ≡ products (map (meant T.label_of) (map out_cut firsts.entry.items)) (meant_rows T.label_of rests.entry.items))) }
 {
     let mut rows = Vec::new(alloc);

@@ -1,6 +1,7 @@
 //! What is found of terms at a node, over what is found of the calls on its children.
 
 ghost use Rattle.std.specs.Prelude.{◌≡◌, ◌≤◌, ℕ, true, [], ◌∷◌, map, length, All, None, IfOk, OnOk};
+ghost use Rattle.model_tree.specs.Limits.{most_nodes};
 ghost use Rattle.model_tree.specs.Tree.{label_of, children_of, relabel_all};
 ghost use Rattle.model_sttr.specs.Terms.{on, with_maps};
 ghost use Rattle.model_sttr.specs.Transducer.{identity, run};
@@ -52,7 +53,7 @@ fn nothing<'t, V>(alloc: Global) -> Listing<'t, V>
 
 /// This output alone.
 fn alone<'t, V: Drop>(alloc: Global, out: Out<'t, V>) -> Result<Listing<'t, V>, Memory>
-    requires { out.nodes ≤ 1048576 }
+    requires { out.nodes ≤ most_nodes }
     ensures cuts { IfOk result (λ listing. map out_cut listing.outs.items ≡ out_cut out.entry ∷ []) }
     ensures far { IfOk result (λ listing. listing.far ≡ None) }
 {

@@ -2,6 +2,7 @@
 use Rattle.std.proofs.Common.{ℕ, ◌≡◌, ◌≤◌, ◌<◌, inl, inr, Bool, true, List, [], ◌∷◌, map, All, length, get_or, Contains, sym, ap, subst, ◌∙◌, arith}
 use Rattle.std.specs.Prelude.{⊤}
 use Rattle.std.specs.List.{list_any}
+use Rattle.model_tree.specs.Limits.{most_nodes}
 use Rattle.model_tree.specs.Label.{Label}
 use Rattle.model_tree.specs.Tree.{Tree, node, Trees, no_trees, tree, LabelTree, relabel, relabel_all, node_count, depth, EveryLabel, EveryLabelOfAll}
 use Rattle.model_tree.specs.Formula.{EveryAtom}
@@ -143,6 +144,6 @@ module _ {A M V W : Type 0} {label_of : V → Label} {holds : A → Label → Bo
         record {
           fits = subst (λ u. Fits f.looks.ranks N.keeps (relabel label_of u)) (sym is.tree_is) shown_fits;
           meet = subst (λ u. Meet holds map_eq f m.state m.first m.second (relabel label_of u)) (sym is.tree_is) named;
-          small = subst (λ u. node_count (relabel label_of u) ≤ 1048576) (sym is.tree_is) answer.small;
+          small = subst (λ u. node_count (relabel label_of u) ≤ most_nodes) (sym is.tree_is) answer.small;
           shallow = subst (λ u. depth (relabel label_of u) ≤ most) (sym is.tree_is) answer.shallow;
         }

@@ -1,6 +1,7 @@
 -- Rules of a state that meet: both apply to some tree, and their terms aren't equal.
 use Rattle.std.specs.Prelude.{◌≡◌, ◌⊎◌, ◌<◌, ◌≤◌, ℕ, Bool, true, ◌&&◌, List, [], ◌++◌, Some, map, get_or, slice_get}
 use Rattle.std.specs.List.{flat_map}
+use Rattle.model_tree.specs.Limits.{most_nodes}
 use Rattle.model_tree.specs.Label.{Label}
 use Rattle.model_tree.specs.Tree.{LabelTree, relabel, node_count, depth}
 use Rattle.model_tree.specs.Formula.{Formula}
@@ -55,7 +56,7 @@ module _ {A M V W : Type 0} (map_eq : M → M → Bool) {label_of : V → Label}
   pub record IsMeeting (m : Meeting V) : Type 0 where
     pub fits : Fits f.looks.ranks N.keeps (relabel label_of m.tree)
     pub meet : Meet holds map_eq f m.state m.first m.second (relabel label_of m.tree)
-    pub small : node_count (relabel label_of m.tree) ≤ 1048576
+    pub small : node_count (relabel label_of m.tree) ≤ most_nodes
     pub shallow : depth (relabel label_of m.tree) ≤ most
 
   -- rules meet at some tree, and each tree where they do has more nodes than one that is shown
@@ -63,7 +64,7 @@ module _ {A M V W : Type 0} (map_eq : M → M → Bool) {label_of : V → Label}
     pub tree : LabelTree
     pub fits : Fits f.looks.ranks N.has tree
     pub meet : MeetSome holds map_eq f tree
-    pub big : (t : LabelTree) → Fits f.looks.ranks N.has t → MeetSome holds map_eq f t → 1048576 < node_count t
+    pub big : (t : LabelTree) → Fits f.looks.ranks N.has t → MeetSome holds map_eq f t → most_nodes < node_count t
 
   -- over all labels of the meaning
   abbrev pub IsOverlap : OverlapFound V → Type 0

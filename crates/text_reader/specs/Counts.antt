@@ -1,5 +1,6 @@
 -- Counts of the marks that stand above the newest `where`, `to` or item: those below it are never seen again.
 use Rattle.std.specs.Prelude.{◌≡◌, ℕ, ◌+◌, min, map, reverse, List, [], ◌∷◌}
+use Rattle.model_tree.specs.Limits.{most_open, most_open_in_labels}
 use Rattle.model_grammar.specs.Nesting.{Mark, round, square, part, item}
 use Rattle.text_reader.specs.declared.nesting.Levels.{Levels}
 
@@ -13,11 +14,11 @@ open_in (item ∷ marks) = 0
 
 -- the limit outside of each open `[`
 abbrev pub outer_limit : List Mark → ℕ
-outer_limit [] = 2000
+outer_limit [] = most_open
 outer_limit (round ∷ marks) = outer_limit marks
 outer_limit (square ∷ marks) = outer_limit marks
-outer_limit (part ∷ marks) = 64
-outer_limit (item ∷ marks) = 2000
+outer_limit (part ∷ marks) = most_open_in_labels
+outer_limit (item ∷ marks) = most_open
 
 -- for each open `[`, the newest first, how many of these `(` stand before it, and 0 for where none is open
 abbrev pub floors : List Mark → List ℕ

@@ -1,6 +1,7 @@
 //! How deep parentheses are nested, counted on tokens alone.
 
 ghost use Rattle.std.specs.Prelude.{◌≡◌, ◌+◌, ◌<◌, ◌≤◌, ◌^◌, ◌∷◌, [], List, map, IfOk};
+ghost use Rattle.model_tree.specs.Limits.{most_open, most_open_in_labels};
 ghost use Rattle.model_program.specs.declared.Word.TheVariants.{RoundOpen};
 ghost use Rattle.model_grammar.specs.Nesting.{Mark, round, square, part, item, close_round, close_square, marked, limit, passes, nested_at};
 ghost use Rattle.fast_lex.specs.Tokens.{lexeme};
@@ -30,9 +31,9 @@ pub(crate) struct Levels {
 }
 
 fn outside(alloc: Global, limit: usize) -> Levels
-    ensures items { limit ≡ 2000 → (marks : List Mark) → Counts result (item ∷ marks) }
-    ensures parts { limit ≡ 64 → (marks : List Mark) → Counts result (part ∷ marks) }
-    ensures starts { limit ≡ 2000 → Counts result [] }
+    ensures items { limit ≡ most_open → (marks : List Mark) → Counts result (item ∷ marks) }
+    ensures parts { limit ≡ most_open_in_labels → (marks : List Mark) → Counts result (part ∷ marks) }
+    ensures starts { limit ≡ most_open → Counts result [] }
     ensures none { result.rounds ≡ 0 }
 {
     Levels {

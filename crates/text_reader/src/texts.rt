@@ -2,6 +2,7 @@
 
 ghost use Rattle.std.specs.Prelude.{◌≡◌, ◌≤◌, ◌<◌, length, IfOk};
 ghost use Rattle.std.specs.Str.{chars, IsUtf8};
+ghost use Rattle.model_tree.specs.Limits.{most_bytes};
 ghost use Rattle.model_program.specs.Cuts.{place_after};
 ghost use Rattle.model_program.specs.Texts.{IsBadUtf8At};
 ghost use Rattle.model_grammar.specs.Wrong.{place_of};
@@ -13,6 +14,9 @@ use crate::nesting::nested;
 use fast_fault::{Code, Memory, Pos, Refusal};
 use fast_lex::{Lexed, Token, place_behind, tokens};
 use std::alloc::Global;
+
+/// Bytes of a text.
+const MOST_BYTES: usize = 1_048_576;
 
 /// Why no text was read.
 #[derive(Debug, Drop)]
@@ -38,10 +42,10 @@ pub(crate) fn refused(code: Code, place: Pos) -> ReadStop
 pub(crate) fn text_of<'t>(bytes: &'t [u8]) -> Result<&'t str, ReadStop>
     ensures same { IfOk result (λ text. text.now ≡ bytes.now) }
     ensures encoded { IfOk result (λ _. IsUtf8 bytes.now) }
-    ensures short { IfOk result (λ _. length bytes.now ≤ 1048576) }
+    ensures short { IfOk result (λ _. length bytes.now ≤ most_bytes) }
     ensures refused { IfRefused result (λ refusal. IsEarlyRefusal bytes.now refusal.code refusal.place) }
 {
-    if bytes.len() > 1_048_576 {
+    if bytes.len() > MOST_BYTES {
         return Err(refused(Code::TooLong, start()));
     }
     match str::from_utf8(bytes) {
@@ -56,7 +60,7 @@ pub(crate) fn text_of<'t>(bytes: &'t [u8]) -> Result<&'t str, ReadStop>
 
 /// The tokens of a text, none of which is nested too deep.
 pub(crate) fn tokens_of<'t>(alloc: Global, text: &'t str) -> Result<Vec<Token<'t>>, ReadStop>
-    requires { length text.now ≤ 1048576 }
+    requires { length text.now ≤ most_bytes }
     ensures are { IfOk result (λ found. AreShallowTokens text.now (lexemes found.items)) }
     ensures refused { IfRefused result (λ refusal. IsEarlyRefusal text.now refusal.code refusal.place) }
 {
@@ -73,7 +77,7 @@ pub(crate) fn tokens_of<'t>(alloc: Global, text: &'t str) -> Result<Vec<Token<'t
 
 /// The place of a token of the text, or of its end behind the last one.
 pub(crate) fn place_at(text: &str, found: &[Token], index: usize) -> Pos
-    requires { length text.now ≤ 1048576 }
+    requires { length text.now ≤ most_bytes }
     ensures { result ≡ place_of index (lexemes found.now) (place_after (chars text.now)) }
 {
     match found.get(index) {

@@ -1,6 +1,7 @@
 -- Constants that are labels.
 use Rattle.std.specs.Prelude.{Bool, false, not, nat_lt, List, ◌++◌, Option, Some, None, length, encode_utf8_all}
 use Rattle.fast_fault.specs.declared.refusal.Refusal.{Refusal}
+use Rattle.model_tree.specs.Limits.{longest_text}
 use Rattle.model_tree.specs.Label.{Field, whole, truth, text}
 use Rattle.model_tree.specs.Signature.{PlainField, sort_of}
 use Rattle.model_grammar.specs.Syntax.{Expr}
@@ -19,7 +20,7 @@ meant_by (Truth b) = truth b
 abbrev pub is_long : Field → Bool
 is_long (whole n) = false
 is_long (truth b) = false
-is_long (text t) = nat_lt 4096 (length (encode_utf8_all t))
+is_long (text t) = nat_lt longest_text (length (encode_utf8_all t))
 
 -- whether there is a field for it that is of another sort
 abbrev pub is_misplaced : Option PlainField → Field → Bool

@@ -21,6 +21,9 @@ use fast_tree::{FieldOf, Label, Sort};
 use std::alloc::Global;
 use tree_reader::{Constant, Value};
 
+/// Bytes of a text in a label.
+const LONGEST_TEXT: usize = 4_096;
+
 fn is_of_sort(value: &Value, sort: Sort) -> bool
     ensures { result ≡ same_sort (sort_of (meant_by value.now)) (plain_sort sort) }
 {
@@ -53,7 +56,7 @@ fn is_long(value: &Value) -> bool
     ensures { result ≡ is_long (meant_by value.now) }
 {
     match value {
-        Value::Text(text) => text.as_str().len() > 4096,
+        Value::Text(text) => text.as_str().len() > LONGEST_TEXT,
         Value::Number(_) | Value::Truth(_) => false,
     }
 }

@@ -2,6 +2,7 @@
 use Rattle.std.proofs.Common.{◌≡◌, ◌≤◌, ◌<◌, inl, inr, ℕ, suc, true, ◌&&◌, List, [], Option, Some, None, length, refl, sym, ap, ap₂, subst, ◌∙◌, arith}
 use Rattle.std.specs.Prelude.{is_some}
 use Rattle.fast_fault.specs.declared.place.Pos.{Pos}
+use Rattle.model_tree.specs.Limits.{most_nodes, greatest_depth}
 use Rattle.model_tree.specs.Label.{row}
 use Rattle.model_tree.specs.Label as model
 use Rattle.model_tree.specs.Tree.{node, Trees, no_trees, tree, list_of, trees_of, LabelTree}
@@ -98,7 +99,7 @@ module _ (items : List Item) (type : List ℕ) where
     no_literal have = literal_value None have None have.held
 
     -- it is made
-    pub made_literal : (b : Below) (v : Measured) → HaveValues items printed signature xs room (Some b) → b.depth ≤ 2000 → IsAbove signature name.text labels b v → HasValue items printed signature (literal name labels xs) room (Some v)
+    pub made_literal : (b : Below) (v : Measured) → HaveValues items printed signature xs room (Some b) → b.depth ≤ greatest_depth → IsAbove signature name.text labels b v → HasValue items printed signature (literal name labels xs) room (Some v)
     made_literal b v have shallow made = literal_value (Some b) have (Some v) (record {
       same = made.tree is.number is.found ∙ ap (λ ts. node is.number (made_label [] [] labels (row [])) (trees_of ts)) have.held.same;
       nodes = made.nodes ∙ have.held.nodes;
@@ -108,11 +109,11 @@ module _ (items : List Item) (type : List ℕ) where
     })
 
     -- it is too deep
-    pub deep_literal : (most : ℕ) (b : Below) → HaveValues items printed signature xs room (Some b) → 2000 < b.depth → IsValueStop items printed most signature (literal name labels xs) TooLarge
+    pub deep_literal : (most : ℕ) (b : Below) → HaveValues items printed signature xs room (Some b) → greatest_depth < b.depth → IsValueStop items printed most signature (literal name labels xs) TooLarge
     deep_literal most b have deep = inr (inl (above (Some b) have, above_is (Some b) have, inr (omega (arith, have.held.levels, deep))))
 
 -- a value that is held is in limits
-module _ (items : List Item) (printed : List Printed) (signature : PlainSignature) (x : X) (v : Measured) (has : HasValue items printed signature x 1048576 (Some v)) where
+module _ (items : List Item) (printed : List Printed) (signature : PlainSignature) (x : X) (v : Measured) (has : HasValue items printed signature x most_nodes (Some v)) where
   pub value_is : IsValue items printed signature x (meant v.tree)
   value_is = subst (IsValue items printed signature x) (sym has.held.same) has.is
 

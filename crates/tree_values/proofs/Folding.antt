@@ -1,6 +1,7 @@
 -- Values of the first of several expressions, and of all once the others have some.
-use Rattle.std.proofs.Common.{◌≤◌, ℕ, List, [], ◌∷◌, ◌++◌, Option, Some, None, append-nil, append_assoc, refl, sym, subst, arith}
+use Rattle.std.proofs.Common.{◌≤◌, ℕ, suc, List, [], ◌∷◌, ◌++◌, Option, Some, None, append-nil, append_assoc, refl, sym, subst, arith}
 use Rattle.std.specs.Prelude.{IfSome}
+use Rattle.model_tree.specs.Limits.{most_nodes, greatest_depth}
 use Rattle.model_tree.specs.Tree.{trees_of, LabelTree}
 use Rattle.model_tree.specs.Signature.{PlainSignature}
 use Rattle.model_grammar.specs.Syntax.{X, named, one, two, literal, Xs, no_x, and_x, Item}
@@ -39,7 +40,7 @@ module _ (items : List Item) (printed : List Printed) (signature : PlainSignatur
   }
 
 -- what is held is within bounds
-pub below_bounds : (room : ℕ) → room ≤ 1048576 → (ts : List LabelTree) (b : Option Below) → AreHeld room ts b → IfSome b (λ c. (c.nodes ≤ 1048576) × (c.depth ≤ 2001))
+pub below_bounds : (room : ℕ) → room ≤ most_nodes → (ts : List LabelTree) (b : Option Below) → AreHeld room ts b → IfSome b (λ c. (c.nodes ≤ most_nodes) × (c.depth ≤ suc greatest_depth))
 below_bounds room low ts None held = tt
 below_bounds room low ts (Some b) held = (omega (arith, held.fits, low), held.shallow)
 
@@ -51,7 +52,7 @@ pub left_low : (room most : ℕ) → room ≤ most → (b : Option Below) → le
 left_low room most low None = omega arith
 left_low room most low (Some b) = omega (arith, low)
 
-pub value_bounds : (room : ℕ) → room ≤ 1048576 → (t : LabelTree) (v : Option Measured) → IsHeld room t v → IfSome v (λ m. (m.nodes ≤ 1048576) × (m.depth ≤ 2000))
+pub value_bounds : (room : ℕ) → room ≤ most_nodes → (t : LabelTree) (v : Option Measured) → IsHeld room t v → IfSome v (λ m. (m.nodes ≤ most_nodes) × (m.depth ≤ greatest_depth))
 value_bounds room low t None held = tt
 value_bounds room low t (Some v) held = (omega (arith, held.fits, low), held.shallow)
 

@@ -1,7 +1,8 @@
 -- Literals within one another, from which the value of the outermost comes.
-use Rattle.std.proofs.Common.{Bor, ◌≡◌, ◌≤◌, inl, inr, ℕ, true, List, [], ◌∷◌, ◌++◌, length, reverse, Option, Some, None, refl, sym, ap, subst, ◌∙◌, arith}
+use Rattle.std.proofs.Common.{Bor, ◌≡◌, ◌≤◌, inl, inr, ℕ, suc, true, List, [], ◌∷◌, ◌++◌, length, reverse, Option, Some, None, refl, sym, ap, subst, ◌∙◌, arith}
 use Rattle.std.proofs.lemmas.List.{reverse-append}
 use Rattle.std.specs.Prelude.{IfSome, is_some, map}
+use Rattle.model_tree.specs.Limits.{most_nodes, greatest_depth}
 use Rattle.model_program.specs.Syntax.{Name}
 use Rattle.model_grammar.specs.Syntax.{Expr, X, literal, Xs, no_x, and_x}
 use Rattle.model_names.specs.Declared.{find_type}
@@ -191,12 +192,12 @@ module _ (g : Given) (of : List ℕ) (x : X) (room : ℕ) where
         ) in
         subst (λ k. IsReached g of x room ns (Part k)) (sym more.same) part
 
-    module _ (given : IsGiven g) (small : room ≤ 1048576) where
-      room_small : n.room ≤ 1048576
-      room_small = inside_room 1048576 small ns (literal_of n reached.2.0) n.room reached.2.3
+    module _ (given : IsGiven g) (small : room ≤ most_nodes) where
+      room_small : n.room ≤ most_nodes
+      room_small = inside_room most_nodes small ns (literal_of n reached.2.0) n.room reached.2.3
 
-      pub joined_below : IfSome n.below (λ b. (b.nodes ≤ 1048576) × (b.depth ≤ 2001))
+      pub joined_below : IfSome n.below (λ b. (b.nodes ≤ most_nodes) × (b.depth ≤ suc greatest_depth))
       joined_below = let so_far = reached.2.2.values given.printed given.told in below_bounds n.room room_small so_far.trees n.below so_far.held
 
-      pub joined_value : IfSome v (λ m. (m.nodes ≤ 1048576) × (m.depth ≤ 2000))
-      joined_value = let has = reached.3 given.printed given.told in value_bounds reached.1 (inside_room 1048576 small (n ∷ ns) reached.0 reached.1 reached.2) has.tree v has.held
+      pub joined_value : IfSome v (λ m. (m.nodes ≤ most_nodes) × (m.depth ≤ greatest_depth))
+      joined_value = let has = reached.3 given.printed given.told in value_bounds reached.1 (inside_room most_nodes small (n ∷ ns) reached.0 reached.1 reached.2) has.tree v has.held

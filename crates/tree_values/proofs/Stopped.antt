@@ -2,6 +2,7 @@
 use Rattle.std.proofs.Common.{◌≡◌, inl, inr, ◌||◌, ◌<◌, ℕ, Bool, true, false, List, [], ◌∷◌, ◌++◌, Contains, refl, sym, subst}
 use Rattle.std.proofs.lemmas.List.Elements.{Contains-append_left, Contains-append_right}
 use Rattle.fast_fault.specs.declared.place.Pos.{Pos}
+use Rattle.model_tree.specs.Limits.{most_nodes}
 use Rattle.model_tree.specs.Tree.{LabelTree, node_count}
 use Rattle.model_tree.specs.Scalars.{has_scalars}
 use Rattle.model_tree.specs.Signature.{PlainSignature, HasType}
@@ -166,7 +167,7 @@ module _ (items : List Item) (printed : List Printed) (most : ℕ) where
 
     -- ---- of large values
 
-    large_here : (x : X) (t : LabelTree) → IsValue items printed signature x t → 1048576 < node_count t → OfSomeTree items (HasLarge items printed) signature x
+    large_here : (x : X) (t : LabelTree) → IsValue items printed signature x t → most_nodes < node_count t → OfSomeTree items (HasLarge items printed) signature x
     large_here (named n) t is large = (t, is, inl large)
     large_here (one GetWitness place x) t is large = (t, is, inl large)
     large_here (one Complement place x) t is large = absurd is
@@ -182,7 +183,7 @@ module _ (items : List Item) (printed : List Printed) (most : ℕ) where
     large_here (two RestrictOut place x y) t is large = absurd is
     large_here (literal name labels xs) t is large = inl (t, is, inl large)
 
-    pub stop_large : (x : X) (t : LabelTree) → IsValue items printed signature x t → 1048576 < node_count t → IsValueStop items printed most signature x TooLarge
+    pub stop_large : (x : X) (t : LabelTree) → IsValue items printed signature x t → most_nodes < node_count t → IsValueStop items printed most signature x TooLarge
     stop_large x t is large = inr (large_here x t is large)
 
   -- ---- of statements

@@ -1,5 +1,6 @@
 -- Literals that are evaluated child by child.
 use Rattle.std.specs.Prelude.{◌≡◌, ◌≤◌, ◌<◌, ◌⊎◌, ℕ, true, List, [], ◌∷◌, ◌++◌, Option, Some, None, map}
+use Rattle.model_tree.specs.Limits.{greatest_depth}
 use Rattle.model_tree.specs.Tree.{trees_of, LabelTree}
 use Rattle.model_tree.specs.Kept.{are_kept}
 use Rattle.model_tree.specs.Signature.{PlainSignature, EachHasType}
@@ -39,7 +40,7 @@ pub record HasOneMore (old : OpenNode) (v : Option Measured) (new : OpenNode) : 
 abbrev pub IsNode : PlainSignature → OpenNode → Option Below → Option Measured → Type 0
 IsNode s n None v = v ≡ None
 IsNode s n (Some b) None = ⊥
-IsNode s n (Some b) (Some v) = (b.depth ≤ 2000) × IsAbove s n.name.now.text (map plain_expr n.labels.now) b v
+IsNode s n (Some b) (Some v) = (b.depth ≤ greatest_depth) × IsAbove s n.name.now.text (map plain_expr n.labels.now) b v
 
 abbrev pub IsClosed : PlainSignature → OpenNode → Option Measured → Type 0
 IsClosed s n v = IsNode s n n.below v
@@ -47,7 +48,7 @@ IsClosed s n v = IsNode s n n.below v
 -- why there is none: the trees are too deep, or memory is wanted
 abbrev pub IsUnclosed : Option Below → ValueStop → Type 0
 IsUnclosed b (Stopped s) = s ≡ Memory
-IsUnclosed b TooLarge = (c : Below) × (b ≡ Some c) × (2000 < c.depth)
+IsUnclosed b TooLarge = (c : Below) × (b ≡ Some c) × (greatest_depth < c.depth)
 IsUnclosed b stop = ⊥
 
 -- ---- which children have values

@@ -1,5 +1,6 @@
 -- Values of tree expressions, as they are evaluated.
 use Rattle.std.specs.Prelude.{◌≡◌, ◌≤◌, ◌<◌, ◌+◌, ◌-◌, ℕ, suc, true, max, List, [], ◌∷◌, ◌++◌, Option, Some, None, map}
+use Rattle.model_tree.specs.Limits.{greatest_depth, most_classes}
 use Rattle.model_tree.specs.Label.{row}
 use Rattle.model_tree.specs.Tree.{node, trees_of, LabelTree, node_count, node_count_all, depth, depth_all}
 use Rattle.model_tree.specs.Kept.{is_kept, are_kept}
@@ -29,7 +30,7 @@ pub record IsGiven (g : Given) : Type 0 where
   pub typed : AreTypedTrees (items_in g) g.trees.now
   pub printed : List Printed
   pub told : Tells g.trees.now printed
-  pub shallow : g.limit ≤ 2000
+  pub shallow : g.limit ≤ most_classes
 
 -- ---- trees where there is room for so many nodes
 
@@ -39,7 +40,7 @@ pub record IsMeasured (room : ℕ) (t : LabelTree) (v : Measured) : Type 0 where
   pub nodes : v.nodes ≡ node_count t
   pub levels : v.depth ≡ depth t
   pub fits : v.nodes ≤ room
-  pub shallow : v.depth ≤ 2000
+  pub shallow : v.depth ≤ greatest_depth
 
 -- that, or nothing, for want of room
 abbrev pub IsHeld : ℕ → LabelTree → Option Measured → Type 0
@@ -52,7 +53,7 @@ pub record IsBelow (room : ℕ) (ts : List LabelTree) (b : Below) : Type 0 where
   pub nodes : b.nodes ≡ suc (node_count_all (trees_of ts))
   pub levels : b.depth ≡ suc (depth_all (trees_of ts))
   pub fits : b.nodes ≤ room
-  pub shallow : b.depth ≤ 2001
+  pub shallow : b.depth ≤ suc greatest_depth
 
 abbrev pub AreHeld : ℕ → List LabelTree → Option Below → Type 0
 AreHeld room ts None = room < suc (node_count_all (trees_of ts))

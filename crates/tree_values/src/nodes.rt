@@ -1,6 +1,7 @@
 //! Literals whose children are evaluated one after the other.
 
-ghost use Rattle.std.specs.Prelude.{◌≡◌, ◌≤◌, Some, IfOk, IfErr, IfSome, map, is_some, true};
+ghost use Rattle.std.specs.Prelude.{◌≡◌, ◌≤◌, suc, Some, IfOk, IfErr, IfSome, map, is_some, true};
+ghost use Rattle.model_tree.specs.Limits.{most_nodes, greatest_depth};
 ghost use Rattle.fast_syntax.specs.Plain.{plain_expr};
 ghost use Rattle.fast_syntax.specs.Slices.{plain_children};
 ghost use Rattle.fast_syntax.specs.View.{plain_name};
@@ -21,6 +22,7 @@ use fast_syntax::expressions::Expr;
 use fast_syntax::items::X;
 use program_check::Checked;
 use std::alloc::Global;
+use sttr_apply::MOST_LEVELS;
 
 /// A literal some of whose children are still to be evaluated.
 #[derive(Drop)]
@@ -64,8 +66,8 @@ pub(crate) fn opened<'x>(
 
 /// The literal with the value of one more child.
 pub(crate) fn grown<'x>(node: OpenNode<'x>, value: Option<Measured>) -> Result<OpenNode<'x>, Memory>
-    requires below { IfSome node.below (λ b. (b.nodes ≤ 1048576) × (b.depth ≤ 2001)) }
-    requires value { IfSome value (λ v. (v.nodes ≤ 1048576) × (v.depth ≤ 2000)) }
+    requires below { IfSome node.below (λ b. (b.nodes ≤ most_nodes) × (b.depth ≤ suc greatest_depth)) }
+    requires value { IfSome value (λ v. (v.nodes ≤ most_nodes) × (v.depth ≤ greatest_depth)) }
     ensures { IfOk result (HasOneMore node.entry value) }
 {
     let name = node.name;
@@ -105,7 +107,7 @@ pub(crate) fn closed(
     let Some(below) = below else {
         return Ok(None);
     };
-    if below.depth > 2000 {
+    if below.depth > MOST_LEVELS {
         return Err(ValueStop::TooLarge);
     }
     let tree = literal(alloc, checked, of, &name.text, labels, below)?;

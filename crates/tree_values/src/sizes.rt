@@ -1,6 +1,7 @@
 //! Trees with their sizes.
 
-ghost use Rattle.std.specs.Prelude.{◌≡◌, ◌≤◌, [], IfOk, IfSome};
+ghost use Rattle.std.specs.Prelude.{◌≡◌, ◌≤◌, suc, [], IfOk, IfSome};
+ghost use Rattle.model_tree.specs.Limits.{most_nodes, greatest_depth};
 ghost use Rattle.fast_eval.specs.Found.{IsInLimits};
 ghost use Rattle.tree_values.specs.Trees.{meant};
 ghost use Rattle.tree_values.specs.Values.{AreHeld, IsHeld, IsJoined, left_of};
@@ -8,6 +9,7 @@ ghost use Rattle.tree_values.specs.Values.{AreHeld, IsHeld, IsJoined, left_of};
 use fast_fault::Memory;
 use fast_tree::{Label, Tree};
 use std::alloc::Global;
+use sttr_apply::MOST_LEVELS;
 
 /// A tree, and how many nodes and levels it has.
 #[derive(Drop)]
@@ -34,7 +36,7 @@ pub(crate) fn measure(room: u64, tree: Tree<Label>) -> Option<Measured>
     let Some(nodes) = tree.nodes_up_to(room) else {
         return None;
     };
-    let Some(depth) = tree.depth_up_to(2000) else {
+    let Some(depth) = tree.depth_up_to(MOST_LEVELS) else {
         unreachable!()
     };
     Some(Measured { tree, nodes, depth })
@@ -84,8 +86,8 @@ pub(crate) fn left(room: u64, below: &Option<Below>) -> u64
 
 /// One more tree below, if there is room for all.
 pub(crate) fn joined(below: Option<Below>, value: Option<Measured>) -> Result<Option<Below>, Memory>
-    requires below { IfSome below (λ b. (b.nodes ≤ 1048576) × (b.depth ≤ 2001)) }
-    requires value { IfSome value (λ v. (v.nodes ≤ 1048576) × (v.depth ≤ 2000)) }
+    requires below { IfSome below (λ b. (b.nodes ≤ most_nodes) × (b.depth ≤ suc greatest_depth)) }
+    requires value { IfSome value (λ v. (v.nodes ≤ most_nodes) × (v.depth ≤ greatest_depth)) }
     ensures { IfOk result (IsJoined below value) }
 {
     let Some(below) = below else {

@@ -2,6 +2,7 @@
 
 ghost use Rattle.std.specs.Prelude.{◌≡◌, ◌≤◌, ℕ, List, Some, IfOk, IfErr, is_some, true};
 ghost use Rattle.fast_syntax.specs.Plain.{plain_x};
+ghost use Rattle.model_tree.specs.Limits.{most_nodes};
 ghost use Rattle.model_tree.specs.Tree.{LabelTree};
 ghost use Rattle.model_tree.specs.Signature.{PlainSignature, HasType};
 ghost use Rattle.model_grammar.specs.Syntax as plain;
@@ -30,6 +31,7 @@ use model_grammar::Op1;
 use program_check::Checked;
 use sta_ops::Found;
 use std::alloc::Global;
+use sttr_apply::MOST_NODES;
 
 /// What tree expressions are evaluated with.
 #[derive(Drop)]
@@ -92,7 +94,7 @@ fn evaluate(
     requires built { AreBuilt (items_in given.now) built.old }
     requires made { IsTreeOn (items_in given.now) of.now (plain_x x.now) }
     requires known { IsTreeKnown (items_in given.now) given.now.trees.now built.old (plain_x x.now) }
-    requires small { room ≤ 1048576 }
+    requires small { room ≤ most_nodes }
     ensures built { AreBuilt (items_in given.now) built.new }
     ensures grown { IsGrown built.old built.new }
     ensures value { IfOk result (λ v. (printed : List Printed) → Tells given.now.trees.now printed → HasValue (items_in given.now) printed (type_in given.now of.now) (plain_x x.now) room v) }
@@ -135,7 +137,7 @@ fn begin<'x>(
     requires built { AreBuilt (items_in given.now) built.old }
     requires made { IsTreeOn (items_in given.now) of.now (plain_x x.now) }
     requires known { IsTreeKnown (items_in given.now) given.now.trees.now built.old (plain_x x.now) }
-    requires small { room ≤ 1048576 }
+    requires small { room ≤ most_nodes }
     ensures built { AreBuilt (items_in given.now) built.new }
     ensures grown { IsGrown built.old built.new }
     ensures begun { IfOk result (IsBegun given.now of.now (plain_x x.now) room) }
@@ -172,7 +174,7 @@ fn apply(
     ensures shown { IfErr result (IsStopTyped (items_in given.now)) }
 {
     let ends = ends_of(given.checked, f);
-    let Some(value) = evaluate(alloc, given, built, ends.from, 1048576, x)? else {
+    let Some(value) = evaluate(alloc, given, built, ends.from, MOST_NODES, x)? else {
         return Err(ValueStop::TooLarge);
     };
     only_output(alloc, given, built, room, f, value.tree)
@@ -198,7 +200,7 @@ pub fn value(
     ensures stop { IfErr result (λ s. (printed : List Printed) → Tells given.now.trees.now printed → IsValueStop (items_in given.now) printed given.now.limit (type_in given.now of.now) (plain_x x.now) s) }
     ensures shown { IfErr result (IsStopTyped (items_in given.now)) }
 {
-    match evaluate(alloc, given, built, of, 1048576, x)? {
+    match evaluate(alloc, given, built, of, MOST_NODES, x)? {
         Some(found) => Ok(found.tree),
         None => Err(ValueStop::TooLarge),
     }

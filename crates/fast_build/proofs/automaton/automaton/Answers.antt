@@ -2,6 +2,7 @@ use Rattle.std.proofs.Common.{◌≡◌, ◌≤◌, true, map, sym, ap, ◌∙�
 use Rattle.std.specs.List.{list_all}
 use Rattle.std.proofs.lemmas.List.{length-map}
 use Rattle.std.proofs.lemmas.Simd.{map-map}
+use Rattle.model_tree.specs.Limits.{most_fields}
 use Rattle.fast_tree.specs.Signatures.{plain_signature, plain_constructor, plain_field}
 use Rattle.fast_syntax.specs.Plain.{plain_lang}
 use Rattle.sta_core.specs.Fits.{RulesFit}
@@ -23,7 +24,7 @@ states_for-requires-clause-few c =
     let t = plain_signature c.args.signature.now in
     let ls = map (λ l. plain_lang l.now) r.langs.items in
     let found = is.langs ∙ sym (map-map (λ l. Some l) (λ l. plain_lang l.now) r.langs.items) in
-    subst (λ n. n ≤ 8) (length-map c.args.signature.now.fields.items plain_field) (few_fields (items_of c.args.checked.now) c.args.checked.now.well_formed c.args.name.now r.names.keys ls c.requires.there is.reached is.closed is.once found t c.requires.typed)
+    subst (λ n. n ≤ most_fields) (length-map c.args.signature.now.fields.items plain_field) (few_fields (items_of c.args.checked.now) c.args.checked.now.well_formed c.args.name.now r.names.keys ls c.requires.there is.reached is.closed is.once found t c.requires.typed)
 
 pub states_for-requires-clause-ctors : goal.states_for-requires-clause-ctors
 states_for-requires-clause-ctors c =

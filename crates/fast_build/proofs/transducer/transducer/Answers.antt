@@ -2,6 +2,7 @@ use Rattle.std.proofs.Common.{◌≡◌, ◌≤◌, true, map, sym, ap, ◌∙�
 use Rattle.std.specs.List.{list_all}
 use Rattle.std.proofs.lemmas.List.{length-map}
 use Rattle.std.proofs.lemmas.Simd.{map-map}
+use Rattle.model_tree.specs.Limits.{most_fields}
 use Rattle.fast_tree.specs.Signatures.{plain_signature, plain_constructor, plain_field}
 use Rattle.fast_syntax.specs.Plain.{plain_lang, plain_trans}
 use Rattle.sta_core.specs.Fits.{RulesFit}
@@ -47,7 +48,7 @@ states_for-requires-clause-few c =
     let s = plain_signature c.args.from.now in
     let o = plain_signature c.args.into.now in
     let g = gathered items name c.requires.there called seeds reached c.in_ok-called.ensures seeded c.in_ok-looks.ensures in
-    subst (λ n. n ≤ 8) (length-map c.args.from.now.fields.items plain_field) (few items well name t called.names.keys ts seeds reached.names.keys ls g s o c.requires.begins c.requires.ends)
+    subst (λ n. n ≤ most_fields) (length-map c.args.from.now.fields.items plain_field) (few items well name t called.names.keys ts seeds reached.names.keys ls g s o c.requires.begins c.requires.ends)
 
 pub states_for-requires-clause-ctors : goal.states_for-requires-clause-ctors
 states_for-requires-clause-ctors c =
@@ -115,7 +116,7 @@ out_states_for-requires-clause-few c =
     let s = plain_signature c.args.from.now in
     let o = plain_signature c.args.into.now in
     let g = gathered items name c.requires.there called seeds reached c.in_ok-called.ensures seeded c.in_ok-looks.ensures in
-    subst (λ n. n ≤ 8) (length-map c.args.from.now.fields.items plain_field) (few items well name t called.names.keys ts seeds reached.names.keys ls g s o c.requires.begins c.requires.ends)
+    subst (λ n. n ≤ most_fields) (length-map c.args.from.now.fields.items plain_field) (few items well name t called.names.keys ts seeds reached.names.keys ls g s o c.requires.begins c.requires.ends)
 
 pub out_states_for-requires-clause-stand : goal.out_states_for-requires-clause-stand
 out_states_for-requires-clause-stand c =

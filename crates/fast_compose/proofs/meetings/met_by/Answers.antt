@@ -1,5 +1,6 @@
 use Rattle.std.proofs.Common.{◌≡◌, ◌≤◌, Some, None, sym, subst}
 use Rattle.std.proofs.lemmas.List.{length-map}
+use Rattle.model_tree.specs.Limits.{most_fields}
 use Rattle.model_meaning.specs.Reached.{Reaches}
 use Rattle.model_checks.proofs.SoundWhole.{sound}
 use Rattle.model_names.specs.Declared.{name_of, find_type}
@@ -29,7 +30,7 @@ unreachable-requires c =
 pub new-requires : goal.new-requires
 new-requires c =
     let items = items_of c.args.checked.now in
-    subst (λ k. k ≤ 8) (length-map c.in-Some-signature.signature.now.fields.items plain_field)
+    subst (λ k. k ≤ most_fields) (length-map c.in-Some-signature.signature.now.fields.items plain_field)
     (few_of items (plain_trans c.in-Some.own.now).from.text (sound items c.args.checked.now.well_formed) (plain_signature c.in-Some-signature.signature.now) c.in-Some-signature.ensures)
 
 pub overlap-requires : goal.overlap-requires

@@ -4,6 +4,7 @@ use Rattle.std.specs.Int.{w128, int_rem_euclid}
 use Rattle.std.proofs.lemmas.Int.{ints, to_z-of_z}
 use Rattle.std.proofs.lemmas.List.{drop_all}
 use Rattle.std.proofs.lemmas.Result.{on_ok_weaker}
+use Rattle.model_tree.specs.Limits.{greatest_divisor}
 use Rattle.model_form.specs.Form.{remainder, modulo, height, heights}
 use Rattle.model_form.specs.Sums.{add_fields}
 use Rattle.model_form.specs.Simpler.{add_open, add_all_open, add_outer, add_term, add_term_open, reduced}
@@ -24,7 +25,7 @@ add_open-overflow_mul-product t c =
     let a = c.term-item.result.coefficient in
     let h = (remainder_item c.form.inside.remainders.items c.deref-term-items.result.now c.loop-term.term-index c.term-item.result c.form.invariant.form.2 c.deref-term-items.ensures.value c.term-item.is c.loop-term-test.true).0 in
     let small : unsigned_abs a ≤ 2 ^ 31 = (let l : unsigned_abs a < 2 ^ 31 = h in omega arith) in
-    let p = small_product c.args.coefficient a 4096 (2 ^ 31) (2 ^ 43) c.requires.coefficient small (lit≤ tt) in
+    let p = small_product c.args.coefficient a greatest_divisor (2 ^ 31) (2 ^ 43) c.requires.coefficient small (lit≤ tt) in
     let back = to_z-of_z w128 c.args.coefficient c.ranges.coefficient in
     subst (FitsSigned w128) (sym (λ i. back i *ℤ held_128 a h i)) (fits_128 (c.args.coefficient *ℤ a) (omega arith))
 
@@ -63,7 +64,7 @@ add_open-loop-term-preserved t c =
     let s = plain_sum c.loop-term.sum in
     let h = (remainder_item c.form.inside.remainders.items items i it c.form.invariant.form.2 c.deref-term-items.ensures.value c.term-item.is c.loop-term-test.true).0 in
     let small : unsigned_abs it.coefficient ≤ 2 ^ 31 = (let l : unsigned_abs it.coefficient < 2 ^ 31 = h in omega arith) in
-    let p = small_product c.args.coefficient it.coefficient 4096 (2 ^ 31) (2 ^ 43) c.requires.coefficient small (lit≤ tt) in
+    let p = small_product c.args.coefficient it.coefficient greatest_divisor (2 ^ 31) (2 ^ 43) c.requires.coefficient small (lit≤ tt) in
     let fp = fits_128 (c.args.coefficient *ℤ it.coefficient) (omega arith) in
     let held = ap (λ z. to_z w128 (of_z w128 z)) (λ j. back j *ℤ held_128 it.coefficient h j) ∙ to_z-of_z w128 (c.args.coefficient *ℤ it.coefficient) fp ∙ (λ j. sym back j *ℤ it.coefficient) in
     let done = c.in_ok-add_term_open.ensures {u = tt} in

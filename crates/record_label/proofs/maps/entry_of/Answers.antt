@@ -1,6 +1,7 @@
 use Rattle.std.proofs.Common.{◌≡◌, ◌≤◌, true, length, sym, subst, ◌∙◌}
 use Rattle.std.proofs.lemmas.List.{length-map}
 use Rattle.model_label.specs.Tests.{is_text}
+use Rattle.model_tree.specs.Limits.{most_fields}
 use Rattle.model_tree.specs.Signature.{texts}
 use Rattle.label_core.specs.Formula.{plain_formula}
 use Rattle.fast_tree.specs.Signatures.{plain_signature, plain_field}
@@ -13,7 +14,7 @@ use Rattle.record_label.proofs.maps.entry_of.Goals as goal
 pub returns-in_ok-form_in_range-in-Int : goal.returns-in_ok-form_in_range-in-Int
 returns-in_ok-form_in_range-in-Int c =
     let fields = (plain_signature c.args.from.now).fields in
-    let few : length fields ≤ 8 = subst (λ k. k ≤ 8) (sym (length-map c.args.from.now.fields.items plain_field)) c.requires.few in
+    let few : length fields ≤ most_fields = subst (λ k. k ≤ most_fields) (sym (length-map c.args.from.now.fields.items plain_field)) c.requires.few in
     rw c.in-Int.is (number_entry fields few (plain_expr c.args.expr.now) c.in_ok-form_in_range-in-Int.field-0 (rw c.in-Int.is at c.requires.sorted) (c.in_ok-form_in_range-in-Int.ensures {u = tt}))
 
 pub returns-in_ok-guard_of-in-Bool : goal.returns-in_ok-guard_of-in-Bool

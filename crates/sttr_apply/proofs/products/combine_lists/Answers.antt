@@ -1,5 +1,6 @@
 use Rattle.std.proofs.Common.{◌≡◌, ◌*◌, ◌≤◌, ◌&&◌, map, length, vec_len, ap, ap₂, sym, ◌∙◌, arith}
 use Rattle.std.proofs.lemmas.Bool.Decides.{nat_tests}
+use Rattle.model_tree.specs.Limits.{most_outputs}
 use Rattle.apply_laws.specs.Meant.{meant}
 use Rattle.apply_laws.specs.Listing.{products, has_some, first_some, only_if}
 use Rattle.sttr_apply.specs.Plain.{out_cut, row_cuts}
@@ -14,7 +15,7 @@ invariant_of-result g c =
     let rows = at_some c.in_ok-rows.field-0 (λ rows. meant_rows label rows.items ≡ products (map (meant label) (map out_cut c.args.first.outs.items)) (meant_rows label c.args.rest.rows.items)) c.in-Some.rows c.in-Some.is c.in_ok-rows.ensures.rows in
     let few = rows_few label c.in-Some.rows.items c.args.first.outs.items c.args.rest.rows.items rows in
     let many : vec_len c.args.first.outs * vec_len c.args.rest.rows ≡ length c.args.first.outs.items * length c.args.rest.rows.items = ap₂ (λ m n. m * n) c.args.first.outs.ok.0 c.args.rest.rows.ok.0 in
-    let low : vec_len c.args.first.outs * vec_len c.args.rest.rows ≤ 4096 = grind (arith, nat_tests, c.if-saturating_mul-gt-MOST_OUTPUTS.false, c.saturating_mul.ensures, c.len.ensures, c.len-2.ensures) in
+    let low : vec_len c.args.first.outs * vec_len c.args.rest.rows ≤ most_outputs = grind (arith, nat_tests, c.if-saturating_mul-gt-MOST_OUTPUTS.false, c.saturating_mul.ensures, c.len.ensures, c.len-2.ensures) in
     record { few = omega (arith, few, many, low) }
 
 pub returns-in-Some : goal.returns-in-Some

@@ -1,6 +1,7 @@
 use Rattle.std.proofs.Common.{rules, ◌≡◌, ◌≤◌, List, [], ◌∷◌, length, map, reverse, None, refl, sym, ap, ap₂, subst, ◌∙◌, arith}
 use Rattle.std.proofs.lemmas.Result.{IfOk-weaker, IfErr-weaker}
 use Rattle.fast_fault.specs.declared.place.Pos.{Pos}
+use Rattle.model_tree.specs.Limits.{most_nodes}
 use Rattle.model_tree.specs.Signature.{PlainSignature, HasType}
 use Rattle.model_grammar.specs.declared.Op2.TheVariants.{Apply}
 use Rattle.model_meaning.specs.Meaning.{input_type, output_type}
@@ -169,7 +170,7 @@ evaluate-begin-requires-in-Some t c =
     let light = inside_lighter g of x room (m ∷ ns) (plain_x y) left around in
     let made = inside_on g of x room (m ∷ ns) (plain_x y) left around c.requires.made in
     let known = inside_known g of x room c.nodes.built (m ∷ ns) (plain_x y) left around (tree_known_grown items g.trees.now c.args.built.now c.nodes.built c.nodes.invariant.grown x c.requires.known) in
-    let small = subst (λ r. r ≤ 1048576) (sym c.left-space.ensures) (inside_room g of x room 1048576 c.requires.small (m ∷ ns) (plain_x y) left around) in
+    let small = subst (λ r. r ≤ most_nodes) (sym c.left-space.ensures) (inside_room g of x room most_nodes c.requires.small (m ∷ ns) (plain_x y) left around) in
     (omega (arith, light, c.decreases), (c.requires.given, (c.nodes.invariant.built, (made, (known, small)))))
 
 pub evaluate-returns-in_err-here-in-Some-clause-stop : goal.evaluate-returns-in_err-here-in-Some-clause-stop
@@ -348,7 +349,7 @@ apply-returns-in_default-clause-stop t c place signature printed told =
     let from = c.ends_of-ends.result.from.now in
     let own = type_in g from in
     let type_is = input_is items f made.0 made.1 made.2 from ends.input in
-    let has = subst (λ k. HasValue items printed k x 1048576 None) type_is (subst (HasValue items printed own x 1048576) c.in_default.is (c.in_ok-value.ensures.value printed told)) in
+    let has = subst (λ k. HasValue items printed k x most_nodes None) type_is (subst (HasValue items printed own x most_nodes) c.in_default.is (c.in_ok-value.ensures.value printed told)) in
     stop_inside items printed g.limit signature place f x TooLarge (stop_large items printed g.limit (input_type items f) x has.tree has.is has.held)
 
 pub apply-only_output-requires-clause-known : goal.apply-only_output-requires-clause-known
@@ -366,7 +367,7 @@ apply-only_output-requires-clause-typed t c =
     let own = type_in g from in
     let type_is = input_is items f made.0 made.1 made.2 from ends.input in
     let given = c.requires.given in
-    let has = subst (HasValue items given.printed own x 1048576) c.in-Some.is (c.in_ok-value.ensures.value given.printed given.told) in
+    let has = subst (HasValue items given.printed own x most_nodes) c.in-Some.is (c.in_ok-value.ensures.value given.printed given.told) in
     subst (λ k. HasType k (meant c.in-Some.value.tree)) type_is (value_typed items given.printed own x c.in-Some.value has)
 
 pub apply-only_output-requires-clause-limits : goal.apply-only_output-requires-clause-limits
@@ -376,7 +377,7 @@ apply-only_output-requires-clause-limits t c =
     let x = plain_x c.args.x.now in
     let own = type_in g c.ends_of-ends.result.from.now in
     let given = c.requires.given in
-    value_in_limits items given.printed own x c.in-Some.value (subst (HasValue items given.printed own x 1048576) c.in-Some.is (c.in_ok-value.ensures.value given.printed given.told))
+    value_in_limits items given.printed own x c.in-Some.value (subst (HasValue items given.printed own x most_nodes) c.in-Some.is (c.in_ok-value.ensures.value given.printed given.told))
 
 pub apply-returns-clause-value : goal.apply-returns-clause-value
 apply-returns-clause-value t c =
@@ -393,7 +394,7 @@ apply-returns-clause-value t c =
     IfOk-weaker c.only_output.result (HasOutput items f tree c.args.room)
     (λ v. (place : Pos) (signature : PlainSignature) (printed : List Printed) → Tells g.trees.now printed → signature ≡ output_type items f → HasValue items printed signature (two Apply place f x) c.args.room v)
     (λ v has place signature printed told of. applied_value items printed signature place f x tree c.args.room v
-    (subst (λ k. IsValue items printed k x tree) type_is (value_is items printed own x c.in-Some.value (subst (HasValue items printed own x 1048576) c.in-Some.is (c.in_ok-value.ensures.value printed told)))) has of)
+    (subst (λ k. IsValue items printed k x tree) type_is (value_is items printed own x c.in-Some.value (subst (HasValue items printed own x most_nodes) c.in-Some.is (c.in_ok-value.ensures.value printed told)))) has of)
     c.only_output.ensures.output
 
 pub apply-returns-clause-stop : goal.apply-returns-clause-stop
@@ -411,7 +412,7 @@ apply-returns-clause-stop t c =
     IfErr-weaker c.only_output.result (IsOutputStop items g.limit f tree)
     (λ s. (place : Pos) (signature : PlainSignature) (printed : List Printed) → Tells g.trees.now printed → IsValueStop items printed g.limit signature (two Apply place f x) s)
     (λ s stop place signature printed told.
-    (let has = subst (HasValue items printed own x 1048576) c.in-Some.is (c.in_ok-value.ensures.value printed told) in
+    (let has = subst (HasValue items printed own x most_nodes) c.in-Some.is (c.in_ok-value.ensures.value printed told) in
     stop_output items printed g.limit signature place f x tree (subst (λ k. IsValue items printed k x tree) type_is (value_is items printed own x c.in-Some.value has)) (value_in_limits items printed own x c.in-Some.value has) s stop))
     c.only_output.ensures.stop
 
@@ -428,5 +429,5 @@ apply-returns-clause-shown t c =
     let type_is = input_is items f made.0 made.1 made.2 from ends.input in
     let given = c.requires.given in
     let tree = meant c.in-Some.value.tree in
-    let has = subst (HasValue items given.printed own x 1048576) c.in-Some.is (c.in_ok-value.ensures.value given.printed given.told) in
+    let has = subst (HasValue items given.printed own x most_nodes) c.in-Some.is (c.in_ok-value.ensures.value given.printed given.told) in
     IfErr-weaker c.only_output.result (IsOutputStop items g.limit f tree) (IsStopTyped items) (λ s stop. output_typed items g.limit f tree (subst (λ k. HasType k tree) type_is (value_typed items given.printed own x c.in-Some.value has)) s stop) c.only_output.ensures.stop

@@ -3,6 +3,7 @@ use Rattle.std.specs.Prelude.{pos, ◌*ℤ◌, FitsSigned}
 use Rattle.std.specs.Int.{w128}
 use Rattle.std.proofs.lemmas.Int.{ints, to_z-of_z}
 use Rattle.std.proofs.lemmas.List.{drop_all}
+use Rattle.model_tree.specs.Limits.{greatest_divisor}
 use Rattle.model_form.specs.Form.{remainder}
 use Rattle.model_form.specs.Sums as model
 use Rattle.model_form.specs.Simpler.{add_all_open, add_term_open, outer, reduced}
@@ -40,7 +41,7 @@ pub add_term_open-requires-clause-divisor_few : goal.add_term_open-requires-clau
 add_term_open-requires-clause-divisor_few c =
     let here : c.loop-like.like-index < length c.args.self.now.likes.items = subst (λ ts. c.loop-like.like-index < length ts) c.deref-like-items.ensures.value c.loop-like-test.true in
     let d = (divisor_at c.requires.gathered.0 c.args.self.now.likes.items c.loop-like.like-index c.like-item.result c.requires.gathered.1.likes here).1 in
-    subst (λ (x : Like). x.divisor ≤ 4096) (sym (c.like-item.is ∙ (λ i. get_or (c.deref-like-items.ensures.value i) c.loop-like.like-index c.like-item.result))) d
+    subst (λ (x : Like). x.divisor ≤ greatest_divisor) (sym (c.like-item.is ∙ (λ i. get_or (c.deref-like-items.ensures.value i) c.loop-like.like-index c.like-item.result))) d
 
 pub add_term_open-requires-clause-inner : goal.add_term_open-requires-clause-inner
 add_term_open-requires-clause-inner c =
