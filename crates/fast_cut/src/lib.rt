@@ -15,9 +15,6 @@ use fast_tree::{Label, Tree};
 use std::alloc::Global;
 use std::cmp::Ordering;
 
-#[cfg(test)]
-mod tests;
-
 /// A part of the lent tree as it is, or a new node.
 #[cycle(cut)]
 #[derive(Drop)]

@@ -27,6 +27,3 @@ pub use status::Status;
 pub use text::Text;
 pub use texts::{Held, MemTexts, SureTexts, TakeFault, TextSource};
 pub use writer::WriterSink;
-
-#[cfg(test)]
-mod tests;

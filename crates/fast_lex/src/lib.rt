@@ -138,6 +138,3 @@ pub fn tokens<'t>(alloc: Global, text: &'t str) -> Lexed<'t>
     }
     Lexed::Tokens(found)
 }
-
-#[cfg(test)]
-mod tests;

@@ -13,6 +13,3 @@ pub use label::{Label, Value};
 pub use print::print_tree;
 pub use signature::{CtorOf, FieldOf, Signature, Sort};
 pub use tree::Tree;
-
-#[cfg(test)]
-mod tests;

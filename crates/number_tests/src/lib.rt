@@ -1,4 +1,4 @@
-//! Whole numbers: forms that are made and made simpler, systems that are looked
+//! Whole numbers: arithmetic at the ends of 128 bits, forms that are made and made simpler, systems that are looked
 //! into, and conjunctions that are decided, with answers that were found outside.
 #![tactic(auto)]
 
@@ -8,3 +8,5 @@ mod conjunctions;
 mod forms;
 #[cfg(test)]
 mod systems;
+#[cfg(test)]
+mod wide;

@@ -1,6 +1,8 @@
-//! Automata, sign rows and class tables at concrete theories: what no clause says, and each call once with ample memory.
+//! Automata, transducers, sign rows and class tables at concrete theories: what no clause says, and each call once with
+//! ample memory.
 //!
-//! It promises that an automaton it lets through fits; the tests compare tables with what is known of small languages.
+//! It promises that an automaton it lets through fits; the tests compare tables with what is known of small languages, and
+//! tell which rules use a child twice.
 #![tactic(auto)]
 
 mod fitting;
@@ -11,3 +13,5 @@ pub use fitting::checked;
 mod automata;
 #[cfg(test)]
 mod tables;
+#[cfg(test)]
+mod transducers;

@@ -6,8 +6,6 @@
 mod linear;
 mod sttr;
 mod term;
-#[cfg(test)]
-mod tests;
 
 pub use linear::{RuleNo, not_linear};
 pub use sttr::{Sttr, SttrRule, Trans};

@@ -1,5 +1,5 @@
-//! Texts that are read and printed: tables of programs and of trees, the places at which others are refused, and the canonical
-//! texts that programs are printed as, which no clause lists.
+//! Texts that are read and printed: tables of tokens, of programs and of trees, the places at which others are refused, and
+//! the canonical texts that programs are printed as, which no clause lists.
 #![tactic(auto)]
 
 #[cfg(test)]
@@ -8,5 +8,7 @@ mod items;
 mod printed;
 #[cfg(test)]
 mod refused;
+#[cfg(test)]
+mod tokens;
 #[cfg(test)]
 mod trees;

@@ -7,9 +7,6 @@ ghost use Rattle.std.specs.Int.{w128, IsGcd, int_rem_euclid};
 ghost use Rattle.std.specs.Option.{SomeIff};
 ghost use Rattle.math_int.specs.Whole.{IsFloor, IsLcm};
 
-#[cfg(test)]
-mod tests;
-
 /// The sum.
 pub fn add(a: i128, b: i128) -> Option<i128>
     ensures { SomeIff result (FitsSigned w128 (a +ℤ b)) (a +ℤ b) }

@@ -1,4 +1,6 @@
-use crate::{add, div_floor, gcd, lcm, mul, rem, sub};
+//! Whole numbers of 128 bits: where sums and products end, and the signs of remainders, quotients, divisors and multiples.
+
+use wide_num::{add, div_floor, gcd, lcm, mul, rem, sub};
 
 #[test]
 fn sums_and_products_end_at_128_bits(rt: HostRuntime) {

@@ -1,11 +1,13 @@
+//! Trees: what they are printed as, copies, and the order of labels.
+
 ghost use Rattle.std.specs.Prelude.{◌≡◌, IfOk, [], ◌∷◌, map};
 ghost use Rattle.model_tree.specs.Tree.{relabel};
 ghost use Rattle.model_tree.specs.Signature.{HasType, ranks_of, sorts_of};
 ghost use Rattle.fast_tree.specs.Entries.{label_meaning};
 ghost use Rattle.fast_tree.specs.Signatures.{plain_field, plain_signature};
 
-use crate::{CtorOf, FieldOf, Label, Signature, Sort, Tree, Value, print_tree};
 use fast_fault::{Memory, Text};
+use fast_tree::{CtorOf, FieldOf, Label, Signature, Sort, Tree, Value, print_tree};
 use std::alloc::Global;
 use std::cmp::Ordering;
 use std::test::Fail;

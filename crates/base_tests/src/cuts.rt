@@ -1,4 +1,6 @@
-use crate::{Cut, CutNode};
+//! Trees over parts of a lent tree: their sizes, their copies and their order.
+
+use fast_cut::{Cut, CutNode};
 use fast_fault::Memory;
 use fast_tree::{Label, Tree, Value};
 use std::alloc::Global;

@@ -1,9 +1,11 @@
-use crate::{RuleNo, Sttr, SttrRule, Term, not_linear};
+//! Transducers: which rule is the first that uses a child twice.
+
 use fast_fault::Memory;
 use label_core::Formula;
 use sta_core::{Sta, StaRule};
 use std::alloc::Global;
 use std::test::Fail;
+use sttr_core::{RuleNo, Sttr, SttrRule, Term, not_linear};
 
 /// A node over calls of state 0 on these children.
 fn calls(alloc: Global, children: &[u32]) -> Result<Term<u8>, Memory> {

@@ -1,7 +1,7 @@
 use Rattle.std.proofs.Common.{refl, arith, [], ◌∷◌}
 use Rattle.std.specs.Str.{chars}
 use Rattle.model_program.specs.Quotes.{plain, short, long, unit, no_units, AreUnits}
-use Rattle.fast_lex.proofs.tests.reads_values.Goals as goal
+use Rattle.text_tests.proofs.tokens.reads_values.Goals as goal
 
 pub number_value-requires-clause-all : goal.number_value-requires-clause-all
 unfolding chars

@@ -1,4 +1,6 @@
-use crate::{Kind, Lexed, Word, number_value, quoted_value, tokens};
+//! Tokens: their kinds, texts and places, where a text stops, and what numbers and quoted texts stand for.
+
+use fast_lex::{Kind, Lexed, Word, number_value, quoted_value, tokens};
 use std::alloc::Global;
 use std::test::Fail;
 
