@@ -19,13 +19,14 @@ either_of : {A B C E : Type 0} → (A → C) → (B → E) → A ⊎ B → C ⊎
 either_of f g (inl a) = inl (f a)
 either_of f g (inr b) = inr (g b)
 
-module _ {L : Type 0} (cap : ℕ) (ranks : List ℕ) (D : L → Type 0) (rules : List (List (Rule L))) (values : ℕ → List L) (found : List (Found L)) (m : ℕ)
-    (covers : Covers ranks D rules values) (least : Each (IsLeast cap ranks D rules) found) (bound : CostsAtLeast cap ranks D rules values found m) where
-  -- numbers of found sets for the children, where the total of their nodes is at most that of the children
-  abbrev Numbers : Trees L → Type 0
-  Numbers ts = (ks : List ℕ) × Each (λ k. k < length found) ks × (rows_at found ks ≡ sets_of rules ts) × (total (nodes_at found ks) ≤ node_count_all ts)
+-- numbers of found sets for the children, where the total of their nodes is at most that of the children
+abbrev pub Numbers : {L : Type 0} → List (List (Rule L)) → List (Found L) → Trees L → Type 0
+Numbers rules found ts = (ks : List ℕ) × Each (λ k. k < length found) ks × (rows_at found ks ≡ sets_of rules ts) × (total (nodes_at found ks) ≤ node_count_all ts)
 
-  join : (t : Tree L) (ts : Trees L) → Fits ranks D t → Contains (rows_of found) (set_of rules t) ⊎ (m ≤ node_count t) → Numbers ts ⊎ (m ≤ node_count_all ts) → Numbers (tree t ts) ⊎ (m ≤ node_count_all (tree t ts))
+-- each node over children with found sets has a found set, or at least m nodes
+module _ {L : Type 0} (cap : ℕ) (ranks : List ℕ) (D : L → Type 0) (rules : List (List (Rule L))) (found : List (Found L)) (m : ℕ) (least : Each (IsLeast cap ranks D rules) found)
+    (root : (c : ℕ) (l : L) (ts : Trees L) → c < length ranks → D l → width ts ≡ get_or ranks c 0 → Numbers rules found ts → Contains (rows_of found) (set_of rules (node c l ts)) ⊎ (m ≤ node_count (node c l ts))) where
+  join : (t : Tree L) (ts : Trees L) → Fits ranks D t → Contains (rows_of found) (set_of rules t) ⊎ (m ≤ node_count t) → Numbers rules found ts ⊎ (m ≤ node_count_all ts) → Numbers rules found (tree t ts) ⊎ (m ≤ node_count_all (tree t ts))
   join t ts f (inr b) h = inr (omega arith)
   join t ts f (inl a) (inr b) = inr (omega arith)
   join t ts f (inl a) (inl b) =
@@ -37,25 +38,31 @@ module _ {L : Type 0} (cap : ℕ) (ranks : List ℕ) (D : L → Type 0) (rules :
       let here : get_or (counts_of found) k 0 ≤ node_count t = least_at cap ranks D rules found k low' least t f (sym at) in
       inl (k ∷ ks, (low', lows), ap₂ (λ x y. x ∷ y) at are, omega arith)
 
-  root : (c : ℕ) (l v : L) (ts : Trees L) → c < length ranks → Contains (values c) v → step rules c v (sets_of rules ts) ≡ step rules c l (sets_of rules ts) → width ts ≡ get_or ranks c 0
-      → Numbers ts ⊎ (m ≤ node_count_all ts) → Contains (rows_of found) (set_of rules (node c l ts)) ⊎ (m ≤ node_count (node c l ts))
-  root c l v ts low given same wide (inr big) = inr (omega arith)
-  root c l v ts low given same wide (inl numbers) =
-      let (ks, lows, are, few) = numbers in
-      let n : length ks ≡ get_or ranks c 0 = sym (length-map ks (λ k. get_or (rows_of found) k [])) ∙ ap length are ∙ width_sets rules ts ∙ wide in
-      either_of (subst (Contains (rows_of found)) (ap (step rules c v) are ∙ same)) (λ b. omega arith) (bound c low ks lows n v given)
+  at_root : (c : ℕ) (l : L) (ts : Trees L) → c < length ranks → D l → width ts ≡ get_or ranks c 0 → Numbers rules found ts ⊎ (m ≤ node_count_all ts) → Contains (rows_of found) (set_of rules (node c l ts)) ⊎ (m ≤ node_count (node c l ts))
+  at_root c l ts low given wide (inr big) = inr (omega arith)
+  at_root c l ts low given wide (inl numbers) = root c l ts low given wide numbers
 
   mutual
-    -- each tree has a found set, or at least m nodes
-    pub found_or_large : (t : Tree L) → Fits ranks D t → Contains (rows_of found) (set_of rules t) ⊎ (m ≤ node_count t)
-    found_or_large (node c l ts) f =
-        let (low, is_label, wide, rest) = f in
-        let (v, given, agree) = covers c low l is_label in
-        root c l v ts low given (step_agree c l v (sets_of rules ts) rules agree) wide (all_found_or_large ts rest)
+    -- so has each tree
+    pub found_by_roots : (t : Tree L) → Fits ranks D t → Contains (rows_of found) (set_of rules t) ⊎ (m ≤ node_count t)
+    found_by_roots (node c l ts) f = let (low, is_label, wide, rest) = f in at_root c l ts low is_label wide (all_found_by_roots ts rest)
 
-    all_found_or_large : (ts : Trees L) → FitsAll ranks D ts → Numbers ts ⊎ (m ≤ node_count_all ts)
-    all_found_or_large no_trees f = inl ([], tt, refl, omega arith)
-    all_found_or_large (tree t ts) f = join t ts f.0 (found_or_large t f.0) (all_found_or_large ts f.1)
+    all_found_by_roots : (ts : Trees L) → FitsAll ranks D ts → Numbers rules found ts ⊎ (m ≤ node_count_all ts)
+    all_found_by_roots no_trees f = inl ([], tt, refl, omega arith)
+    all_found_by_roots (tree t ts) f = join t ts f.0 (found_by_roots t f.0) (all_found_by_roots ts f.1)
+
+module _ {L : Type 0} (cap : ℕ) (ranks : List ℕ) (D : L → Type 0) (rules : List (List (Rule L))) (values : ℕ → List L) (found : List (Found L)) (m : ℕ)
+    (covers : Covers ranks D rules values) (least : Each (IsLeast cap ranks D rules) found) (bound : CostsAtLeast cap ranks D rules values found m) where
+  root : (c : ℕ) (l : L) (ts : Trees L) → c < length ranks → D l → width ts ≡ get_or ranks c 0 → Numbers rules found ts → Contains (rows_of found) (set_of rules (node c l ts)) ⊎ (m ≤ node_count (node c l ts))
+  root c l ts low is_label wide numbers =
+      let (v, given, agree) = covers c low l is_label in
+      let (ks, lows, are, few) = numbers in
+      let n : length ks ≡ get_or ranks c 0 = sym (length-map ks (λ k. get_or (rows_of found) k [])) ∙ ap length are ∙ width_sets rules ts ∙ wide in
+      either_of (subst (Contains (rows_of found)) (ap (step rules c v) are ∙ step_agree c l v (sets_of rules ts) rules agree)) (λ b. omega arith) (bound c low ks lows n v given)
+
+  -- each tree has a found set, or at least m nodes
+  pub found_or_large : (t : Tree L) → Fits ranks D t → Contains (rows_of found) (set_of rules t) ⊎ (m ≤ node_count t)
+  found_or_large = found_by_roots cap ranks D rules found m least root
 
 pub each_push : {X : Type 0} (P : X → Type 0) (xs : List X) (y : X) → Each P xs → P y → Each P (xs ++ y ∷ [])
 each_push P [] y h p = (p, tt)

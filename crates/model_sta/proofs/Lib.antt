@@ -8,3 +8,4 @@ pub mod Beside
 pub mod Told
 pub mod TreeOrder
 pub mod Counts
+pub mod Tabled

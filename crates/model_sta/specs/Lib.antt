@@ -11,3 +11,4 @@ pub mod Told
 pub mod Contexts
 pub mod Loads
 pub mod Together
+pub mod Tabled

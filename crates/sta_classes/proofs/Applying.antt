@@ -15,7 +15,7 @@ use Rattle.sta_classes.specs.Applying.{plain_owned, is_fixed, are_fixed, truth_a
 use Rattle.sta_classes.specs.Bits.{both}
 use Rattle.sta_classes.specs.Rules.{plain_rules, meaning_of}
 use Rattle.sta_classes.specs.declared.rules.Owned.{Owned}
-use Rattle.sta_classes.proofs.Members.{bool_same, both as both_true, join, any_member, any_true}
+use Rattle.sta_theory.proofs.Lists.{bool_same, both as both_true, join, any_member, any_true}
 use Rattle.sta_classes.proofs.Rows.{contains_map, contains_unmap}
 
 -- one more child

@@ -1,5 +1,5 @@
 -- Facts on bits of words.
-use Rattle.std.proofs.Common.{ℕ, zero, suc, ◌≡◌, ◌<◌, ◌≤◌, ◌+◌, ◌*◌, ◌/◌, ◌%◌, ◌^◌, ◌==◌, Bool, true, false, cond, List, [], ◌∷◌, get_or, set, length, replicate, refl, sym, ap, ap₂, subst, ◌∙◌, arith, eqb-true, eq-eqb, inl, inr, w64}
+use Rattle.std.proofs.Common.{ℕ, zero, suc, ◌≡◌, ◌<◌, ◌≤◌, ◌+◌, ◌*◌, ◌/◌, ◌%◌, ◌^◌, ◌==◌, Bool, true, false, cond, List, ◌∷◌, get_or, set, length, replicate, refl, sym, ap, ap₂, subst, ◌∙◌, arith, eqb-true, eq-eqb, inl, inr, w64}
 use Rattle.std.specs.Prelude.{bit_or}
 use Rattle.std.specs.Int.{bit_at}
 use Rattle.std.proofs.lemmas.Bool.{cases_lt, cases_eq}
@@ -13,23 +13,9 @@ use Rattle.std.specs.Cmp.Lexicographic.{pointwise}
 use Rattle.std.proofs.lemmas.Slice.Eq.{slice_eq-Decides}
 use Rattle.std.proofs.lemmas.Bool.Decides.{same_from_decides}
 use Rattle.std.specs.Prelude.{nat_eq}
-use Rattle.sta_classes.specs.Bits.{tabulate, bits_of, word_of, words_of}
-
-pub tabulate_length : {X : Type 0} (n : ℕ) (f : ℕ → X) → length (tabulate n f) ≡ n
-tabulate_length zero f = refl
-tabulate_length (suc n) f = ap suc (tabulate_length n (λ i. f (suc i)))
-
-pub tabulate_at : {X : Type 0} (n : ℕ) (f : ℕ → X) (i : ℕ) (d : X) → i < n → get_or (tabulate n f) i d ≡ f i
-tabulate_at zero f i d low = absurd (omega arith)
-tabulate_at (suc n) f zero d low = refl
-tabulate_at (suc n) f (suc i) d low = tabulate_at n (λ j. f (suc j)) i d (omega arith)
-
--- a list is one by its length and what stands at each place
-pub tabulated : {X : Type 0} (xs : List X) (n : ℕ) (f : ℕ → X) (d : X) → length xs ≡ n → ((i : ℕ) → i < n → get_or xs i d ≡ f i) → xs ≡ tabulate n f
-tabulated [] zero f d e h = refl
-tabulated [] (suc n) f d e h = absurd (omega (arith, e))
-tabulated (x ∷ xs) zero f d e h = absurd (omega (arith, e))
-tabulated (x ∷ xs) (suc n) f d e h = ap₂ (λ y ys. y ∷ ys) (h 0 (omega arith)) (tabulated xs n (λ i. f (suc i)) d (omega (arith, e)) (λ i low. h (suc i) (omega arith)))
+use Rattle.model_sta.specs.Tabled.{tabulate}
+use Rattle.model_sta.proofs.Tabled.{tabulate_length, tabulate_at, tabulated}
+use Rattle.sta_classes.specs.Bits.{bits_of, word_of, words_of}
 
 one_below : (n w : ℕ) (b : Bool) → w < 2 ^ n → cond b 1 0 + 2 * w < 2 ^ suc n
 one_below n w true h = omega (arith, h, pow-suc 2 n)

@@ -5,9 +5,9 @@ use Rattle.model_tree.specs.Label.{Label}
 use Rattle.model_sta.specs.Sets.{has, step}
 use Rattle.model_sta.specs.Least.{rows_of, rows_at}
 use Rattle.sta_core.specs.Sta.{automaton_of}
-use Rattle.sta_classes.specs.Kinds.{OneKinds}
+use Rattle.sta_theory.specs.Kinds.{OneKinds}
 use Rattle.sta_classes.specs.Plain.{KindsAreEnough}
-use Rattle.sta_classes.proofs.Alike.{step_same_kinds}
+use Rattle.sta_theory.proofs.Fires.{step_same_kinds}
 use Rattle.sta_classes.proofs.Listed.{map_at}
 
 -- children of the same kinds have the same labels for a class

@@ -11,7 +11,7 @@ use Rattle.model_sta.proofs.Reached.{same_default}
 use Rattle.sta_core.specs.Machine.{plain_rule}
 use Rattle.sta_core.specs.Sta.{rule_meaning}
 use Rattle.sta_core.specs.declared.StaRule.{StaRule}
-use Rattle.sta_classes.specs.Kinds.{IsDemanded, OneKind}
+use Rattle.sta_theory.specs.Kinds.{IsDemanded, OneKind}
 use Rattle.sta_classes.specs.Rules.{plain_rules, meaning_of}
 use Rattle.sta_classes.specs.Rows.{found_of, founds, class_rows, lists_of}
 use Rattle.sta_classes.specs.Places.{AreAsked, IsNumbered, IsNext}
@@ -22,7 +22,7 @@ use Rattle.sta_classes.specs.declared.class.Class.{Class}
 use Rattle.sta_classes.specs.declared.place.Place.{Place}
 use Rattle.sta_classes.specs.declared.pending.Pending.{Pending}
 use Rattle.sta_classes.proofs.Rows.{contains_map, contains_unmap, rows_are}
-use Rattle.sta_classes.proofs.Alike.{one_kind_is}
+use Rattle.sta_theory.proofs.Tables.{one_kind_is}
 use Rattle.sta_classes.proofs.Listed.{map_at}
 use Rattle.sta_classes.proofs.Places.{numbers_tell}
 use Rattle.sta_classes.proofs.Turns.{opened_more, opened_later}

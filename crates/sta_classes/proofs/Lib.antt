@@ -6,11 +6,9 @@ pub mod Covered
 pub mod Grown
 pub mod Loops
 pub mod Meet
-pub mod Members
 pub mod Numbers
 pub mod Places
 pub mod Choices
-pub mod Alike
 pub mod Applying
 pub mod Listed
 pub mod Offers

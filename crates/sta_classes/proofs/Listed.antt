@@ -1,32 +1,15 @@
 -- Trees over lists of kinds stand for all trees.
-use Rattle.std.proofs.Common.{ℕ, zero, suc, ◌≡◌, ◌<◌, ◌≤◌, ◌⊎◌, inl, inr, List, [], ◌∷◌, map, get_or, length, Contains, refl, sym, ap, ap₂, subst, ◌∙◌, arith}
+use Rattle.std.proofs.Common.{ℕ, zero, suc, ◌≡◌, ◌<◌, ◌≤◌, ◌⊎◌, inl, inr, List, [], ◌∷◌, map, get_or, length, Contains, refl, sym, ap, subst, ◌∙◌, arith}
 use Rattle.std.proofs.lemmas.List.{length-map}
-use Rattle.model_tree.specs.Tree.{Tree, node, Trees, no_trees, tree, node_count, node_count_all}
+use Rattle.model_tree.specs.Tree.{Tree, node, Trees, node_count}
 use Rattle.model_sta.specs.Automaton.{Rule}
-use Rattle.model_sta.specs.Sets.{Each, has, step, set_of, sets_of, width, Fits, FitsAll}
+use Rattle.model_sta.specs.Sets.{Each, has, step, set_of, width, Fits}
 use Rattle.model_sta.specs.Least.{total, Found, rows_of, counts_of, rows_at, nodes_at, cost, IsLeast}
 use Rattle.model_sta.proofs.Sets.{width_sets}
-use Rattle.model_sta.proofs.Reached.{same_default}
-use Rattle.model_sta.proofs.Least.{least_at}
-use Rattle.sta_classes.specs.Kinds.{OneKind, OneKinds}
+use Rattle.model_sta.proofs.Least.{Numbers, found_by_roots}
+use Rattle.sta_theory.specs.Kinds.{OneKind, OneKinds}
 use Rattle.sta_classes.specs.Listed.{AreCheapest, CostsOverKinds}
-use Rattle.sta_classes.proofs.Alike.{step_same_kinds}
-
--- one chosen for each place
-module _ {X Y : Type 0} (d : X) (e : Y) where
-  abbrev Chosen : (ℕ → X → Y → Type 0) → List X → List Y → Type 0
-  Chosen P xs ys = (length xs ≡ length ys) × ((j : ℕ) → j < length xs → P j (get_or xs j d) (get_or ys j e))
-
-  chosen_more : (P : ℕ → X → Y → Type 0) (x : X) (y : Y) (xs : List X) (ys : List Y) → P 0 x y → Chosen (λ j. P (suc j)) xs ys → (j : ℕ) → j < length (x ∷ xs) → P j (get_or (x ∷ xs) j d) (get_or (y ∷ ys) j e)
-  chosen_more P x y xs ys p h zero low = p
-  chosen_more P x y xs ys p h (suc j) low = h.1 j (omega arith)
-
-  pub choose : (K : X → Type 0) (P : ℕ → X → Y → Type 0) (xs : List X) → ((j : ℕ) (x : X) → j < length xs → K x → (y : Y) × P j x y) → Each K xs → (ys : List Y) × Chosen P xs ys
-  choose K P [] f k = ([], (refl, λ j low. absurd (omega arith)))
-  choose K P (x ∷ xs) f k =
-      let (y, p) = f 0 x (omega arith) k.0 in
-      let (ys, h) = choose K (λ j. P (suc j)) xs (λ j z low. f (suc j) z (omega arith)) k.1 in
-      (y ∷ ys, (ap suc h.0, chosen_more P x y xs ys p h))
+use Rattle.sta_theory.proofs.Fires.{Chosen, choose, step_same_kinds}
 
 total_less : (f : ℕ → ℕ) (xs ys : List ℕ) → length xs ≡ length ys → ((j : ℕ) → j < length xs → f (get_or ys j 0) ≤ f (get_or xs j 0)) → total (map f ys) ≤ total (map f xs)
 total_less f [] [] e h = omega arith
@@ -68,25 +51,8 @@ module _ {L : Type 0} (cap : ℕ) (ranks : List ℕ) (D : L → Type 0) (rules :
             ∙ sym (ap (λ q. has q s) (map_at (λ k. get_or (rows_of found) k []) is j 0 [] (omega (arith, low_k, h.0)))),
       )
 
-  -- numbers of found sets for the children, where the total of their nodes is at most that of the children
-  abbrev Numbers : Trees L → Type 0
-  Numbers ts = (ks : List ℕ) × Each (λ k. k < length found) ks × (rows_at found ks ≡ sets_of rules ts) × (total (nodes_at found ks) ≤ node_count_all ts)
-
-  join : (t : Tree L) (ts : Trees L) → Fits ranks D t → Contains (rows_of found) (set_of rules t) ⊎ (m ≤ node_count t) → Numbers ts ⊎ (m ≤ node_count_all ts) → Numbers (tree t ts) ⊎ (m ≤ node_count_all (tree t ts))
-  join t ts f (inr b) h = inr (omega arith)
-  join t ts f (inl a) (inr b) = inr (omega arith)
-  join t ts f (inl a) (inl b) =
-      let (k, low, is) = a in
-      let (ks, lows, are, few) = b in
-      let n : length (rows_of found) ≡ length found = length-map found (λ f. f.row) in
-      let low' : k < length found = omega arith in
-      let at : get_or (rows_of found) k [] ≡ set_of rules t = same_default (rows_of found) k [] (set_of rules t) low ∙ is in
-      let here : get_or (counts_of found) k 0 ≤ node_count t = least_at cap ranks D rules found k low' least t f (sym at) in
-      inl (k ∷ ks, (low', lows), ap₂ (λ x y. x ∷ y) at are, omega arith)
-
-  root : (c : ℕ) (l : L) (ts : Trees L) → c < length ranks → D l → width ts ≡ get_or ranks c 0 → Numbers ts ⊎ (m ≤ node_count_all ts) → Contains (rows_of found) (set_of rules (node c l ts)) ⊎ (m ≤ node_count (node c l ts))
-  root c l ts low given wide (inr big) = inr (omega arith)
-  root c l ts low given wide (inl numbers) =
+  root : (c : ℕ) (l : L) (ts : Trees L) → c < length ranks → D l → width ts ≡ get_or ranks c 0 → Numbers rules found ts → Contains (rows_of found) (set_of rules (node c l ts)) ⊎ (m ≤ node_count (node c l ts))
+  root c l ts low given wide numbers =
       let (ks, lows, are_sets, few) = numbers in
       let n : length ks ≡ get_or ranks c 0 = sym (length-map ks (λ k. get_or (rows_of found) k [])) ∙ ap length are_sets ∙ width_sets rules ts ∙ wide in
       let (is, h) = stand c low ks n lows in
@@ -97,11 +63,6 @@ module _ {L : Type 0} (cap : ℕ) (ranks : List ℕ) (D : L → Type 0) (rules :
         | inr high ↦ inr (omega (arith, high, less, few))
       ]
 
-  mutual
-    -- each tree has a found set, or at least m nodes
-    pub found_or_large : (t : Tree L) → Fits ranks D t → Contains (rows_of found) (set_of rules t) ⊎ (m ≤ node_count t)
-    found_or_large (node c l ts) f = let (low, is_label, wide, rest) = f in root c l ts low is_label wide (all_found_or_large ts rest)
-
-    all_found_or_large : (ts : Trees L) → FitsAll ranks D ts → Numbers ts ⊎ (m ≤ node_count_all ts)
-    all_found_or_large no_trees f = inl ([], tt, refl, omega arith)
-    all_found_or_large (tree t ts) f = join t ts f.0 (found_or_large t f.0) (all_found_or_large ts f.1)
+  -- each tree has a found set, or at least m nodes
+  pub found_or_large : (t : Tree L) → Fits ranks D t → Contains (rows_of found) (set_of rules t) ⊎ (m ≤ node_count t)
+  found_or_large = found_by_roots cap ranks D rules found m least root

@@ -7,7 +7,8 @@ use Rattle.std.proofs.lemmas.Bool.{cases_lt}
 use Rattle.std.proofs.lemmas.List.{get_or_past}
 use Rattle.std.proofs.lemmas.Nat.Bits.{bit_at_and, bit_at-lt, bit_at-zero}
 use Rattle.sta_classes.specs.Bits.{bits_of, both}
-use Rattle.sta_classes.proofs.Bits.{AreTidy, bits_at, bits_length, tabulated}
+use Rattle.model_sta.proofs.Tabled.{tabulated}
+use Rattle.sta_classes.proofs.Bits.{AreTidy, bits_at, bits_length}
 
 met_bit : (a b i : ℕ) → ((bit_at a i == 1) && (bit_at b i == 1)) ≡ (bit_at (bit_and a b) i == 1)
 met_bit a b i = one (bit_at a i) (bit_at b i) (bit_at-lt a i) (bit_at-lt b i) ∙ ap (λ z. z == 1) (sym (bit_at_and a b i))

@@ -20,7 +20,7 @@ use Rattle.sta_classes.specs.Pending.{kept_at, is_dearer, AreKept, IsPending, Is
 use Rattle.sta_classes.specs.declared.class.Class.{Class}
 use Rattle.sta_classes.specs.declared.class.TheConstants.{CAP}
 use Rattle.sta_classes.specs.declared.pending.Pending.{Pending}
-use Rattle.sta_classes.proofs.Members.{any_true}
+use Rattle.sta_theory.proofs.Lists.{any_true}
 use Rattle.sta_classes.proofs.Places.{old_at}
 use Rattle.sta_classes.proofs.Offers.{dearer, not_dearer, offered_none, kept_none, offered_new, kept_new, offered_less, kept_less}
 

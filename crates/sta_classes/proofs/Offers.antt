@@ -15,7 +15,7 @@ use Rattle.sta_classes.specs.Pending.{count_none, is_dearer, leaves, IsPending, 
 use Rattle.sta_classes.specs.declared.class.Class.{Class}
 use Rattle.sta_classes.specs.declared.class.TheConstants.{CAP}
 use Rattle.sta_classes.specs.declared.pending.Pending.{Pending}
-use Rattle.sta_classes.proofs.Members.{first_in, later_in}
+use Rattle.sta_theory.proofs.Lists.{first_in, later_in}
 use Rattle.sta_classes.proofs.Places.{old_at, new_at}
 
 -- ---- counts of what is none

@@ -11,7 +11,7 @@ use Rattle.std.proofs.lemmas.List.{length_push, get_or_append_left, get_or_at}
 use Rattle.model_sta.specs.Sets.{Row, has}
 use Rattle.model_sta.proofs.Reached.{same_default}
 use Rattle.sta_classes.specs.Places.{AreNumbered}
-use Rattle.sta_classes.proofs.Members.{any_true}
+use Rattle.sta_theory.proofs.Lists.{any_true}
 
 module _ {X : Type 0} (xs : List X) (y d : X) where
   pub old_at : (k : ℕ) → k < length xs → get_or (xs ++ y ∷ []) k d ≡ get_or xs k d

@@ -7,7 +7,7 @@ use Rattle.model_sta.specs.Least.{rows_of}
 use Rattle.sta_core.specs.Machine.{Machine}
 use Rattle.sta_core.specs.Sta.{automaton_of}
 use Rattle.sta_core.specs.declared.StaRule.{StaRule}
-use Rattle.sta_classes.specs.Kinds.{OneKind}
+use Rattle.sta_theory.specs.Kinds.{OneKind}
 use Rattle.sta_classes.specs.Rules.{plain_rules, meaning_of}
 use Rattle.sta_classes.specs.Rows.{plain_class, class_rows, lists_of}
 use Rattle.sta_classes.specs.Places.{AreAsked, IsNumbered}

@@ -11,7 +11,7 @@ use Rattle.sta_classes.specs.Pending.{count_none, leaves, IsPending, AreKept, Is
 use Rattle.sta_classes.specs.declared.class.Class.{Class}
 use Rattle.sta_classes.specs.declared.class.TheConstants.{CAP}
 use Rattle.sta_classes.specs.declared.pending.Pending.{Pending}
-use Rattle.sta_classes.proofs.Members.{later_in}
+use Rattle.sta_theory.proofs.Lists.{later_in}
 use Rattle.sta_classes.proofs.Offers.{count_clear, some_is, leaving, leaves_room}
 
 front_or : {X : Type 0} (x y : X) (xs : List X) → Contains (x ∷ xs) y → (x ≡ y) ⊎ Contains xs y

@@ -1,11 +1,7 @@
 -- Rows of truth values as bits of words of 64 bits.
 use Rattle.std.specs.Prelude.{ℕ, zero, suc, ◌+◌, ◌*◌, ◌/◌, ◌%◌, ◌==◌, ◌&&◌, Bool, false, List, [], ◌∷◌, get_or, length, cond}
 use Rattle.std.specs.Int.{bit_at}
-
--- f at each number below n
-abbrev pub tabulate : {X : Type 0} → ℕ → (ℕ → X) → List X
-tabulate zero f = []
-tabulate (suc n) f = f 0 ∷ tabulate n (λ i. f (suc i))
+use Rattle.model_sta.specs.Tabled.{tabulate}
 
 -- the bits below a number, each in its place of its word
 abbrev pub bits_of : ℕ → List ℕ → List Bool

@@ -6,7 +6,6 @@ pub mod RowFormula
 pub mod Guards
 pub mod Rows
 pub mod Searched
-pub mod Kinds
 pub mod Listed
 pub mod Lists
 pub mod Pending

@@ -3,7 +3,7 @@ use Rattle.std.specs.Prelude.{ℕ, ◌≡◌, ◌<◌, ◌≤◌, ◌⊎◌, Lis
 use Rattle.model_sta.specs.Automaton.{Rule}
 use Rattle.model_sta.specs.Sets.{step}
 use Rattle.model_sta.specs.Least.{Found, rows_of, counts_of, rows_at, nodes_at, cost}
-use Rattle.sta_classes.specs.Kinds.{OneKind}
+use Rattle.sta_theory.specs.Kinds.{OneKind}
 
 -- the classes that are listed for each constructor and place
 module _ {L : Type 0} (rules : List (List (Rule L))) (ranks : List ℕ) (found : List (Found L)) (listed : ℕ → ℕ → List ℕ) where

@@ -7,7 +7,7 @@ use Rattle.model_sta.specs.Sets.{Row, step}
 use Rattle.model_sta.specs.Least.{Found, rows_of, rows_at}
 use Rattle.sta_core.specs.Machine.{Machine, coded_machine}
 use Rattle.sta_core.specs.Sta.{automaton_of}
-use Rattle.sta_classes.specs.Kinds.{OneKind}
+use Rattle.sta_theory.specs.Kinds.{OneKind}
 use Rattle.sta_classes.specs.Rows.{lists_of}
 use Rattle.sta_classes.specs.declared.place.Place.{Place}
 

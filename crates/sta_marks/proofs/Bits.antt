@@ -1,5 +1,5 @@
 -- Facts on rows of bits in words.
-use Rattle.std.proofs.Common.{ℕ, zero, suc, ◌≡◌, ◌<◌, ◌≤◌, ◌+◌, ◌-◌, ◌*◌, ◌/◌, ◌%◌, ◌^◌, ◌==◌, ◌++◌, Bool, true, false, List, [], ◌∷◌, get_or, set, length, replicate, refl, sym, ap, ap₂, ◌∙◌, arith, inl, inr, w64, length-append}
+use Rattle.std.proofs.Common.{ℕ, ◌≡◌, ◌<◌, ◌≤◌, ◌+◌, ◌-◌, ◌*◌, ◌/◌, ◌%◌, ◌^◌, ◌==◌, ◌++◌, true, false, List, [], ◌∷◌, get_or, set, length, replicate, refl, sym, ap, ◌∙◌, arith, inl, inr, w64, length-append}
 use Rattle.std.specs.Prelude.{bit_or}
 use Rattle.std.specs.Int.{bit_at}
 use Rattle.std.proofs.lemmas.Bool.{cases_lt, cases_eq}
@@ -7,23 +7,9 @@ use Rattle.std.proofs.lemmas.Nat.{mul-add-lt}
 use Rattle.std.proofs.lemmas.Nat.Bits.{bit_at-zero, bit_at_set_same, bit_at_set_other}
 use Rattle.std.proofs.lemmas.List.{get_or_past, length-set, get_or-set_same, get_or-set_other, get_or_append_left, get_or-append_right, get_or_at, get_or-replicate, length-replicate}
 use Rattle.model_sta.specs.Sets.{Row, has}
-use Rattle.sta_marks.specs.Rows.{Marked, tabulate, width, bit_in, rows_in, no_state}
-
-pub tabulate_length : {X : Type 0} (n : ℕ) (f : ℕ → X) → length (tabulate n f) ≡ n
-tabulate_length zero f = refl
-tabulate_length (suc n) f = ap suc (tabulate_length n (λ i. f (suc i)))
-
-pub tabulate_at : {X : Type 0} (n : ℕ) (f : ℕ → X) (i : ℕ) (d : X) → i < n → get_or (tabulate n f) i d ≡ f i
-tabulate_at zero f i d low = absurd (omega arith)
-tabulate_at (suc n) f zero d low = refl
-tabulate_at (suc n) f (suc i) d low = tabulate_at n (λ j. f (suc j)) i d (omega arith)
-
--- a list is one by its length and what stands at each place
-pub tabulated : {X : Type 0} (xs : List X) (n : ℕ) (f : ℕ → X) (d : X) → length xs ≡ n → ((i : ℕ) → i < n → get_or xs i d ≡ f i) → xs ≡ tabulate n f
-tabulated [] zero f d e h = refl
-tabulated [] (suc n) f d e h = absurd (omega (arith, e))
-tabulated (x ∷ xs) zero f d e h = absurd (omega (arith, e))
-tabulated (x ∷ xs) (suc n) f d e h = ap₂ (λ y ys. y ∷ ys) (h 0 (omega arith)) (tabulated xs n (λ i. f (suc i)) d (omega (arith, e)) (λ i low. h (suc i) (omega arith)))
+use Rattle.model_sta.specs.Tabled.{tabulate}
+use Rattle.model_sta.proofs.Tabled.{tabulate_length, tabulate_at, tabulated}
+use Rattle.sta_marks.specs.Rows.{Marked, width, bit_in, rows_in, no_state}
 
 same_table : {X : Type 0} (n : ℕ) (f g : ℕ → X) (d : X) → ((i : ℕ) → i < n → f i ≡ g i) → tabulate n f ≡ tabulate n g
 same_table n f g d h = tabulated (tabulate n f) n g d (tabulate_length n f) (λ i low. tabulate_at n f i d low ∙ h i low)

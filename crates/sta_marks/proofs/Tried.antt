@@ -14,7 +14,7 @@ use Rattle.sta_core.proofs.Meaning.{rules_of_automaton}
 use Rattle.sta_marks.specs.Rows.{Marked, no_state, with_state, with_row, rows_at}
 use Rattle.sta_marks.specs.Rules.{applies, owned_from}
 use Rattle.sta_marks.specs.Filled.{tried, tried_each}
-use Rattle.sta_marks.proofs.Bits.{tabulate_length, tabulate_at}
+use Rattle.model_sta.proofs.Tabled.{tabulate_length, tabulate_at}
 use Rattle.sta_marks.proofs.Grouped.{of_state, of_constructor, grouped_any, owned_low}
 
 pub with_state_length : (s : ℕ) (b : Bool) (row : Row) → length (with_state s b row) ≡ length row

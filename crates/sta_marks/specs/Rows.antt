@@ -1,17 +1,13 @@
 -- Rows of truth values, as bits of words of 64 bits, and what is put into them.
-use Rattle.std.specs.Prelude.{ℕ, zero, suc, ◌+◌, ◌*◌, ◌/◌, ◌%◌, ◌==◌, Bool, true, false, cond, List, [], ◌∷◌, map, get_or, set}
+use Rattle.std.specs.Prelude.{ℕ, ◌+◌, ◌*◌, ◌/◌, ◌%◌, ◌==◌, Bool, true, false, cond, List, [], map, get_or, set}
 use Rattle.std.specs.Int.{bit_at}
 use Rattle.model_sta.specs.Sets.{Row}
+use Rattle.model_sta.specs.Tabled.{tabulate}
 
 -- a row for each node, of so many states
 pub record Marked : Type 0 where
   pub states : ℕ
   pub rows : List Row
-
--- f at each number below n
-abbrev pub tabulate : {X : Type 0} → ℕ → (ℕ → X) → List X
-tabulate zero f = []
-tabulate (suc n) f = f 0 ∷ tabulate n (λ i. f (suc i))
 
 -- how many words a row of so many states takes
 abbrev pub width : ℕ → ℕ

@@ -128,7 +128,7 @@ module _ {L : Type 0} (D : L → Type 0) (table : KindTable L) (facts : IsKindTa
     alike_over_known : (q r : Row) → StepsAlike D table block q r → (c : ℕ) → c < length table.ranks → (v : L) → Contains (table.values c) v → (us : List Row) → Each (Contains table.known) us → length us ≡ get_or table.ranks c 0
         → (p : ℕ) → p < length us → block (step table.rules c v (set us p q)) ≡ block (step table.rules c v (set us p r))
     alike_over_known q r alike c low v given us are wide p at =
-        let (qs, (long, each)) = choose [] [] (Contains table.known) (λ j u w. Contains (table.of_kinds c j) w × OneKind table.rules c j u w) (λ j u in_known. (let (w, one_there, same) = facts.represents c j u in_known in (w, (one_there, same)))) us are in
+        let (qs, (long, each)) = choose [] [] (Contains table.known) (λ j u w. Contains (table.of_kinds c j) w × OneKind table.rules c j u w) us (λ j u within in_known. (let (w, one_there, same) = facts.represents c j u in_known in (w, (one_there, same)))) are in
         let same : OneKinds table.rules c us qs = (long, λ j l. (each j l).1) in
         let are_of_kinds : AreOfKinds D table c qs = (sym long ∙ wide, λ j l. (each j (omega (arith, l, long))).0) in
         let over : (w : Row) → step table.rules c v (set us p w) ≡ step table.rules c v (set qs p w) = λ w. step_same_kinds table.rules c v (set us p w) (set qs p w) (set_kinds c us qs p w at same) in
