@@ -1,68 +1,11 @@
--- Forms of which the second depends on the value of the first, forms with their tokens, and forms that don't begin with a word.
+-- Forms with their tokens, and forms that don't begin with a word.
 use Rattle.std.proofs.Common.{◌≡◌, List, [], ◌∷◌, ◌++◌, refl, sym, ap, ◌∙◌, subst, Option, Some, None}
 use Rattle.std.proofs.lemmas.List.{append_cancel_right}
 use Rattle.model_program.specs.declared.Word.{Word}
 use Rattle.model_program.specs.Lexeme.{Lexeme}
-use Rattle.model_program.specs.Joined.{◌⌢◌, IsOther}
+use Rattle.model_program.specs.Joined.{IsOther}
 use Rattle.read_forms.specs.Reads.{GoesOnAs, Stops, IsRead, IsRefused, Fails}
-use Rattle.read_forms.proofs.Forms.{Ends, HasSample, goes_on_behind, regroup}
-
--- a form, and one behind it that depends on the value of the first
-abbrev pub Chained : {A B : Type 0} → (A → List Lexeme → Type 0) → (A → B → List Lexeme → Type 0) → A × B → List Lexeme → Type 0
-Chained p q ab = p ab.0 ⌢ q ab.0 ab.1
-
-pub chained_read : {A B : Type 0} {p : A → List Lexeme → Type 0} {q : A → B → List Lexeme → Type 0} {first_goes_on goes_on : Word → Type 0} {tokens middle rest : List Lexeme} {a : A} {b : B}
-    → ((x : A) → Ends first_goes_on (q x) goes_on) → IsRead p first_goes_on tokens a middle → IsRead (q a) goes_on middle b rest → IsRead (Chained p q) goes_on tokens (a, b) rest
-chained_read {A} {B} {p} {q} {first_goes_on} {goes_on} {tokens} {middle} {rest} {a} {b} ends first second = record {
-  part = first.part ++ second.part;
-  split = first.split ∙ ap (λ l. first.part ++ l) second.split ∙ sym (regroup first.part second.part rest);
-  spelled = record { front = first.part; back = second.part; split = refl; at_front = first.spelled; at_back = second.spelled };
-  only = λ more other after w as_rest same is_form stops.
-      let as_middle : GoesOnAs middle (second.part ++ more) = subst (λ (m : List Lexeme). GoesOnAs m (second.part ++ more)) (sym second.split) (goes_on_behind second.part rest more as_rest) in
-      let grouped : first.part ++ (second.part ++ more) ≡ is_form.front ++ (is_form.back ++ after) = sym (regroup first.part second.part more) ∙ same ∙ ap (λ l. l ++ after) is_form.split ∙ regroup is_form.front is_form.back after in
-      let one = first.only (second.part ++ more) is_form.front (is_form.back ++ after) w.0 as_middle grouped is_form.at_front (ends w.0 w.1 is_form.back after is_form.at_back stops) in
-      let two = second.only more is_form.back after w.1 as_rest (sym one.1) (subst (λ (x : A). q x w.1 is_form.back) one.0 is_form.at_back) stops in
-      let same_pair : w ≡ (a, b) = λ i. (one.0 i, two.0 i) in
-      (same_pair, two.1);
-}
-
-chained_refused : {A B : Type 0} {p : A → List Lexeme → Type 0} {q : A → B → List Lexeme → Type 0} {first_goes_on goes_on : Word → Type 0} {tokens middle bad : List Lexeme} {a : A}
-    → ((x : A) → Ends first_goes_on (q x) goes_on) → IsRead p first_goes_on tokens a middle → IsRefused (q a) goes_on middle bad → IsRefused (Chained p q) goes_on tokens bad
-chained_refused {A} {B} {p} {q} {first_goes_on} {goes_on} {tokens} {middle} {bad} {a} ends first second = record {
-  part = first.part ++ second.part;
-  split = first.split ∙ ap (λ l. first.part ++ l) second.split ∙ sym (regroup first.part second.part bad);
-  value = (a, second.value);
-  later = second.later;
-  begins = record { front = first.part; back = second.part ++ second.later; split = regroup first.part second.part second.later; at_front = first.spelled; at_back = second.begins };
-  none = λ more other after w as_bad same is_form stops.
-      let as_middle : GoesOnAs middle (second.part ++ more) = subst (λ (m : List Lexeme). GoesOnAs m (second.part ++ more)) (sym second.split) (goes_on_behind second.part bad more as_bad) in
-      let grouped : first.part ++ (second.part ++ more) ≡ is_form.front ++ (is_form.back ++ after) = sym (regroup first.part second.part more) ∙ same ∙ ap (λ l. l ++ after) is_form.split ∙ regroup is_form.front is_form.back after in
-      let one = first.only (second.part ++ more) is_form.front (is_form.back ++ after) w.0 as_middle grouped is_form.at_front (ends w.0 w.1 is_form.back after is_form.at_back stops) in
-      second.none more is_form.back after w.1 as_bad (sym one.1) (subst (λ (x : A). q x w.1 is_form.back) one.0 is_form.at_back) stops;
-}
-
-chained_first_refused : {A B : Type 0} {p : A → List Lexeme → Type 0} {q : A → B → List Lexeme → Type 0} {first_goes_on goes_on : Word → Type 0} {tokens bad : List Lexeme}
-    → ((x : A) → Ends first_goes_on (q x) goes_on) → ((x : A) → HasSample (q x)) → IsRefused p first_goes_on tokens bad → IsRefused (Chained p q) goes_on tokens bad
-chained_first_refused {A} {B} {p} {q} {first_goes_on} {goes_on} {tokens} {bad} ends sample first =
-    let s = sample first.value in record {
-      part = first.part;
-      split = first.split;
-      value = (first.value, s.value);
-      later = first.later ++ s.tokens;
-      begins = record { front = first.part ++ first.later; back = s.tokens; split = sym (regroup first.part first.later s.tokens); at_front = first.begins; at_back = s.spelled };
-      none = λ more other after w as_bad same is_form stops.
-          first.none more is_form.front (is_form.back ++ after) w.0 as_bad (same ∙ ap (λ l. l ++ after) is_form.split ∙ regroup is_form.front is_form.back after) is_form.at_front (ends w.0 w.1 is_form.back after is_form.at_back stops);
-    }
-
-pub chained_fails : {A B : Type 0} {p : A → List Lexeme → Type 0} {q : A → B → List Lexeme → Type 0} {first_goes_on goes_on : Word → Type 0} {tokens middle : List Lexeme} {a : A} (bad : Option (List Lexeme))
-    → ((x : A) → Ends first_goes_on (q x) goes_on) → IsRead p first_goes_on tokens a middle → Fails (q a) goes_on middle bad → Fails (Chained p q) goes_on tokens bad
-chained_fails None ends first fails = record { why = tt }
-chained_fails (Some bad) ends first fails = record { why = chained_refused ends first fails.why }
-
-pub chained_first_fails : {A B : Type 0} {p : A → List Lexeme → Type 0} {q : A → B → List Lexeme → Type 0} {first_goes_on goes_on : Word → Type 0} {tokens : List Lexeme} (bad : Option (List Lexeme))
-    → ((x : A) → Ends first_goes_on (q x) goes_on) → ((x : A) → HasSample (q x)) → Fails p first_goes_on tokens bad → Fails (Chained p q) goes_on tokens bad
-chained_first_fails None ends sample fails = record { why = tt }
-chained_first_fails (Some bad) ends sample fails = record { why = chained_first_refused ends sample fails.why }
+use Rattle.read_forms.proofs.Forms.{HasSample}
 
 -- a value with the tokens that spell it
 abbrev pub Spelled : {A : Type 0} → (A → List Lexeme → Type 0) → A × List Lexeme → List Lexeme → Type 0

@@ -113,7 +113,7 @@ later_missing {A} {form} {goes_on} gap.LabelComma close tokens item is_next = no
     begins : (a : A) (ts : List Lexeme) → IsLater form a ts → StartsIn (other_than word.Minus) ts
     begins a ts (inl spelled) = starts_joined (other_than word.Minus) _ _ ts (λ l is. word_other word.Minus word.Comma is.0 l (λ e. cc) is.1) spelled
     begins a ts (inr spelled) = other_begins ts (item.no_comma.starts a ts spelled.0) spelled.1
-later_missing {form = form} {goes_on} gap.Bar close tokens item is_other = as_refused (behind (IsSign word.Bar) form) (let s = sample_item item.alone in refused_first (ends_closed form goes_on) s.value s.tokens s.spelled (as_refused (sign_makes word.Bar closed tokens) (word_refused word.Bar tokens is_other)))
+later_missing {form = form} {goes_on} gap.Bar close tokens item is_other = as_refused (behind (IsSign word.Bar) form) (refused_first (ends_closed form goes_on) (sample_item item.alone) (as_refused (sign_makes word.Bar closed tokens) (word_refused word.Bar tokens is_other)))
 
 -- the tokens that a reader is given
 abbrev pub seen : Bor (List Token) → List Lexeme

@@ -21,26 +21,36 @@ regroup a b c = append_assoc a b c
 abbrev pub Ends : {B : Type 0} → (Word → Type 0) → (B → List Lexeme → Type 0) → (Word → Type 0) → Type 0
 Ends {B} first_goes_on q goes_on = (w : B) (other after : List Lexeme) → q w other → Stops goes_on after → Stops first_goes_on (other ++ after)
 
+-- some value can be spelled
+pub record HasSample {B : Type 0} (q : B → List Lexeme → Type 0) : Type 0 where
+  pub value : B
+  pub tokens : List Lexeme
+  pub spelled : q value tokens
+
+-- a form, and one behind it that depends on the value of the first
+abbrev pub Chained : {A B : Type 0} → (A → List Lexeme → Type 0) → (A → B → List Lexeme → Type 0) → A × B → List Lexeme → Type 0
+Chained p q ab = p ab.0 ⌢ q ab.0 ab.1
+
 -- A form was read, and behind it another, which ends the first.
-pub then_read : {A B : Type 0} {p : A → List Lexeme → Type 0} {q : B → List Lexeme → Type 0} {first_goes_on goes_on : Word → Type 0} {tokens middle rest : List Lexeme} {a : A} {b : B}
-    → Ends first_goes_on q goes_on → IsRead p first_goes_on tokens a middle → IsRead q goes_on middle b rest → IsRead (p ⊗ q) goes_on tokens (a, b) rest
-then_read {p} {q} {first_goes_on} {goes_on} {tokens} {middle} {rest} {a} {b} ends first second = record {
+pub chained_read : {A B : Type 0} {p : A → List Lexeme → Type 0} {q : A → B → List Lexeme → Type 0} {first_goes_on goes_on : Word → Type 0} {tokens middle rest : List Lexeme} {a : A} {b : B}
+    → ((x : A) → Ends first_goes_on (q x) goes_on) → IsRead p first_goes_on tokens a middle → IsRead (q a) goes_on middle b rest → IsRead (Chained p q) goes_on tokens (a, b) rest
+chained_read {A} {B} {p} {q} {first_goes_on} {goes_on} {tokens} {middle} {rest} {a} {b} ends first second = record {
   part = first.part ++ second.part;
   split = first.split ∙ ap (λ l. first.part ++ l) second.split ∙ sym (regroup first.part second.part rest);
   spelled = record { front = first.part; back = second.part; split = refl; at_front = first.spelled; at_back = second.spelled };
   only = λ more other after w as_rest same is_form stops.
       let as_middle : GoesOnAs middle (second.part ++ more) = subst (λ (m : List Lexeme). GoesOnAs m (second.part ++ more)) (sym second.split) (goes_on_behind second.part rest more as_rest) in
       let grouped : first.part ++ (second.part ++ more) ≡ is_form.front ++ (is_form.back ++ after) = sym (regroup first.part second.part more) ∙ same ∙ ap (λ l. l ++ after) is_form.split ∙ regroup is_form.front is_form.back after in
-      let one = first.only (second.part ++ more) is_form.front (is_form.back ++ after) w.0 as_middle grouped is_form.at_front (ends w.1 is_form.back after is_form.at_back stops) in
-      let two = second.only more is_form.back after w.1 as_rest (sym one.1) is_form.at_back stops in
+      let one = first.only (second.part ++ more) is_form.front (is_form.back ++ after) w.0 as_middle grouped is_form.at_front (ends w.0 w.1 is_form.back after is_form.at_back stops) in
+      let two = second.only more is_form.back after w.1 as_rest (sym one.1) (subst (λ (x : A). q x w.1 is_form.back) one.0 is_form.at_back) stops in
       let same_pair : w ≡ (a, b) = λ i. (one.0 i, two.0 i) in
       (same_pair, two.1);
 }
 
 -- A form was read, and behind it another was refused, which ends the first.
-pub then_refused : {A B : Type 0} {p : A → List Lexeme → Type 0} {q : B → List Lexeme → Type 0} {first_goes_on goes_on : Word → Type 0} {tokens middle bad : List Lexeme} {a : A}
-    → Ends first_goes_on q goes_on → IsRead p first_goes_on tokens a middle → IsRefused q goes_on middle bad → IsRefused (p ⊗ q) goes_on tokens bad
-then_refused {p} {q} {first_goes_on} {goes_on} {tokens} {middle} {bad} {a} ends first second = record {
+chained_refused : {A B : Type 0} {p : A → List Lexeme → Type 0} {q : A → B → List Lexeme → Type 0} {first_goes_on goes_on : Word → Type 0} {tokens middle bad : List Lexeme} {a : A}
+    → ((x : A) → Ends first_goes_on (q x) goes_on) → IsRead p first_goes_on tokens a middle → IsRefused (q a) goes_on middle bad → IsRefused (Chained p q) goes_on tokens bad
+chained_refused {A} {B} {p} {q} {first_goes_on} {goes_on} {tokens} {middle} {bad} {a} ends first second = record {
   part = first.part ++ second.part;
   split = first.split ∙ ap (λ l. first.part ++ l) second.split ∙ sym (regroup first.part second.part bad);
   value = (a, second.value);
@@ -49,22 +59,50 @@ then_refused {p} {q} {first_goes_on} {goes_on} {tokens} {middle} {bad} {a} ends 
   none = λ more other after w as_bad same is_form stops.
       let as_middle : GoesOnAs middle (second.part ++ more) = subst (λ (m : List Lexeme). GoesOnAs m (second.part ++ more)) (sym second.split) (goes_on_behind second.part bad more as_bad) in
       let grouped : first.part ++ (second.part ++ more) ≡ is_form.front ++ (is_form.back ++ after) = sym (regroup first.part second.part more) ∙ same ∙ ap (λ l. l ++ after) is_form.split ∙ regroup is_form.front is_form.back after in
-      let one = first.only (second.part ++ more) is_form.front (is_form.back ++ after) w.0 as_middle grouped is_form.at_front (ends w.1 is_form.back after is_form.at_back stops) in
-      second.none more is_form.back after w.1 as_bad (sym one.1) is_form.at_back stops;
+      let one = first.only (second.part ++ more) is_form.front (is_form.back ++ after) w.0 as_middle grouped is_form.at_front (ends w.0 w.1 is_form.back after is_form.at_back stops) in
+      second.none more is_form.back after w.1 as_bad (sym one.1) (subst (λ (x : A). q x w.1 is_form.back) one.0 is_form.at_back) stops;
 }
 
 -- The first of two forms was refused, and the second can be spelled.
+chained_first_refused : {A B : Type 0} {p : A → List Lexeme → Type 0} {q : A → B → List Lexeme → Type 0} {first_goes_on goes_on : Word → Type 0} {tokens bad : List Lexeme}
+    → ((x : A) → Ends first_goes_on (q x) goes_on) → ((x : A) → HasSample (q x)) → IsRefused p first_goes_on tokens bad → IsRefused (Chained p q) goes_on tokens bad
+chained_first_refused {A} {B} {p} {q} {first_goes_on} {goes_on} {tokens} {bad} ends sample first =
+    let s = sample first.value in record {
+      part = first.part;
+      split = first.split;
+      value = (first.value, s.value);
+      later = first.later ++ s.tokens;
+      begins = record { front = first.part ++ first.later; back = s.tokens; split = sym (regroup first.part first.later s.tokens); at_front = first.begins; at_back = s.spelled };
+      none = λ more other after w as_bad same is_form stops.
+          first.none more is_form.front (is_form.back ++ after) w.0 as_bad (same ∙ ap (λ l. l ++ after) is_form.split ∙ regroup is_form.front is_form.back after) is_form.at_front (ends w.0 w.1 is_form.back after is_form.at_back stops);
+    }
+
+pub chained_fails : {A B : Type 0} {p : A → List Lexeme → Type 0} {q : A → B → List Lexeme → Type 0} {first_goes_on goes_on : Word → Type 0} {tokens middle : List Lexeme} {a : A} (bad : Option (List Lexeme))
+    → ((x : A) → Ends first_goes_on (q x) goes_on) → IsRead p first_goes_on tokens a middle → Fails (q a) goes_on middle bad → Fails (Chained p q) goes_on tokens bad
+chained_fails None ends first fails = record { why = tt }
+chained_fails (Some bad) ends first fails = record { why = chained_refused ends first fails.why }
+
+pub chained_first_fails : {A B : Type 0} {p : A → List Lexeme → Type 0} {q : A → B → List Lexeme → Type 0} {first_goes_on goes_on : Word → Type 0} {tokens : List Lexeme} (bad : Option (List Lexeme))
+    → ((x : A) → Ends first_goes_on (q x) goes_on) → ((x : A) → HasSample (q x)) → Fails p first_goes_on tokens bad → Fails (Chained p q) goes_on tokens bad
+chained_first_fails None ends sample fails = record { why = tt }
+chained_first_fails (Some bad) ends sample fails = record { why = chained_first_refused ends sample fails.why }
+
+-- the same of forms that don't depend on one another
+pub then_read : {A B : Type 0} {p : A → List Lexeme → Type 0} {q : B → List Lexeme → Type 0} {first_goes_on goes_on : Word → Type 0} {tokens middle rest : List Lexeme} {a : A} {b : B}
+    → Ends first_goes_on q goes_on → IsRead p first_goes_on tokens a middle → IsRead q goes_on middle b rest → IsRead (p ⊗ q) goes_on tokens (a, b) rest
+then_read {q} ends first second = chained_read {q = λ a. q} (λ a. ends) first second
+
+pub then_fails : {A B : Type 0} {p : A → List Lexeme → Type 0} {q : B → List Lexeme → Type 0} {first_goes_on goes_on : Word → Type 0} {tokens middle : List Lexeme} {a : A} (bad : Option (List Lexeme))
+    → Ends first_goes_on q goes_on → IsRead p first_goes_on tokens a middle → Fails q goes_on middle bad → Fails (p ⊗ q) goes_on tokens bad
+then_fails {q} bad ends first fails = chained_fails {q = λ a. q} bad (λ a. ends) first fails
+
 pub first_refused : {A B : Type 0} {p : A → List Lexeme → Type 0} {q : B → List Lexeme → Type 0} {first_goes_on goes_on : Word → Type 0} {tokens bad : List Lexeme}
-    → Ends first_goes_on q goes_on → (b : B) (sample : List Lexeme) → q b sample → IsRefused p first_goes_on tokens bad → IsRefused (p ⊗ q) goes_on tokens bad
-first_refused {p} {q} {first_goes_on} {goes_on} {tokens} {bad} ends b sample spelled first = record {
-  part = first.part;
-  split = first.split;
-  value = (first.value, b);
-  later = first.later ++ sample;
-  begins = record { front = first.part ++ first.later; back = sample; split = sym (regroup first.part first.later sample); at_front = first.begins; at_back = spelled };
-  none = λ more other after w as_bad same is_form stops.
-      first.none more is_form.front (is_form.back ++ after) w.0 as_bad (same ∙ ap (λ l. l ++ after) is_form.split ∙ regroup is_form.front is_form.back after) is_form.at_front (ends w.1 is_form.back after is_form.at_back stops);
-}
+    → Ends first_goes_on q goes_on → HasSample q → IsRefused p first_goes_on tokens bad → IsRefused (p ⊗ q) goes_on tokens bad
+first_refused {q} ends sample first = chained_first_refused {q = λ a. q} (λ a. ends) (λ a. sample) first
+
+pub first_fails : {A B : Type 0} {p : A → List Lexeme → Type 0} {q : B → List Lexeme → Type 0} {first_goes_on goes_on : Word → Type 0} {tokens : List Lexeme} (bad : Option (List Lexeme))
+    → Ends first_goes_on q goes_on → HasSample q → Fails p first_goes_on tokens bad → Fails (p ⊗ q) goes_on tokens bad
+first_fails {q} bad ends sample fails = chained_first_fails {q = λ a. q} bad (λ a. ends) (λ a. sample) fails
 
 -- a form that ends by itself is ended by anything
 pub ends_closed : {B : Type 0} (q : B → List Lexeme → Type 0) (goes_on : Word → Type 0) → Ends closed q goes_on
@@ -106,22 +144,6 @@ pub as_fails : {A B : Type 0} {p : A → List Lexeme → Type 0} {q : B → List
     → Makes p q to goes_on tokens → Fails p goes_on tokens bad → Fails q goes_on tokens bad
 as_fails None makes fails = record { why = tt }
 as_fails (Some bad) makes fails = record { why = as_refused makes fails.why }
-
-pub then_fails : {A B : Type 0} {p : A → List Lexeme → Type 0} {q : B → List Lexeme → Type 0} {first_goes_on goes_on : Word → Type 0} {tokens middle : List Lexeme} {a : A} (bad : Option (List Lexeme))
-    → Ends first_goes_on q goes_on → IsRead p first_goes_on tokens a middle → Fails q goes_on middle bad → Fails (p ⊗ q) goes_on tokens bad
-then_fails None ends first fails = record { why = tt }
-then_fails (Some bad) ends first fails = record { why = then_refused ends first fails.why }
-
--- some value can be spelled
-pub record HasSample {B : Type 0} (q : B → List Lexeme → Type 0) : Type 0 where
-  pub value : B
-  pub tokens : List Lexeme
-  pub spelled : q value tokens
-
-pub first_fails : {A B : Type 0} {p : A → List Lexeme → Type 0} {q : B → List Lexeme → Type 0} {first_goes_on goes_on : Word → Type 0} {tokens : List Lexeme} (bad : Option (List Lexeme))
-    → Ends first_goes_on q goes_on → HasSample q → Fails p first_goes_on tokens bad → Fails (p ⊗ q) goes_on tokens bad
-first_fails None ends sample fails = record { why = tt }
-first_fails (Some bad) ends sample fails = record { why = first_refused ends sample.value sample.tokens sample.spelled fails.why }
 
 pub sample_pair : {A B : Type 0} {p : A → List Lexeme → Type 0} {q : B → List Lexeme → Type 0} → HasSample p → HasSample q → HasSample (p ⊗ q)
 sample_pair p q = record { value = (p.value, q.value); tokens = p.tokens ++ q.tokens; spelled = record { front = p.tokens; back = q.tokens; split = refl; at_front = p.spelled; at_back = q.spelled } }

@@ -1,6 +1,6 @@
 use Rattle.std.proofs.Common.{sym, ap, ◌∙◌, arith, refl, inr}
 use Rattle.model_program.specs.declared.Word.TheVariants.{Not, Minus, Percent, RoundOpen, RoundClose}
-use Rattle.read_forms.proofs.Forms.{as_read, as_fails, then_read, then_fails, first_fails, ends_closed, closed_read, closed_fails, sample_pair, read_at}
+use Rattle.read_forms.proofs.Forms.{as_read, as_fails, then_read, then_fails, first_fails, ends_closed, closed_read, closed_fails, sample_pair, read_at, chained_read, chained_fails, chained_first_fails}
 use Rattle.read_forms.proofs.Words.{word_read, next_of, sample_sign}
 use Rattle.model_grammar.specs.declared.Level.TheVariants.{Unary, Prim}
 use Rattle.model_grammar.specs.Syntax.{negation, compare, minus, number, chain}
@@ -10,7 +10,7 @@ use Rattle.label_reader.specs.Levels.{GoesOn, BeginsAt}
 use Rattle.label_reader.specs.Operands.{marked, parts_from}
 use Rattle.label_reader.proofs.Digits.{negated_number_is}
 use Rattle.label_reader.proofs.Exits.{exit, reads_as, reads_wider, shorter, not_longer, taken}
-use Rattle.label_reader.proofs.Joins.{chained_read, chained_fails, chained_first_fails, without_read, without_fails}
+use Rattle.label_reader.proofs.Joins.{without_read, without_fails}
 use Rattle.label_reader.proofs.LevelForms.{level_begins, sample_prim, wider_read, wider_fails, first_operand_fails, one_operand, chain_fails, negated_makes, not_negated_makes, cmp_in_neg, left_fails, left_alone, right_fails, both_read, rel_read}
 use Rattle.label_reader.proofs.Gathered.{chaining_starts, chaining_more, chaining_ends, operand_fails, operand_read}
 use Rattle.label_reader.proofs.Primaries.{minus_makes, no_minus_makes, negated_number, negated_other, sample_without, closed_by, open_makes}
