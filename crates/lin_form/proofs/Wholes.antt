@@ -74,18 +74,17 @@ add_remainders_inner by (remainder a f k rs) terms h i = add_remainders_inner by
 
 -- ---- terms that a loop is at
 
-inner_at : (ts : List RemTerm) (k : ℕ) (d : RemTerm) → AreInner (plain_remainders ts) → k < length ts → IsInner (get_or ts k d).inner
-inner_at [] k d i l = absurd (omega arith)
-inner_at (t ∷ ts) zero d i l = i.0
-inner_at (t ∷ ts) (suc k) d i l = inner_at ts k d i.1 (omega arith)
+module _ {X : Type 0} (inner : X → Form) (plain : List X → Remainders) (parts : (t : X) (ts : List X) → AreInner (plain (t ∷ ts)) → IsInner (inner t) × AreInner (plain ts)) where
+  at_place : (ts : List X) (k : ℕ) (d : X) → AreInner (plain ts) → k < length ts → IsInner (inner (get_or ts k d))
+  at_place [] k d i l = absurd (omega arith)
+  at_place (t ∷ ts) zero d i l = (parts t ts i).0
+  at_place (t ∷ ts) (suc k) d i l = at_place ts k d (parts t ts i).1 (omega arith)
+
+  item : (ts items : List X) (k : ℕ) (t : X) → AreInner (plain ts) → items ≡ ts → t ≡ get_or items k t → k < length items → IsInner (inner t)
+  item ts items k t i e is l = subst (λ x. IsInner (inner x)) (sym is) (at_place items k t (subst (λ us. AreInner (plain us)) (sym e) i) l)
 
 pub inner_item : (ts items : List RemTerm) (k : ℕ) (t : RemTerm) → AreInner (plain_remainders ts) → items ≡ ts → t ≡ get_or items k t → k < length items → IsInner t.inner
-inner_item ts items k t i e is l = subst (λ (x : RemTerm). IsInner x.inner) (sym is) (inner_at items k t (subst (λ us. AreInner (plain_remainders us)) (sym e) i) l)
-
-like_at : (ts : List Like) (k : ℕ) (d : Like) → AreInner (plain_likes ts) → k < length ts → IsInner (get_or ts k d).inner
-like_at [] k d i l = absurd (omega arith)
-like_at (t ∷ ts) zero d i l = i.0
-like_at (t ∷ ts) (suc k) d i l = like_at ts k d i.1 (omega arith)
+inner_item = item (λ t. t.inner) plain_remainders (λ t ts i. i)
 
 pub like_item : (ts items : List Like) (k : ℕ) (t : Like) → AreInner (plain_likes ts) → items ≡ ts → t ≡ get_or items k t → k < length items → IsInner t.inner
-like_item ts items k t i e is l = subst (λ (x : Like). IsInner x.inner) (sym is) (like_at items k t (subst (λ us. AreInner (plain_likes us)) (sym e) i) l)
+like_item = item (λ t. t.inner) plain_likes (λ t ts i. i)

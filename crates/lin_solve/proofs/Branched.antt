@@ -4,10 +4,9 @@ use Rattle.std.proofs.Math.IntN.{ℤ, pos, ◌+ℤ◌, ◌*ℤ◌}
 use Rattle.std.specs.Prelude.{◌<ℤ◌, ◌≤ℤ◌, int_lt, FitsSigned}
 use Rattle.std.specs.Int.{w64}
 use Rattle.std.proofs.Math.ListN.{set}
-use Rattle.std.specs.List.{Contains}
 use Rattle.std.proofs.lemmas.Int.{ints}
 use Rattle.std.proofs.lemmas.List.{take_more}
-use Rattle.std.proofs.lemmas.List.Elements.{All-nil, All-cons, All-head, All-tail, All-append, Contains-append_left, Contains-append_right, Contains-append_cases}
+use Rattle.std.proofs.lemmas.List.Elements.{All-nil, All-cons, All-head, All-tail, All-append}
 use Rattle.model_form.specs.Form.{Form, form, Term, value, fields_of}
 use Rattle.model_form.specs.Sums.{field_form, number_form, product_form, sum_form}
 use Rattle.model_form.specs.Meaning.{AreLow, AreFormsLow, values_of}
@@ -28,30 +27,6 @@ use Rattle.label_core.specs.declared.theory.Lit.{Lit}
 use Rattle.lin_solve.specs.declared.compare.Compare.{Compare}
 use Rattle.lin_solve.specs.Plain.{plain_compare, plain_literal}
 use Rattle.lin_solve.proofs.Cased.{set_here}
-use Rattle.lin_solve.specs.declared.branches.Branch.{Branch}
-use Rattle.lin_solve.specs.Branches.{IsHeld, SomeHeld}
-
--- ---- lists of branches
-
-pub held_grown : (old new : List Branch) (b : Branch) → new ≡ old ++ b ∷ [] → SomeHeld old → SomeHeld new
-held_grown old new b e s = record { own = s.own; among = subst (λ xs. Contains xs s.own) (sym e) (Contains-append_left old (b ∷ []) s.own s.among); held = s.held }
-
-pub held_added : (old new : List Branch) (b : Branch) → new ≡ old ++ b ∷ [] → IsHeld b → SomeHeld new
-held_added old new b e h = record { own = b; among = subst (λ xs. Contains xs b) (sym e) (Contains-append_right old (b ∷ []) b (0, omega arith, refl)); held = h }
-
-pub held_none : (branches : List Branch) → length branches ≡ 0 → SomeHeld branches → ⊥
-held_none branches e s = let l = s.among.1 in absurd (omega arith)
-
-pub held_popped : (old rest : List Branch) (b : Branch) → old ≡ rest ++ b ∷ [] → SomeHeld old → IsHeld b ⊎ SomeHeld rest
-held_popped old rest b e s = by (Contains-append_cases rest (b ∷ []) s.own (subst (λ xs. Contains xs s.own) e s.among))
-  where
-    own : Contains (b ∷ []) s.own → b ≡ s.own
-    own (zero, l, is) = is
-    own (suc k, l, is) = absurd (omega arith)
-
-    by : Contains rest s.own ⊎ Contains (b ∷ []) s.own → IsHeld b ⊎ SomeHeld rest
-    by (inl k) = inr (record { own = s.own; among = k; held = s.held })
-    by (inr k) = inl (subst IsHeld (sym (own k)) s.held)
 
 -- ---- what is put for fields
 

@@ -1,13 +1,11 @@
 -- Cases of values, told apart by remainders.
-use Rattle.std.proofs.Common.{◌≡◌, ◌⊎◌, inl, inr, ℕ, zero, suc, ◌<◌, ◌≤◌, ◌+◌, ◌*◌, ◌%◌, ◌/◌, ◌==◌, List, [], ◌∷◌, ◌++◌, length, get_or, Bool, true, false, not, refl, ap, sym, ◌∙◌, subst, arith}
+use Rattle.std.proofs.Common.{◌≡◌, ◌⊎◌, inl, inr, ℕ, zero, suc, ◌<◌, ◌≤◌, ◌+◌, ◌*◌, ◌%◌, ◌/◌, ◌==◌, List, [], ◌∷◌, length, get_or, Bool, true, false, not, refl, ap, sym, ◌∙◌, subst, arith}
 use Rattle.std.proofs.Math.IntN.{ℤ, pos, ◌+ℤ◌, ◌*ℤ◌}
 use Rattle.std.proofs.Math.Nat.{div-add-mod'}
 use Rattle.std.proofs.Math.ListN.{set}
-use Rattle.std.specs.List.{Contains}
 use Rattle.std.proofs.lemmas.Int.{ints}
 use Rattle.std.proofs.lemmas.Bool.{eqb-true, eqb-false, not-false, or_parts, cases_lt}
 use mathlib.Core.Bool.{beq}
-use Rattle.std.proofs.lemmas.List.Elements.{Contains-append_left, Contains-append_right, Contains-append_cases}
 use Rattle.math_int.proofs.Laws.{times-add, times-assoc, times-comm, divide}
 use Rattle.model_form.specs.Form.{Form, form, Term, Remainders, no_remainders, remainder, value, remainders_value, terms_value, modulo}
 use Rattle.model_form.proofs.Modulo.{modulo_apart, modulo_sum, modulo_product}
@@ -17,7 +15,7 @@ use Rattle.lin_solve.specs.declared.compare.Compare.{Compare}
 use Rattle.lin_solve.specs.Plain.{plain_compare, plain_relation}
 use Rattle.lin_solve.specs.declared.cases.Case.{Case}
 use Rattle.lin_solve.specs.declared.cases.Turn.{Turn}
-use Rattle.lin_solve.specs.Cases.{is_loose, some_loose, is_open, some_open, IsIn, IsPart, SomeCase}
+use Rattle.lin_solve.specs.Cases.{is_loose, some_loose, is_open, some_open, IsIn, IsPart}
 
 -- ---- forms that aren't open have one value in a case, or one remainder
 
@@ -91,28 +89,6 @@ further r s n t q =
     let a = times-add s n (t *ℤ q) in
     let b = times-assoc s t q in
     omega (arith, ints)
-
--- ---- lists of cases
-
-pub some_grown : (us : List ℤ) (old new : List Case) (c : Case) → new ≡ old ++ c ∷ [] → SomeCase us old → SomeCase us new
-some_grown us old new c e s = record { own = s.own; among = subst (λ xs. Contains xs s.own) (sym e) (Contains-append_left old (c ∷ []) s.own s.among); is = s.is }
-
-pub some_added : (us : List ℤ) (old new : List Case) (c : Case) → new ≡ old ++ c ∷ [] → IsIn c us → SomeCase us new
-some_added us old new c e h = record { own = c; among = subst (λ xs. Contains xs c) (sym e) (Contains-append_right old (c ∷ []) c (0, omega arith, refl)); is = h }
-
-pub some_none : (us : List ℤ) (cases : List Case) → length cases ≡ 0 → SomeCase us cases → ⊥
-some_none us cases e s = let l = s.among.1 in absurd (omega arith)
-
-pub some_popped : (us : List ℤ) (old rest : List Case) (c : Case) → old ≡ rest ++ c ∷ [] → SomeCase us old → IsIn c us ⊎ SomeCase us rest
-some_popped us old rest c e s = by (Contains-append_cases rest (c ∷ []) s.own (subst (λ xs. Contains xs s.own) e s.among))
-  where
-    own : Contains (c ∷ []) s.own → c ≡ s.own
-    own (zero, l, is) = is
-    own (suc k, l, is) = absurd (omega arith)
-
-    by : Contains rest s.own ⊎ Contains (c ∷ []) s.own → IsIn c us ⊎ SomeCase us rest
-    by (inl k) = inr (record { own = s.own; among = k; is = s.is })
-    by (inr k) = inl (subst (λ (y : Case). IsIn y us) (sym (own k)) s.is)
 
 -- ---- parts of a case
 

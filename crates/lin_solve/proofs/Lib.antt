@@ -17,3 +17,4 @@ pub mod Saying
 pub mod Gapped
 pub mod Cased
 pub mod Branched
+pub mod Among

@@ -1,12 +1,11 @@
 -- Literals that are sought, some of which take a side.
-use Rattle.std.proofs.Common.{◌≡◌, ◌⊎◌, inl, inr, ℕ, zero, suc, ◌<◌, List, [], ◌∷◌, ◌++◌, length, get_or, Bool, true, false, refl, ap, sym, ◌∙◌, subst, arith, cond, Vec, ◌+◌}
+use Rattle.std.proofs.Common.{◌≡◌, ◌⊎◌, inl, inr, ℕ, ◌<◌, List, [], ◌∷◌, ◌++◌, length, get_or, Bool, true, false, refl, ap, sym, ◌∙◌, subst, arith, cond, ◌+◌}
 use Rattle.std.proofs.Math.IntN.{ℤ}
 use Rattle.std.specs.Prelude.{int_lt}
 use Rattle.std.specs.Ordering.{int_eq}
-use Rattle.std.specs.List.{Contains}
 use Rattle.std.proofs.lemmas.Int.{ints}
 use Rattle.std.proofs.lemmas.List.{map-append, get_or_default}
-use Rattle.std.proofs.lemmas.List.Elements.{All-append, All-cons, All-nil, Contains-append_left, Contains-append_right, Contains-append_cases}
+use Rattle.std.proofs.lemmas.List.Elements.{All-append, All-cons, All-nil}
 use Rattle.model_form.specs.Form.{value}
 use Rattle.model_chain.specs.Literals as plain
 use Rattle.model_chain.specs.Literals.{Literal, HoldsAll, compare_holds, needs_side, count_sides}
@@ -15,7 +14,7 @@ use Rattle.lin_solve.specs.declared.compare.Compare.{Compare}
 use Rattle.lin_solve.specs.declared.compare.Relation.{Relation}
 use Rattle.lin_solve.specs.declared.compare.Relation.TheVariants.{Less, AtMost, Equal}
 use Rattle.lin_solve.specs.Plain.{plain_compare, plain_relation, plain_literal, plain_literals}
-use Rattle.lin_solve.specs.Sought.{IsSidedAt, SomeHold, less_of}
+use Rattle.lin_solve.specs.Sought.{IsSidedAt, less_of}
 use Rattle.std.specs.Prelude.{IfOk}
 use Rattle.std.proofs.Common.{Result, Ok, Err}
 use Rattle.math_cooper.specs.System.{Condition, IsSolvable}
@@ -72,27 +71,6 @@ one_side (l ∷ ls) place us low needs h =
     by : (x : Lit Compare) → ((d : Lit Compare) → x ≡ get_or (l ∷ ls) place d) → (int_lt (value x.atom.left us) (value x.atom.right us) ≡ true) ⊎ (int_lt (value x.atom.right us) (value x.atom.left us) ≡ true) → IsSidedAt (l ∷ ls) place false us ⊎ IsSidedAt (l ∷ ls) place true us
     by x any (inl p) = inl (λ d k. subst (λ (y : Lit Compare). compare_holds (less_of y.atom false) us ≡ true) (any d) p)
     by x any (inr p) = inr (λ d k. subst (λ (y : Lit Compare). compare_holds (less_of y.atom true) us ≡ true) (any d) p)
-
-module _ {G : Type 0} where
-  pub hold_grown : (us : List ℤ) (old new : List (Vec (Lit Compare) G)) (v : Vec (Lit Compare) G) → new ≡ old ++ v ∷ [] → SomeHold us old → SomeHold us new
-  hold_grown us old new v e s = record { own = s.own; among = subst (λ xs. Contains xs s.own) (sym e) (Contains-append_left old (v ∷ []) s.own s.among); holds = s.holds }
-
-  pub hold_added : (us : List ℤ) (old new : List (Vec (Lit Compare) G)) (v : Vec (Lit Compare) G) → new ≡ old ++ v ∷ [] → HoldsAll (plain_literals v.items) us → SomeHold us new
-  hold_added us old new v e h = record { own = v; among = subst (λ xs. Contains xs v) (sym e) (Contains-append_right old (v ∷ []) v (0, omega arith, refl)); holds = h }
-
-  pub hold_none : (us : List ℤ) (lists : List (Vec (Lit Compare) G)) → length lists ≡ 0 → SomeHold us lists → ⊥
-  hold_none us lists e s = let l = s.among.1 in absurd (omega arith)
-
-  pub hold_popped : (us : List ℤ) (old rest : List (Vec (Lit Compare) G)) (v : Vec (Lit Compare) G) → old ≡ rest ++ v ∷ [] → SomeHold us old → HoldsAll (plain_literals v.items) us ⊎ SomeHold us rest
-  hold_popped us old rest v e s = by (Contains-append_cases rest (v ∷ []) s.own (subst (λ xs. Contains xs s.own) e s.among))
-    where
-      own : Contains (v ∷ []) s.own → v ≡ s.own
-      own (zero, l, is) = is
-      own (suc k, l, is) = absurd (omega arith)
-
-      by : Contains rest s.own ⊎ Contains (v ∷ []) s.own → HoldsAll (plain_literals v.items) us ⊎ SomeHold us rest
-      by (inl c) = inr (record { own = s.own; among = c; holds = s.holds })
-      by (inr c) = inl (subst (λ (y : Vec (Lit Compare) G). HoldsAll (plain_literals y.items) us) (sym (own c)) s.holds)
 
 -- what is found of some literals without sides is found of all
 pub explored_told : (ls own : List Literal) (S : List Condition) (n : ℕ) (r : Result Explored Memory) → AreLiteralsOver 8 own → AreDivisorsPositive own → count_sides own ≡ 0 → ((us : List ℤ) → HoldsAll ls us → HoldsAll own us)

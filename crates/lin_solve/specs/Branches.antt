@@ -1,6 +1,5 @@
 -- Branches of values: each has literals over what is left of the fields.
 use Rattle.std.specs.Prelude.{ℤ, ◌≡◌, List, length}
-use Rattle.std.specs.List.{Contains}
 use Rattle.model_form.specs.Form.{Form}
 use Rattle.model_form.specs.Meaning.{values_of}
 use Rattle.model_chain.specs.Literals.{Literal, HoldsAll}
@@ -8,6 +7,7 @@ use Rattle.label_core.specs.declared.theory.Lit.{Lit}
 use Rattle.lin_solve.specs.declared.compare.Compare.{Compare}
 use Rattle.lin_solve.specs.declared.branches.Branch.{Branch}
 use Rattle.lin_solve.specs.Plain.{plain_literals}
+use Rattle.lin_solve.specs.Among.{SomeOf}
 
 -- the literals hold at some values of the eight fields
 pub record HoldSomewhere (ls : List Literal) : Type 0 where
@@ -19,10 +19,8 @@ abbrev pub IsHeld : Branch → Type 0
 IsHeld b = HoldSomewhere (plain_literals b.literals.items)
 
 -- some branch has values at which its literals hold
-pub record SomeHeld (branches : List Branch) : Type 0 where
-  pub own : Branch
-  pub among : Contains branches own
-  pub held : IsHeld own
+abbrev pub SomeHeld : List Branch → Type 0
+SomeHeld branches = SomeOf IsHeld branches
 
 -- where the first literals hold at the values of the forms, the others hold
 abbrev pub ArePut : List (Lit Compare) → List Form → List (Lit Compare) → Type 0

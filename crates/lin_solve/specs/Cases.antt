@@ -1,6 +1,5 @@
 -- Cases of values: in each a field is a rest and a multiple of a step.
 use Rattle.std.specs.Prelude.{ℕ, ℤ, pos, ◌≡◌, ◌<◌, ◌%◌, ◌+ℤ◌, ◌*ℤ◌, Bool, false, not, ◌||◌, ◌==◌, List, [], ◌∷◌, slice_index_or, length}
-use Rattle.std.specs.List.{Contains}
 use Rattle.model_form.specs.Form.{Form, form, Term, Remainders, no_remainders, remainder}
 use Rattle.lin_solve.specs.declared.cases.Case.{Case}
 use Rattle.lin_solve.specs.declared.cases.Turn.{Turn}
@@ -10,6 +9,7 @@ use Rattle.label_core.specs.declared.theory.Lit.{Lit}
 use Rattle.model_chain.specs.Literals.{HoldsAll}
 use Rattle.lin_solve.specs.declared.compare.Compare.{Compare}
 use Rattle.lin_solve.specs.Plain.{plain_literals}
+use Rattle.lin_solve.specs.Among.{SomeOf}
 
 -- the field's step is no multiple of the number, as none is of 0
 abbrev pub is_loose : List ℕ → ℕ → ℕ → Bool
@@ -37,10 +37,8 @@ abbrev pub IsPart : Case → Turn → ℕ → List ℤ → Type 0
 IsPart c t n us = IsIn c us × (q : ℤ) × (slice_index_or us t.field (pos 0) ≡ slice_index_or c.rests t.field (pos 0) +ℤ (pos (slice_index_or c.steps t.field 0) *ℤ (pos n +ℤ (pos t.times *ℤ q))))
 
 -- the values are in some case
-pub record SomeCase (us : List ℤ) (cases : List Case) : Type 0 where
-  pub own : Case
-  pub among : Contains cases own
-  pub is : IsIn own us
+abbrev pub SomeCase : List ℤ → List Case → Type 0
+SomeCase us cases = SomeOf (λ c. IsIn c us) cases
 
 -- the literals hold nowhere in a case that is lost, and one that is split is split for one of them
 abbrev pub TellsNext : List (Lit Compare) → Case → Next → Type 0

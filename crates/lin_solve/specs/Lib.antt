@@ -10,3 +10,4 @@ pub mod Sought
 pub mod Cases
 pub mod Branches
 pub mod Equations
+pub mod Among

@@ -1,6 +1,5 @@
 -- What is sought of literals, where negated equalities are given a side one after another.
 use Rattle.std.specs.Prelude.{◌≡◌, ◌<◌, ℕ, ℤ, Bool, true, false, List, Vec, length, slice_index_or}
-use Rattle.std.specs.List.{Contains}
 use Rattle.model_chain.specs.Literals as plain
 use Rattle.model_chain.specs.Literals.{Literal, HoldsAll, compare_holds}
 use Rattle.lin_reduce.specs.declared.nodes.Explored.{Explored}
@@ -10,6 +9,7 @@ use Rattle.lin_solve.specs.declared.compare.Compare.{Compare}
 use Rattle.lin_solve.specs.declared.found.Sought.{Sought}
 use Rattle.lin_solve.specs.declared.found.Sought.TheVariants.{Values, Never, Open}
 use Rattle.lin_solve.specs.Plain.{plain_literals}
+use Rattle.lin_solve.specs.Among.{SomeOf}
 
 -- they hold at no values of the eight fields
 abbrev pub NeverHoldAll : List Literal → Type 0
@@ -35,7 +35,5 @@ abbrev pub IsSidedAt : List (Lit Compare) → ℕ → Bool → List ℤ → Type
 IsSidedAt ls place turned us = (d : Lit Compare) → place < length ls → compare_holds (less_of (slice_index_or ls place d).atom turned) us ≡ true
 
 -- some of the lists holds at these values
-pub record SomeHold {G : Type 0} (us : List ℤ) (lists : List (Vec (Lit Compare) G)) : Type 0 where
-  pub own : Vec (Lit Compare) G
-  pub among : Contains lists own
-  pub holds : HoldsAll (plain_literals own.items) us
+abbrev pub SomeHold : {G : Type 0} → List ℤ → List (Vec (Lit Compare) G) → Type 0
+SomeHold us lists = SomeOf (λ ls. HoldsAll (plain_literals ls.items) us) lists

@@ -4,16 +4,16 @@ use Rattle.lin_solve.specs.declared.branches.Branch.{Branch}
 use Rattle.lin_solve.specs.Plain.{plain_literals}
 use Rattle.lin_solve.specs.Branches.{IsHeld, SomeHeld}
 use Rattle.lin_solve.specs.Sought.{TellsExplored}
-use Rattle.lin_solve.proofs.Branched.{held_added, held_popped}
+use Rattle.lin_solve.proofs.Among.{some_added, some_popped}
 use Rattle.lin_solve.proofs.branches.run.Goals.{in-Never, in-Maybe+in_ok-values-in-Maybe+else-len-eq8+in_ok-push_next-in-Maybe+else-not-branch}
 use Rattle.lin_solve.proofs.branches.run.Goals as goal
 
 pub loop-init : goal.loop-init
-loop-init c = λ h. held_added _ _ _ (c.in_ok-push.ensures {u = tt}).items (record { values = h.values; eight = h.eight; hold = c.in_ok-equated.ensures {u = tt} h.values h.eight (c.in_ok-copy.ensures {u = tt} h.values h.hold (λ d l. absurd (omega arith))) })
+loop-init c = λ h. some_added _ _ _ (c.in_ok-push.ensures {u = tt}).items (record { values = h.values; eight = h.eight; hold = c.in_ok-equated.ensures {u = tt} h.values h.eight (c.in_ok-copy.ensures {u = tt} h.values h.hold (λ d l. absurd (omega arith))) })
 
 pub loop-preserved : goal.loop-preserved
 loop-preserved c = λ h.
-    let popped = held_popped _ _ c.in-Some.own (c.in-Some.ensures {u = tt}).items (c.loop.invariant h) in
+    let popped = some_popped _ _ c.in-Some.own (c.in-Some.ensures {u = tt}).items (c.loop.invariant h) in
     elim c.match-branch-5.branch [
       | in-Never w ↦
           let gone = subst (TellsExplored (plain_literals c.deref.result.now)) w.in-Never.is (c.in_ok-explore_loosely.ensures {u = tt}) in

@@ -1,7 +1,7 @@
 use Rattle.std.proofs.Common.{⊎_elim, sym, subst, Vec, Global}
 use Rattle.lin_solve.specs.declared.cases.Case.{Case}
 use Rattle.lin_solve.specs.Cases.{SomeCase, TellsNext}
-use Rattle.lin_solve.proofs.Cased.{some_popped}
+use Rattle.lin_solve.proofs.Among.{some_popped}
 use Rattle.lin_solve.proofs.Gapped.{literal_here}
 use Rattle.lin_solve.proofs.cases.seek_cases.Goals.{in-Lost, in-Split+else-turn-left+in_ok-push_parts-in-Split+else-not-branch}
 use Rattle.lin_solve.proofs.cases.seek_cases.Goals as goal
@@ -10,7 +10,7 @@ pub loop-preserved : goal.loop-preserved
 loop-preserved c = λ us eight h.
     let ls = c.args.literals.now in
     let case = c.in-Some.case in
-    let popped = some_popped us _ _ case (c.in-Some.ensures {u = tt}).items (c.loop.invariant us eight h) in
+    let popped = some_popped _ _ case (c.in-Some.ensures {u = tt}).items (c.loop.invariant us eight h) in
     elim c.match-next_of.branch [
       | in-Lost w ↦
           let gone = subst (TellsNext ls case) w.in-Lost.is c.next_of.ensures in

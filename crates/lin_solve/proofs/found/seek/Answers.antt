@@ -5,15 +5,15 @@ use Rattle.model_chain.specs.Literals.{HoldsAll}
 use Rattle.lin_solve.specs.Plain.{plain_literals}
 use Rattle.lin_solve.specs.Sought.{SomeHold, TellsExplored}
 use Rattle.lin_solve.proofs.found.seek.Goals.{in-Never, in-Maybe+else-len-eq8+in_ok-push_sides-in-Maybe+else-not-branch}
-use Rattle.lin_solve.proofs.Seeking.{hold_added, hold_popped}
+use Rattle.lin_solve.proofs.Among.{some_added, some_popped}
 use Rattle.lin_solve.proofs.found.seek.Goals as goal
 
 pub loop-init : goal.loop-init
-loop-init c = λ us eight h. hold_added us _ _ _ (c.in_ok-push.ensures {u = tt}).items (c.in_ok-sided.ensures {u = tt} us h (λ d l. absurd (omega arith)))
+loop-init c = λ us eight h. some_added _ _ _ (c.in_ok-push.ensures {u = tt}).items (c.in_ok-sided.ensures {u = tt} us h (λ d l. absurd (omega arith)))
 
 pub loop-preserved : goal.loop-preserved
 loop-preserved c = λ us eight h.
-    let popped = hold_popped us _ _ c.in-Some.own (c.in-Some.ensures {u = tt}).items (c.loop.invariant us eight h) in
+    let popped = some_popped _ _ c.in-Some.own (c.in-Some.ensures {u = tt}).items (c.loop.invariant us eight h) in
     elim c.match-branch-4.branch [
       | in-Never w ↦
           let gone = subst (TellsExplored (plain_literals c.deref.result.now)) w.in-Never.is (c.in_ok-explore_sideless.ensures {u = tt}) in
