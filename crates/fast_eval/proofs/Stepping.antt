@@ -33,7 +33,7 @@ use Rattle.fast_eval.proofs.Claims.{made_on, made_from}
 use Rattle.fast_eval.proofs.Typing.{made_of_form, made_from_form}
 
 -- what is found in a front is what is found
-find_in_front : {A : Type 0} (p : A → Bool) (xs ys : List A) (x : A) → find p xs ≡ Some x → find p (xs ++ ys) ≡ Some x
+pub find_in_front : {A : Type 0} (p : A → Bool) (xs ys : List A) (x : A) → find p xs ≡ Some x → find p (xs ++ ys) ≡ Some x
 find_in_front p [] ys x e = absurd (cc)
 find_in_front p (z ∷ xs) ys x e = by (p z) e (find_in_front p xs ys x)
   where
@@ -49,7 +49,7 @@ found_there p (z ∷ xs) x e = by (p z) e (found_there p xs x)
     by true e later = let same : z ≡ x = cc in subst (λ w. Contains (z ∷ xs) w) same (first_in z xs)
     by false e later = later_in z x xs (later e)
 
-some_same : {A : Type 0} {s t : A} → Some s ≡ Some t → s ≡ t
+pub some_same : {A : Type 0} {s t : A} → Some s ≡ Some t → s ≡ t
 some_same e = cc
 
 module _ (items : List Item) (whole : IsSound items) where

@@ -1,5 +1,6 @@
 -- The operands of an expression of a well-formed program are of the kinds and types that its operations take.
-use Rattle.std.proofs.Common.{◌≡◌, inl, inr, ℕ, suc, Bool, true, false, ◌&&◌, List, ◌++◌, Option, Some, None, refl, sym, subst, ◌∙◌}
+use Rattle.std.proofs.Common.{◌≡◌, inl, inr, ℕ, suc, true, false, ◌&&◌, List, ◌++◌, Option, Some, None, refl, sym, subst, ◌∙◌}
+use Rattle.std.proofs.lemmas.Bool.{and_parts}
 use Rattle.fast_fault.specs.declared.place.Pos.{Pos}
 use Rattle.model_grammar.specs.declared.Op1.{Op1}
 use Rattle.model_grammar.specs.declared.Op1.TheVariants.{Complement, Minimize, Domain, GetWitness}
@@ -15,43 +16,12 @@ use Rattle.model_checks.proofs.Soundness.{empty_first, empty_second}
 use Rattle.meaning_laws.specs.Shapes.{has_automaton_shape, gives_automaton_one, gives_automaton_two}
 use Rattle.model_run.specs.Parts.{IsOn, IsFrom}
 use Rattle.meaning_laws.proofs.Kinded.{IsTypedAs, kinded, kind_needed, through}
-use Rattle.meaning_laws.proofs.Valued.{same_types, not_other}
+use Rattle.meaning_laws.proofs.Valued.{same_types}
+use Rattle.meaning_laws.proofs.Fitting.{Operands, operands}
 use Rattle.model_run.specs.Items.{AreComposable}
 use Rattle.fast_eval.specs.Forms.{IsMadeOn, IsMadeFrom}
 
-and_parts : (a b : Bool) → (a && b) ≡ true → (a ≡ true) × (b ≡ true)
-and_parts true b e = (refl, e)
-and_parts false b e = absurd (cc)
-
 module _ (items : List Item) (whole : IsSound items) where
-  -- nothing fails in the operands, and they are of the kinds that are taken and of the types that are wanted
-  record AreSides (before : List Item) (around : ℕ) (op : Op2) (x y : X) : Type 0 where
-    first_fine : is_empty (x_failures items before (suc around) None x) ≡ true
-    second_fine : is_empty (x_failures items before (suc around) (expected_as (taken_second op) (wanted_second items before op x)) y) ≡ true
-    first : (kind_of items x ≡ Some (taken_first op)) × IsTypedAs items (taken_first op) x
-    second : (kind_of items y ≡ Some (taken_second op)) × IsTypedAs items (taken_second op) y
-    told : differ (wanted_second items before op x) (type_of items y) ≡ false
-
-  sides : (before : List Item) (around : ℕ) (expected : Option (List ℕ)) (op : Op2) (place : Pos) (x y : X) → is_empty (x_failures items before around expected (two op place x y)) ≡ true → AreSides before around op x y
-  sides before around expected op place x y e =
-      let fx = x_failures items before (suc around) None x in
-      let bx = needs_be items before None (taken_first op) x in
-      let fy = x_failures items before (suc around) (expected_as (taken_second op) (wanted_second items before op x)) y in
-      let by = needs_be items before (wanted_second items before op x) (taken_second op) y in
-      let inner = empty_second (nesting_failures around place) (fx ++ (bx ++ (fy ++ by))) e in
-      let rest = empty_second fx (bx ++ (fy ++ by)) inner in
-      let last = empty_second bx (fy ++ by) rest in
-      let one = empty_first fx (bx ++ (fy ++ by)) inner in
-      let other = empty_first fy by last in
-      let own = kind_needed items before (taken_second op) (wanted_second items before op x) y (kinded items whole before (suc around) (expected_as (taken_second op) (wanted_second items before op x)) y other) (empty_second fy by last) in
-      record {
-        first_fine = one;
-        second_fine = other;
-        first = kind_needed items before (taken_first op) None x (kinded items whole before (suc around) None x one) (empty_first bx (fy ++ by) rest);
-        second = own;
-        told = not_other items whole before (taken_second op) (wanted_second items before op x) y own.0 (empty_second fy by last);
-      }
-
   -- the second operand has the type that is wanted
   of_wanted : (before : List Item) (op : Op2) (x y : X) (type own : List ℕ) → wanted_second items before op x ≡ Some type → type_of items y ≡ Some own → differ (wanted_second items before op x) (type_of items y) ≡ false → type_of items y ≡ Some type
   of_wanted before op x y type own wanted is told = same_types items (wanted_second items before op x) (type_of items y) type own wanted is told ∙ wanted
@@ -84,11 +54,11 @@ module _ (items : List Item) (whole : IsSound items) where
 
   -- two languages on the type of the first
   both_on : (before : List Item) (around : ℕ) (op : Op2) (x y : X) (type : List ℕ) → taken_first op ≡ language → taken_second op ≡ language → wanted_second items before op x ≡ if_kind language (kind_of items x) (type_of items x)
-      → AreSides before around op x y → if_kind language (kind_of items x) (type_of items x) ≡ Some type → IsOn items x type × IsOn items y type
+      → Operands items whole before around op x y → if_kind language (kind_of items x) (type_of items x) ≡ Some type → IsOn items x type × IsOn items y type
   both_on before around op x y type first second wanted s on =
       let own_x = subst (λ k. (kind_of items x ≡ Some k) × IsTypedAs items k x) first s.first in
       let own_y = subst (λ k. (kind_of items y ≡ Some k) × IsTypedAs items k y) second s.second in
-      ((own_x.0, said language x (type_of items x) type own_x.0 on), (own_y.0, of_wanted before op x y type own_y.1.0 (wanted ∙ on) own_y.1.1 s.told))
+      ((own_x.0, said language x (type_of items x) type own_x.0 on), (own_y.0, of_wanted before op x y type own_y.1.0 (wanted ∙ on) own_y.1.1 s.same))
 
   mutual
     -- an expression of a form that can be evaluated is made of languages and transformations, where it is a language and what it composes can be composed
@@ -108,27 +78,27 @@ module _ (items : List Item) (whole : IsSound items) where
     made_of_form before around expected (one GetWitness place x) type form can e on = absurd (cc)
     made_of_form before around expected (two Intersect place x y) type form can e on =
         let forms = forms_two Intersect place x y form in
-        let s = sides before around expected Intersect place x y e in
+        let s = operands items whole before around expected Intersect place x y e in
         let both = both_on before around Intersect x y type refl refl refl s on.1 in
-        (made_of_form before (suc around) None x type forms.0 (λ u v at. can u v (inl at)) s.first_fine both.0, made_of_form before (suc around) (expected_as language (wanted_second items before Intersect x)) y type forms.1 (λ u v at. can u v (inr at)) s.second_fine both.1)
+        (made_of_form before (suc around) None x type forms.0 (λ u v at. can u v (inl at)) s.fine_first both.0, made_of_form before (suc around) (expected_as language (wanted_second items before Intersect x)) y type forms.1 (λ u v at. can u v (inr at)) s.fine_second both.1)
     made_of_form before around expected (two Union place x y) type form can e on =
         let forms = forms_two Union place x y form in
-        let s = sides before around expected Union place x y e in
+        let s = operands items whole before around expected Union place x y e in
         let both = both_on before around Union x y type refl refl refl s on.1 in
-        (made_of_form before (suc around) None x type forms.0 (λ u v at. can u v (inl at)) s.first_fine both.0, made_of_form before (suc around) (expected_as language (wanted_second items before Union x)) y type forms.1 (λ u v at. can u v (inr at)) s.second_fine both.1)
+        (made_of_form before (suc around) None x type forms.0 (λ u v at. can u v (inl at)) s.fine_first both.0, made_of_form before (suc around) (expected_as language (wanted_second items before Union x)) y type forms.1 (λ u v at. can u v (inr at)) s.fine_second both.1)
     made_of_form before around expected (two Difference place x y) type form can e on =
         let forms = forms_two Difference place x y form in
-        let s = sides before around expected Difference place x y e in
+        let s = operands items whole before around expected Difference place x y e in
         let both = both_on before around Difference x y type refl refl refl s on.1 in
-        (made_of_form before (suc around) None x type forms.0 (λ u v at. can u v (inl at)) s.first_fine both.0, made_of_form before (suc around) (expected_as language (wanted_second items before Difference x)) y type forms.1 (λ u v at. can u v (inr at)) s.second_fine both.1)
+        (made_of_form before (suc around) None x type forms.0 (λ u v at. can u v (inl at)) s.fine_first both.0, made_of_form before (suc around) (expected_as language (wanted_second items before Difference x)) y type forms.1 (λ u v at. can u v (inr at)) s.fine_second both.1)
     made_of_form before around expected (two PreImage place f y) type form can e on =
         let forms = forms_two PreImage place f y form in
-        let s = sides before around expected PreImage place f y e in
+        let s = operands items whole before around expected PreImage place f y e in
         let (from, into, begins, ends) = s.first.1 in
-        let type_y = of_wanted before PreImage f y into s.second.1.0 (said_back transformation f (output_of items f) into s.first.0 ends) s.second.1.1 s.told in (
+        let type_y = of_wanted before PreImage f y into s.second.1.0 (said_back transformation f (output_of items f) into s.first.0 ends) s.second.1.1 s.same in (
           into,
-          made_from_form before (suc around) None f type into forms.0 (λ u v at. can u v (inl at)) s.first_fine (s.first.0, said transformation f (type_of items f) type s.first.0 on.1, ends),
-          made_of_form before (suc around) (expected_as language (wanted_second items before PreImage f)) y into forms.1 (λ u v at. can u v (inr at)) s.second_fine (s.second.0, type_y),
+          made_from_form before (suc around) None f type into forms.0 (λ u v at. can u v (inl at)) s.fine_first (s.first.0, said transformation f (type_of items f) type s.first.0 on.1, ends),
+          made_of_form before (suc around) (expected_as language (wanted_second items before PreImage f)) y into forms.1 (λ u v at. can u v (inr at)) s.fine_second (s.second.0, type_y),
         )
     made_of_form before around expected (two Compose place x y) type form can e on = let no : Some transformation ≡ Some language = on.0 in absurd (cc)
     made_of_form before around expected (two Restrict place x y) type form can e on = let no : Some transformation ≡ Some language = on.0 in absurd (cc)
@@ -149,28 +119,28 @@ module _ (items : List Item) (whole : IsSound items) where
     made_from_form before around expected (two PreImage place x y) from into form can e goes = let no : Some language ≡ Some transformation = goes.0 in absurd (cc)
     made_from_form before around expected (two Compose place x y) from into form can e goes =
         let forms = forms_two Compose place x y form in
-        let s = sides before around expected Compose place x y e in
+        let s = operands items whole before around expected Compose place x y e in
         let (start, middle, begins, ends) = s.first.1 in
-        let type_y = of_wanted before Compose x y middle s.second.1.0 (said_back transformation x (output_of items x) middle s.first.0 ends) s.second.1.2 s.told in (
+        let type_y = of_wanted before Compose x y middle s.second.1.0 (said_back transformation x (output_of items x) middle s.first.0 ends) s.second.1.2 s.same in (
           middle,
-          made_from_form before (suc around) None x from middle forms.0 (λ u v at. can u v (inr (inl at))) s.first_fine (s.first.0, said transformation x (type_of items x) from s.first.0 goes.1, ends),
-          made_from_form before (suc around) (expected_as transformation (wanted_second items before Compose x)) y middle into forms.1 (λ u v at. can u v (inr (inr at))) s.second_fine (s.second.0, type_y, said transformation y (output_of items y) into s.second.0 goes.2),
+          made_from_form before (suc around) None x from middle forms.0 (λ u v at. can u v (inr (inl at))) s.fine_first (s.first.0, said transformation x (type_of items x) from s.first.0 goes.1, ends),
+          made_from_form before (suc around) (expected_as transformation (wanted_second items before Compose x)) y middle into forms.1 (λ u v at. can u v (inr (inr at))) s.fine_second (s.second.0, type_y, said transformation y (output_of items y) into s.second.0 goes.2),
           can x y (inl (refl, refl)),
         )
     made_from_form before around expected (two Restrict place f y) from into form can e goes =
         let forms = forms_two Restrict place f y form in
-        let s = sides before around expected Restrict place f y e in
+        let s = operands items whole before around expected Restrict place f y e in
         let begins = said transformation f (type_of items f) from s.first.0 goes.1 in
-        let type_y = of_wanted before Restrict f y from s.second.1.0 goes.1 s.second.1.1 s.told in (
-          made_from_form before (suc around) None f from into forms.0 (λ u v at. can u v (inl at)) s.first_fine (s.first.0, begins, said transformation f (output_of items f) into s.first.0 goes.2),
-          made_of_form before (suc around) (expected_as language (wanted_second items before Restrict f)) y from forms.1 (λ u v at. can u v (inr at)) s.second_fine (s.second.0, type_y),
+        let type_y = of_wanted before Restrict f y from s.second.1.0 goes.1 s.second.1.1 s.same in (
+          made_from_form before (suc around) None f from into forms.0 (λ u v at. can u v (inl at)) s.fine_first (s.first.0, begins, said transformation f (output_of items f) into s.first.0 goes.2),
+          made_of_form before (suc around) (expected_as language (wanted_second items before Restrict f)) y from forms.1 (λ u v at. can u v (inr at)) s.fine_second (s.second.0, type_y),
         )
     made_from_form before around expected (two RestrictOut place f y) from into form can e goes =
         let forms = forms_two RestrictOut place f y form in
-        let s = sides before around expected RestrictOut place f y e in
+        let s = operands items whole before around expected RestrictOut place f y e in
         let begins = said transformation f (type_of items f) from s.first.0 goes.1 in
-        let type_y = of_wanted before RestrictOut f y into s.second.1.0 goes.2 s.second.1.1 s.told in (
-          made_from_form before (suc around) None f from into forms.0 (λ u v at. can u v (inl at)) s.first_fine (s.first.0, begins, said transformation f (output_of items f) into s.first.0 goes.2),
-          made_of_form before (suc around) (expected_as language (wanted_second items before RestrictOut f)) y into forms.1 (λ u v at. can u v (inr at)) s.second_fine (s.second.0, type_y),
+        let type_y = of_wanted before RestrictOut f y into s.second.1.0 goes.2 s.second.1.1 s.same in (
+          made_from_form before (suc around) None f from into forms.0 (λ u v at. can u v (inl at)) s.fine_first (s.first.0, begins, said transformation f (output_of items f) into s.first.0 goes.2),
+          made_of_form before (suc around) (expected_as language (wanted_second items before RestrictOut f)) y into forms.1 (λ u v at. can u v (inr at)) s.fine_second (s.second.0, type_y),
         )
     made_from_form before around expected (two Apply place x y) from into form can e goes = absurd (cc)

@@ -33,15 +33,15 @@ module _ (items : List Item) (whole : IsSound items) where
   no_tree : Some a_tree ≡ Some transformation → ⊥
   no_tree e = cc
 
-  -- the operands of an operation
-  record Operands (before : List Item) (around : ℕ) (op : Op2) (x y : X) : Type 0 where
-    fine_first : is_empty (x_failures items before (suc around) None x) ≡ true
-    fine_second : is_empty (x_failures items before (suc around) (expected_as (taken_second op) (wanted_second items before op x)) y) ≡ true
-    first : (kind_of items x ≡ Some (taken_first op)) × IsTypedAs items (taken_first op) x
-    second : (kind_of items y ≡ Some (taken_second op)) × IsTypedAs items (taken_second op) y
-    same : differ (wanted_second items before op x) (type_of items y) ≡ false
+  -- nothing fails in the operands of an operation, and they are of the kinds that are taken and of the types that are wanted
+  pub record Operands (before : List Item) (around : ℕ) (op : Op2) (x y : X) : Type 0 where
+    pub fine_first : is_empty (x_failures items before (suc around) None x) ≡ true
+    pub fine_second : is_empty (x_failures items before (suc around) (expected_as (taken_second op) (wanted_second items before op x)) y) ≡ true
+    pub first : (kind_of items x ≡ Some (taken_first op)) × IsTypedAs items (taken_first op) x
+    pub second : (kind_of items y ≡ Some (taken_second op)) × IsTypedAs items (taken_second op) y
+    pub same : differ (wanted_second items before op x) (type_of items y) ≡ false
 
-  operands : (before : List Item) (around : ℕ) (expected : Option (List ℕ)) (op : Op2) (place : Pos) (x y : X) → is_empty (x_failures items before around expected (two op place x y)) ≡ true → Operands before around op x y
+  pub operands : (before : List Item) (around : ℕ) (expected : Option (List ℕ)) (op : Op2) (place : Pos) (x y : X) → is_empty (x_failures items before around expected (two op place x y)) ≡ true → Operands before around op x y
   operands before around expected op place x y e =
       let fx = x_failures items before (suc around) None x in
       let bx = needs_be items before None (taken_first op) x in

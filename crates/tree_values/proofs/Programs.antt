@@ -1,7 +1,8 @@
 -- What an item of a well-formed program brings to the evaluation of its trees, once the items before it are done.
 use Rattle.meaning_laws.specs.Shapes.{have_tree_shapes, has_automaton_shape, has_tree_shape}
-use Rattle.std.proofs.Common.{◌≡◌, ◌<◌, ◌++◌, ℕ, suc, ℤ, Bool, true, false, ◌&&◌, not, cond, List, [], ◌∷◌, map, length, get_or, Option, Some, None, find, Contains, refl, sym, ap, subst, ◌∙◌, arith}
+use Rattle.std.proofs.Common.{◌≡◌, ◌<◌, ◌++◌, ℕ, suc, ℤ, Bool, true, false, ◌&&◌, not, cond, List, [], ◌∷◌, map, length, get_or, Option, Some, None, refl, sym, ap, subst, ◌∙◌, arith}
 use Rattle.std.specs.Prelude.{◌==◌, is_some, pos, negsuc}
+use Rattle.std.proofs.lemmas.Bool.{and_parts}
 use Rattle.std.proofs.lemmas.Bool.Decides.{nat_tests}
 use Rattle.std.specs.Option.{option_map, option_map_or, option_and_then}
 use Rattle.fast_fault.specs.declared.code.Code.TheVariants.{WrongRank}
@@ -35,7 +36,7 @@ use Rattle.fast_eval.specs.declared.built.Built.{Built}
 use Rattle.model_run.specs.Items.{used_in, used_in_all, AreComposable, AreAllComposable}
 use Rattle.fast_eval.specs.Forms.{IsMadeOn, IsMadeFrom, AreKnown}
 use Rattle.fast_eval.specs.Defined.{AreDefined}
-use Rattle.fast_eval.proofs.Stepping.{known_of, trans_known_of}
+use Rattle.fast_eval.proofs.Stepping.{find_in_front, found_there, some_same, known_of, trans_known_of}
 use Rattle.fast_eval.proofs.Typing.{made_of_form, made_from_form}
 use Rattle.tree_values.specs.declared.trees.Trees.{Trees}
 use Rattle.tree_values.specs.Forms.{IsNodeOf, IsTreeOn, AreTreesOn, IsTreeKnown, AreTreesKnown}
@@ -43,33 +44,9 @@ use Rattle.tree_values.specs.Trees.{tree_at, ArePrinted}
 use Rattle.fast_eval.proofs.TypeNames.{type_there, types_there}
 use Rattle.tree_values.proofs.Closed.{closed_labels}
 
-both : (a b : Bool) → (a && b) ≡ true → (a ≡ true) × (b ≡ true)
-both true b e = (refl, e)
-both false b e = absurd (cc)
-
-some_same : {A : Type 0} {s t : A} → Some s ≡ Some t → s ≡ t
-some_same e = cc
-
 -- types that are known not to differ are one
 one_type : (s t : List ℕ) (o : Option (List ℕ)) → o ≡ Some t → differ (Some s) o ≡ false → s ≡ t
 one_type s t o is e = same_from_test s t (not_false (same_text s t) (subst (λ p. differ (Some s) p ≡ false) is e))
-
--- what is found in a front is what is found
-find_in_front : {A : Type 0} (p : A → Bool) (xs ys : List A) (x : A) → find p xs ≡ Some x → find p (xs ++ ys) ≡ Some x
-find_in_front p [] ys x e = absurd (cc)
-find_in_front p (z ∷ xs) ys x e = by (p z) e (find_in_front p xs ys x)
-  where
-    by : (b : Bool) → cond b (Some z) (find p xs) ≡ Some x → (find p xs ≡ Some x → find p (xs ++ ys) ≡ Some x) → cond b (Some z) (find p (xs ++ ys)) ≡ Some x
-    by true e later = e
-    by false e later = later e
-
-found_there : {A : Type 0} (p : A → Bool) (xs : List A) (x : A) → find p xs ≡ Some x → Contains xs x
-found_there p [] x e = absurd (cc)
-found_there p (z ∷ xs) x e = by (p z) e (found_there p xs x)
-  where
-    by : (b : Bool) → cond b (Some z) (find p xs) ≡ Some x → (find p xs ≡ Some x → Contains xs x) → Contains (z ∷ xs) x
-    by true e later = let same : z ≡ x = cc in subst (λ w. Contains (z ∷ xs) w) same (first_in z xs)
-    by false e later = later_in z x xs (later e)
 
 -- ---- constructors
 
@@ -218,7 +195,7 @@ module _ (items : List Item) (whole : IsSound items) where
     tree_on before around type t found sound (one Domain place x) form can fine be = absurd (cc)
     tree_on before around type t found sound (one GetWitness place x) form can fine be = (found_on before around type place x form (can x (first_in x [])) fine be).1
     tree_on before around type t found sound (two Apply place f x) form can fine be =
-        let forms = both (has_automaton_shape f) (has_tree_shape x) form in
+        let forms = and_parts (has_automaton_shape f) (has_tree_shape x) form in
         let a = applied_on before around type place f x forms.0 (can f (first_in f (used_in x))) fine be in
         let d = (types_there items a.from type f a.made).0 in
         (a.from, a.made, tree_on before (suc around) a.from d.item d.found (sound_of a.from d.item d.found) x forms.1 (λ e at. can e (later_in f e (used_in x) at)) a.inside a.be)
@@ -242,7 +219,7 @@ module _ (items : List Item) (whole : IsSound items) where
     trees_on : (before : List Item) (around : ℕ) (type : List ℕ) (t : TypeItem) → find_type items type ≡ Some t → IsSoundType t → (xs : Xs) → have_tree_shapes xs ≡ true → AreAllComposable items (used_in_all xs) → is_empty (xs_failures items before around (Some type) xs) ≡ true → AreTreesOn items type xs
     trees_on before around type t found sound no_x form can fine = tt
     trees_on before around type t found sound (and_x x xs) form can fine =
-        let forms = both (has_tree_shape x) (have_tree_shapes xs) form in
+        let forms = and_parts (has_tree_shape x) (have_tree_shapes xs) form in
         let behind = empty_second (x_failures items before around (Some type) x) _ fine in (
           tree_on before around type t found sound x forms.0 (λ e at. can e (in_left (used_in x) (used_in_all xs) e at)) (empty_first (x_failures items before around (Some type) x) _ fine) (empty_first (needs_be items before (Some type) a_tree x) _ behind),
           trees_on before around type t found sound xs forms.1 (λ e at. can e (in_right (used_in x) (used_in_all xs) e at)) (empty_second (needs_be items before (Some type) a_tree x) _ behind),
@@ -275,7 +252,7 @@ module _ (items : List Item) (whole : IsSound items) where
           let made = found_on before around type place x form (can x (first_in x [])) fine be in
           known_of items whole b before from split defined (suc around) None type x made.0 made.1
       tree_known around type (two Apply place f x) form can fine be =
-          let forms = both (has_automaton_shape f) (has_tree_shape x) form in
+          let forms = and_parts (has_automaton_shape f) (has_tree_shape x) form in
           let a = applied_on before around type place f x forms.0 (can f (first_in f (used_in x))) fine be in
           (trans_known_of items whole b before from split defined (suc around) None a.from type f a.fine a.made, tree_known (suc around) a.from x forms.1 (λ e at. can e (later_in f e (used_in x) at)) a.inside a.be)
       tree_known around type (two Intersect place x y) form can fine be = absurd (cc)
@@ -294,7 +271,7 @@ module _ (items : List Item) (whole : IsSound items) where
       trees_known : (around : ℕ) (type : List ℕ) (xs : Xs) → have_tree_shapes xs ≡ true → AreAllComposable items (used_in_all xs) → is_empty (xs_failures items before around (Some type) xs) ≡ true → AreTreesKnown items trees b xs
       trees_known around type no_x form can fine = tt
       trees_known around type (and_x x xs) form can fine =
-          let forms = both (has_tree_shape x) (have_tree_shapes xs) form in
+          let forms = and_parts (has_tree_shape x) (have_tree_shapes xs) form in
           let behind = empty_second (x_failures items before around (Some type) x) _ fine in (
             tree_known around type x forms.0 (λ e at. can e (in_left (used_in x) (used_in_all xs) e at)) (empty_first (x_failures items before around (Some type) x) _ fine) (empty_first (needs_be items before (Some type) a_tree x) _ behind),
             trees_known around type xs forms.1 (λ e at. can e (in_right (used_in x) (used_in_all xs) e at)) (empty_second (needs_be items before (Some type) a_tree x) _ behind),
