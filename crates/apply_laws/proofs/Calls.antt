@@ -1,5 +1,6 @@
 -- What is found of a call, term by term.
 use Rattle.std.proofs.Common.{ℕ, zero, suc, ◌≡◌, ◌<◌, ◌⊎◌, inl, inr, Bool, true, false, cond, List, [], ◌∷◌, ◌++◌, length, Option, None, refl, sym, subst, ◌↔◌, arith}
+use Rattle.std.proofs.lemmas.Bool.{and_parts}
 use Rattle.std.specs.Prelude.{Contains, slice_index_or}
 use Rattle.std.specs.declared.cmp.Ordering.{Ordering}
 use Rattle.std.specs.declared.cmp.Ordering.TheVariants.{Equal}
@@ -18,7 +19,7 @@ use Rattle.apply_laws.specs.Meant.{all_meant, IsCutOf, AreCutsOf, GivesCut, Give
 use Rattle.apply_laws.specs.Listing.{kept_at, Both, BothTrees, NodeOver, MadeOver, first_some, all_kept, each_kept, HasOutside, ListsCuts}
 use Rattle.apply_laws.specs.Found.{Found, too_much, listed, IsFound, AreFound, IsProduct, IsNodeFound}
 use Rattle.apply_laws.specs.Reached.{terms_of}
-use Rattle.apply_laws.proofs.Listed.{alike, union, none, single, both_true}
+use Rattle.apply_laws.proofs.Listed.{alike, union, none, single}
 use Rattle.apply_laws.proofs.Products.{empty_row}
 use Rattle.apply_laws.proofs.Passing.{passes_alike}
 use Rattle.apply_laws.proofs.Parts.{found_alike, are_found_alike, found_before, found_over}
@@ -143,8 +144,8 @@ module _ {V L N : Type 0} (label : V → L) (order : V → V → Ordering) (keep
 
     pub of_kept : (ts : Trees V) (j : ℕ) → each_kept keeps (relabel_all label ts) ≡ true → ListsCuts label order keeps Outside (GivesCutAt label f identity j ts) (GivesAt f identity j (relabel_all label ts)) (kept_at ts j) None
     of_kept no_trees j e = none _ _ _ _ (GivesCutAt label f identity j no_trees) (GivesAt f identity j no_trees) (λ u g. g)
-    of_kept (tree (node c v us) ts) zero e = single _ _ _ _ (GivesCutAt label f identity zero (tree (node c v us) ts)) (GivesAt f identity zero (tree (relabel label (node c v us)) (relabel_all label ts))) (keep (node c v us)) refl refl (both_true (all_kept keeps (relabel label (node c v us))) (each_kept keeps (relabel_all label ts)) e).0 (λ u g. g)
-    of_kept (tree (node c v us) ts) (suc j) e = of_kept ts j (both_true (all_kept keeps (relabel label (node c v us))) (each_kept keeps (relabel_all label ts)) e).1
+    of_kept (tree (node c v us) ts) zero e = single _ _ _ _ (GivesCutAt label f identity zero (tree (node c v us) ts)) (GivesAt f identity zero (tree (relabel label (node c v us)) (relabel_all label ts))) (keep (node c v us)) refl refl (and_parts (all_kept keeps (relabel label (node c v us))) (each_kept keeps (relabel_all label ts)) e).0 (λ u g. g)
+    of_kept (tree (node c v us) ts) (suc j) e = of_kept ts j (and_parts (all_kept keeps (relabel label (node c v us))) (each_kept keeps (relabel_all label ts)) e).1
 
 module _ {L : Type 0} (looks : List (List (Rule L))) (t : Tree L) where
   pub applies_in : (P : Term Head (L → L) → Type 0) (rs : List (OutRule L)) → OneOf P (terms_of looks t rs) → OneOf (λ r. (rule_applies looks t r.rule ≡ true) × P r.term) rs

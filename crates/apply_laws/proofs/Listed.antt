@@ -8,10 +8,6 @@ use Rattle.model_sta.specs.Sets.{Each}
 use Rattle.apply_laws.specs.Lists.{EachTwo, HasOf, by_order, merge, merge_after}
 use Rattle.apply_laws.specs.Listing.{IsFar, IsListing, has_some, first_some}
 
-pub both_true : (a b : Bool) → (a && b) ≡ true → (a ≡ true) × (b ≡ true)
-both_true true b h = (refl, h)
-both_true false b h = cc
-
 pub true_both : (a b : Bool) → a ≡ true → b ≡ true → (a && b) ≡ true
 true_both a b e f = ap (λ x. x && b) e ∙ f
 

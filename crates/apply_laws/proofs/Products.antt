@@ -1,5 +1,6 @@
 -- Lists of the instances of terms.
 use Rattle.std.proofs.Common.{ℕ, ◌≡◌, ◌+◌, ◌*◌, inl, inr, Bool, true, false, ◌&&◌, List, [], ◌∷◌, map, length, Option, Some, None, refl, sym, ap, ap₂, subst, ◌∙◌, ◌↔◌, arith, length-append}
+use Rattle.std.proofs.lemmas.Bool.{and_parts}
 use Rattle.std.proofs.lemmas.List.{length-map}
 use Rattle.std.specs.declared.cmp.Ordering.{Ordering}
 use Rattle.std.specs.declared.cmp.Ordering.TheVariants.{Less, Equal}
@@ -13,7 +14,7 @@ use Rattle.model_sta.proofs.TreeOrder.{tree_itself}
 use Rattle.model_sttr.specs.Cuts.{Cut, keep, new, Cuts, no_cuts, cut, tree_of, trees_of_cuts}
 use Rattle.apply_laws.specs.Lists.{EachTwo, HasOf}
 use Rattle.apply_laws.specs.Listing.{IsFar, has_some, first_some, only_if, all_kept, each_kept, HasOutside, SomeHasOutside, Both, BothTrees, NodeOver, MadeOver, products, ListsCuts, ListsRows, AreNodes}
-use Rattle.apply_laws.proofs.Listed.{both_true, true_both, each_map, each_weaker, each_append, each_all, each_two_map, each_two_append, has_left, has_right, dead, alive, none, far_alone}
+use Rattle.apply_laws.proofs.Listed.{true_both, each_map, each_weaker, each_append, each_all, each_two_map, each_two_append, has_left, has_right, dead, alive, none, far_alone}
 
 pub length_products : {V : Type 0} (xs : List (Cut V)) (yss : List (Cuts V)) → length (products xs yss) ≡ length xs * length yss
 length_products [] yss = omega arith
@@ -79,7 +80,7 @@ module _ {V L N : Type 0} (label : V → L) (order : V → V → Ordering) (keep
     all_product : (xs : List (Cut V)) (yss : List (Cuts V)) (a b : Option N) → ListsCuts label order keeps Outside C P xs a → ListsRows label order keeps Outside D Q yss b
         → (us : Trees L) → BothTrees P Q us → each_kept keeps us ≡ true → HasOf (λ ys. relabel_all label (trees_of_cuts ys)) (products xs yss) us
     all_product xs yss a b h k no_trees r e = absurd r
-    all_product xs yss a b h k (tree t ts) r e = let both = both_true (all_kept keeps t) (each_kept keeps ts) e in in_product t ts xs yss (h.all t r.0 both.0) (k.all ts r.1 both.1)
+    all_product xs yss a b h k (tree t ts) r e = let both = and_parts (all_kept keeps t) (each_kept keeps ts) e in in_product t ts xs yss (h.all t r.0 both.0) (k.all ts r.1 both.1)
 
     -- a part before parts
     pub product : (xs : List (Cut V)) (yss : List (Cuts V)) (a b : Option N) → ListsCuts label order keeps Outside C P xs a → ListsRows label order keeps Outside D Q yss b
@@ -134,7 +135,7 @@ module _ {V L N : Type 0} (label : V → L) (order : V → V → Ordering) (keep
     all_nodes : (yss : List (Cuts V)) (zs : List (Cut V)) → AreNodes label c l yss zs → ((us : Trees L) → Q us → each_kept keeps us ≡ true → HasOf (λ ys. relabel_all label (trees_of_cuts ys)) yss us)
         → (u : Tree L) → NodeOver c l Q u → all_kept keeps u ≡ true → HasOf (λ x. relabel label (tree_of x)) zs u
     all_nodes yss zs n f (node d k us) r e =
-        subst (HasOf (λ x. relabel label (tree_of x)) zs) (λ i. node (r.0 i) (r.1 i) us) (has_node yss zs n us (f us r.2 (both_true (keeps k) (each_kept keeps us) e).1))
+        subst (HasOf (λ x. relabel label (tree_of x)) zs) (λ i. node (r.0 i) (r.1 i) us) (has_node yss zs n us (f us r.2 (and_parts (keeps k) (each_kept keeps us) e).1))
 
     far_nodes : keeps l ≡ true → (far : Option N) → IsFar (each_kept keeps) (SomeHasOutside Outside) Q far → IsFar (all_kept keeps) (HasOutside Outside) (NodeOver c l Q) far
     far_nodes k None h = kept_node
@@ -156,7 +157,7 @@ module _ {V L N : Type 0} (label : V → L) (order : V → V → Ordering) (keep
     }
 
     not_kept : keeps l ≡ false → (u : Tree L) → NodeOver c l Q u → all_kept keeps u ≡ true → ⊥
-    not_kept k (node d m us) r e = let no : false ≡ true = sym k ∙ (ap keeps r.1 ∙ (both_true (keeps m) (each_kept keeps us) e).0) in cc
+    not_kept k (node d m us) r e = let no : false ≡ true = sym k ∙ (ap keeps r.1 ∙ (and_parts (keeps m) (each_kept keeps us) e).0) in cc
 
     -- a node whose label has a number outside, over parts of which there are some
     pub far_node : keeps l ≡ false → (n : N) → Outside l n → (us : Trees L) → Q us → ListsCuts label order keeps Outside (MadeOver label c l D) (NodeOver c l Q) [] (Some n)

@@ -1,5 +1,6 @@
 -- What the states of an automaton accept: the trees of the languages that they stand for.
 use Rattle.std.proofs.Common.{◌≡◌, ◌⊎◌, inl, inr, ◌↔◌, ℕ, suc, ◌<◌, ◌==◌, Bool, true, false, cond, ◌&&◌, ◌||◌, List, [], ◌∷◌, None, map, filter, length, get_or, Contains, refl, sym, ap, ap₂, subst, ◌∙◌, arith}
+use Rattle.std.proofs.lemmas.Bool.{and_parts}
 use Rattle.std.specs.List.{list_any, list_all}
 use Rattle.std.proofs.Math.ListN.{get_or-map}
 use Rattle.std.proofs.lemmas.List.{length-map}
@@ -28,10 +29,6 @@ use Rattle.fast_build.proofs.Guarding.{guard_means}
 use Rattle.fast_build.proofs.Naming.{number_named}
 
 -- ---- tests of lists
-
-both_true : (a b : Bool) → (a && b) ≡ true → (a ≡ true) × (b ≡ true)
-both_true true b e = (refl, e)
-both_true false b e = absurd (cc)
 
 true_both : (a b : Bool) → a ≡ true → b ≡ true → (a && b) ≡ true
 true_both a b e f = rw e f
@@ -99,7 +96,7 @@ module _ (items : List Item) (laws : AreByRules items) (t : PlainSignature) (pla
             → Wanted (d ∷ ds) var u ↔ list_all (is_accepted automaton u) (map (λ e. place e.language.text) (cond b (d ∷ filter (λ e. same_text e.child.text var) ds) (filter (λ e. same_text e.child.text var) ds))) ≡ true
         by true same = (
           λ h. true_both (is_accepted automaton u (place d.language.text)) (list_all (is_accepted automaton u) (numbers_for place ds var)) (means.0 (h d (here d ds) same)) (rest.0 (λ e at is. h e (later_in d e ds at) is)),
-          λ h e at is. (let two = both_true (is_accepted automaton u (place d.language.text)) (list_all (is_accepted automaton u) (numbers_for place ds var)) h in
+          λ h e at is. (let two = and_parts (is_accepted automaton u (place d.language.text)) (list_all (is_accepted automaton u) (numbers_for place ds var)) h in
               elim (one_of d e ds at) [ inl one ↦ subst (λ (x : Demand). IsInLanguage items (named x.language) u) one (means.1 two.0) | inr later ↦ rest.1 two.1 e later is ]),
         )
         by false other = (
@@ -123,7 +120,7 @@ module _ (items : List Item) (laws : AreByRules items) (t : PlainSignature) (pla
         let first = wanted_match u means given there v.text in
         let rest = meets given there vars in (
           λ h. true_both (list_all (is_accepted automaton u) (numbers_for place given v.text)) (meet_demands automaton us (numbers_for_each place given vars)) (first.0 h.0) (rest.0 h.1),
-          λ h. (let two = both_true (list_all (is_accepted automaton u) (numbers_for place given v.text)) (meet_demands automaton us (numbers_for_each place given vars)) h in (first.1 two.0, rest.1 two.1)),
+          λ h. (let two = and_parts (list_all (is_accepted automaton u) (numbers_for place given v.text)) (meet_demands automaton us (numbers_for_each place given vars)) h in (first.1 two.0, rest.1 two.1)),
         )
 
     -- ---- rules
@@ -140,7 +137,7 @@ module _ (items : List Item) (laws : AreByRules items) (t : PlainSignature) (pla
           let whole = and_assoc (p.constructor == c) (formula_holds (λ a. row_holds a l) p.guard) (meet_demands automaton us p.demands) in (
             λ h. (let two = law.0 h in
                 sym whole ∙ true_both ((p.constructor == c) && formula_holds (λ a. row_holds a l) p.guard) (meet_demands automaton us p.demands) (sym (head_match r p is) ∙ two.0) (sym same ∙ (meets r.given there r.vars).0 two.1)),
-            λ h. (let two = both_true ((p.constructor == c) && formula_holds (λ a. row_holds a l) p.guard) (meet_demands automaton us p.demands) (whole ∙ h) in
+            λ h. (let two = and_parts ((p.constructor == c) && formula_holds (λ a. row_holds a l) p.guard) (meet_demands automaton us p.demands) (whole ∙ h) in
                 law.1 (head_match r p is ∙ two.0, (meets r.given there r.vars).1 (same ∙ two.1))),
           )
 

@@ -1,5 +1,6 @@
 -- What is said of the rules of transformations in a well-formed program.
-use Rattle.std.proofs.Common.{◌≡◌, inl, inr, ◌+◌, ℕ, suc, ℤ, ◌<◌, ◌≤◌, ◌==◌, ◌&&◌, ◌||◌, Bool, true, false, cond, List, [], ◌∷◌, ◌++◌, Option, Some, None, map, length, All, Contains, refl, sym, ap, subst, ◌∙◌, arith}
+use Rattle.std.proofs.Common.{◌≡◌, inl, inr, ◌+◌, ℕ, suc, ℤ, ◌<◌, ◌≤◌, ◌==◌, ◌||◌, Bool, true, false, cond, List, [], ◌∷◌, ◌++◌, Option, Some, None, map, length, All, Contains, refl, sym, ap, subst, ◌∙◌, arith}
+use Rattle.std.proofs.lemmas.Bool.{and_parts}
 use Rattle.std.specs.Prelude.{is_some, not}
 use Rattle.std.specs.List.{list_all, position_or_len}
 use Rattle.std.specs.Option.{option_map_or}
@@ -55,10 +56,6 @@ suc_is_not n e = grind (arith, nat_tests)
 both_less : (m n : ℕ) → (suc m == suc n) ≡ true → (m == n) ≡ true
 both_less m n e = grind (arith, nat_tests)
 
-both_of : (a b : Bool) → (a && b) ≡ true → (a ≡ true) × (b ≡ true)
-both_of true b e = (refl, e)
-both_of false b e = absurd (cc)
-
 some_of : {A : Type 0} (o : Option A) → is_some o ≡ true → (x : A) × (o ≡ Some x)
 some_of None e = absurd (cc)
 some_of (Some x) e = (x, refl)
@@ -82,7 +79,7 @@ module _ (fields : List FieldItem) (known : list_all (λ f. is_some (sort_named 
   labels_stand [] (e ∷ labels) all many fine = absurd (zero_is_not (length labels) many)
   labels_stand (f ∷ into) [] all many fine = absurd (suc_is_not (length into) many)
   labels_stand (f ∷ into) (e ∷ labels) all many fine =
-      let two = both_of (is_some (sort_named f.sort.text)) (list_all (λ f. is_some (sort_named f.sort.text)) into) all in
+      let two = and_parts (is_some (sort_named f.sort.text)) (list_all (λ f. is_some (sort_named f.sort.text)) into) all in
       let named = some_of (sort_named f.sort.text) two.0 in
       let own : own_sort f ≡ named.0 = ap (λ o. option_map_or (λ sort. sort) o texts) named.1 in
       let behind = empty_second (label_failures (Some fields) e) (needs_sort_of (Some fields) f e ++ labels_failures (Some fields) into labels) fine in

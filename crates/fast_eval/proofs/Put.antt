@@ -1,5 +1,6 @@
 -- The comparisons and the maps of what is made of a transformation and a language are those of the expression.
-use Rattle.std.proofs.Common.{◌≡◌, ◌⊎◌, inl, inr, ℕ, zero, suc, Bool, true, false, cond, ◌&&◌, List, [], ◌∷◌, map, slice_index_or, get_or, Some, All, Contains, refl, sym, ap, subst, ◌∙◌, arith}
+use Rattle.std.proofs.Common.{◌≡◌, ◌⊎◌, inl, inr, ℕ, zero, suc, Bool, true, false, cond, List, [], ◌∷◌, map, slice_index_or, get_or, Some, All, Contains, refl, sym, ap, subst, ◌∙◌, arith}
+use Rattle.std.proofs.lemmas.Bool.{and_parts}
 use Rattle.std.specs.Prelude.{ℤ}
 use Rattle.std.specs.Str.{bytes_eq}
 use Rattle.std.specs.Cmp.Lexicographic.{pointwise}
@@ -248,16 +249,12 @@ machine_compared items e type m P to fits =
 abbrev same_entries : RowEntry → RowEntry → Bool
 same_entries = entry.eq-value.it
 
-both_true : (a b : Bool) → (a && b) ≡ true → (a ≡ true) × (b ≡ true)
-both_true true b e = (refl, e)
-both_true false b e = cc
-
 -- equal maps have equal forms
 pub equal_forms : (xs ys : List RowEntry) → pointwise same_entries xs ys ≡ true → AreSameForms (forms_of (map plain_entry xs)) (forms_of (map plain_entry ys))
 equal_forms [] [] e = tt
 equal_forms [] (y ∷ ys) e = absurd (cc)
 equal_forms (x ∷ xs) [] e = absurd (cc)
-equal_forms (x ∷ xs) (y ∷ ys) e = let both = both_true (same_entries x y) (pointwise same_entries xs ys) e in by x y both.0 (equal_forms xs ys both.1)
+equal_forms (x ∷ xs) (y ∷ ys) e = let both = and_parts (same_entries x y) (pointwise same_entries xs ys) e in by x y both.0 (equal_forms xs ys both.1)
   where
     by : (x y : RowEntry) → same_entries x y ≡ true → AreSameForms (forms_of (map plain_entry xs)) (forms_of (map plain_entry ys)) → AreSameForms (forms_of (map plain_entry (x ∷ xs))) (forms_of (map plain_entry (y ∷ ys)))
     by (Number f) (Number g) same rest = (same, rest)
@@ -278,7 +275,7 @@ equal_formulas : (xs ys : List RowEntry) → pointwise same_entries xs ys ≡ tr
 equal_formulas [] [] e f at = absurd (none f at)
 equal_formulas [] (y ∷ ys) e f at = absurd (cc)
 equal_formulas (x ∷ xs) [] e f at = absurd (none f at)
-equal_formulas (x ∷ xs) (y ∷ ys) e f at = let both = both_true (same_entries x y) (pointwise same_entries xs ys) e in by x y both.0 (equal_formulas xs ys both.1 f) at
+equal_formulas (x ∷ xs) (y ∷ ys) e f at = let both = and_parts (same_entries x y) (pointwise same_entries xs ys) e in by x y both.0 (equal_formulas xs ys both.1 f) at
   where
     by : (x y : RowEntry) → same_entries x y ≡ true → (Contains (formulas_in (map plain_entry ys)) f → HasEqual xs f) → Contains (formulas_in (map plain_entry (y ∷ ys))) f → HasEqual (x ∷ xs) f
     by (Number g) (Number h) same rest at = rest at

@@ -1,6 +1,7 @@
 -- What is answered of trees of an automaton says of the trees of its expression.
-use Rattle.std.proofs.Common.{◌≡◌, ◌↔◌, ◌≤◌, ℕ, Bool, true, false, ◌&&◌, List, Some, refl, sym, subst, ◌∙◌, arith}
+use Rattle.std.proofs.Common.{◌≡◌, ◌↔◌, ◌≤◌, ℕ, Bool, true, List, Some, sym, subst, ◌∙◌, arith}
 use Rattle.model_tree.specs.Limits.{most_classes}
+use Rattle.std.proofs.lemmas.Bool.{and_parts}
 use Rattle.model_tree.specs.Tree.{LabelTree, Tree, node, Trees, no_trees, tree, relabel, relabel_all, EveryLabel, EveryLabelOfAll}
 use Rattle.model_tree.specs.Signature.{Sort, HasSorts, HasType, EachHasType, PlainSignature, sorts_of}
 use Rattle.model_tree.specs.Kept.{is_kept, are_kept, is_kept_label}
@@ -63,22 +64,18 @@ module _ (items : List Item) (type : List ℕ) (sorts : List Sort) (labels : sor
       let means = built.carries.means t (typed_of t h) in
       (λ own. means.0 (sym e ∙ own), λ inside. e ∙ means.1 inside)
 
-both_true : (a b : Bool) → (a && b) ≡ true → (a ≡ true) × (b ≡ true)
-both_true true b e = (refl, e)
-both_true false b e = absurd (cc)
-
 -- the labels of a tree of the type that is kept are those that the theory keeps
 module _ (s : PlainSignature) where
   mutual
     pub keeps_typed : (t : Tree Label) → HasType s (relabel label_meaning t) → is_kept (relabel label_meaning t) ≡ true → EveryLabel (KeepsValue (row_meaning (sorts_of s))) t
     keeps_typed (node c l ts) typed kept =
-        let both = both_true (is_kept_label (label_meaning l)) (are_kept (relabel_all label_meaning ts)) kept in
+        let both = and_parts (is_kept_label (label_meaning l)) (are_kept (relabel_all label_meaning ts)) kept in
         ((typed.2, both.0), keeps_all ts typed.3 both.1)
 
     keeps_all : (ts : Trees Label) → EachHasType s (relabel_all label_meaning ts) → are_kept (relabel_all label_meaning ts) ≡ true → EveryLabelOfAll (KeepsValue (row_meaning (sorts_of s))) ts
     keeps_all no_trees typed kept = tt
     keeps_all (tree t ts) typed kept =
-        let both = both_true (is_kept (relabel label_meaning t)) (are_kept (relabel_all label_meaning ts)) kept in
+        let both = and_parts (is_kept (relabel label_meaning t)) (are_kept (relabel_all label_meaning ts)) kept in
         (keeps_typed t typed.0 both.0, keeps_all ts typed.1 both.1)
 
 module _ (items : List Item) (type : List ℕ) (sorts : List Sort) (labels : sorts ≡ sorts_of (signature_named items (Some type))) (x : X) (a : Lang RowAtom) (built : IsBuiltOf items x type a) where

@@ -1,5 +1,6 @@
 -- A comparison of whole numbers that is written in a guard, as the automaton has it and as it is meant.
-use Rattle.std.proofs.Common.{◌≡◌, ◌⊎◌, inl, inr, zero, suc, Bool, true, false, cond, ◌&&◌, List, [], ◌∷◌, ◌++◌, Contains, refl, sym, ap, ◌∙◌, arith}
+use Rattle.std.proofs.Common.{◌≡◌, ◌⊎◌, inl, inr, zero, suc, Bool, true, false, cond, List, [], ◌∷◌, ◌++◌, Contains, refl, sym, ap, ◌∙◌, arith}
+use Rattle.std.proofs.lemmas.Bool.{and_parts}
 use Rattle.std.proofs.lemmas.List.Elements.{Contains-append_cases}
 use Rattle.fast_fault.specs.declared.place.Pos.{Pos}
 use Rattle.model_tree.specs.Signature.{PlainField}
@@ -40,10 +41,6 @@ of_numbers c = Left c
 
 same_numbers : (c d : Compare) → of_numbers c ≡ of_numbers d → c ≡ d
 same_numbers c d e = cc
-
-both_true : (a b : Bool) → (a && b) ≡ true → (a ≡ true) × (b ≡ true)
-both_true true b e = (refl, e)
-both_true false b e = cc
 
 either : {A B C D : Type 0} → A ⊎ B → (A → C) → (B → D) → C ⊎ D
 either (inl a) f g = inl (f a)
@@ -95,5 +92,5 @@ module _ (fields : List PlainField) where
     written_one : (parts : Parts) → are_guards fields parts ≡ true → (c : Compare) → Contains (written_in_all fields parts) (Left c) → IsCompareInOne fields parts (plain_compare c)
     written_one no_parts guards c at = absurd (none (Left c) at)
     written_one (part marked e parts) guards c at =
-        let both = both_true (is_guard fields e) (are_guards fields parts) guards in
+        let both = and_parts (is_guard fields e) (are_guards fields parts) guards in
         either (Contains-append_cases (written_in fields e) (written_in_all fields parts) (Left c) at) (written e both.0 c) (written_one parts both.1 c)

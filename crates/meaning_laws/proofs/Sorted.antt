@@ -1,6 +1,7 @@
 -- Labels of well-formed terms have the sorts of the fields.
 use Rattle.std.proofs.Common.{◌≡◌, ℕ, suc, Bool, true, false, cond, List, [], ◌∷◌, map, length, Option, Some, is_some, refl, sym, ap, ◌∙◌, arith, ◌++◌}
-use Rattle.std.specs.Prelude.{◌==◌, ◌&&◌}
+use Rattle.std.proofs.lemmas.Bool.{and_parts}
+use Rattle.std.specs.Prelude.{◌==◌}
 use Rattle.std.proofs.lemmas.Bool.Decides.{nat_tests}
 use Rattle.std.specs.List.{list_all}
 use Rattle.std.specs.Option.{option_map_or, option_and_then}
@@ -59,11 +60,6 @@ value_has fields values (chain Conjunction place parts) s sorts is = cc
 value_has fields values (chain Sum place parts) s sorts is = cc
 value_has fields values (chain Product place parts) s sorts is = cc
 
-both_true : (a b : Bool) → (a && b) ≡ true → (a ≡ true) × (b ≡ true)
-both_true true true e = (refl, refl)
-both_true true false e = absurd (cc)
-both_true false b e = absurd (cc)
-
 none_is_some : (n : ℕ) → (0 == suc n) ≡ true → ⊥
 none_is_some n e = grind (arith, nat_tests)
 
@@ -84,7 +80,7 @@ labels_own fields [] [] values known named sorts many fine = refl
 labels_own fields [] (e ∷ labels) values known named sorts many fine = absurd (none_is_some (length labels) many)
 labels_own fields (f ∷ into) [] values known named sorts many fine = absurd (some_is_none (length into) many)
 labels_own fields (f ∷ into) (e ∷ labels) values known named sorts many fine =
-    let two = both_true (is_some (sort_named f.sort.text)) (list_all (λ g. is_some (sort_named g.sort.text)) into) named in
+    let two = and_parts (is_some (sort_named f.sort.text)) (list_all (λ g. is_some (sort_named g.sort.text)) into) named in
     let own = is_there (sort_named f.sort.text) two.0 in
     let rest = needs_sort_of (Some fields) f e ++ labels_failures (Some fields) into labels in
     let failing = empty_first (label_failures (Some fields) e) rest fine in

@@ -1,5 +1,6 @@
 -- What is printed of a tree spells it again.
-use Rattle.std.proofs.Common.{◌≡◌, ℕ, suc, pos, negsuc, ◌^◌, ◌<◌, ◌≤◌, Bool, true, false, ◌&&◌, nat_lt, List, [], ◌∷◌, ◌++◌, map, length, get_or, refl, sym, ap, ◌∙◌, subst, append_assoc, append-nil, arith}
+use Rattle.std.proofs.Common.{◌≡◌, ℕ, suc, pos, negsuc, ◌^◌, ◌<◌, ◌≤◌, true, false, ◌&&◌, nat_lt, List, [], ◌∷◌, ◌++◌, map, length, get_or, refl, sym, ap, ◌∙◌, subst, append_assoc, append-nil, arith}
+use Rattle.std.proofs.lemmas.Bool.{and_parts}
 use Rattle.std.specs.Prelude.{codes}
 use Rattle.std.specs.List.{flat_map, list_all}
 use Rattle.std.specs.Fmt.{decimal}
@@ -89,21 +90,17 @@ value_written (label.text t) kept =
     (λ before. record { value = text (place_after before) t; spelled = a_text (token_at Quoted before (printed_text t)) t refl (printed_quoted t); same = refl })
     (λ after parted. text_longest (printed_text t) t after (printed_quoted t))
 
-both_true : (a b : Bool) → (a && b) ≡ true → (a ≡ true) × (b ≡ true)
-both_true true b e = (refl, e)
-both_true false b e = cc
-
 values_written : (vs : List Field) → list_all is_kept_field vs ≡ true → AllWritten bare IsConstant expression (map constant_of vs)
 values_written [] kept = tt
-values_written (v ∷ vs) kept = let here = both_true (is_kept_field v) (list_all is_kept_field vs) kept in (value_written v here.0, values_written vs here.1)
+values_written (v ∷ vs) kept = let here = and_parts (is_kept_field v) (list_all is_kept_field vs) kept in (value_written v here.0, values_written vs here.1)
 
 all_append : (vs ws : List Field) → list_all is_kept_field vs ≡ true → list_all is_kept_field ws ≡ true → list_all is_kept_field (vs ++ ws) ≡ true
 all_append [] ws one two = two
-all_append (v ∷ vs) ws one two = let here = both_true (is_kept_field v) (list_all is_kept_field vs) one in (λ i. here.0 i && all_append vs ws here.1 two i)
+all_append (v ∷ vs) ws one two = let here = and_parts (is_kept_field v) (list_all is_kept_field vs) one in (λ i. here.0 i && all_append vs ws here.1 two i)
 
 kept_fields : (l : Label) → is_kept_label l ≡ true → list_all is_kept_field (fields_of l) ≡ true
 kept_fields (row values) kept = kept
-kept_fields (pair l m) kept = let here = both_true (is_kept_label l) (is_kept_label m) kept in all_append (fields_of l) (fields_of m) (kept_fields l here.0) (kept_fields m here.1)
+kept_fields (pair l m) kept = let here = and_parts (is_kept_label l) (is_kept_label m) kept in all_append (fields_of l) (fields_of m) (kept_fields l here.0) (kept_fields m here.1)
 
 constants_written : (vs : List Field) → list_all is_kept_field vs ≡ true → Written IsParted (map bare) AreConstants (map constant_of vs) (labels_of (map constant_of vs))
 constants_written vs kept =
@@ -135,7 +132,7 @@ module _ (names : List (List ℕ)) (are : AreNames names) where
   mutual
     tree_written : (t : LabelTree) → HasNames names t → is_kept t ≡ true → Written IsParted bare_file IsTree (file_tree names t) (tree_pieces t)
     tree_written (model.node c l ts) named kept =
-        let here = both_true (is_kept_label l) (are_kept ts) kept in
+        let here = and_parts (is_kept_label l) (are_kept ts) kept in
         let name = name_written (record { text = get_or names c []; place = nowhere }) (are c [] named.0) in
         let inside = apart name (one_behind (trees_touch ts) (constants_written (fields_of l) (kept_fields l here.0)) (trees_written ts named.1 here.1)) in
         let ps : List Piece = (piece Name (get_or names c []) ∷ []) ++ blank ∷ (labels_of (map constant_of (fields_of l)) ++ trees_pieces ts) in
@@ -154,7 +151,7 @@ module _ (names : List (List ℕ)) (are : AreNames names) where
     trees_written : (ts : model.Trees Label) → EachHasNames names ts → are_kept ts ≡ true → Written IsParted bare_files AreTrees (file_trees names ts) (trees_pieces ts)
     trees_written model.no_trees named kept = nothing_written no_trees no_more
     trees_written (model.tree t ts) named kept =
-        let here = both_true (is_kept t) (are_kept ts) kept in
+        let here = and_parts (is_kept t) (are_kept ts) kept in
         as_written {p = IsTree ⊗ AreTrees} (λ v. and_tree v.0 v.1) more_into (λ v same i. and_tree (same i).0 (same i).1)
         (spaced (one_behind (trees_touch ts) (tree_written t named.0 here.0) (trees_written ts named.1 here.1)))
 

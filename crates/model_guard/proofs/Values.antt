@@ -1,5 +1,6 @@
 -- The form of a whole number has its value.
 use Rattle.std.proofs.Common.{◌≡◌, ℕ, suc, ◌<◌, ◌≤◌, ◌&&◌, ◌||◌, List, [], ◌∷◌, map, length, get_or, Bool, true, false, cond, Option, Some, refl, ap, sym, ◌∙◌, subst, arith}
+use Rattle.std.proofs.lemmas.Bool.{and_parts}
 use Rattle.std.proofs.Math.IntN.{ℤ, pos, negsuc, ◌+ℤ◌, ◌*ℤ◌, neg_ℤ}
 use Rattle.std.specs.Int.{int_rem_euclid}
 use Rattle.std.proofs.lemmas.Int.{ints}
@@ -20,10 +21,6 @@ use Rattle.model_form.proofs.Values.{sum_form-value, product_form-value, remaind
 use Rattle.model_guard.specs.Forms.{wholes_in, is_constant, times, is_divisor, divisor_of, form_of, added, step, multiplied, is_whole, are_wholes, are_factors}
 use Rattle.model_guard.specs.Guards.{is_guard}
 use Rattle.model_guard.proofs.Over.{ArePartsOver, over_low, sum_over, product_over, remainder_over}
-
-both_true : (a b : Bool) → (a && b) ≡ true → (a ≡ true) × (b ≡ true)
-both_true true b e = (refl, e)
-both_true false b e = cc
 
 -- ---- fields
 
@@ -176,7 +173,7 @@ module _ (fields : List PlainField) (values : List Field) (few : length fields �
       → at (step before divides e (form_of fields e)) ≡ cond divides (int_rem_euclid z (as_whole (value_of fields values e))) (z *ℤ as_whole (value_of fields values e))
   step_value before z true e is of h = remainder_form-value before (divisor_of e) (wholes_in values) ∙ (λ i. int_rem_euclid (is i) (sym (divisor_value e fields values h) i))
   step_value before z false e is of h =
-      let both = both_true (is_whole fields e) (is_constant before || is_constant (form_of fields e)) h in times_value before (form_of fields e) (wholes_in values) both.1 ∙ (λ i. is i *ℤ of both.0 i)
+      let both = and_parts (is_whole fields e) (is_constant before || is_constant (form_of fields e)) h in times_value before (form_of fields e) (wholes_in values) both.1 ∙ (λ i. is i *ℤ of both.0 i)
 
   mutual
     pub form_value : (e : Expr) → is_whole fields e ≡ true → at (form_of fields e) ≡ as_whole (value_of fields values e)
@@ -196,13 +193,13 @@ module _ (fields : List PlainField) (values : List Field) (few : length fields �
     sum_value : (parts : Parts) → are_wholes fields parts ≡ true → parts_value (added fields parts) (wholes_in values) ≡ sum_of fields values parts
     sum_value no_parts h = refl
     sum_value (part subtracted e parts) h =
-        let both = both_true (is_whole fields e) (are_wholes fields parts) h in
+        let both = and_parts (is_whole fields e) (are_wholes fields parts) h in
         added_value subtracted (at (form_of fields e)) (as_whole (value_of fields values e)) (parts_value (added fields parts) (wholes_in values)) (sum_of fields values parts) (form_value e both.0) (sum_value parts both.1)
 
     product_value : (before : Form) (z : ℤ) (parts : Parts) → at before ≡ z → are_factors fields before parts ≡ true → at (multiplied fields before parts) ≡ product_of fields values z parts
     product_value before z no_parts is h = is
     product_value before z (part divides e parts) is h =
-        let both = both_true (cond divides (is_divisor e) (is_whole fields e && (is_constant before || is_constant (form_of fields e)))) (are_factors fields (step before divides e (form_of fields e)) parts) h in
+        let both = and_parts (cond divides (is_divisor e) (is_whole fields e && (is_constant before || is_constant (form_of fields e)))) (are_factors fields (step before divides e (form_of fields e)) parts) h in
         product_value (step before divides e (form_of fields e)) (cond divides (int_rem_euclid z (as_whole (value_of fields values e))) (z *ℤ as_whole (value_of fields values e))) parts (step_value before z divides e is (form_value e) both.0) both.1
 
 -- ---- sorts

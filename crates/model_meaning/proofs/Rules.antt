@@ -1,5 +1,6 @@
 -- Names that are no definitions mean what their rules say; and where no rule demands a definition, a test tells it.
 use Rattle.std.proofs.Common.{◌≡◌, ◌↔◌, inl, inr, ℕ, suc, Bool, true, false, not, ◌&&◌, ◌||◌, cond, List, [], ◌∷◌, Some, None, Contains, refl, sym, subst, arith}
+use Rattle.std.proofs.lemmas.Bool.{and_parts}
 use Rattle.std.specs.List.{list_any, list_all}
 use Rattle.model_tree.specs.Label.{Label}
 use Rattle.model_tree.specs.Tree.{node, Trees, no_trees, tree, LabelTree}
@@ -108,12 +109,8 @@ passes_one p (y ∷ ys) x at e =
 each_passes : {A : Type 0} (p : A → Bool) (xs : List A) (x : A) → list_all p xs ≡ true → Contains xs x → p x ≡ true
 each_passes p [] x all at = absurd (none_of x at)
 each_passes p (y ∷ ys) x all at =
-    let two = both (p y) (list_all p ys) all in
+    let two = and_parts (p y) (list_all p ys) all in
     elim (one_of y x ys at) [ inl same ↦ subst (λ z. p z ≡ true) same two.0 | inr later ↦ each_passes p ys x two.1 later ]
-  where
-    both : (a b : Bool) → (a && b) ≡ true → (a ≡ true) × (b ≡ true)
-    both true b e = (refl, e)
-    both false b e = absurd (cc)
 
 all_pass : {A : Type 0} (p : A → Bool) (xs : List A) → ((x : A) → Contains xs x → p x ≡ true) → list_all p xs ≡ true
 all_pass p [] each = refl
@@ -121,10 +118,6 @@ all_pass p (y ∷ ys) each =
     let first = each y (0, omega arith, refl) in
     let rest = all_pass p ys (λ x at. each x (suc at.0, omega (arith, at.1), at.2)) in
     rw first rest
-
-both_true : (a b : Bool) → (a && b) ≡ true → (a ≡ true) × (b ≡ true)
-both_true true b e = (refl, e)
-both_true false b e = absurd (cc)
 
 true_both : (a b : Bool) → a ≡ true → b ≡ true → (a && b) ≡ true
 true_both a b e f = rw e f
@@ -148,7 +141,7 @@ module _ (items : List Item) (D : Definitions) (rules : DemandNoDefinition items
           λ h. passes_one (λ r. heads (input_of items n) r c l && are_in items ts r.vars r.given) (rules_of items n) h.0 h.1
               (true_both (heads (input_of items n) h.0 c l) (are_in items ts h.0.vars h.0.given) h.2 ((are_test ts h.0.vars h.0.given (λ d at. rules.in_languages n h.0 d h.1 at)).0 h.3)),
           λ h. (let r = one_passes (λ r. heads (input_of items n) r c l && are_in items ts r.vars r.given) (rules_of items n) h in
-              let two = both_true (heads (input_of items n) r.0 c l) (are_in items ts r.0.vars r.0.given) r.2 in
+              let two = and_parts (heads (input_of items n) r.0 c l) (are_in items ts r.0.vars r.0.given) r.2 in
               (r.0, r.1, two.0, (are_test ts r.0.vars r.0.given (λ d at. rules.in_languages n r.0 d r.1 at)).1 two.1)),
         )
 
@@ -160,7 +153,7 @@ module _ (items : List Item) (D : Definitions) (rules : DemandNoDefinition items
           (all_pass (λ d. not (same_text d.child.text v.text) || is_in items t d.language.text) given (λ d at. (
           where_demanded (same_text d.child.text v.text) (is_in items t d.language.text) (λ same. (in_test t d.language.text (plain d at)).0 (h.0 d at same)))))
           ((are_test ts vars given plain).0 h.1),
-      λ h. (let two = both_true (list_all (λ d. not (same_text d.child.text v.text) || is_in items t d.language.text) given) (are_in items ts vars given) h in (
+      λ h. (let two = and_parts (list_all (λ d. not (same_text d.child.text v.text) || is_in items t d.language.text) given) (are_in items ts vars given) h in (
         λ d at same. (in_test t d.language.text (plain d at)).1 (if_demanded (same_text d.child.text v.text) (is_in items t d.language.text) (each_passes (λ d. not (same_text d.child.text v.text) || is_in items t d.language.text) given d two.0 at) same),
         (are_test ts vars given plain).1 two.1,
       )),
@@ -169,7 +162,7 @@ module _ (items : List Item) (D : Definitions) (rules : DemandNoDefinition items
   rule_test : (signature : PlainSignature) (r : Rule) → Plain r.given → (t : LabelTree) → AppliesBy items D signature r t ↔ applies items signature r t ≡ true
   rule_test signature r plain (node c l ts) = (
     λ h. true_both (heads signature r c l) (are_in items ts r.vars r.given) h.0 ((are_test ts r.vars r.given plain).0 h.1),
-    λ h. (let two = both_true (heads signature r c l) (are_in items ts r.vars r.given) h in (two.0, (are_test ts r.vars r.given plain).1 two.1)),
+    λ h. (let two = and_parts (heads signature r c l) (are_in items ts r.vars r.given) h in (two.0, (are_test ts r.vars r.given plain).1 two.1)),
   )
 
 pub tests_agree : TestsAgreeWithMeaning

@@ -1,5 +1,6 @@
 -- The test and the fact say the same.
 use Rattle.std.proofs.Common.{◌≡◌, ℕ, zero, suc, ◌<◌, Bool, true, false, ◌&&◌, ◌||◌, ◌==◌, List, [], ◌∷◌, length, All, refl, ◌∙◌, ap, arith}
+use Rattle.std.proofs.lemmas.Bool.{and_parts}
 use Rattle.std.specs.Prelude.{Contains, slice_index_or}
 use Rattle.std.specs.List.{list_any, list_all}
 use Rattle.std.proofs.lemmas.Bool.Decides.{nat_tests}
@@ -7,10 +8,6 @@ use Rattle.std.proofs.lemmas.List.Elements.{All-nil, All-cons}
 use Rattle.model_tree.specs.Tree.{Tree, node, Trees, no_trees, tree}
 use Rattle.model_sta.specs.Automaton.{Rule, rules_of, is_accepted, meet_demands}
 use Rattle.model_sta.specs.Accepts.{Accepts, MeetDemands}
-
-both : (a b : Bool) → (a && b) ≡ true → (a ≡ true) × (b ≡ true)
-both true b h = (refl, h)
-both false b h = cc
 
 join : (a b : Bool) → a ≡ true → b ≡ true → (a && b) ≡ true
 join true b g h = h
@@ -46,7 +43,7 @@ module _ {X : Type 0} (p : X → Bool) where
 
   all_from_test : (P : X → Type 0) → ((x : X) → p x ≡ true → P x) → (xs : List X) → list_all p xs ≡ true → All P xs
   all_from_test P f [] h = All-nil P
-  all_from_test P f (x ∷ xs) h = let b = both (p x) (list_all p xs) h in All-cons P x xs (f x b.0) (all_from_test P f xs b.1)
+  all_from_test P f (x ∷ xs) h = let b = and_parts (p x) (list_all p xs) h in All-cons P x xs (f x b.0) (all_from_test P f xs b.1)
 
   test_from_all : (P : X → Type 0) → ((x : X) → P x → p x ≡ true) → (xs : List X) → All P xs → list_all p xs ≡ true
   test_from_all P f [] h = refl
@@ -57,15 +54,15 @@ module _ {A : Type 0} (rules : List (List (Rule A))) where
     pub accepts_from_test : (t : Tree A) (s : ℕ) → is_accepted rules t s ≡ true → Accepts rules t s
     accepts_from_test (node c l ts) s h =
         let f = found (λ r. (r.constructor == c) && (r.guard l && meet_demands rules ts r.demands)) (rules_of rules s) h in
-        let a = both (f.0.constructor == c) (f.0.guard l && meet_demands rules ts f.0.demands) f.2 in
-        let b = both (f.0.guard l) (meet_demands rules ts f.0.demands) a.1 in
+        let a = and_parts (f.0.constructor == c) (f.0.guard l && meet_demands rules ts f.0.demands) f.2 in
+        let b = and_parts (f.0.guard l) (meet_demands rules ts f.0.demands) a.1 in
         (f.0, f.1, same_number f.0.constructor c a.0, b.0, demands_from_test ts f.0.demands b.1)
 
     pub demands_from_test : (ts : Trees A) (ds : List (List ℕ)) → meet_demands rules ts ds ≡ true → MeetDemands rules ts ds
     demands_from_test no_trees ds h = tt
     demands_from_test (tree t ts) [] h = tt
     demands_from_test (tree t ts) (d ∷ ds) h =
-        let b = both (list_all (is_accepted rules t) d) (meet_demands rules ts ds) h in
+        let b = and_parts (list_all (is_accepted rules t) d) (meet_demands rules ts ds) h in
         (all_from_test (is_accepted rules t) (Accepts rules t) (λ s. accepts_from_test t s) d b.0, demands_from_test ts ds b.1)
 
   mutual

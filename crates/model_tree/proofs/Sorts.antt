@@ -1,5 +1,6 @@
 -- Values have sorts exactly where these are the values' own sorts.
-use Rattle.std.proofs.Common.{◌≡◌, Bool, true, false, ◌&&◌, List, [], ◌∷◌, map, refl, ap, sym, ◌∙◌}
+use Rattle.std.proofs.Common.{◌≡◌, true, ◌&&◌, List, [], ◌∷◌, map, refl, ap, sym, ◌∙◌}
+use Rattle.std.proofs.lemmas.Bool.{and_parts}
 use Rattle.model_tree.specs.Label.{Field, whole, truth, text}
 use Rattle.model_tree.specs.Signature.{Sort, wholes, truths, texts, sort_of, has_sort, have_sorts}
 
@@ -14,15 +15,11 @@ has_own_sort (whole n) = refl
 has_own_sort (truth b) = refl
 has_own_sort (text t) = refl
 
-both : (a b : Bool) → (a && b) ≡ true → (a ≡ true) × (b ≡ true)
-both true b e = (refl, e)
-both false b e = cc
-
 pub own_sorts : (sorts : List Sort) (values : List Field) → have_sorts sorts values ≡ true → map sort_of values ≡ sorts
 own_sorts [] [] h = refl
 own_sorts [] (f ∷ fs) h = cc
 own_sorts (s ∷ ss) [] h = cc
-own_sorts (s ∷ ss) (f ∷ fs) h = let two = both (has_sort s f) (have_sorts ss fs) h in λ i. own_sort s f two.0 i ∷ own_sorts ss fs two.1 i
+own_sorts (s ∷ ss) (f ∷ fs) h = let two = and_parts (has_sort s f) (have_sorts ss fs) h in λ i. own_sort s f two.0 i ∷ own_sorts ss fs two.1 i
 
 pub have_own_sorts : (values : List Field) → have_sorts (map sort_of values) values ≡ true
 have_own_sorts [] = refl

@@ -1,5 +1,6 @@
 -- Guards made of guards.
 use Rattle.std.proofs.Common.{◌≡◌, ◌<◌, ◌≤◌, ◌+◌, ℕ, Vec, Global, length, take, Bool, true, false, not, ◌&&◌, ◌||◌, cond, List, [], ◌∷◌, ◌++◌, map, get_or, Contains, Option, Some, None, refl, ap, sym, ◌∙◌, subst, arith}
+use Rattle.std.proofs.lemmas.Bool.{and_parts}
 use Rattle.std.proofs.Math.IntN.{ℤ}
 use Rattle.std.specs.Prelude.{int_lt, int_le}
 use Rattle.std.specs.Ordering.{int_eq}
@@ -64,10 +65,6 @@ more_right xs ys f h = every_weaker (Contains ys) (Contains (xs ++ ys)) (Contain
 
 only : {X : Type 0} (x : X) → Contains (x ∷ []) x
 only x = (0, omega arith, refl)
-
-both_true : (a b : Bool) → (a && b) ≡ true → (a ≡ true) × (b ≡ true)
-both_true true b e = (refl, e)
-both_true false b e = cc
 
 pub truth_of_sort : (v : Field) → sort_of v ≡ truths → v ≡ truth (as_truth v)
 truth_of_sort (whole n) e = cc
@@ -220,7 +217,7 @@ module _ (fields : List PlainField) where
 
     comparable : (rel : Rel) → is_numeric fields a ≡ false → ((is_whole fields a && is_whole fields b) || (is_equality rel && ((is_guard fields a && is_guard fields b) || (is_text fields a && is_text fields b)))) ≡ true → (is_equality rel ≡ true) × (((is_guard fields a && is_guard fields b) || (is_text fields a && is_text fields b)) ≡ true)
     comparable rel other e =
-        both_true (is_equality rel) ((is_guard fields a && is_guard fields b) || (is_text fields a && is_text fields b)) (equality_only (is_whole fields a) (is_whole fields b) (is_equality rel && ((is_guard fields a && is_guard fields b) || (is_text fields a && is_text fields b))) (whole_numeric a) other e)
+        and_parts (is_equality rel) ((is_guard fields a && is_guard fields b) || (is_text fields a && is_text fields b)) (equality_only (is_whole fields a) (is_whole fields b) (is_equality rel && ((is_guard fields a && is_guard fields b) || (is_text fields a && is_text fields b))) (whole_numeric a) other e)
 
     missed_if : (s t x y : Bool) (z : TextAtom) → ((s && t) || (x && y)) ≡ true → cond {A = Option TextAtom} (x && y) (Some z) None ≡ None → (s ≡ true) × (t ≡ true)
     missed_if s t true true z e n = cc
@@ -285,7 +282,7 @@ module _ (fields : List PlainField) where
     -- in a comparison that is a guard both sides are whole numbers, where the first is one
     pub numbers_compared : (p : Pos) (rel : Rel) → is_numeric fields a ≡ true → is_guard fields (syntax.compare p rel a b) ≡ true → (is_whole fields a ≡ true) × (is_whole fields b ≡ true)
     numbers_compared p rel numeric guard =
-        both_true (is_whole fields a) (is_whole fields b) (wholes_only (is_whole fields a && is_whole fields b) (is_equality rel) (is_guard fields a) (is_guard fields b) (is_text fields a) (is_text fields b) (not_numeric numeric (is_guard fields a) (guard_not_numeric a)) (not_numeric numeric (is_text fields a) (text_not_numeric a)) guard)
+        and_parts (is_whole fields a) (is_whole fields b) (wholes_only (is_whole fields a && is_whole fields b) (is_equality rel) (is_guard fields a) (is_guard fields b) (is_text fields a) (is_text fields b) (not_numeric numeric (is_guard fields a) (guard_not_numeric a)) (not_numeric numeric (is_text fields a) (text_not_numeric a)) guard)
 
     -- and guards, where the first is neither a number nor a text
     pub others_compared : (p : Pos) (rel : Rel) → is_numeric fields a ≡ false → is_text fields a ≡ false → is_guard fields (syntax.compare p rel a b) ≡ true → (is_guard fields a ≡ true) × (is_guard fields b ≡ true)
@@ -326,7 +323,7 @@ module _ (fields : List PlainField) where
       all_guard : (ps : syntax.Parts) → are_guards fields ps ≡ true → IsGuard fields (λ values. all_true fields values ps) (written_in_all fields ps) (all_of (formulas_of_parts fields ps))
       all_guard syntax.no_parts tests = record { holds = λ values sorts. refl; atoms = tt; fit = tt }
       all_guard (syntax.part marked e ps) tests =
-          let here = both_true (is_guard fields e) (are_guards fields ps) tests in
+          let here = and_parts (is_guard fields e) (are_guards fields ps) tests in
           let first = guard_is e here.0 in
           let rest = all_guard ps here.1 in record {
             holds = λ values sorts. λ i. first.holds values sorts i && rest.holds values sorts i;
@@ -337,7 +334,7 @@ module _ (fields : List PlainField) where
       some_guard : (ps : syntax.Parts) → are_guards fields ps ≡ true → IsGuard fields (λ values. some_true fields values ps) (written_in_all fields ps) (some_of (formulas_of_parts fields ps))
       some_guard syntax.no_parts tests = record { holds = λ values sorts. refl; atoms = tt; fit = tt }
       some_guard (syntax.part marked e ps) tests =
-          let here = both_true (is_guard fields e) (are_guards fields ps) tests in
+          let here = and_parts (is_guard fields e) (are_guards fields ps) tests in
           let first = guard_is e here.0 in
           let rest = some_guard ps here.1 in record {
             holds = λ values sorts. λ i. first.holds values sorts i || rest.holds values sorts i;

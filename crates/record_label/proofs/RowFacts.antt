@@ -4,7 +4,7 @@ use Rattle.std.proofs.Math.IntN.{ℤ, pos, negsuc}
 use Rattle.std.specs.Prelude.{FitsSigned}
 use Rattle.std.specs.Int.{w64}
 use Rattle.std.specs.List.{list_all}
-use Rattle.std.proofs.lemmas.Bool.{lt-ltb, ltb-true}
+use Rattle.std.proofs.lemmas.Bool.{lt-ltb, ltb-true, and_parts}
 use Rattle.std.proofs.lemmas.List.{length-map}
 use Rattle.std.proofs.lemmas.List.Elements.{All-nil, All-cons, All-head, All-tail}
 use Rattle.model_tree.specs.Limits.{most_fields}
@@ -52,13 +52,9 @@ number_fits : (n : ℤ) → is_kept_field (whole n) ≡ true → FitsSigned w64 
 number_fits (pos n) h = record { sfits = ltb-true n (2 ^ 63) h }
 number_fits (negsuc n) h = record { sfits = ltb-true n (2 ^ 63) h }
 
-both_true : (a b : Bool) → (a && b) ≡ true → (a ≡ true) × (b ≡ true)
-both_true true b e = (refl, e)
-both_true false b e = cc
-
 pub numbers_fit : (fields : List Field) → list_all is_kept_field fields ≡ true → AllKept (wholes_in fields)
 numbers_fit [] h = All-nil (FitsSigned w64)
-numbers_fit (whole n ∷ fields) h = let both = both_true (is_kept_field (whole n)) (list_all is_kept_field fields) h in All-cons (FitsSigned w64) n (wholes_in fields) (number_fits n both.0) (numbers_fit fields both.1)
+numbers_fit (whole n ∷ fields) h = let both = and_parts (is_kept_field (whole n)) (list_all is_kept_field fields) h in All-cons (FitsSigned w64) n (wholes_in fields) (number_fits n both.0) (numbers_fit fields both.1)
 numbers_fit (truth b ∷ fields) h = numbers_fit fields h
 numbers_fit (text t ∷ fields) h = numbers_fit fields h
 

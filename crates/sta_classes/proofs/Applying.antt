@@ -1,7 +1,7 @@
 -- The rules of a constructor that fire, by their numbers.
 use Rattle.std.proofs.Common.{ℕ, zero, suc, Vec, ◌≡◌, ◌<◌, ◌==◌, ◌&&◌, ◌||◌, not, Bool, true, false, true≢false, List, [], ◌∷◌, ◌++◌, get_or, length, map, All, refl, sym, ap, ap₂, subst, ◌∙◌, arith, inl, inr, eqb-true, eq-eqb, ◌↔◌}
 use Rattle.std.specs.List.{list_any, list_all}
-use Rattle.std.proofs.lemmas.Bool.{cases_lt}
+use Rattle.std.proofs.lemmas.Bool.{cases_lt, and_parts}
 use Rattle.std.proofs.lemmas.List.{get_or_past, get_or-map, length-map}
 use Rattle.model_tree.specs.Label.{Label}
 use Rattle.model_tree.specs.Formula.{Formula, yes, no, atom, negation, all_of, some_of, Formulas, no_formulas, formula, formula_holds, all_hold, some_hold}
@@ -15,7 +15,7 @@ use Rattle.sta_classes.specs.Applying.{plain_owned, is_fixed, are_fixed, truth_a
 use Rattle.sta_classes.specs.Bits.{both}
 use Rattle.sta_classes.specs.Rules.{plain_rules, meaning_of}
 use Rattle.sta_classes.specs.declared.rules.Owned.{Owned}
-use Rattle.sta_theory.proofs.Lists.{bool_same, both as both_true, join, any_member, any_true}
+use Rattle.sta_theory.proofs.Lists.{bool_same, join, any_member, any_true}
 use Rattle.sta_classes.proofs.Rows.{contains_map, contains_unmap}
 
 -- one more child
@@ -72,11 +72,11 @@ module _ {A : Type 0} where
 
       all_fixed : (fs : Formulas A) → are_fixed fs ≡ true → all_hold first fs ≡ all_hold second fs
       all_fixed no_formulas e = refl
-      all_fixed (formula f fs) e = let both = both_true (is_fixed f) (are_fixed fs) e in ap₂ (λ a b. a && b) (fixed_holds f both.0) (all_fixed fs both.1)
+      all_fixed (formula f fs) e = let both = and_parts (is_fixed f) (are_fixed fs) e in ap₂ (λ a b. a && b) (fixed_holds f both.0) (all_fixed fs both.1)
 
       some_fixed : (fs : Formulas A) → are_fixed fs ≡ true → some_hold first fs ≡ some_hold second fs
       some_fixed no_formulas e = refl
-      some_fixed (formula f fs) e = let both = both_true (is_fixed f) (are_fixed fs) e in ap₂ (λ a b. a || b) (fixed_holds f both.0) (some_fixed fs both.1)
+      some_fixed (formula f fs) e = let both = and_parts (is_fixed f) (are_fixed fs) e in ap₂ (λ a b. a || b) (fixed_holds f both.0) (some_fixed fs both.1)
 
   -- a guard without atoms has one truth value at all labels
   pub same_everywhere : (holds : A → Label → Bool) (l m : Label) (x : Owned A) → not (is_fixed (plain_rule x.rule.now).guard) ≡ false → truth_at holds l x ≡ truth_at holds m x
@@ -105,7 +105,7 @@ module _ {A G : Type 0} (holds : A → Label → Bool) (rules : List (Vec (StaRu
       length-map (meaning_of holds (plain_rules rules)) (list_any (fires c l qs)) ∙ length-map (plain_rules rules) (map (rule_meaning holds)) ∙ length-map rules (λ z. map plain_rule z.items)
 
   and_parts : (a b d : Bool) → (a && (b && d)) ≡ true → (a ≡ true) × ((b ≡ true) × (d ≡ true))
-  and_parts a b d h = let (x, y) = both_true a (b && d) h in (x, both_true b d y)
+  and_parts a b d h = let (x, y) = and_parts a (b && d) h in (x, and_parts b d y)
 
   -- a state of the set has a rule that fires
   fired_of : (s : ℕ) → has here s ≡ true → IsFired list (map fires_here list) s
@@ -128,7 +128,7 @@ module _ {A G : Type 0} (holds : A → Label → Bool) (rules : List (Vec (StaRu
   has_fired : (s : ℕ) → IsFired list (map fires_here list) s → has here s ≡ true
   has_fired s (i, i_low, fired, x, i_at, state_is) =
       let (s', low, v, at, r, r_in, (same, is)) = (own (plain_owned x)).0 (contains_map plain_owned list x (i, i_low, i_at)) in
-      let (meets, guard) = both_true (rows_meet qs (plain_rule x.rule.now).demands) (truth_at holds l x) (sym (get_or-map fires_here list i x false i_low ∙ ap fires_here i_at) ∙ fired) in
+      let (meets, guard) = and_parts (rows_meet qs (plain_rule x.rule.now).demands) (truth_at holds l x) (sym (get_or-map fires_here list i x false i_low ∙ ap fires_here i_at) ∙ fired) in
       let state : s' ≡ s = ap (λ p. p.0) is ∙ state_is in
       let rule_is : plain_rule r ≡ plain_rule x.rule.now = ap (λ p. p.1) is in
       let fire : fires c l qs (rule_meaning holds (plain_rule r)) ≡ true =

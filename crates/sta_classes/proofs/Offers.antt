@@ -3,7 +3,7 @@ use Rattle.std.proofs.Common.{ℕ, zero, suc, ◌≡◌, ◌<◌, ◌≤◌, ◌
 use Rattle.std.specs.Prelude.{nat_lt, nat_le, IsPermutation}
 use Rattle.std.specs.BinaryHeap.{heap_items, IsHeap}
 use Rattle.std.specs.Ordering.{nat_cmp, ordering_then}
-use Rattle.std.proofs.lemmas.Bool.{cases_lt, cases_eq}
+use Rattle.std.proofs.lemmas.Bool.{cases_lt, cases_eq, and_parts}
 use Rattle.std.proofs.lemmas.List.{length_push, length-set, get_or-set_same, get_or-set_other}
 use Rattle.std.proofs.lemmas.List.Sorted.{IsPermutation-sym, Contains-permutation}
 use Rattle.model_tree.specs.Label.{Label}
@@ -80,12 +80,8 @@ module _ {V : Type 0} where
 
   pub leaving : (candidate : Option (Class V)) (room : ℕ) → leaves candidate room ≡ true → (d : Class V) × (candidate ≡ Some d) × (d.nodes ≤ CAP) × (CAP - d.nodes ≡ room)
   leaving None room h = absurd (true≢false (sym h))
-  leaving (Some d) room h = let (a, b) = both (nat_le d.nodes CAP) (CAP - d.nodes == room) h in (d, refl, less d.nodes CAP a, eqb-true (CAP - d.nodes) room b)
+  leaving (Some d) room h = let (a, b) = and_parts (nat_le d.nodes CAP) (CAP - d.nodes == room) h in (d, refl, less d.nodes CAP a, eqb-true (CAP - d.nodes) room b)
     where
-      both : (a b : Bool) → (a && b) ≡ true → (a ≡ true) × (b ≡ true)
-      both true b h = (refl, h)
-      both false b h = cc
-
       less : (a b : ℕ) → nat_le a b ≡ true → a ≤ b
       less a b h = grind arith
 

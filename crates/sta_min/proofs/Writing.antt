@@ -1,6 +1,6 @@
 -- What is written of blocks is the least automaton.
 use Rattle.std.proofs.Common.{ℕ, ◌^◌, ◌≡◌, ◌<◌, ◌==◌, inl, inr, Bool, true, List, [], ◌∷◌, ◌++◌, map, nat_lt, get_or, length, All, Contains, refl, sym, ap, ap₂, subst, ◌∙◌, arith, eqb-true, eq-eqb}
-use Rattle.std.proofs.lemmas.Bool.{cases_lt}
+use Rattle.std.proofs.lemmas.Bool.{cases_lt, and_parts}
 use Rattle.std.proofs.lemmas.Bool.Decides.{nat_tests}
 use Rattle.std.proofs.lemmas.List.{length-map, map-append, get_or_past}
 use Rattle.std.proofs.lemmas.Simd.{map-map}
@@ -25,7 +25,7 @@ use Rattle.sta_theory.specs.Kinds.{OneKind}
 use Rattle.sta_theory.specs.Minimal.{is_among, next_block, AreFree, IsWritten, IsLeast}
 use Rattle.sta_theory.specs.Rounds.{row_at, block_of}
 use Rattle.sta_theory.proofs.Guards.{same_label_step}
-use Rattle.sta_theory.proofs.Lists.{bool_same, both, map_member, in_map, filter_member, in_filter}
+use Rattle.sta_theory.proofs.Lists.{bool_same, map_member, in_map, filter_member, in_filter}
 use Rattle.sta_theory.proofs.Minimal.{free_are_alike}
 use Rattle.sta_theory.proofs.Rounds.{block_at, dense_blocks, dense_stable, dense_numbered, stays_stable}
 use Rattle.sta_theory.proofs.Whole.{least_from_rounds}
@@ -80,7 +80,7 @@ module _ {A V W : Type 0} {label_of : V → Label} {holds : A → Label → Bool
   -- a free place is one of a constructor, and there is a class then
   some_block : (c j : ℕ) → is_free t c j ≡ true → 0 < n
   some_block c j e =
-      let (within, one) = both (nat_lt j (get_or t.machine.ranks c 0)) (kind_count t c j == 1) e in
+      let (within, one) = and_parts (nat_lt j (get_or t.machine.ranks c 0)) (kind_count t c j == 1) e in
       let j_low : j < get_or t.machine.ranks c 0 = less j (get_or t.machine.ranks c 0) within in
       let (k, low, is) = space.has_kinds.all c j 0 (rank_low t.machine.ranks c j j_low) j_low (omega (arith, eqb-true (kind_count t c j) 1 one)) in
       omega (arith, dense_low k low)
@@ -95,7 +95,7 @@ module _ {A V W : Type 0} {label_of : V → Label} {holds : A → Label → Bool
 
   pub are_free : AreFree K (is_free t)
   are_free c j e q r at_q at_r =
-      let (within, one) = both (nat_lt j (get_or t.machine.ranks c 0)) (kind_count t c j == 1) e in
+      let (within, one) = and_parts (nat_lt j (get_or t.machine.ranks c 0)) (kind_count t c j == 1) e in
       let j_low : j < get_or t.machine.ranks c 0 = less j (get_or t.machine.ranks c 0) within in
       let c_low : c < length t.machine.ranks = rank_low t.machine.ranks c j j_low in
       let k : ℕ = at_q.0 in

@@ -1,5 +1,6 @@
 -- The states of two automata side by side accept what they did.
 use Rattle.std.proofs.Common.{ℕ, zero, suc, ◌+◌, ◌≡◌, ◌<◌, inl, inr, Bool, true, ◌&&◌, ◌||◌, ◌==◌, List, [], ◌∷◌, map, get_or, length, Contains, refl, sym, ap, ap₂, subst, ◌∙◌, arith}
+use Rattle.std.proofs.lemmas.Bool.{and_parts}
 use Rattle.std.proofs.Math.ListN.{get_or-map}
 use Rattle.std.specs.List.{list_any}
 use Rattle.model_tree.specs.Tree.{Tree, node, Trees, no_trees, tree}
@@ -8,7 +9,7 @@ use Rattle.model_sta.specs.Sets.{Row, has, fires, rows_meet, set_of, sets_of}
 use Rattle.model_sta.proofs.Sets.{set_is_accepted, width_sets}
 use Rattle.model_sta.specs.Told.{AreOwn, moved, IsBeside}
 use Rattle.sta_theory.specs.Beside.{HasBoth, IsBoth, ArePairs}
-use Rattle.sta_theory.proofs.Lists.{bool_same, both, join, any_member, any_true, first_in, later_in, map_member, in_map}
+use Rattle.sta_theory.proofs.Lists.{bool_same, join, any_member, any_true, first_in, later_in, map_member, in_map}
 use Rattle.sta_theory.proofs.Fires.{meets, meet, Fires, fires_from_test, test_from_fires, same_fires}
 
 module _ {L : Type 0} (rules : List (List (Rule L))) where
@@ -52,9 +53,9 @@ has_both is = record { firsts = is.firsts; seconds = is.seconds }
 
 module _ {L : Type 0} (a b rules : List (List (Rule L))) (own_a : AreOwn a) (own_b : AreOwn b) (is : HasBoth a b rules) where
   -- the set of the tree has what its sets have for both automata
-  pub record Sides (q p both : Row) : Type 0 where
-    pub firsts : (s : ℕ) → s < length a → has both s ≡ has q s
-    pub seconds : (s : ℕ) → s < length b → has both (length a + s) ≡ has p s
+  pub record Sides (q p and_parts : Row) : Type 0 where
+    pub firsts : (s : ℕ) → s < length a → has and_parts s ≡ has q s
+    pub seconds : (s : ℕ) → s < length b → has and_parts (length a + s) ≡ has p s
 
   abbrev AllSides : Trees L → Type 0
   AllSides ts = (j : ℕ) → j < length (sets_of rules ts) → Sides (get_or (sets_of a ts) j []) (get_or (sets_of b ts) j []) (get_or (sets_of rules ts) j [])
@@ -113,14 +114,14 @@ module _ {L : Type 0} (rs ss ps : List (Rule L)) (are : ArePairs rs ss ps) (c : 
   first_fires : (r s p : Rule L) → IsBoth r s p → Fires c l qs p → Fires c l qs r
   first_fires r s p is f = record {
     constructor_is = sym is.constructor_is ∙ f.constructor_is;
-    guard_holds = (both (r.guard l) (s.guard l) (sym (is.guard_is l) ∙ f.guard_holds)).0;
+    guard_holds = (and_parts (r.guard l) (s.guard l) (sym (is.guard_is l) ∙ f.guard_holds)).0;
     met = λ j low x at. f.met j low x ((is.demands_are j x).1 (inl at));
   }
 
   second_fires : (r s p : Rule L) → r.constructor ≡ s.constructor → IsBoth r s p → Fires c l qs p → Fires c l qs s
   second_fires r s p same is f = record {
     constructor_is = sym same ∙ sym is.constructor_is ∙ f.constructor_is;
-    guard_holds = (both (r.guard l) (s.guard l) (sym (is.guard_is l) ∙ f.guard_holds)).1;
+    guard_holds = (and_parts (r.guard l) (s.guard l) (sym (is.guard_is l) ∙ f.guard_holds)).1;
     met = λ j low x at. f.met j low x ((is.demands_are j x).1 (inr at));
   }
 
@@ -135,7 +136,7 @@ module _ {L : Type 0} (rs ss ps : List (Rule L)) (are : ArePairs rs ss ps) (c : 
 
   from_both : (list_any (fires c l qs) rs && list_any (fires c l qs) ss) ≡ true → list_any (fires c l qs) ps ≡ true
   from_both h =
-      let (some_r, some_s) = both (list_any (fires c l qs) rs) (list_any (fires c l qs) ss) h in
+      let (some_r, some_s) = and_parts (list_any (fires c l qs) rs) (list_any (fires c l qs) ss) h in
       let (r, at_r, holds_r) = any_member (fires c l qs) rs some_r in
       let (s, at_s, holds_s) = any_member (fires c l qs) ss some_s in
       let f : Fires c l qs r = fires_from_test c l qs r holds_r in

@@ -1,15 +1,12 @@
 -- Tests over lists, by their elements.
 use Rattle.std.proofs.Common.{ℕ, zero, suc, ◌≡◌, ◌<◌, ◌⊎◌, inl, inr, Bool, true, false, cond, not, ◌&&◌, ◌||◌, List, [], ◌∷◌, ◌++◌, map, get_or, length, Contains, refl, sym, ap, ap₂, subst, ◌∙◌, arith}
+use Rattle.std.proofs.lemmas.Bool.{and_parts}
 use Rattle.std.specs.List.{list_any, list_all, filter, flat_map}
 
 pub bool_same : (a b : Bool) → (a ≡ true → b ≡ true) → (b ≡ true → a ≡ true) → a ≡ b
 bool_same true b f g = sym (f refl)
 bool_same false true f g = g refl
 bool_same false false f g = refl
-
-pub both : (a b : Bool) → (a && b) ≡ true → (a ≡ true) × (b ≡ true)
-both true b h = (refl, h)
-both false b h = cc
 
 pub join : (a b : Bool) → a ≡ true → b ≡ true → (a && b) ≡ true
 join true b g h = h
@@ -63,8 +60,8 @@ module _ {X : Type 0} (p : X → Bool) where
 
   all_at : (xs : List X) (x : X) (k : ℕ) → k < length xs → get_or xs k x ≡ x → list_all p xs ≡ true → p x ≡ true
   all_at [] x k l e h = absurd (omega arith)
-  all_at (y ∷ xs) x zero l e h = sym (ap p e) ∙ (both (p y) (list_all p xs) h).0
-  all_at (y ∷ xs) x (suc k) l e h = all_at xs x k (omega arith) e (both (p y) (list_all p xs) h).1
+  all_at (y ∷ xs) x zero l e h = sym (ap p e) ∙ (and_parts (p y) (list_all p xs) h).0
+  all_at (y ∷ xs) x (suc k) l e h = all_at xs x k (omega arith) e (and_parts (p y) (list_all p xs) h).1
 
   pub all_member : (xs : List X) (x : X) → Contains xs x → list_all p xs ≡ true → p x ≡ true
   all_member xs x at h = all_at xs x at.0 at.1 at.2 h

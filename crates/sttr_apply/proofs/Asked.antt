@@ -1,5 +1,6 @@
 -- Calls on children by the terms of the states that are asked.
 use Rattle.std.proofs.Common.{ℕ, zero, suc, ◌≡◌, ◌+◌, ◌<◌, ◌≤◌, ◌==◌, ◌⊎◌, inl, inr, Bool, true, false, cond, List, [], ◌∷◌, ◌++◌, map, length, length-append, get_or, drop, refl, sym, ap, ap₂, subst, ◌∙◌, ◌↔◌, arith}
+use Rattle.std.proofs.lemmas.Bool.{and_parts}
 use Rattle.std.specs.Prelude.{ℤ, Contains, IfErr, IsErrAnd}
 use Rattle.std.specs.declared.result.Result.{Result}
 use Rattle.std.proofs.lemmas.Result.{err_from_is_err_and}
@@ -21,7 +22,6 @@ use Rattle.apply_laws.specs.Reached.{terms_of, Leads, LeadsAt}
 use Rattle.apply_laws.specs.Terms.{AreTermsFound, IsCallFound, IsCallFoundAt}
 use Rattle.apply_laws.proofs.Calls.{contained_one_of, applies_in, of_state}
 use Rattle.apply_laws.proofs.Leads.{leads_itself, leads_on}
-use Rattle.apply_laws.proofs.Listed.{both_true}
 use Rattle.apply_laws.proofs.Loads.{too_much_is}
 use Rattle.sttr_apply.specs.Calls.{calls, calls_in, calls_of, calls_each, used, asks_in, uses_in}
 use Rattle.sttr_apply.specs.Labels.{keeps, Outside}
@@ -147,11 +147,11 @@ module _ {V : Type 0} (label : V → Label) (order : V → V → Ordering) (f : 
 module _ {V : Type 0} (label : V → Label) where
   pub kept_child : (ts : List (Tree V)) (k : ℕ) (t : Tree V) → k < length ts → t ≡ get_or ts k t → each_kept keeps (relabel_all label (trees_of ts)) ≡ true → all_kept keeps (relabel label t) ≡ true
   kept_child [] k t l e h = absurd (omega (arith, l))
-  kept_child (x ∷ ts) zero t l e h = subst (λ t. all_kept keeps (relabel label t) ≡ true) (sym e) (both_true (all_kept keeps (relabel label x)) (each_kept keeps (relabel_all label (trees_of ts))) h).0
-  kept_child (x ∷ ts) (suc k) t l e h = kept_child ts k t (omega arith) e (both_true (all_kept keeps (relabel label x)) (each_kept keeps (relabel_all label (trees_of ts))) h).1
+  kept_child (x ∷ ts) zero t l e h = subst (λ t. all_kept keeps (relabel label t) ≡ true) (sym e) (and_parts (all_kept keeps (relabel label x)) (each_kept keeps (relabel_all label (trees_of ts))) h).0
+  kept_child (x ∷ ts) (suc k) t l e h = kept_child ts k t (omega arith) e (and_parts (all_kept keeps (relabel label x)) (each_kept keeps (relabel_all label (trees_of ts))) h).1
 
   pub kept_children : (t : Tree V) → all_kept keeps (relabel label t) ≡ true → each_kept keeps (relabel_all label (children_of t)) ≡ true
-  kept_children (node c v ts) h = (both_true (keeps (label v)) (each_kept keeps (relabel_all label ts)) h).1
+  kept_children (node c v ts) h = (and_parts (keeps (label v)) (each_kept keeps (relabel_all label ts)) h).1
 
 module _ {V : Type 0} (P : V → Type 0) where
   pub every_child : (ts : List (Tree V)) (k : ℕ) (t : Tree V) → k < length ts → t ≡ get_or ts k t → EveryLabelOfAll P (trees_of ts) → EveryLabel P t

@@ -1,5 +1,6 @@
 -- Numbers of states that run a second transducer over outputs.
 use Rattle.std.proofs.Common.{ℕ, ◌≡◌, true, true≢false, List, slice_get, Some, eqb-true, refl, sym, ap, ap₂, ◌∙◌}
+use Rattle.std.proofs.lemmas.Bool.{and_parts}
 use Rattle.std.specs.Cmp.Lexicographic.{same_text}
 use Rattle.indexmap.specs.IndexSet.{insert_key}
 use Rattle.model_sttr.specs.Transducer.{run}
@@ -13,7 +14,7 @@ use Rattle.sttr_preimage.specs.declared.called.Called.TheVariants as kind
 use Rattle.sttr_preimage.specs.contracts.called.CalledPartialEq.TheImpl.{ghosts as compares}
 use Rattle.sttr_preimage.specs.Called.{through, plain_called, called_in}
 use Rattle.sttr_preimage.specs.Names.{IsNumber}
-use Rattle.sttr_preimage.proofs.Numbered.{number_of, both_hold}
+use Rattle.sttr_preimage.proofs.Numbered.{number_of}
 
 same_head : (a b : Head) → head_compares.eq a b ≡ true → a ≡ b
 same_head head.Same head.Same e = refl
@@ -23,8 +24,8 @@ same_head (head.Run q) (head.Run r) e = ap head.Run (eqb-true q r e)
 
 same_called : (a b : Called) → compares.eq a b ≡ true → plain_called a ≡ plain_called b
 same_called (kind.Through q xs h) (kind.Through r ys k) e =
-    let first = both_hold _ _ e in
-    let more = both_hold _ _ first.1 in
+    let first = and_parts _ _ e in
+    let more = and_parts _ _ first.1 in
     ap₂ (λ i all. through i all (plain_head h)) (eqb-true q r first.0) (same_text xs.items ys.items (sym more.0)) ∙ ap (λ z. through r ys.items (plain_head z)) (same_head h k more.1)
 same_called (kind.Through q xs h) (kind.Own r) e = absurd (true≢false (sym e))
 same_called (kind.Own q) (kind.Through r ys k) e = absurd (true≢false (sym e))

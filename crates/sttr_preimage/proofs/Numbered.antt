@@ -1,5 +1,6 @@
 -- Names and their numbers.
-use Rattle.std.proofs.Common.{ℕ, zero, suc, ◌+◌, ◌≡◌, ◌<◌, ◌≤◌, ◌&&◌, inl, inr, Bool, true, false, true≢false, eqb-true, if◌then◌else◌, List, [], ◌∷◌, ◌++◌, map, take, length, get_or, slice_get, Some, Contains, refl, sym, ap, ap₂, subst, ◌∙◌, arith, append-nil, append_assoc}
+use Rattle.std.proofs.Common.{ℕ, zero, suc, ◌+◌, ◌≡◌, ◌<◌, ◌≤◌, inl, inr, Bool, true, false, true≢false, eqb-true, if◌then◌else◌, List, [], ◌∷◌, ◌++◌, map, take, length, get_or, slice_get, Some, Contains, sym, ap, ap₂, subst, ◌∙◌, arith, append-nil, append_assoc}
+use Rattle.std.proofs.lemmas.Bool.{and_parts}
 use Rattle.std.specs.List.{list_any}
 use Rattle.std.specs.Cmp.Lexicographic.{same_text}
 use Rattle.std.proofs.lemmas.Grind.{flat_map-append}
@@ -18,10 +19,6 @@ use Rattle.sttr_preimage.specs.contracts.names.NamePartialEq.TheImpl.{ghosts as 
 use Rattle.sttr_theory.proofs.Members.{here, in_left, in_right, in_either, in_single}
 use Rattle.sttr_theory.proofs.Matches.{match_map}
 
-pub both_hold : (a b : Bool) → (a && b) ≡ true → (a ≡ true) × (b ≡ true)
-both_hold true b e = (refl, e)
-both_hold false b e = absurd (true≢false (sym e))
-
 same_name : (a b : Name) → compares.eq a b ≡ true → plain_name a ≡ plain_name b
 same_name (name.First a) (name.First b) e = ap of_first (eqb-true a b e)
 same_name (name.First a) (name.Second b) e = absurd (true≢false (sym e))
@@ -32,7 +29,7 @@ same_name (name.Second a) (name.Middle b ys) e = absurd (true≢false (sym e))
 same_name (name.Middle a xs) (name.First b) e = absurd (true≢false (sym e))
 same_name (name.Middle a xs) (name.Second b) e = absurd (true≢false (sym e))
 same_name (name.Middle a xs) (name.Middle b ys) e =
-    let h = both_hold _ _ e in ap₂ middle (eqb-true a b h.0) (same_text xs.items ys.items (sym h.1))
+    let h = and_parts _ _ e in ap₂ middle (eqb-true a b h.0) (same_text xs.items ys.items (sym h.1))
 
 module _ {K X : Type 0} (eq : K → K → Bool) (plain : K → X) (same : (a b : K) → eq a b ≡ true → plain a ≡ plain b) where
   adds_none : (old : List X) (W : X → Type 0) → Adds old old W

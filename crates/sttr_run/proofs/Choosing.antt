@@ -1,10 +1,11 @@
 -- Picks of rules for the same states, or for some of them.
 use Rattle.std.proofs.Common.{ℕ, zero, suc, ◌≡◌, ◌<◌, ◌⊎◌, inl, inr, true, List, [], ◌∷◌, map, get_or, length, Contains, refl, sym, subst, ap, ◌∙◌, arith}
+use Rattle.std.proofs.lemmas.Bool.{and_parts}
 use Rattle.model_sta.specs.Automaton.{Rule, rules_of}
 use Rattle.sttr_theory.specs.Lists.{SameStates}
 use Rattle.sttr_theory.specs.Ways.{Pick, pick, picks_of, fires}
 use Rattle.sttr_theory.proofs.Members.{here, there, in_either, in_left, in_right, to_mapped, of_mapped, to_flat, of_flat}
-use Rattle.sttr_theory.proofs.Accept.{and_split, and_both, bool_same}
+use Rattle.sttr_theory.proofs.Accept.{and_both, bool_same}
 use Rattle.sttr_run.specs.Drafts.{AreAmong}
 use Rattle.sttr_run.specs.Sets.{IsAscending}
 use Rattle.sttr_run.proofs.Members.{nil_out, cons_out}
@@ -56,7 +57,7 @@ module _ {L : Type 0} (looks : List (List (Rule L))) (c : ℕ) where
 
   fires_each : (rs : List (Rule L)) (l : L) (r : Rule L) → (picked rs).guard l ≡ true → Contains rs r → fires r c l ≡ true
   fires_each [] l r h at = absurd (nil_out r at)
-  fires_each (q ∷ rs) l r h at = let both = and_split (fires q c l) ((picked rs).guard l) h in elim (cons_out q rs r at) [ inl e ↦ subst (λ x. fires x c l ≡ true) e both.0 | inr later ↦ fires_each rs l r both.1 later ]
+  fires_each (q ∷ rs) l r h at = let both = and_parts (fires q c l) ((picked rs).guard l) h in elim (cons_out q rs r at) [ inl e ↦ subst (λ x. fires x c l ≡ true) e both.0 | inr later ↦ fires_each rs l r both.1 later ]
 
   fires_all : (rs : List (Rule L)) (l : L) → ((r : Rule L) → Contains rs r → fires r c l ≡ true) → (picked rs).guard l ≡ true
   fires_all [] l f = refl

@@ -1,5 +1,6 @@
 -- Where guards and maps come from.
 use Rattle.std.proofs.Common.{◌≡◌, inl, inr, Bool, true, false, List, [], ◌∷◌, map, All, Contains, refl, sym, subst, arith}
+use Rattle.std.proofs.lemmas.Bool.{and_parts}
 use Rattle.std.specs.Prelude.{IsTrue}
 use Rattle.std.proofs.lemmas.List.Elements.{All-nil, All-cons}
 use Rattle.model_tree.specs.Label.{Label}
@@ -10,7 +11,6 @@ use Rattle.sta_core.proofs.Meaning.{All_from_map}
 use Rattle.sttr_core.specs.Machine.{OutMachine}
 use Rattle.sttr_core.specs.Fits.{LabelsFit}
 use Rattle.sttr_theory.proofs.Members.{in_left, in_right}
-use Rattle.sttr_theory.proofs.Accept.{and_split}
 use Rattle.sttr_run.specs.Drafts.{all_say}
 use Rattle.sttr_run.specs.Found.{IsGuardOf}
 use Rattle.sttr_run.specs.Sources.{HasAtomIn}
@@ -46,7 +46,7 @@ module _ {A : Type 0} (holds : A → Label → Bool) (l : Label) where
   each_says : (gs : List (Written A)) → all_say holds (map plain_formula gs) l ≡ true → All (λ f. IsTrue (formula_holds (λ a. holds a l) (plain_formula f))) gs
   each_says [] h = All-nil (λ f. IsTrue (formula_holds (λ a. holds a l) (plain_formula f)))
   each_says (g ∷ gs) h =
-      let both = and_split (formula_holds (λ a. holds a l) (plain_formula g)) (all_say holds (map plain_formula gs) l) h in
+      let both = and_parts (formula_holds (λ a. holds a l) (plain_formula g)) (all_say holds (map plain_formula gs) l) h in
       All-cons (λ f. IsTrue (formula_holds (λ a. holds a l) (plain_formula f))) g gs both.0 (each_says gs both.1)
 
   not_true : (b : Bool) → (b ≡ true → ⊥) → b ≡ false

@@ -1,5 +1,6 @@
 -- Terms that are compared.
 use Rattle.std.proofs.Common.{◌≡◌, ℕ, suc, ◌+◌, ◌<◌, ◌≤◌, ◌==◌, Bool, true, false, ◌&&◌, List, [], ◌∷◌, map, length, drop, get_or, Vec, Global, refl, ap, ap₂, sym, subst, ◌∙◌, eqb-true, eq-eqb}
+use Rattle.std.proofs.lemmas.Bool.{and_parts}
 use Rattle.std.proofs.lemmas.List.{at_drop_more, at_drop_all}
 use Rattle.model_sttr.specs.Terms.{build, Parts, no_parts, part, on}
 use Rattle.model_sttr.specs.Terms as plain
@@ -8,7 +9,7 @@ use Rattle.sttr_core.specs.Terms.{plain_term}
 use Rattle.sttr_core.specs.declared.term.Term.{Term}
 use Rattle.sttr_core.specs.declared.term.Term.TheVariants.{Node}
 use Rattle.sttr_core.proofs.Parts.{parts_of, parts_are}
-use Rattle.sta_theory.proofs.Lists.{both, join}
+use Rattle.sta_theory.proofs.Lists.{join}
 use Rattle.sttr_single.specs.Same.{AreEqual, AreEqualParts, same_head, same_term, same_parts, same_terms}
 
 same_heads : (h k : Head) → same_head h k ≡ true → h ≡ k
@@ -25,17 +26,17 @@ module _ {M : Type 0} (eq : M → M → Bool) where
   mutual
     -- terms that are found to be equal are
     pub equal_of : (p q : plain.Term Head M) → same_term eq p q ≡ true → AreEqual eq p q
-    equal_of (on h j) (on k i) e = let (a, b) = both (same_head h k) (j == i) e in (same_heads h k a, eqb-true j i b)
+    equal_of (on h j) (on k i) e = let (a, b) = and_parts (same_head h k) (j == i) e in (same_heads h k a, eqb-true j i b)
     equal_of (build c m ps) (build d n qs) e =
-        let (a, b) = both (c == d) (eq m n && same_parts eq ps qs) e in
-        let (x, y) = both (eq m n) (same_parts eq ps qs) b in
+        let (a, b) = and_parts (c == d) (eq m n && same_parts eq ps qs) e in
+        let (x, y) = and_parts (eq m n) (same_parts eq ps qs) b in
         (eqb-true c d a, x, equal_parts_of ps qs y)
     equal_of (on h j) (build d n qs) e = cc
     equal_of (build c m ps) (on k i) e = cc
 
     equal_parts_of : (ps qs : Parts Head M) → same_parts eq ps qs ≡ true → AreEqualParts eq ps qs
     equal_parts_of no_parts no_parts e = tt
-    equal_parts_of (part p ps) (part q qs) e = let (a, b) = both (same_term eq p q) (same_parts eq ps qs) e in (equal_of p q a, equal_parts_of ps qs b)
+    equal_parts_of (part p ps) (part q qs) e = let (a, b) = and_parts (same_term eq p q) (same_parts eq ps qs) e in (equal_of p q a, equal_parts_of ps qs b)
     equal_parts_of no_parts (part q qs) e = cc
     equal_parts_of (part p ps) no_parts e = cc
 

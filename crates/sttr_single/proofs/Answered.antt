@@ -1,5 +1,6 @@
 -- What the trees of the joints' state say of rules that meet.
 use Rattle.std.proofs.Common.{ℕ, ◌≡◌, ◌≤◌, ◌<◌, inl, inr, Bool, true, List, [], ◌∷◌, map, All, length, get_or, Contains, sym, ap, subst, ◌∙◌, arith}
+use Rattle.std.proofs.lemmas.Bool.{and_parts}
 use Rattle.std.specs.Prelude.{⊤}
 use Rattle.std.specs.List.{list_any}
 use Rattle.model_tree.specs.Limits.{most_nodes}
@@ -20,7 +21,7 @@ use Rattle.sta_ops.specs.declared.emptiness.Found.TheVariants.{Absent, Shown, To
 use Rattle.sta_ops.proofs.Atoms.{Guarded, from_fit, to_fit}
 use Rattle.sta_ops.proofs.EachRule.{in_all, only}
 use Rattle.sta_ops.proofs.Fitting.{plain_fits}
-use Rattle.sta_theory.proofs.Lists.{any_member, any_true, both, join, append_member, map_member}
+use Rattle.sta_theory.proofs.Lists.{any_member, any_true, join, append_member, map_member}
 use Rattle.sttr_single.specs.declared.joints.Joint.{Joint}
 use Rattle.sttr_single.specs.declared.meetings.Meeting.{Meeting}
 use Rattle.sttr_single.specs.declared.meetings.OverlapFound.TheVariants as found
@@ -85,7 +86,7 @@ module _ {A M : Type 0} (holds : A → Label → Bool) (map_eq : M → M → Boo
   pub meets_at : (E : Label → Type 0) (x : Joint A) → Contains xs x → (t : LabelTree) → Fits f.looks.ranks E t → joint_applies holds f.looks t x ≡ true → Meet holds map_eq f x.place.state x.place.first x.place.second t
   meets_at E x at t fits e =
       let own = are.sound x at in
-      let (first, second) = both (applies holds map_eq f own.first t) (applies holds map_eq f own.second t) (sym (joint_applies_as holds f.looks own.first.rule own.second.rule E (plain_rule x.rule) own.joint t fits) ∙ e) in
+      let (first, second) = and_parts (applies holds map_eq f own.first t) (applies holds map_eq f own.second t) (sym (joint_applies_as holds f.looks own.first.rule own.second.rule E (plain_rule x.rule) own.joint t fits) ∙ e) in
       (own.first, own.second, own.unlike, first, second)
 
   pub meets_some : (E : Label → Type 0) (t : LabelTree) → Fits f.looks.ranks E t → list_any (joint_applies holds f.looks t) xs ≡ true → MeetSome holds map_eq f t

@@ -1,5 +1,6 @@
 -- To which trees joints apply.
 use Rattle.std.proofs.Common.{ℕ, zero, suc, ◌≡◌, ◌<◌, ◌≤◌, ◌==◌, ◌&&◌, inl, inr, Bool, true, false, List, [], ◌∷◌, ◌++◌, map, get_or, length, refl, sym, ap, ap₂, subst, ◌∙◌, arith, eqb-true}
+use Rattle.std.proofs.lemmas.Bool.{and_parts}
 use Rattle.std.specs.List.{list_any, list_all}
 use Rattle.std.proofs.lemmas.List.{get_or_past, length-map}
 use Rattle.model_tree.specs.Label.{Label}
@@ -9,7 +10,7 @@ use Rattle.model_sta.specs.Automaton.{Rule, rules_of, is_accepted, meet_demands,
 use Rattle.model_sta.specs.Sets.{Fits, width}
 use Rattle.sta_core.specs.Machine.{Machine, PlainRule}
 use Rattle.sta_core.specs.Sta.{automaton_of, rule_meaning}
-use Rattle.sta_theory.proofs.Lists.{all_member, both}
+use Rattle.sta_theory.proofs.Lists.{all_member}
 use Rattle.sttr_single.specs.Joints.{HasHigh, both_hold, AreApart, joined_at, AreNowhere, IsJoint, NeverMeet}
 
 and_true : (x : Bool) → (x && true) ≡ x
@@ -64,8 +65,8 @@ module _ {L : Type 0} (rules : List (List (Rule L))) where
 
   met_low : (ts : Trees L) (f : ℕ → List ℕ) → meets ts f ≡ true → (j : ℕ) → j < width ts → HasHigh (length rules) (f j) → ⊥
   met_low no_trees f e j low high = absurd (omega (arith, low))
-  met_low (tree t ts) f e zero low (x, at, past) = accepting_low t x (all_member (is_accepted rules t) (f 0) x at (both (list_all (is_accepted rules t) (f 0)) (meets ts (λ j. f (suc j))) e).0) past
-  met_low (tree t ts) f e (suc j) low high = met_low ts (λ j. f (suc j)) (both (list_all (is_accepted rules t) (f 0)) (meets ts (λ j. f (suc j))) e).1 j (omega (arith, low)) high
+  met_low (tree t ts) f e zero low (x, at, past) = accepting_low t x (all_member (is_accepted rules t) (f 0) x at (and_parts (list_all (is_accepted rules t) (f 0)) (meets ts (λ j. f (suc j))) e).0) past
+  met_low (tree t ts) f e (suc j) low high = met_low ts (λ j. f (suc j)) (and_parts (list_all (is_accepted rules t) (f 0)) (meets ts (λ j. f (suc j))) e).1 j (omega (arith, low)) high
 
 -- where both of two rules apply
 by_parts : (a a' x y m n : Bool) → ((a && (x && m)) && (a' && (y && n))) ≡ ((a && a') && ((x && y) && (m && n)))
@@ -104,9 +105,9 @@ module _ {A : Type 0} (holds : A → Label → Bool) (looks : Machine A) (r s : 
 
   said : (c : ℕ) (l : Label) (ts : Trees Label) → apply_both (node c l ts) ≡ true → BothSay c l ts
   said c l ts e =
-      let (constructors, rest) = both ((r.constructor == c) && (s.constructor == c)) (holds_at l (both_hold r.guard s.guard) && meets rules ts (joined_at r s)) (sym (both_say c l ts) ∙ e) in
-      let (one, other) = both (r.constructor == c) (s.constructor == c) constructors in
-      let (guards, demands) = both (holds_at l (both_hold r.guard s.guard)) (meets rules ts (joined_at r s)) rest in
+      let (constructors, rest) = and_parts ((r.constructor == c) && (s.constructor == c)) (holds_at l (both_hold r.guard s.guard) && meets rules ts (joined_at r s)) (sym (both_say c l ts) ∙ e) in
+      let (one, other) = and_parts (r.constructor == c) (s.constructor == c) constructors in
+      let (guards, demands) = and_parts (holds_at l (both_hold r.guard s.guard)) (meets rules ts (joined_at r s)) rest in
       record { first = eqb-true r.constructor c one; second = eqb-true s.constructor c other; guards = guards; demands = demands }
 
   module _ (D : Label → Type 0) where

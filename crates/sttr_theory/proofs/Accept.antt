@@ -2,16 +2,13 @@
 use Rattle.std.specs.Prelude.{⊤}
 use Rattle.std.specs.List.{list_any, list_all}
 use Rattle.std.proofs.Common.{ℕ, zero, suc, ◌≡◌, Bool, true, false, ◌&&◌, ◌||◌, ◌==◌, List, [], ◌∷◌, ◌++◌, get_or, Contains, refl, sym, ap, ◌∙◌, arith}
+use Rattle.std.proofs.lemmas.Bool.{and_parts}
 use Rattle.std.proofs.lemmas.Bool.Decides.{nat_tests}
 use Rattle.model_tree.specs.Tree.{node, Trees, no_trees, tree}
 use Rattle.model_sta.specs.Automaton.{Rule, rules_of, is_accepted, meet_demands, rule_applies}
 use Rattle.model_sta.specs.Sets.{Each}
 use Rattle.model_sta.specs.Operations.{Has, HasAll}
 use Rattle.sttr_theory.proofs.Each.{each_both, each_split}
-
-pub and_split : (a b : Bool) → (a && b) ≡ true → (a ≡ true) × (b ≡ true)
-and_split true b h = (refl, h)
-and_split false b h = cc
 
 pub and_both : (a b : Bool) → a ≡ true → b ≡ true → (a && b) ≡ true
 and_both true b g h = h
@@ -57,7 +54,7 @@ module _ {X : Type 0} (p : X → Bool) where
 
   pub all_out : (xs : List X) → list_all p xs ≡ true → Each (λ x. p x ≡ true) xs
   all_out [] h = tt
-  all_out (x ∷ xs) h = let (a, b) = and_split (p x) (list_all p xs) h in (a, all_out xs b)
+  all_out (x ∷ xs) h = let (a, b) = and_parts (p x) (list_all p xs) h in (a, all_out xs b)
 
   pub all_in : (xs : List X) → Each (λ x. p x ≡ true) xs → list_all p xs ≡ true
   all_in [] h = refl
@@ -97,7 +94,7 @@ module _ {L : Type 0} (A : List (List (Rule L))) where
   meets_out no_trees ds h = tt
   meets_out (tree t ts) [] h = acc_none (tree t ts)
   meets_out (tree t ts) (d ∷ ds) h =
-      let (a, b) = and_split (list_all (is_accepted A t) d) (meet_demands A ts ds) h in
+      let (a, b) = and_parts (list_all (is_accepted A t) d) (meet_demands A ts ds) h in
       (all_out (is_accepted A t) d a, meets_out ts ds b)
 
   pub meets_in : (ts : Trees L) (ds : List (List ℕ)) → AccEach (λ j. get_or ds j []) ts → meet_demands A ts ds ≡ true
@@ -108,8 +105,8 @@ module _ {L : Type 0} (A : List (List (Rule L))) where
   -- the rule applies
   pub applies_out : (c : ℕ) (l : L) (ts : Trees L) (r : Rule L) → rule_applies A (node c l ts) r ≡ true → Fires r c l × AccEach (wants r) ts
   applies_out c l ts r h =
-      let (a, b) = and_split (r.constructor == c) (r.guard l && meet_demands A ts r.demands) h in
-      let (d, e) = and_split (r.guard l) (meet_demands A ts r.demands) b in
+      let (a, b) = and_parts (r.constructor == c) (r.guard l && meet_demands A ts r.demands) h in
+      let (d, e) = and_parts (r.guard l) (meet_demands A ts r.demands) b in
       ((same_number r.constructor c a, d), meets_out ts r.demands e)
 
   pub applies_in : (c : ℕ) (l : L) (ts : Trees L) (r : Rule L) → Fires r c l → AccEach (wants r) ts → rule_applies A (node c l ts) r ≡ true

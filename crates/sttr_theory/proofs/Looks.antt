@@ -1,6 +1,7 @@
 -- The language of each state of an automaton that is built.
 use Rattle.std.specs.Prelude.{⊤}
 use Rattle.std.proofs.Common.{ℕ, zero, suc, ◌≡◌, ◌<◌, ◌↔◌, ◌&&◌, true, Bool, List, [], ◌++◌, map, get_or, length, Option, Some, None, Contains, refl, sym, subst, ◌∙◌, arith}
+use Rattle.std.proofs.lemmas.Bool.{and_parts}
 use Rattle.model_tree.specs.Tree.{Tree, node, Trees, no_trees, tree}
 use Rattle.model_sta.specs.Automaton.{Rule, rules_of}
 use Rattle.model_sta.specs.Sets.{Each, width, Fits, FitsAll}
@@ -12,7 +13,7 @@ use Rattle.sttr_theory.specs.Triples.{Triple, Way, LookName, of_first, of_second
 use Rattle.sttr_theory.specs.Built.{IsRuleOf, IsMadeRule, IsCopy, IsWayRule, AreLookRules, IsBuiltLook}
 use Rattle.sttr_theory.proofs.Each.{each_both, each_split, each_map, each_of_map, each_to_map}
 use Rattle.sttr_theory.proofs.Matches.{match_out, match_in}
-use Rattle.sttr_theory.proofs.Accept.{Fires, wants, AccEach, and_split, and_both, has_out, has_in}
+use Rattle.sttr_theory.proofs.Accept.{Fires, wants, AccEach, and_both, has_out, has_in}
 use Rattle.sttr_theory.proofs.Covers.{held}
 use Rattle.sttr_theory.proofs.Asked.{asked_uses}
 use Rattle.sttr_theory.proofs.Heads.{rule_out, rule_in, rule_range}
@@ -100,7 +101,7 @@ module _ {L : Type 0} (ranks : List ℕ) (D : L → Type 0) (S T : Sttr L) where
             → Fires ρ.rule c l × AccEach S.looks (wants ρ.rule) ts × (y.guard l ≡ true) × AreMet S T ts y.demands
         way_out r h ρ is y fits made fires acc =
             let (e, g, m) = made_out r ρ.rule.constructor (λ l. ρ.rule.guard l && y.guard l) (λ j. firsts (get_or ρ.rule.demands j []) ++ asked (get_or y.demands j [])) made fires acc in
-            let (gρ, gy) = and_split (ρ.rule.guard l) (y.guard l) g in
+            let (gρ, gy) = and_parts (ρ.rule.guard l) (y.guard l) g in
             let (olds, asks) = means_split (λ j. firsts (get_or ρ.rule.demands j [])) (λ j. asked (get_or y.demands j [])) ts m in (
               (e, gρ),
               means_old_out S.looks of_first (λ s t. (λ x. x, λ x. x)) (wants ρ.rule) ts olds,

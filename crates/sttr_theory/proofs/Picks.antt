@@ -1,6 +1,7 @@
 -- Rules picked for demanded states depend on the states as a set.
 use Rattle.std.specs.Prelude.{⊤}
 use Rattle.std.proofs.Common.{ℕ, zero, suc, ◌≡◌, ◌⊎◌, true, List, [], ◌∷◌, get_or, Contains, refl, sym, ap, subst, ◌∙◌, inl, inr, arith}
+use Rattle.std.proofs.lemmas.Bool.{and_parts}
 use Rattle.model_sta.specs.Automaton.{Rule, rules_of}
 use Rattle.model_sta.specs.Sets.{Each}
 use Rattle.sttr_theory.specs.Lists.{SameStates, IsOnce}
@@ -9,7 +10,7 @@ use Rattle.sttr_theory.specs.Ways.{Pick, fires, pick, picks_of}
 use Rattle.sttr_theory.specs.Alike.{AlikePick}
 use Rattle.sttr_theory.proofs.Members.{here, there, in_left, in_right, in_either, in_single, of_pairs, to_pairs}
 use Rattle.sttr_theory.proofs.Each.{each_at, each_all}
-use Rattle.sttr_theory.proofs.Accept.{and_split, and_both, bool_same}
+use Rattle.sttr_theory.proofs.Accept.{and_both, bool_same}
 use Rattle.sttr_theory.proofs.Once.{same_turned}
 
 module _ {L : Type 0} where
@@ -101,7 +102,7 @@ module _ {L : Type 0} (A : List (List (Rule L))) where
 
     guard_out : (rs : List (Rule L)) (l : L) → (pick_all rs).guard l ≡ true → Each (λ r. fires r c l ≡ true) rs
     guard_out [] l h = tt
-    guard_out (r ∷ rs) l h = let (a, b) = and_split (fires r c l) ((pick_all rs).guard l) h in (a, guard_out rs l b)
+    guard_out (r ∷ rs) l h = let (a, b) = and_parts (fires r c l) ((pick_all rs).guard l) h in (a, guard_out rs l b)
 
     guard_in : (rs : List (Rule L)) (l : L) → Each (λ r. fires r c l ≡ true) rs → (pick_all rs).guard l ≡ true
     guard_in [] l e = refl

@@ -1,5 +1,6 @@
 -- Restriction: the rules of a start together with those of an automaton's.
 use Rattle.std.proofs.Common.{ℕ, zero, suc, ◌≡◌, ◌⊎◌, ◌<◌, ◌↔◌, ◌&&◌, List, [], ◌++◌, get_or, length, Contains, sym, subst, ◌∙◌, inl, inr, arith}
+use Rattle.std.proofs.lemmas.Bool.{and_parts}
 use Rattle.model_tree.specs.Tree.{Tree, node, Trees, no_trees, tree}
 use Rattle.model_sta.specs.Sets.{Fits, FitsAll}
 use Rattle.model_sta.specs.Operations.{Auto, Has, OfState}
@@ -11,7 +12,7 @@ use Rattle.model_sttr.proofs.Heads.{in_range}
 use Rattle.sttr_theory.specs.Lists.{IsAt}
 use Rattle.sttr_theory.specs.Triples.{LookName, of_first, of_second, middle, firsts, seconds}
 use Rattle.sttr_theory.specs.Results.{OfEither, IsOldHead, IsBuiltRestriction}
-use Rattle.sttr_theory.proofs.Accept.{wants, and_split, and_both, applies_out, applies_in, has_out, has_in}
+use Rattle.sttr_theory.proofs.Accept.{wants, and_both, applies_out, applies_in, has_out, has_in}
 use Rattle.sttr_theory.proofs.Covers.{held}
 use Rattle.sttr_theory.proofs.Places.{at_place, last_or_before}
 use Rattle.sttr_theory.proofs.Looks.{ChildLooks, means_split, means_both, means_old_out, means_old_in, made_out, made_in, look_exact, looks_exact}
@@ -51,7 +52,7 @@ module _ {L : Type 0} (ranks : List ℕ) (D : L → Type 0) (f : Trans L) (a : A
         let (fires, acc) = applies_out c.sttr.looks k l ts r.rule applies in
         let (ρ, mine, σ, its, same, (made, stands)) = b.only r here in
         let (e, gu, m) = made_out ranks D f.sttr (asking a.rules) looks c.sttr.looks k l d ts child_looks r.rule ρ.rule.constructor (λ l. ρ.rule.guard l && σ.guard l) (λ j. firsts (get_or ρ.rule.demands j []) ++ seconds (get_or σ.demands j [])) made fires acc in
-        let (gρ, gσ) = and_split (ρ.rule.guard l) (σ.guard l) gu in
+        let (gρ, gσ) = and_parts (ρ.rule.guard l) (σ.guard l) gu in
         let (mρ, mσ) = means_split ranks D f.sttr (asking a.rules) (λ j. firsts (get_or ρ.rule.demands j [])) (λ j. seconds (get_or σ.demands j [])) ts m in (
           (ρ, mine, applies_in f.sttr.looks k l ts ρ.rule (e, gρ) (means_old_out ranks D f.sttr (asking a.rules) f.sttr.looks of_first (λ s t. (λ x. x, λ x. x)) (wants ρ.rule) ts mρ), term_out r.term ρ.term u stands i),
           has_in a.rules k l ts a.start σ its (sym same ∙ e, gσ) (means_old_out ranks D f.sttr (asking a.rules) a.rules of_second (λ s t. (λ x. x, λ x. x)) (wants σ) ts mσ),

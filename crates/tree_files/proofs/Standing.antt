@@ -1,5 +1,6 @@
 -- The trees that sound trees of a file stand for.
 use Rattle.std.proofs.Common.{◌≡◌, ℕ, zero, suc, ◌+◌, ◌<◌, ◌≤◌, Bool, true, false, cond, ◌&&◌, List, [], ◌∷◌, ◌++◌, length, map, take, get_or, Option, Some, None, refl, sym, ap, ap₂, subst, ◌∙◌, arith}
+use Rattle.std.proofs.lemmas.Bool.{and_parts}
 use Rattle.std.specs.Prelude.{◌==◌, not}
 use Rattle.std.specs.Option.{option_map}
 use Rattle.std.specs.List.{list_all}
@@ -150,13 +151,9 @@ module _ (s : PlainSignature) where
   typed_more [] u each has = (has, tt)
   typed_more (v ∷ us) u each has = (each.0, typed_more us u each.1 has)
 
-  both : (a b : Bool) → (a && b) ≡ true → (a ≡ true) × (b ≡ true)
-  both true b e = (refl, e)
-  both false b e = cc
-
   kept_more : (us : List LabelTree) (u : LabelTree) → are_kept (model.trees_of us) ≡ true → is_kept u ≡ true → are_kept (model.trees_of (us ++ u ∷ [])) ≡ true
   kept_more [] u each kept = ap (λ b. b && true) kept
-  kept_more (v ∷ us) u each kept = let two = both (is_kept v) (are_kept (model.trees_of us)) each in ap₂ (λ a b. a && b) two.0 (kept_more us u two.1 kept)
+  kept_more (v ∷ us) u each kept = let two = and_parts (is_kept v) (are_kept (model.trees_of us)) each in ap₂ (λ a b. a && b) two.0 (kept_more us u two.1 kept)
 
   pub made_none : AreMade s file.no_trees no_trees
   made_none = record { stand = tt; typed = tt; kept = refl }

@@ -1,5 +1,6 @@
 -- Label expressions without fields that pass the check of a program are a label that is kept.
 use Rattle.std.proofs.Common.{◌≡◌, inl, inr, ℕ, suc, Bool, true, false, ◌&&◌, ◌||◌, List, [], ◌∷◌, ◌++◌, map, length, Some, Contains, refl, sym, ap, ap₂, subst, ◌∙◌, arith}
+use Rattle.std.proofs.lemmas.Bool.{and_parts}
 use Rattle.std.proofs.Math.IntN.{pos}
 use Rattle.std.proofs.lemmas.Int.{ints}
 use Rattle.std.proofs.lemmas.Bool.Decides.{nat_tests}
@@ -98,12 +99,8 @@ form_in (chain Product place parts) is within = product_in (number_form (pos 1))
 
 -- ---- values
 
-parts_true : (a b : Bool) → (a && b) ≡ true → (a ≡ true) × (b ≡ true)
-parts_true true b e = (refl, e)
-parts_true false b e = absurd (cc)
-
 constant_kept : (f : Form) → is_constant f ≡ true → is_in_range f ≡ true → is_label_number (value f []) ≡ true
-constant_kept (form c [] no_remainders) is own = let e : value (form c [] no_remainders) [] ≡ c = omega (arith, ints) in ap is_label_number e ∙ (parts_true (is_label_number c) true own).0
+constant_kept (form c [] no_remainders) is own = let e : value (form c [] no_remainders) [] ≡ c = omega (arith, ints) in ap is_label_number e ∙ (and_parts (is_label_number c) true own).0
 constant_kept (form c [] (remainder a f k rs)) is own = absurd (cc)
 constant_kept (form c (t ∷ ts) rs) is own = absurd (cc)
 
@@ -173,7 +170,7 @@ all_fine [] [] named many fine = record { sorted = tt; within = λ n (f, at, out
 all_fine [] (e ∷ labels) named many fine = absurd (none_is_some (length labels) many)
 all_fine (f ∷ into) [] named many fine = absurd (some_is_none (length into) many)
 all_fine (f ∷ into) (e ∷ labels) named many fine =
-    let two = parts_true (is_some (sort_named f.sort.text)) (list_all (λ g. is_some (sort_named g.sort.text)) into) named in
+    let two = and_parts (is_some (sort_named f.sort.text)) (list_all (λ g. is_some (sort_named g.sort.text)) into) named in
     let own = is_there (sort_named f.sort.text) two.0 in
     let rest = needs_sort_of (Some []) f e ++ labels_failures (Some []) into labels in
     let failing = empty_first (label_failures (Some []) e) rest fine in

@@ -1,5 +1,6 @@
 -- How large trees are, and what is held of them where there is room.
-use Rattle.std.proofs.Common.{◌≡◌, ◌+◌, ℕ, suc, Bool, true, false, ◌&&◌, List, [], ◌∷◌, ◌++◌, Option, Some, None, map, refl, sym, ap, ap₂, subst, ◌∙◌, arith}
+use Rattle.std.proofs.Common.{◌≡◌, ◌+◌, ℕ, suc, true, ◌&&◌, List, [], ◌∷◌, ◌++◌, Option, Some, None, map, refl, sym, ap, ap₂, subst, ◌∙◌, arith}
+use Rattle.std.proofs.lemmas.Bool.{and_parts}
 use Rattle.std.specs.Prelude.{max}
 use Rattle.std.proofs.lemmas.List.{map-append}
 use Rattle.model_tree.specs.Tree.{Tree, Trees, node, no_trees, tree, trees_of, LabelTree, node_count, node_count_all, depth, depth_all, relabel, relabel_all}
@@ -45,11 +46,7 @@ module _ {A : Type 0} where
 
 pub kept_one_more : (ts : List LabelTree) (t : LabelTree) → are_kept (trees_of ts) ≡ true → is_kept t ≡ true → are_kept (trees_of (ts ++ t ∷ [])) ≡ true
 kept_one_more [] t all one = ap (λ b. b && true) one
-kept_one_more (s ∷ ts) t all one = let both = parts (is_kept s) (are_kept (trees_of ts)) all in ap₂ (λ a b. a && b) both.0 (kept_one_more ts t both.1 one)
-  where
-    parts : (a b : Bool) → (a && b) ≡ true → (a ≡ true) × (b ≡ true)
-    parts true b e = (refl, e)
-    parts false b e = absurd (cc)
+kept_one_more (s ∷ ts) t all one = let both = and_parts (is_kept s) (are_kept (trees_of ts)) all in ap₂ (λ a b. a && b) both.0 (kept_one_more ts t both.1 one)
 
 pub typed_one_more : (s : PlainSignature) (ts : List LabelTree) (t : LabelTree) → EachHasType s (trees_of ts) → HasType s t → EachHasType s (trees_of (ts ++ t ∷ []))
 typed_one_more s [] t all one = (one, tt)
