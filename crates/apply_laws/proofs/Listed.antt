@@ -1,5 +1,5 @@
 -- How lists of outputs are made from lists of outputs.
-use Rattle.std.proofs.Common.{◌≡◌, ◌⊎◌, inl, inr, Bool, true, false, ◌&&◌, List, [], ◌∷◌, ◌++◌, map, Option, Some, None, refl, sym, ap, ◌∙◌, ◌↔◌}
+use Rattle.std.proofs.Common.{◌≡◌, ◌⊎◌, inl, inr, Bool, true, false, List, [], ◌∷◌, ◌++◌, map, Option, Some, None, refl, sym, ap, ◌∙◌, ◌↔◌}
 use Rattle.std.specs.declared.cmp.Ordering.{Ordering}
 use Rattle.std.specs.declared.cmp.Ordering.TheVariants.{Less, Equal, Greater}
 use Rattle.std.specs.Cmp.{IsTotalOrder}
@@ -7,9 +7,6 @@ use Rattle.std.specs.Ordering.{ordering_reverse}
 use Rattle.model_sta.specs.Sets.{Each}
 use Rattle.apply_laws.specs.Lists.{EachTwo, HasOf, by_order, merge, merge_after}
 use Rattle.apply_laws.specs.Listing.{IsFar, IsListing, has_some, first_some}
-
-pub true_both : (a b : Bool) → a ≡ true → b ≡ true → (a && b) ≡ true
-true_both a b e f = ap (λ x. x && b) e ∙ f
 
 module _ {X : Type 0} where
   pub each_map : {Y : Type 0} (P : Y → Type 0) (f : X → Y) (xs : List X) → Each (λ x. P (f x)) xs → Each P (map f xs)

@@ -1,6 +1,6 @@
 -- Lists of the instances of terms.
 use Rattle.std.proofs.Common.{ℕ, ◌≡◌, ◌+◌, ◌*◌, inl, inr, Bool, true, false, ◌&&◌, List, [], ◌∷◌, map, length, Option, Some, None, refl, sym, ap, ap₂, subst, ◌∙◌, ◌↔◌, arith, length-append}
-use Rattle.std.proofs.lemmas.Bool.{and_parts}
+use Rattle.std.proofs.lemmas.Bool.{and_parts, and_from}
 use Rattle.std.proofs.lemmas.List.{length-map}
 use Rattle.std.specs.declared.cmp.Ordering.{Ordering}
 use Rattle.std.specs.declared.cmp.Ordering.TheVariants.{Less, Equal}
@@ -14,7 +14,7 @@ use Rattle.model_sta.proofs.TreeOrder.{tree_itself}
 use Rattle.model_sttr.specs.Cuts.{Cut, keep, new, Cuts, no_cuts, cut, tree_of, trees_of_cuts}
 use Rattle.apply_laws.specs.Lists.{EachTwo, HasOf}
 use Rattle.apply_laws.specs.Listing.{IsFar, has_some, first_some, only_if, all_kept, each_kept, HasOutside, SomeHasOutside, Both, BothTrees, NodeOver, MadeOver, products, ListsCuts, ListsRows, AreNodes}
-use Rattle.apply_laws.proofs.Listed.{true_both, each_map, each_weaker, each_append, each_all, each_two_map, each_two_append, has_left, has_right, dead, alive, none, far_alone}
+use Rattle.apply_laws.proofs.Listed.{each_map, each_weaker, each_append, each_all, each_two_map, each_two_append, has_left, has_right, dead, alive, none, far_alone}
 
 pub length_products : {V : Type 0} (xs : List (Cut V)) (yss : List (Cuts V)) → length (products xs yss) ≡ length xs * length yss
 length_products [] yss = omega arith
@@ -75,7 +75,7 @@ module _ {V L N : Type 0} (label : V → L) (order : V → V → Ordering) (keep
       where
         both_kept : (us : Trees L) → BothTrees P Q us → each_kept keeps us ≡ true
         both_kept no_trees r = absurd r
-        both_kept (tree t ts) r = true_both (all_kept keeps t) (each_kept keeps ts) (h.far_is t r.0) (k.far_is ts r.1)
+        both_kept (tree t ts) r = and_from (all_kept keeps t) (each_kept keeps ts) (h.far_is t r.0) (k.far_is ts r.1)
 
     all_product : (xs : List (Cut V)) (yss : List (Cuts V)) (a b : Option N) → ListsCuts label order keeps Outside C P xs a → ListsRows label order keeps Outside D Q yss b
         → (us : Trees L) → BothTrees P Q us → each_kept keeps us ≡ true → HasOf (λ ys. relabel_all label (trees_of_cuts ys)) (products xs yss) us
@@ -88,7 +88,7 @@ module _ {V L N : Type 0} (label : V → L) (order : V → V → Ordering) (keep
     product xs yss a b h k = record {
       each = each_product C D (Both C D) (λ x ys c d. (c, d)) xs yss h.each k.each;
       are = each_product (λ x. P (relabel label (tree_of x))) (λ ys. Q (relabel_all label (trees_of_cuts ys))) (λ ys. BothTrees P Q (relabel_all label (trees_of_cuts ys))) (λ x ys c d. (c, d)) xs yss h.are k.are;
-      keeps = each_product (λ x. all_kept keeps (relabel label (tree_of x)) ≡ true) (λ ys. each_kept keeps (relabel_all label (trees_of_cuts ys)) ≡ true) (λ ys. each_kept keeps (relabel_all label (trees_of_cuts ys)) ≡ true) (λ x ys c d. true_both (all_kept keeps (relabel label (tree_of x))) (each_kept keeps (relabel_all label (trees_of_cuts ys))) c d) xs yss h.keeps k.keeps;
+      keeps = each_product (λ x. all_kept keeps (relabel label (tree_of x)) ≡ true) (λ ys. each_kept keeps (relabel_all label (trees_of_cuts ys)) ≡ true) (λ ys. each_kept keeps (relabel_all label (trees_of_cuts ys)) ≡ true) (λ x ys c d. and_from (all_kept keeps (relabel label (tree_of x))) (each_kept keeps (relabel_all label (trees_of_cuts ys))) c d) xs yss h.keeps k.keeps;
       ascending = ascending_product xs yss h.ascending k.ascending;
       all = all_product xs yss a b h k;
       far_is = far_product xs yss a b h k (has_some xs a) (has_some yss b) refl refl;
@@ -141,7 +141,7 @@ module _ {V L N : Type 0} (label : V → L) (order : V → V → Ordering) (keep
     far_nodes k None h = kept_node
       where
         kept_node : (u : Tree L) → NodeOver c l Q u → all_kept keeps u ≡ true
-        kept_node (node d m us) r = true_both (keeps m) (each_kept keeps us) (ap keeps (sym r.1) ∙ k) (h us r.2)
+        kept_node (node d m us) r = and_from (keeps m) (each_kept keeps us) (ap keeps (sym r.1) ∙ k) (h us r.2)
     far_nodes k (Some n) h = (node c l h.0, (refl, refl, h.1), inr h.2)
 
     -- a node whose label is kept
@@ -150,7 +150,7 @@ module _ {V L N : Type 0} (label : V → L) (order : V → V → Ordering) (keep
     nodes k yss zs far n h = record {
       each = each_node (MadeOver label c l D) D (λ v xs e d. (refl, e, d)) yss zs n h.each;
       are = each_node (λ x. NodeOver c l Q (relabel label (tree_of x))) (λ ys. Q (relabel_all label (trees_of_cuts ys))) (λ v xs e q. (refl, e, q)) yss zs n h.are;
-      keeps = each_node (λ x. all_kept keeps (relabel label (tree_of x)) ≡ true) (λ ys. each_kept keeps (relabel_all label (trees_of_cuts ys)) ≡ true) (λ v xs e q. true_both (keeps (label v)) (each_kept keeps (relabel_all label (trees_of_cuts xs))) (ap keeps (sym e) ∙ k) q) yss zs n h.keeps;
+      keeps = each_node (λ x. all_kept keeps (relabel label (tree_of x)) ≡ true) (λ ys. each_kept keeps (relabel_all label (trees_of_cuts ys)) ≡ true) (λ v xs e q. and_from (keeps (label v)) (each_kept keeps (relabel_all label (trees_of_cuts xs))) (ap keeps (sym e) ∙ k) q) yss zs n h.keeps;
       ascending = ascending_nodes yss zs n h.ascending;
       all = all_nodes yss zs n h.all;
       far_is = far_nodes k far h.far_is;

@@ -5,12 +5,12 @@ use Rattle.std.specs.Prelude.{unsigned_abs, ◌≤ℤ◌, ◌<ℤ◌}
 use Rattle.std.proofs.lemmas.Int.{ints}
 use Rattle.std.specs.Int.{◌∣◌}
 use Rattle.std.specs.List.{All}
-use Rattle.std.proofs.Math.Nat.{dvd_trans, dvd-mul_right, dvd-mul_left, pos_of_dvd_of_pos, one-dvd, mul-le-mul}
+use Rattle.std.proofs.Math.Nat.{dvd_trans, dvd-mul_right, dvd-mul_left, pos_of_dvd_of_pos, one-dvd}
 use Rattle.std.proofs.lemmas.Nat.Gcd.{le_of_dvd, dvd_refl}
 use Rattle.std.proofs.lemmas.List.{length-take, get_or-take}
 use Rattle.std.proofs.lemmas.List.Elements.{All-nil, All-cons, All-head, All-tail, All-more, All-take}
 use Rattle.math_cooper.specs.Puts.{Least}
-use Rattle.math_cooper.proofs.Composition.{least_once}
+use Rattle.math_cooper.proofs.Composition.{least_once, by_times}
 use Rattle.math_int.specs.Whole.{IsLcm}
 use Rattle.math_int.proofs.Lcms.{gcd_by, lcm_is, gcd_some}
 use Rattle.cooper_solve.specs.Multiples.{IsLeastMultiple, IsBeyond}
@@ -19,9 +19,6 @@ abs_some : (a : ℤ) → (a ≡ pos 0 → ⊥) → 0 < unsigned_abs a
 abs_some (pos zero) n = absurd (n refl)
 abs_some (pos (suc k)) n = omega arith
 abs_some (negsuc k) n = omega arith
-
-times_some : (b c : ℕ) → 0 < b → 0 < c → 0 < b * c
-times_some b c p q = let x : 1 ≤ b = omega arith in let y : 1 ≤ c = omega arith in let m = mul-le-mul x y in omega arith
 
 front_all : (P : ℤ → Type 0) (numbers : List ℤ) (k : ℕ) → All P (take (k + 1) numbers) → k < length numbers → All P (take k numbers)
 front_all P numbers k h l j d less =
@@ -40,7 +37,7 @@ none_least numbers = record { some = omega arith; to = λ m h. All-nil (λ n. un
 pub one_more : (numbers : List ℤ) (k all next : ℕ) (n : ℤ) → k < length numbers → n ≡ get_or numbers k n → (n ≡ pos 0 → ⊥) → IsLcm all (unsigned_abs n) next → IsLeastMultiple (take k numbers) all → IsLeastMultiple (take (k + 1) numbers) next
 one_more numbers k all next n l e not lcm least =
     record {
-      some = pos_of_dvd_of_pos (lcm.2 (all * unsigned_abs n) (dvd-mul_right all (unsigned_abs n)) (dvd-mul_left (unsigned_abs n) all)) (times_some all (unsigned_abs n) least.some (abs_some n not));
+      some = pos_of_dvd_of_pos (lcm.2 (all * unsigned_abs n) (dvd-mul_right all (unsigned_abs n)) (dvd-mul_left (unsigned_abs n) all)) (by_times all (unsigned_abs n) least.some (abs_some n not));
       to = λ m h. All-more (λ x. unsigned_abs x ∣ m) numbers k n l (least.to m (dvd_trans all lcm.0 h)) (subst (λ x. unsigned_abs x ∣ m) e (dvd_trans (unsigned_abs n) lcm.1 h));
       from = λ m h. lcm.2 m (least.from m (front_all (λ x. unsigned_abs x ∣ m) numbers k h l)) (subst (λ x. unsigned_abs x ∣ m) (sym e) (last_all (λ x. unsigned_abs x ∣ m) numbers k n l h));
     }
@@ -73,7 +70,7 @@ multiple_exists (n ∷ numbers) h =
     let both = lcm_some (unsigned_abs n) rest.0 own in (
       both.0,
       record {
-        some = pos_of_dvd_of_pos (both.1.2 (unsigned_abs n * rest.0) (dvd-mul_right (unsigned_abs n) rest.0) (dvd-mul_left rest.0 (unsigned_abs n))) (times_some (unsigned_abs n) rest.0 own rest.1.some);
+        some = pos_of_dvd_of_pos (both.1.2 (unsigned_abs n * rest.0) (dvd-mul_right (unsigned_abs n) rest.0) (dvd-mul_left rest.0 (unsigned_abs n))) (by_times (unsigned_abs n) rest.0 own rest.1.some);
         to = λ m k. All-cons (λ n. unsigned_abs n ∣ m) n numbers (dvd_trans (unsigned_abs n) both.1.0 k) (rest.1.to m (dvd_trans rest.0 both.1.1 k));
         from = λ m k. both.1.2 m (All-head (λ n. unsigned_abs n ∣ m) n numbers k) (rest.1.from m (All-tail (λ n. unsigned_abs n ∣ m) n numbers k));
       },

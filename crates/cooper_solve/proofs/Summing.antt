@@ -16,7 +16,7 @@ use Rattle.cooper_solve.specs.Sums.{IsAtLeast, AreAtLeast}
 pub more : (vs : List ℤ) (fs gs : List Affine) (f : Affine) → gs ≡ fs ++ f ∷ [] → AreAtLeast vs fs → IsAtLeast vs f → AreAtLeast vs gs
 more vs fs gs f e h g = subst (AreAtLeast vs) (sym e) (All-append (IsAtLeast vs) fs (f ∷ []) h (All-cons (IsAtLeast vs) f [] g (All-nil (IsAtLeast vs))))
 
-natural_times : (a x : ℤ) → pos 0 ≤ℤ a → pos 0 ≤ℤ x → pos 0 ≤ℤ (a *ℤ x)
+pub natural_times : (a x : ℤ) → pos 0 ≤ℤ a → pos 0 ≤ℤ x → pos 0 ≤ℤ (a *ℤ x)
 natural_times (pos n) x h g = let m = times-le n (pos 0) x g in omega (arith, ints)
 natural_times (negsuc n) x h g = absurd (omega (arith, ints))
 

@@ -13,7 +13,8 @@ use Rattle.fast_build.specs.Reached.{demanded_by, demanded_in, IsGrown}
 use Rattle.std.proofs.lemmas.List.Folds.{list_any_at}
 use Rattle.sta_core.proofs.Meaning.{All_from_map}
 use Rattle.model_grammar.specs.Syntax.{Rule}
-use Rattle.fast_build.proofs.Naming.{same_from_test, same_itself}
+use Rattle.model_checks.proofs.Soundness.{same_itself}
+use Rattle.fast_build.proofs.Naming.{same_from_test}
 use Rattle.fast_build.proofs.Elements.{all_left, all_right}
 
 all_within : (xs ys zs : List (List ℕ)) → All (Contains xs) zs → All (Contains (xs ++ ys)) zs

@@ -1,6 +1,6 @@
 -- What the states of an automaton accept: the trees of the languages that they stand for.
 use Rattle.std.proofs.Common.{◌≡◌, ◌⊎◌, inl, inr, ◌↔◌, ℕ, suc, ◌<◌, ◌==◌, Bool, true, false, cond, ◌&&◌, ◌||◌, List, [], ◌∷◌, None, map, filter, length, get_or, Contains, refl, sym, ap, ap₂, subst, ◌∙◌, arith}
-use Rattle.std.proofs.lemmas.Bool.{and_parts}
+use Rattle.std.proofs.lemmas.Bool.{and_parts, and_from, or_left, or_right}
 use Rattle.std.specs.List.{list_any, list_all}
 use Rattle.std.proofs.Math.ListN.{get_or-map}
 use Rattle.std.proofs.lemmas.List.{length-map}
@@ -30,19 +30,9 @@ use Rattle.fast_build.proofs.Naming.{number_named}
 
 -- ---- tests of lists
 
-true_both : (a b : Bool) → a ≡ true → b ≡ true → (a && b) ≡ true
-true_both a b e f = rw e f
-
 either_true : (a b : Bool) → (a || b) ≡ true → (a ≡ true) ⊎ (b ≡ true)
 either_true true b e = inl refl
 either_true false b e = inr e
-
-first_or : (a b : Bool) → a ≡ true → (a || b) ≡ true
-first_or a b e = rw e refl
-
-second_or : (a b : Bool) → b ≡ true → (a || b) ≡ true
-second_or true b e = refl
-second_or false b e = e
 
 and_assoc : (a b c : Bool) → ((a && b) && c) ≡ (a && (b && c))
 and_assoc true b c = refl
@@ -95,7 +85,7 @@ module _ (items : List Item) (laws : AreByRules items) (t : PlainSignature) (pla
         by : (b : Bool) → same_text d.child.text var ≡ b
             → Wanted (d ∷ ds) var u ↔ list_all (is_accepted automaton u) (map (λ e. place e.language.text) (cond b (d ∷ filter (λ e. same_text e.child.text var) ds) (filter (λ e. same_text e.child.text var) ds))) ≡ true
         by true same = (
-          λ h. true_both (is_accepted automaton u (place d.language.text)) (list_all (is_accepted automaton u) (numbers_for place ds var)) (means.0 (h d (here d ds) same)) (rest.0 (λ e at is. h e (later_in d e ds at) is)),
+          λ h. and_from (is_accepted automaton u (place d.language.text)) (list_all (is_accepted automaton u) (numbers_for place ds var)) (means.0 (h d (here d ds) same)) (rest.0 (λ e at is. h e (later_in d e ds at) is)),
           λ h e at is. (let two = and_parts (is_accepted automaton u (place d.language.text)) (list_all (is_accepted automaton u) (numbers_for place ds var)) h in
               elim (one_of d e ds at) [ inl one ↦ subst (λ (x : Demand). IsInLanguage items (named x.language) u) one (means.1 two.0) | inr later ↦ rest.1 two.1 e later is ]),
         )
@@ -119,7 +109,7 @@ module _ (items : List Item) (laws : AreByRules items) (t : PlainSignature) (pla
     meets_more u us means meets given there (v ∷ vars) =
         let first = wanted_match u means given there v.text in
         let rest = meets given there vars in (
-          λ h. true_both (list_all (is_accepted automaton u) (numbers_for place given v.text)) (meet_demands automaton us (numbers_for_each place given vars)) (first.0 h.0) (rest.0 h.1),
+          λ h. and_from (list_all (is_accepted automaton u) (numbers_for place given v.text)) (meet_demands automaton us (numbers_for_each place given vars)) (first.0 h.0) (rest.0 h.1),
           λ h. (let two = and_parts (list_all (is_accepted automaton u) (numbers_for place given v.text)) (meet_demands automaton us (numbers_for_each place given vars)) h in (first.1 two.0, rest.1 two.1)),
         )
 
@@ -136,7 +126,7 @@ module _ (items : List Item) (laws : AreByRules items) (t : PlainSignature) (pla
           let same : meet_demands automaton us (numbers_for_each place r.given r.vars) ≡ meet_demands automaton us p.demands = ap (meet_demands automaton us) (sym is.demands) in
           let whole = and_assoc (p.constructor == c) (formula_holds (λ a. row_holds a l) p.guard) (meet_demands automaton us p.demands) in (
             λ h. (let two = law.0 h in
-                sym whole ∙ true_both ((p.constructor == c) && formula_holds (λ a. row_holds a l) p.guard) (meet_demands automaton us p.demands) (sym (head_match r p is) ∙ two.0) (sym same ∙ (meets r.given there r.vars).0 two.1)),
+                sym whole ∙ and_from ((p.constructor == c) && formula_holds (λ a. row_holds a l) p.guard) (meet_demands automaton us p.demands) (sym (head_match r p is) ∙ two.0) (sym same ∙ (meets r.given there r.vars).0 two.1)),
             λ h. (let two = and_parts ((p.constructor == c) && formula_holds (λ a. row_holds a l) p.guard) (meet_demands automaton us p.demands) (whole ∙ h) in
                 law.1 (head_match r p is ∙ two.0, (meets r.given there r.vars).1 (same ∙ two.1))),
           )
@@ -155,8 +145,8 @@ module _ (items : List Item) (laws : AreByRules items) (t : PlainSignature) (pla
           let own = (p.constructor == c) && (formula_holds (λ a. row_holds a l) p.guard && meet_demands automaton us p.demands) in
           let others = list_any (λ r. (r.constructor == c) && (r.guard l && meet_demands automaton us r.demands)) (map (rule_meaning row_holds) ps) in (
             λ h. elim (one_of r h.0 rs h.1) [
-              | inl one ↦ first_or own others (first.0 (subst (λ s. Applies items t s (node c l us)) (sym one) h.2))
-              | inr later ↦ second_or own others (rest.0 (h.0, later, h.2))
+              | inl one ↦ or_left own others (first.0 (subst (λ s. Applies items t s (node c l us)) (sym one) h.2))
+              | inr later ↦ or_right own others (rest.0 (h.0, later, h.2))
             ],
             λ h. elim (either_true own others h) [
               | inl e ↦ (r, here r rs, first.1 e)

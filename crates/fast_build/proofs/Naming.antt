@@ -10,15 +10,13 @@ use Rattle.model_names.specs.Declared.{same_text}
 use Rattle.fast_tree.specs.declared.signature.CtorOf as code
 use Rattle.fast_tree.specs.Signatures.{plain_constructor}
 use Rattle.std.proofs.lemmas.List.Folds.{list_any_at}
+use Rattle.model_checks.proofs.Soundness.{same_itself}
 use Rattle.fast_build.specs.Numbers.{find_constructor, ctor_at, IsNumbered, number_in}
 use Rattle.fast_build.proofs.Stands.{are_apart}
 use Rattle.fast_build.proofs.Elements.{first_true, second_true}
 
 pub same_from_test : (x y : List ℕ) → same_text x y ≡ true → x ≡ y
 same_from_test x y e = (bytes_eq-Decides x y).0 e
-
-pub same_itself : (x : List ℕ) → same_text x x ≡ true
-same_itself x = (bytes_eq-Decides x x).1 refl
 
 pub apart_from_test : (x y : List ℕ) → same_text x y ≡ false → x ≡ y → ⊥
 apart_from_test x y e same = let no : true ≡ false = sym (same_itself y) ∙ ap (λ z. same_text z y) (sym same) ∙ e in absurd (cc)

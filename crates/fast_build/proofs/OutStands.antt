@@ -4,7 +4,6 @@ use Rattle.std.proofs.lemmas.Bool.{and_parts}
 use Rattle.std.specs.Prelude.{is_some, not}
 use Rattle.std.specs.List.{list_all, position_or_len}
 use Rattle.std.specs.Option.{option_map_or}
-use Rattle.std.proofs.lemmas.Bool.Decides.{nat_tests}
 use Rattle.std.proofs.lemmas.List.{length-map}
 use Rattle.model_tree.specs.Limits.{most_fields}
 use Rattle.model_tree.specs.Signature.{Sort, wholes, truths, texts, PlainConstructor, names_of}
@@ -25,11 +24,12 @@ use Rattle.model_checks.specs.Types.{is_among}
 use Rattle.model_checks.specs.Rules.{differ, count_outs, type_at, scope_of, fields_of, constructor_failures, label_count_failures, variable_failures, transformation_failures, out_failures, outs_failures}
 use Rattle.model_checks.specs.Programs.{is_well_formed}
 use Rattle.model_checks.specs.Sound.{names_of_ctors, IsSoundType, IsSoundLabel, IsSoundGuard, IsSoundTrans}
-use Rattle.model_checks.proofs.Soundness.{empty_first, empty_second, empty_both, needed}
+use Rattle.model_checks.proofs.Soundness.{empty_first, empty_second, empty_both, needed, is_there}
 use Rattle.model_checks.proofs.SoundParts.{has_ctor, sound_label}
 use Rattle.model_checks.proofs.SoundWhole.{sound, finds}
 use Rattle.meaning_laws.proofs.SoundGuards.{sound_guard, sound_whole, sound_text}
 use Rattle.record_label.specs.Maps.{is_of_sort, AreOfSorts, forms_in_each}
+use Rattle.meaning_laws.proofs.Sorted.{suc_equal, none_is_some, some_is_none}
 use Rattle.fast_build.specs.Reached.{demanded_by}
 use Rattle.fast_build.specs.Stands.{GuardStands}
 use Rattle.fast_build.specs.Terms.{IsVariable, TermStands, TermsStand}
@@ -47,19 +47,6 @@ outside_of_both fs gs n first second (f, at, out) = elim (in_parts fs gs f at) [
 none_outside : (n : ℤ) → HasOutside [] n → ⊥
 none_outside n (f, (k, low, is), out) = omega (arith, low)
 
-zero_is_not : (n : ℕ) → (0 == suc n) ≡ true → ⊥
-zero_is_not n e = grind (arith, nat_tests)
-
-suc_is_not : (n : ℕ) → (suc n == 0) ≡ true → ⊥
-suc_is_not n e = grind (arith, nat_tests)
-
-both_less : (m n : ℕ) → (suc m == suc n) ≡ true → (m == n) ≡ true
-both_less m n e = grind (arith, nat_tests)
-
-some_of : {A : Type 0} (o : Option A) → is_some o ≡ true → (x : A) × (o ≡ Some x)
-some_of None e = absurd (cc)
-some_of (Some x) e = (x, refl)
-
 module _ (fields : List FieldItem) (known : list_all (λ f. is_some (sort_named f.sort.text)) fields ≡ true) (few : length fields ≤ most_fields) where
   record Label (sort : Sort) (e : Expr) : Type 0 where
     of_sort : is_of_sort (plain_fields fields) sort e ≡ true
@@ -76,16 +63,16 @@ module _ (fields : List FieldItem) (known : list_all (λ f. is_some (sort_named 
 
   pub labels_stand : (into : List FieldItem) (labels : List Expr) → list_all (λ f. is_some (sort_named f.sort.text)) into ≡ true → (length into == length labels) ≡ true → is_empty (labels_failures (Some fields) into labels) ≡ true → Labels into labels
   labels_stand [] [] all many fine = record { sorted = tt; within = none_outside }
-  labels_stand [] (e ∷ labels) all many fine = absurd (zero_is_not (length labels) many)
-  labels_stand (f ∷ into) [] all many fine = absurd (suc_is_not (length into) many)
+  labels_stand [] (e ∷ labels) all many fine = absurd (none_is_some (length labels) many)
+  labels_stand (f ∷ into) [] all many fine = absurd (some_is_none (length into) many)
   labels_stand (f ∷ into) (e ∷ labels) all many fine =
       let two = and_parts (is_some (sort_named f.sort.text)) (list_all (λ f. is_some (sort_named f.sort.text)) into) all in
-      let named = some_of (sort_named f.sort.text) two.0 in
+      let named = is_there (sort_named f.sort.text) two.0 in
       let own : own_sort f ≡ named.0 = ap (λ o. option_map_or (λ sort. sort) o texts) named.1 in
       let behind = empty_second (label_failures (Some fields) e) (needs_sort_of (Some fields) f e ++ labels_failures (Some fields) into labels) fine in
       let needs : is_empty (needs_sort (Some fields) named.0 e) ≡ true = subst (λ o. is_empty (fails_if (differ_in_sort o (sort_of (Some fields) e)) WrongSort (place_of e)) ≡ true) named.1 (empty_first (needs_sort_of (Some fields) f e) (labels_failures (Some fields) into labels) behind) in
       let first = label_stands named.0 e (sound_label fields named.0 e known (empty_both (label_failures (Some fields) e) (needs_sort (Some fields) named.0 e) (empty_first (label_failures (Some fields) e) (needs_sort_of (Some fields) f e ++ labels_failures (Some fields) into labels) fine) needs)) in
-      let later = labels_stand into labels two.1 (both_less (length into) (length labels) many) (empty_second (needs_sort_of (Some fields) f e) (labels_failures (Some fields) into labels) behind) in
+      let later = labels_stand into labels two.1 (suc_equal (length into) (length labels) many) (empty_second (needs_sort_of (Some fields) f e) (labels_failures (Some fields) into labels) behind) in
       record {
         sorted = (subst (λ s. is_of_sort (plain_fields fields) s e ≡ true) (sym own) first.of_sort, later.sorted);
         within = λ n. outside_of_both (forms_in (plain_fields fields) e) (forms_in_each (plain_fields fields) labels) n (first.within n) (later.within n);

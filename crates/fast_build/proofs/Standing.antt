@@ -1,5 +1,6 @@
 -- What is said of a language that stands, taken apart.
-use Rattle.std.proofs.Common.{◌≡◌, ℕ, ◌==◌, Bool, true, false, ◌&&◌, List, [], ◌∷◌, Option, Some, None, length, refl, ap}
+use Rattle.std.proofs.Common.{◌≡◌, ℕ, ◌==◌, Bool, true, false, List, [], ◌∷◌, Option, Some, None, length, refl, ap}
+use Rattle.std.proofs.lemmas.Bool.{and_from}
 use Rattle.std.specs.Prelude.{is_some}
 use Rattle.std.specs.List.{list_all}
 use Rattle.std.specs.Option.{option_map_or, option_and_then}
@@ -19,9 +20,6 @@ some_found : {A : Type 0} (f : A → Bool) (found : Option A) → option_map_or 
 some_found f (Some x) e = refl
 some_found f None e = absurd (cc)
 
-both : (a b : Bool) → a ≡ true → b ≡ true → (a && b) ≡ true
-both a b p q = λ i. p i && q i
-
 module _ (items : List Item) (of : Name) (t : PlainSignature) where
   pub rank_there : (r : Rule) → rule_stands items of t r ≡ true → has_rank t r ≡ true
   rank_there r e = first_true (has_rank t r) (list_all (demand_stands items of) r.given) e
@@ -34,7 +32,7 @@ module _ (items : List Item) (of : Name) (t : PlainSignature) where
 
   pub ctors_there : (rs : List Rule) → list_all (rule_stands items of t) rs ≡ true → list_all (has_ctor t) rs ≡ true
   ctors_there [] e = refl
-  ctors_there (r ∷ rs) e = both (has_ctor t r) (list_all (has_ctor t) rs) (ctor_there r (first_true (rule_stands items of t r) (list_all (rule_stands items of t) rs) e)) (ctors_there rs (second_true (rule_stands items of t r) (list_all (rule_stands items of t) rs) e))
+  ctors_there (r ∷ rs) e = and_from (has_ctor t r) (list_all (has_ctor t) rs) (ctor_there r (first_true (rule_stands items of t r) (list_all (rule_stands items of t) rs) e)) (ctors_there rs (second_true (rule_stands items of t r) (list_all (rule_stands items of t) rs) e))
 
 -- what the item of a language gives
 rules_by : (found : Option Item) (l : LangItem) → option_and_then (λ item. own_lang item.body) found ≡ Some l → option_map_or (λ item. own_rules item.body) found [] ≡ l.rules

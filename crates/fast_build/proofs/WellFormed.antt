@@ -5,7 +5,6 @@ use Rattle.std.specs.List.{list_all, list_any}
 use Rattle.std.specs.Option.{option_map_or, option_and_then}
 use Rattle.std.proofs.lemmas.List.{length-map}
 use Rattle.std.proofs.lemmas.List.Elements.{Contains-get_or}
-use Rattle.std.proofs.lemmas.Slice.Eq.{bytes_eq-Decides}
 use Rattle.model_tree.specs.Limits.{most_fields}
 use Rattle.model_tree.specs.Signature.{PlainConstructor, PlainSignature, names_of}
 use Rattle.model_program.specs.Syntax.{Name, Demand, CtorItem, TypeItem}
@@ -18,14 +17,12 @@ use Rattle.model_checks.specs.Programs.{is_well_formed}
 use Rattle.model_checks.specs.Sound.{are_distinct, names_of_ctors, IsSoundType, IsSoundGuard, IsSoundDemand, IsSoundRule, IsSoundLang, IsSound}
 use Rattle.model_checks.proofs.SoundWhole.{sound, finds}
 use Rattle.meaning_laws.proofs.SoundGuards.{sound_guard}
+use Rattle.model_checks.proofs.Soundness.{same_itself}
 use Rattle.fast_build.specs.Items.{own_lang, find_lang}
 use Rattle.fast_build.specs.Numbers.{find_constructor}
 use Rattle.fast_build.specs.Stands.{GuardStands}
 use Rattle.fast_build.proofs.Stands.{are_apart, has_rank, demand_stands, rule_stands, LangStands, AllStand}
 use Rattle.fast_build.proofs.Standing.{item_there}
-
-same_itself : (x : List ℕ) → same_text x x ≡ true
-same_itself x = (bytes_eq-Decides x x).1 refl
 
 -- what is true of each that is contained is true of all
 pub all_from : {A : Type 0} (p : A → Bool) (xs : List A) → ((x : A) → Contains xs x → p x ≡ true) → list_all p xs ≡ true

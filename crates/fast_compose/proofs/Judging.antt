@@ -1,5 +1,6 @@
 -- A composition in an expression of an item is one of the item, and what it is made of is among what the item is judged by.
-use Rattle.std.proofs.Common.{◌≡◌, inl, inr, ℕ, suc, Bool, true, false, ◌||◌, List, [], ◌∷◌, ◌++◌, Option, Some, None, length, Contains, refl, sym, ap, subst, ◌∙◌}
+use Rattle.std.proofs.Common.{◌≡◌, inl, inr, ℕ, suc, true, false, List, [], ◌∷◌, ◌++◌, Option, Some, None, length, Contains, refl, sym, ap, subst, ◌∙◌}
+use Rattle.std.proofs.lemmas.Bool.{or_left, or_right}
 use Rattle.std.specs.Prelude.{is_some}
 use Rattle.fast_fault.specs.declared.code.Code.TheVariants.{WrongKind}
 use Rattle.fast_fault.specs.declared.place.Pos.{Pos}
@@ -27,14 +28,6 @@ use Rattle.sta_theory.proofs.Lists.{append_member, first_in, later_in, in_left, 
 use Rattle.model_meaning.proofs.Members.{one_of, none_of}
 use Rattle.fast_compose.specs.Composed.{stated}
 use Rattle.fast_compose.proofs.Named.{def_whole}
-
-or_left : (a b : Bool) → a ≡ true → (a || b) ≡ true
-or_left true b e = refl
-or_left false b e = absurd (cc)
-
-or_right : (a b : Bool) → b ≡ true → (a || b) ≡ true
-or_right true b e = refl
-or_right false b e = e
 
 module _ (x y : X) where
   mutual

@@ -11,7 +11,6 @@ use Rattle.model_grammar.specs.Syntax.{X, named, TransItem, Item}
 use Rattle.model_names.specs.Declared.{name_of}
 use Rattle.model_checks.specs.Programs.{is_well_formed}
 use Rattle.model_meaning.specs.Meaning.{signature_named}
-use Rattle.model_meaning.specs.Truth.{ExactlyOne}
 use Rattle.model_sta.specs.EachTwo.{EachTwo}
 use Rattle.model_sta.specs.Sets.{Fits}
 use Rattle.model_sta.specs.Told.{AreTold, HasMoreApart}
@@ -52,19 +51,10 @@ use Rattle.fast_eval.specs.Built.{compares_of, IsCompared}
 use Rattle.fast_eval.proofs.Stopped.{guards_agree, wide_over}
 use Rattle.fast_eval.proofs.TransWritten.{trans_compared}
 use Rattle.fast_eval.proofs.Typed.{fits_if_kept}
+use Rattle.model_layers.proofs.Told.{exactly_one, exactly_as}
 use Rattle.fast_compose.proofs.States.{meant, low_by_rule, goes_at, reached_at, applied, meant_at, name_at, typed_by}
 
 -- ---- exactly one of two
-
-one_true : (a b : Bool) → ¬ (a ≡ b) → ExactlyOne (a ≡ true) (b ≡ true)
-one_true true true apart = absurd (apart refl)
-one_true true false apart = inl (refl, λ e. cc)
-one_true false true apart = inr (refl, λ e. cc)
-one_true false false apart = absurd (apart refl)
-
-one_as : (P Q R S : Type 0) → P ↔ R → Q ↔ S → ExactlyOne P Q → ExactlyOne R S
-one_as P Q R S f g (inl (p, none)) = inl (f.0 p, λ s. none (g.1 s))
-one_as P Q R S f g (inr (q, none)) = inr (g.0 q, λ r. none (f.1 r))
 
 both_ways : (a b : Bool) → ((a && b) ≡ true) ↔ ((a ≡ true) × (b ≡ true))
 both_ways true b = (λ e. (refl, e), λ h. h.1)
@@ -130,7 +120,7 @@ module _ (items : List Item) (well : is_well_formed items ≡ true) (n : Name) (
   by_look : (s u : LabelTree) → IsTyped items from s → IsTyped items from u → AreTold (meant items well n from into goes names d is built).looks s u → AreApart items (named n ∷ []) from s u
   by_look s u first second (q, low, told) =
       let part = built.carries.each_look q low in
-      (named n, first_in (named n) [], part.0, part.1, one_as _ _ _ _ (part.2 s first) (part.2 u second) (one_true _ _ told))
+      (named n, first_in (named n) [], part.0, part.1, exactly_as _ _ _ _ (part.2 s first) (part.2 u second) (exactly_one _ _ told))
 
   by_rules : (s u : LabelTree) → IsTyped items from s → IsTyped items from u → (q i j : ℕ) (r p : Rule) → AreUnlike row_holds same_maps d.sttr q i j r p
       → ¬ ((applies row_holds same_maps d.sttr r s && applies row_holds same_maps d.sttr p s) ≡ (applies row_holds same_maps d.sttr r u && applies row_holds same_maps d.sttr p u)) → AreApart items (named n ∷ []) from s u
@@ -142,7 +132,7 @@ module _ (items : List Item) (well : is_well_formed items ≡ true) (n : Name) (
       let other = meant_at items well n from into goes names d is built q low j p unlike.second in
       let (part, own, alike) = two_rules_are_part items n m from into f q (reached_at items well n from into goes names d is built q low) (goes_at items well n from into goes names d is built q low) (applied items well n from into goes names d is built q low)
       i j (meaning_of row_holds row_make r) (meaning_of row_holds row_make p) unlike.in_order one other in
-      (named n, first_in (named n) [], part, own, one_as _ _ _ _ (through (both_ways _ _) (alike s first)) (through (both_ways _ _) (alike u second)) (one_true _ _ told))
+      (named n, first_in (named n) [], part, own, exactly_as _ _ _ _ (through (both_ways _ _) (alike s first)) (through (both_ways _ _) (alike u second)) (exactly_one _ _ told))
 
   told_apart : (s u : LabelTree) → IsTyped items from s → IsTyped items from u → Told s u → AreApart items (named n ∷ []) from s u
   told_apart s u first second (inl told) = by_look s u first second told

@@ -1,5 +1,6 @@
 -- What stops the evaluation of an operand stops that of the whole, and of a statement.
-use Rattle.std.proofs.Common.{◌≡◌, ◌||◌, ℕ, Bool, true, false, List, [], ◌∷◌, Some, Contains, refl, sym, subst}
+use Rattle.std.proofs.Common.{◌≡◌, ℕ, Bool, true, false, List, [], ◌∷◌, Some, Contains, refl, sym, subst}
+use Rattle.std.proofs.lemmas.Bool.{or_left, or_right}
 use Rattle.std.specs.Prelude.{ℤ}
 use Rattle.fast_fault.specs.declared.place.Pos.{Pos}
 use Rattle.model_grammar.specs.declared.Op1.{Op1}
@@ -57,14 +58,6 @@ mutual
 
 -- ---- from operands to the whole
 
-left_true : (a b : Bool) → a ≡ true → (a || b) ≡ true
-left_true true b e = refl
-left_true false b e = absurd (cc)
-
-right_true : (a b : Bool) → b ≡ true → (a || b) ≡ true
-right_true true b e = refl
-right_true false b e = e
-
 -- the operations of which operands are evaluated
 abbrev is_evaluated : Op2 → Bool
 is_evaluated Intersect = true
@@ -89,23 +82,23 @@ made_evaluated items type Apply place x y made = absurd made
 
 module _ (place : Pos) (x y : X) where
   first_has : (op : Op2) → is_evaluated op ≡ true → has_classes x ≡ true → has_classes (two op place x y) ≡ true
-  first_has Intersect is e = left_true (has_classes x) (has_classes y) e
-  first_has Union is e = left_true (has_classes x) (has_classes y) e
+  first_has Intersect is e = or_left (has_classes x) (has_classes y) e
+  first_has Union is e = or_left (has_classes x) (has_classes y) e
   first_has Difference is e = refl
-  first_has PreImage is e = left_true (has_classes x) (has_classes y) e
+  first_has PreImage is e = or_left (has_classes x) (has_classes y) e
   first_has Compose is e = refl
-  first_has Restrict is e = left_true (has_classes x) (has_classes y) e
-  first_has RestrictOut is e = left_true (has_classes x) (has_classes y) e
+  first_has Restrict is e = or_left (has_classes x) (has_classes y) e
+  first_has RestrictOut is e = or_left (has_classes x) (has_classes y) e
   first_has Apply is e = absurd (cc)
 
   second_has : (op : Op2) → is_evaluated op ≡ true → has_classes y ≡ true → has_classes (two op place x y) ≡ true
-  second_has Intersect is e = right_true (has_classes x) (has_classes y) e
-  second_has Union is e = right_true (has_classes x) (has_classes y) e
+  second_has Intersect is e = or_right (has_classes x) (has_classes y) e
+  second_has Union is e = or_right (has_classes x) (has_classes y) e
   second_has Difference is e = refl
-  second_has PreImage is e = right_true (has_classes x) (has_classes y) e
+  second_has PreImage is e = or_right (has_classes x) (has_classes y) e
   second_has Compose is e = refl
-  second_has Restrict is e = right_true (has_classes x) (has_classes y) e
-  second_has RestrictOut is e = right_true (has_classes x) (has_classes y) e
+  second_has Restrict is e = or_right (has_classes x) (has_classes y) e
+  second_has RestrictOut is e = or_right (has_classes x) (has_classes y) e
   second_has Apply is e = absurd (cc)
 
   first_operand : (op : Op2) → is_evaluated op ≡ true → Contains (operands (two op place x y)) x

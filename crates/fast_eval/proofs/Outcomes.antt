@@ -1,5 +1,6 @@
 -- What an item gives, and the causes for which it stops, by what is found of its expressions.
-use Rattle.std.proofs.Common.{◌≡◌, inl, inr, ◌||◌, ℕ, Bool, true, false, List, [], refl, Option, Some, None, ap}
+use Rattle.std.proofs.Common.{◌≡◌, inl, inr, ℕ, true, List, [], refl, Option, Some, None, ap}
+use Rattle.std.proofs.lemmas.Bool.{or_right}
 use Rattle.std.specs.Prelude.{is_some}
 use Rattle.model_grammar.specs.declared.Op1.TheVariants.{Complement, Minimize, Domain, GetWitness}
 use Rattle.model_grammar.specs.Syntax.{X, named, one, two, literal, DefItem, AssertItem, Body, def, assertion, Item}
@@ -32,10 +33,6 @@ def_outcome items trees d (literal name labels xs) form count is = absurd (cc)
 
 -- ---- causes
 
-right_true : (a b : Bool) → b ≡ true → (a || b) ≡ true
-right_true true b e = refl
-right_true false b e = e
-
 module _ (items : List Item) (limit : ℕ) (trees : List Printed) where
   pub claim_cause : (a : AssertItem) (s : EvalStop) → claim_has_classes a.claim ≡ true → IsStopOf items (judged_claim items a.claim) limit s → IsCauseFor items limit trees (assertion a) s
   claim_cause a Classes has stop = (refl, by_expressions (assertion a) has, stop)
@@ -44,8 +41,8 @@ module _ (items : List Item) (limit : ℕ) (trees : List Printed) where
   claim_cause a Memory has stop = tt
 
   pub def_cause : (d : DefItem) (s : EvalStop) → StopsExpression items d.value limit s → IsCauseFor items limit trees (def d) s
-  def_cause d Classes stop = (refl, by_expressions (def d) (right_true (is_some d.into) (has_classes d.value) stop.0), stop.1)
-  def_cause d (Wide c) stop = (by_expressions (def d) (right_true (is_some d.into) (has_classes d.value) stop.0), stop.1)
+  def_cause d Classes stop = (refl, by_expressions (def d) (or_right (is_some d.into) (has_classes d.value) stop.0), stop.1)
+  def_cause d (Wide c) stop = (by_expressions (def d) (or_right (is_some d.into) (has_classes d.value) stop.0), stop.1)
   def_cause d (Range n) stop = (d.value, first_of d.value [], stop.1.0, stop.1.1, stop.1.2)
   def_cause d Memory stop = tt
 

@@ -4,7 +4,8 @@ use Rattle.std.specs.Prelude.{is_some, Result, Ok, Err, OnOk, OnErr}
 use Rattle.std.proofs.Math.ListN.{get_or-append}
 use Rattle.std.proofs.Math.Seq.{get_or-append_seam}
 use Rattle.model_names.specs.Declared.{same_text}
-use Rattle.fast_build.proofs.Naming.{same_from_test, same_itself}
+use Rattle.model_checks.proofs.Soundness.{same_itself}
+use Rattle.fast_build.proofs.Naming.{same_from_test}
 use Rattle.fast_eval.specs.declared.table.Table.{Table}
 use Rattle.fast_eval.specs.Places.{place_in, or_else, IsBare, HasName, HasNamesOf, PutsName, IsNamedAt, IsAdded, IsKept, IsThere, AreRight}
 

@@ -42,7 +42,7 @@ use Rattle.fast_eval.specs.declared.built.Built.{Built}
 use Rattle.fast_eval.proofs.Outcomes.{each_composable, def_cause}
 use Rattle.fast_eval.proofs.Keeping.{built_grown}
 use Rattle.fast_eval.proofs.Keeping.{more_twice as grown_twice}
-use Rattle.fast_eval.proofs.Stepping.{def_made_into, def_known_into, typed_as, typed_from, found_there}
+use Rattle.fast_eval.proofs.Stepping.{def_made_into, def_known_into, typed_as, typed_from, found_there, some_same}
 use Rattle.fast_session.specs.declared.answers.Halt.{Halt}
 use Rattle.fast_session.specs.declared.answers.Halt.TheVariants as halt
 use Rattle.fast_session.specs.declared.items.Around.{Around}
@@ -103,9 +103,6 @@ pub stands_there : (items : List Item) (item : Item) → StandsIn items item →
 stands_there items item at = subst (λ l. Contains l item) (sym at.is) (Contains-append_right at.before (item ∷ at.behind) item (first_in item at.behind))
 
 -- ---- all of them
-
-some_same : {A : Type 0} {s t : A} → Some s ≡ Some t → s ≡ t
-some_same e = cc
 
 pub none_defined : (P : List ℕ → Type 0) (b : Built) (items : List Item) → AreDefinedOf P b (take 0 items)
 none_defined P b [] item d at = absurd (none_of item at)

@@ -16,10 +16,8 @@ use Rattle.meaning_laws.proofs.Reaching.{reached_by_lang, reached_by_trans}
 use Rattle.meaning_laws.proofs.Valued.{the_definition}
 use Rattle.sta_theory.proofs.Lists.{first_in}
 use Rattle.fast_eval.proofs.Labels.{stands_next}
+use Rattle.fast_eval.proofs.Stepping.{some_same}
 use Rattle.fast_session.specs.Needed.{AreClosedFrom, AreComposableOf}
-
-some_same : {A : Type 0} {s t : A} → Some s ≡ Some t → s ≡ t
-some_same e = cc
 
 -- an item without expressions
 bare_composes : (items : List Item) (body : Body) → ((e : X) → ¬ (Contains (expressions_in body) e)) → IsComposable items body

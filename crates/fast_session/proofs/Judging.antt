@@ -1,7 +1,6 @@
 -- Verdicts on statements, and why there is none.
 use Rattle.std.proofs.Common.{◌≡◌, inl, inr, ℕ, Bool, true, false, not, List, ◌∷◌, Some, None, refl, sym, ap, subst, ◌∙◌}
 use Rattle.model_tree.specs.Tree.{Tree, LabelTree, relabel}
-use Rattle.model_tree.specs.Scalars.{has_scalars}
 use Rattle.model_tree.specs.Signature.{HasType}
 use Rattle.fast_tree.specs.Entries.{label_meaning}
 use Rattle.fast_tree.specs.declared.label.Label.{Label}
@@ -13,7 +12,6 @@ use Rattle.model_meaning.specs.Truth.{IsTrue, Shows}
 use Rattle.model_run.specs.Causes.{AreAllLarge, HasCause, too_large}
 use Rattle.model_run.specs.Items.{judged_claim, claim_has_classes, IsComposable}
 use Rattle.model_run.specs.Outcomes.{Outcome, true_verdict, tree_verdict, claim_type, trees_in, IsShownWith, IsVerdict, IsOutcomeOf}
-use Rattle.model_run.specs.Printable.{IsPrintable}
 use Rattle.fast_eval.specs.declared.stops.EvalStop.{EvalStop}
 use Rattle.fast_eval.specs.declared.stops.EvalStop.TheVariants.{Classes, Wide, Range, Memory}
 use Rattle.fast_eval.specs.Found.{IsInLimits}
@@ -24,6 +22,7 @@ use Rattle.fast_eval.specs.Stops.{StopsExpression}
 use Rattle.fast_eval.proofs.Outcomes.{def_cause, claim_cause, large_cause}
 use Rattle.tree_values.specs.Trees.{Tells}
 use Rattle.tree_values.specs.declared.trees.Trees.{Trees}
+use Rattle.tree_values.proofs.Stopped.{printable}
 use Rattle.fast_session.specs.declared.answers.Cause.TheVariants.{TreeSize}
 use Rattle.fast_session.specs.declared.answers.Stopped.TheVariants.{By}
 use Rattle.fast_session.specs.declared.items.Around.{Around}
@@ -34,10 +33,6 @@ use Rattle.fast_session.specs.Kept.{items_in}
 use Rattle.fast_session.specs.Items.{HaveScalars, IsTyped, IsBuiltMore, IsDone, IsStoppedAt, is_member, spoken_of, verdict_outcome, IsVerdictOn}
 use Rattle.fast_session.proofs.Keeping.{kept_built}
 use Rattle.fast_session.proofs.Silent.{no_tree}
-
--- a tree in the limits whose texts are lists of scalars can be shown
-pub shown_if : (t : LabelTree) → IsInLimits t → has_scalars t ≡ true → IsPrintable t
-shown_if t limits scalars = record { kept = limits.kept; scalars = scalars; small = limits.small; shallow = limits.shallow }
 
 -- what stops the search for classes is a cause
 pub stopped_cause : (items : List Item) (limit : ℕ) (item : Item) (old : Kept) (s : EvalStop)
@@ -100,7 +95,7 @@ module _ (items : List Item) (limit : ℕ) where
           refl,
           refl,
           subst (λ p. IsShownWith items (trees_in done) s.claim s.wanted p (relabel label_meaning t)) (sym passes) (shows_with (trees_in done) s.claim s.wanted (relabel label_meaning t) shows),
-          shown_if (relabel label_meaning t) limits (subst HaveScalars o scalars),
+          printable (relabel label_meaning t) limits (subst HaveScalars o scalars),
         );
         typed = subst IsTyped (sym o) (shows_typed s.claim (relabel label_meaning t) shows);
       }

@@ -24,7 +24,7 @@ use Rattle.fast_session.specs.declared.verdicts.Verdict.{Verdict}
 use Rattle.fast_session.specs.Answers.{stopped_value, verdict_on}
 use Rattle.fast_session.specs.Kept.{items_in, IsReady}
 use Rattle.fast_session.specs.Items.{HaveScalars, IsTyped, IsStoppedAt, is_member, spoken_of, verdict_outcome, IsVerdictOn}
-use Rattle.fast_session.proofs.Judging.{shown_if}
+use Rattle.tree_values.proofs.Stopped.{printable}
 use Rattle.fast_session.proofs.Printing.{stopped_value_cause}
 use Rattle.fast_session.proofs.Ready.{whole, claim_built, claim_can, IsClaimReady, assertion_ready}
 
@@ -70,7 +70,7 @@ module _ (a : Around) (item : Item) (old : Kept) (ready : IsReady a item old) (c
           refl,
           refl,
           subst (λ c. IsShownWith (items_in a) (trees_in done) c s.wanted v.passes (meant m.tree)) (sym same) (member_shown (items_in a) (trees_in done) x y m s.wanted v.passes (told_of done told) where_inside where_outside),
-          shown_if (meant m.tree) limits (subst HaveScalars o scalars),
+          printable (meant m.tree) limits (subst HaveScalars o scalars),
         );
         typed = subst IsTyped (sym o) (subst (λ t. HasType t (meant m.tree)) (sym type_is) typed);
       }

@@ -7,12 +7,11 @@ use Rattle.model_grammar.specs.Syntax.{def, tree, TreeItem, Item}
 use Rattle.model_names.specs.Declared.{same_text}
 use Rattle.model_meaning.specs.Meaning.{signature_named}
 use Rattle.model_meaning.specs.Values.{IsValue}
-use Rattle.model_checks.proofs.Soundness.{same_from_test}
+use Rattle.model_checks.proofs.Soundness.{same_from_test, same_itself}
 use Rattle.meaning_laws.proofs.Shaped.{item_shape}
 use Rattle.meaning_laws.specs.Shapes.{has_body_shape, has_tree_shape}
 use Rattle.model_run.specs.Items.{used_in, expressions_in, AreAllComposable, IsComposable}
 use Rattle.model_run.specs.Outcomes.{Outcome, tree_line, trees_in, IsOutcomeOf}
-use Rattle.fast_build.proofs.Naming.{same_itself}
 use Rattle.fast_eval.specs.Found.{IsInLimits}
 use Rattle.fast_eval.proofs.Outcomes.{each_composable}
 use Rattle.fast_eval.specs.Table.{AreBuilt, IsGrown}
@@ -30,7 +29,7 @@ use Rattle.fast_session.specs.declared.items.Kept.{Kept}
 use Rattle.fast_session.specs.Answers.{stopped_value}
 use Rattle.fast_session.specs.Kept.{items_in, IsKept, IsReady}
 use Rattle.fast_session.specs.Items.{IsBuiltMore, IsDone, IsStoppedAt}
-use Rattle.fast_session.proofs.Judging.{shown_if}
+use Rattle.tree_values.proofs.Stopped.{printable}
 use Rattle.fast_session.proofs.Keeping.{defined_more, printed_more, still_there, own_there, typed_more}
 use Rattle.fast_session.proofs.Ready.{whole}
 
@@ -103,7 +102,7 @@ module _ (a : Around) (item : Item) (old : Kept) (ready : IsReady a item old) (c
     done_tree o same value typed limits = subst (IsDone (items_in a) item old new) (sym same) (record {
       may = λ done told scalars. record {
         composable = composable;
-        is = subst (λ b. IsOutcomeOf (items_in a) (trees_in done) item.place.line b (tree_line t.name.text type v)) (sym is) (refl, refl, value done told, shown_if v limits scalars);
+        is = subst (λ b. IsOutcomeOf (items_in a) (trees_in done) item.place.line b (tree_line t.name.text type v)) (sym is) (refl, refl, value done told, printable v limits scalars);
       };
       typed = typed;
       told = told_more old.trees new.trees t.name.text type v added_to_old;

@@ -1,5 +1,6 @@
 -- Sums of forms by their coefficients: the one of a remainder is found by its inner form in order and its divisor.
 use Rattle.std.proofs.Common.{◌≡◌, ℕ, ◌≤◌, ◌==◌, ◌&&◌, inl, inr, List, [], ◌∷◌, length, Bool, true, false, cond, refl, ap, ap₂, sym, subst, ◌∙◌, arith, eq-eqb, eqb-true}
+use Rattle.std.proofs.lemmas.Bool.{and_from}
 use Rattle.std.proofs.Math.IntN.{ℤ, pos, ◌+ℤ◌, ◌*ℤ◌}
 use Rattle.std.proofs.lemmas.Int.{ints}
 use Rattle.std.specs.declared.cmp.Ordering.{Ordering}
@@ -47,15 +48,11 @@ equal_by Less e = absurd (cc)
 equal_by Equal e = refl
 equal_by Greater e = absurd (cc)
 
-both_in : (a b : Bool) → a ≡ true → b ≡ true → (a && b) ≡ true
-both_in true b e f = f
-both_in false b e f = absurd (cc)
-
 at_out : (x h : Form) (k m : ℕ) → is_at x k h m ≡ true → (x ≡ h) × (k ≡ m)
 at_out x h k m e = let both = both_out (k == m) (is_eq (slice_cmp int_cmp (written x) (written h))) e in (written_once x h (tied _ _ (equal_by _ both.1)), eqb-true k m both.0)
 
 at_in : (x h : Form) (k m : ℕ) → x ≡ h → k ≡ m → is_at x k h m ≡ true
-at_in x h k m e f = both_in (k == m) (is_eq (slice_cmp int_cmp (written x) (written h))) (eq-eqb k m f) (ap is_eq (tied_lists (written x) (written h) (ap written e)))
+at_in x h k m e f = and_from (k == m) (is_eq (slice_cmp int_cmp (written x) (written h))) (eq-eqb k m f) (ap is_eq (tied_lists (written x) (written h) (ap written e)))
 
 true_is_not_false : (b : Bool) → b ≡ true → b ≡ false → ⊥
 true_is_not_false b e f = let z : true ≡ false = sym e ∙ f in cc

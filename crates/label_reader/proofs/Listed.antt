@@ -21,7 +21,7 @@ use Rattle.label_reader.proofs.Joins.{Without, without_read, without_fails}
 use Rattle.label_reader.proofs.Primaries.{missing as nothing_begins}
 use Rattle.label_reader.proofs.Closings.{closing_of, closing_ends, closing_goes_on, sample_closing, IsClosable, to_close}
 
-front_as : (p q r : List Lexeme → Type 0) (ts : List Lexeme) → ((l : List Lexeme) → p l → q l) → (p ⌢ r) ts → (q ⌢ r) ts
+pub front_as : (p q r : List Lexeme → Type 0) (ts : List Lexeme) → ((l : List Lexeme) → p l → q l) → (p ⌢ r) ts → (q ⌢ r) ts
 front_as p q r ts wider joined = record { front = joined.front; back = joined.back; split = joined.split; at_front = wider joined.front joined.at_front; at_back = joined.at_back }
 
 -- an item behind another one, with what stands between the two

@@ -1,15 +1,12 @@
 -- Sums that are at least 0, with so many times another that is.
 use Rattle.std.proofs.Common.{◌≡◌, ℕ, ◌≤◌, List, length, replicate, arith}
-use Rattle.std.proofs.Math.IntN.{ℤ, pos, negsuc, ◌+ℤ◌, ◌*ℤ◌}
+use Rattle.std.proofs.Math.IntN.{ℤ, pos, ◌+ℤ◌, ◌*ℤ◌}
 use Rattle.std.specs.Prelude.{◌≤ℤ◌}
 use Rattle.std.proofs.lemmas.Int.{ints}
-use Rattle.math_int.proofs.Laws.{times-add, times-le}
+use Rattle.math_int.proofs.Laws.{times-add}
 use Rattle.math_cooper.specs.System.{dot, add_times}
 use Rattle.math_cooper.proofs.Systems.{dot-add_times, dot-zeros}
-
-natural_times : (a x : ℤ) → pos 0 ≤ℤ a → pos 0 ≤ℤ x → pos 0 ≤ℤ (a *ℤ x)
-natural_times (pos n) x h g = let m = times-le n (pos 0) x g in omega (arith, ints)
-natural_times (negsuc n) x h g = absurd (omega (arith, ints))
+use Rattle.cooper_solve.proofs.Summing.{natural_times}
 
 pub added_at_least : (vs f g : List ℤ) (t k m : ℤ) → pos 0 ≤ℤ t → length f ≡ length g → pos 0 ≤ℤ (dot f vs +ℤ k) → pos 0 ≤ℤ (dot g vs +ℤ m) → pos 0 ≤ℤ (dot (add_times t f g) vs +ℤ (k +ℤ (t *ℤ m)))
 added_at_least vs f g t k m some same h i =

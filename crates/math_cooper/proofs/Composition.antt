@@ -117,7 +117,7 @@ pub record Tells (Q : ℕ → Type 0) (b : ℕ) : Type 0 where
   pub to : (m : ℕ) → b ∣ m → Q m
   pub from : (m : ℕ) → Q m → b ∣ m
 
-by_times : (b c : ℕ) → 0 < b → 0 < c → 0 < b * c
+pub by_times : (b c : ℕ) → 0 < b → 0 < c → 0 < b * c
 by_times b c p q = let x : 1 ≤ b = omega arith in let y : 1 ≤ c = omega arith in let m = mul-le-mul x y in omega arith
 
 pub both : (Q : Condition → ℕ → Type 0) (d : Condition) (S : List Condition) (b c : ℕ) → Tells (Q d) b → Tells (λ m. All (λ e. Q e m) S) c → (l : ℕ) × Tells (λ m. All (λ e. Q e m) (d ∷ S)) l

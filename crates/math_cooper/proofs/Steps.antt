@@ -54,7 +54,7 @@ back_of i S p c D g ws w s h solves =
     let wide = put_sound i g ws (unit_all i c S) h (form_length i (unit_all i c S) p g u s.is_put) u solves in
     unit_all_out i c S ws (affine_value g ws) h s.is_scale.0 w s.is_scale.1 wide
 
-wider : (n : ℕ) (S : List Condition) → All (HasWidth (suc n)) S → All (HasWidth (n + 1)) S
+pub wider : (n : ℕ) (S : List Condition) → All (HasWidth (suc n)) S → All (HasWidth (n + 1)) S
 wider n S = subst (λ m. All (HasWidth m) S) (sym (add-one n))
 
 longer : (i : ℕ) (ws : List ℤ) (x : ℤ) → length ws ≡ i → length (ws ++ x ∷ []) ≡ suc i

@@ -15,8 +15,8 @@ use Rattle.model_checks.specs.Labels.{labels_failures}
 use Rattle.model_checks.specs.Types.{is_rank}
 use Rattle.model_checks.specs.Rules.{differ, find_ctor, type_at, own_trans, constructor_failures, label_count_failures, transformation_failures, out_failures, outs_failures, variable_failures, count_outs, scope_of, fields_of}
 use Rattle.model_checks.specs.Sound.{IsSoundType, IsSound, StandsIn}
-use Rattle.model_checks.proofs.Soundness.{empty_first, empty_second, passed, needed, not_false, same_from_test}
-use Rattle.model_checks.proofs.SoundParts.{some_fails, has_ctor}
+use Rattle.model_checks.proofs.Soundness.{empty_first, empty_second, passed, needed}
+use Rattle.model_checks.proofs.SoundParts.{some_fails, has_ctor, same_types}
 use Rattle.model_checks.proofs.SoundWhole.{finds}
 use Rattle.model_meaning.specs.Types.{rank_of, signature_of, signature_at, no_signature, input_of, output_of}
 use Rattle.model_meaning.specs.Outputs.{number_named}
@@ -53,7 +53,7 @@ rank_there (k ∷ ctors) name c ctor found number = by (same_text k.name.text na
         let number : suc d ≡ c = cc in
         subst (λ n. get_or (rank_of k.rank ∷ the_ranks ctors) n 0 ≡ rank_of ctor.rank) number (later d first refl)
 
-has_rank : (n : ℕ) (r : ℤ) → is_rank n r ≡ true → n ≡ rank_of r
+pub has_rank : (n : ℕ) (r : ℤ) → is_rank n r ≡ true → n ≡ rank_of r
 has_rank n (pos k) e = let same : (k == n) ≡ true = e in grind (arith, nat_tests)
 has_rank n (negsuc k) e = absurd (cc)
 
@@ -62,9 +62,6 @@ same_count no_out = refl
 same_count (and_out out outs) = ap (λ n. suc n) (same_count outs)
 
 -- ---- types by their names
-
-same_types : (a b : List ℕ) → differ (Some a) (Some b) ≡ false → a ≡ b
-same_types a b e = same_from_test a b (not_false (same_text a b) e)
 
 neither : (a b : Bool) → (a || b) ≡ false → (a ≡ false) × (b ≡ false)
 neither false false e = (refl, refl)

@@ -1,5 +1,6 @@
 -- The expressions of a well-formed program are made of what their places need.
-use Rattle.std.proofs.Common.{◌≡◌, ℕ, suc, Bool, true, false, ◌&&◌, List, [], ◌++◌, length, Option, Some, None, refl}
+use Rattle.std.proofs.Common.{◌≡◌, ℕ, suc, true, false, List, [], ◌++◌, length, Option, Some, None, refl}
+use Rattle.std.proofs.lemmas.Bool.{and_from}
 use Rattle.fast_fault.specs.declared.code.Code.TheVariants.{WrongKind}
 use Rattle.fast_fault.specs.declared.place.Pos.{Pos}
 use Rattle.fast_fault.specs.declared.refusal.Refusal.{Refusal}
@@ -31,9 +32,6 @@ no_tree a_tree (Some a_tree) k e = absurd (cc)
 defined_no_tree : (into : Option Name) → is_tree (Some (defined_kind into)) ≡ false
 defined_no_tree None = refl
 defined_no_tree (Some into) = refl
-
-both : (a b : Bool) → a ≡ true → b ≡ true → (a && b) ≡ true
-both a b e f = rw (e) f
 
 module _ (items before : List Item) where
   not_other : (type : Option (List ℕ)) (kind : Kind) (x : X) → is_empty (needs_be items before type kind x) ≡ true → is_other_kind kind (kind_of items x) ≡ false
@@ -91,25 +89,25 @@ module _ (items before : List Item) where
   automaton around expected (one GetWitness place x) e apart = absurd (cc)
   automaton around expected (two Intersect place x y) e apart =
       let a = of_first around expected Intersect place x y e refl in let b = of_second around expected Intersect place x y e refl in
-      both _ _ (automaton (suc around) None x a.fine a.apart) (automaton (suc around) _ y b.fine b.apart)
+      and_from _ _ (automaton (suc around) None x a.fine a.apart) (automaton (suc around) _ y b.fine b.apart)
   automaton around expected (two Union place x y) e apart =
       let a = of_first around expected Union place x y e refl in let b = of_second around expected Union place x y e refl in
-      both _ _ (automaton (suc around) None x a.fine a.apart) (automaton (suc around) _ y b.fine b.apart)
+      and_from _ _ (automaton (suc around) None x a.fine a.apart) (automaton (suc around) _ y b.fine b.apart)
   automaton around expected (two Difference place x y) e apart =
       let a = of_first around expected Difference place x y e refl in let b = of_second around expected Difference place x y e refl in
-      both _ _ (automaton (suc around) None x a.fine a.apart) (automaton (suc around) _ y b.fine b.apart)
+      and_from _ _ (automaton (suc around) None x a.fine a.apart) (automaton (suc around) _ y b.fine b.apart)
   automaton around expected (two PreImage place x y) e apart =
       let a = of_first around expected PreImage place x y e refl in let b = of_second around expected PreImage place x y e refl in
-      both _ _ (automaton (suc around) None x a.fine a.apart) (automaton (suc around) _ y b.fine b.apart)
+      and_from _ _ (automaton (suc around) None x a.fine a.apart) (automaton (suc around) _ y b.fine b.apart)
   automaton around expected (two Compose place x y) e apart =
       let a = of_first around expected Compose place x y e refl in let b = of_second around expected Compose place x y e refl in
-      both _ _ (automaton (suc around) None x a.fine a.apart) (automaton (suc around) _ y b.fine b.apart)
+      and_from _ _ (automaton (suc around) None x a.fine a.apart) (automaton (suc around) _ y b.fine b.apart)
   automaton around expected (two Restrict place x y) e apart =
       let a = of_first around expected Restrict place x y e refl in let b = of_second around expected Restrict place x y e refl in
-      both _ _ (automaton (suc around) None x a.fine a.apart) (automaton (suc around) _ y b.fine b.apart)
+      and_from _ _ (automaton (suc around) None x a.fine a.apart) (automaton (suc around) _ y b.fine b.apart)
   automaton around expected (two RestrictOut place x y) e apart =
       let a = of_first around expected RestrictOut place x y e refl in let b = of_second around expected RestrictOut place x y e refl in
-      both _ _ (automaton (suc around) None x a.fine a.apart) (automaton (suc around) _ y b.fine b.apart)
+      and_from _ _ (automaton (suc around) None x a.fine a.apart) (automaton (suc around) _ y b.fine b.apart)
   automaton around expected (two Apply place x y) e apart = absurd (cc)
   automaton around expected (literal name labels xs) e apart = absurd (cc)
 
@@ -123,7 +121,7 @@ module _ (items before : List Item) where
     a_tree_of around expected (one Domain place x) e other = absurd (cc)
     a_tree_of around expected (two Apply place f x) e other =
         let a = of_first around expected Apply place f x e refl in
-        both _ _ (automaton (suc around) None f a.fine a.apart)
+        and_from _ _ (automaton (suc around) None f a.fine a.apart)
         (a_tree_of (suc around) _ x (second_fine around expected Apply place f x e) (not_other _ a_tree x (second_be around expected Apply place f x e)))
     a_tree_of around expected (two Intersect place x y) e other = absurd (cc)
     a_tree_of around expected (two Union place x y) e other = absurd (cc)
@@ -144,7 +142,7 @@ module _ (items before : List Item) where
     trees_of around type no_x e = refl
     trees_of around type (and_x x xs) e =
         let behind = empty_second (x_failures items before around type x) (needs_be items before type a_tree x ++ xs_failures items before around type xs) e in
-        both _ _ (a_tree_of around type x (empty_first (x_failures items before around type x) _ e) (not_other type a_tree x (empty_first (needs_be items before type a_tree x) _ behind)))
+        and_from _ _ (a_tree_of around type x (empty_first (x_failures items before around type x) _ e) (not_other type a_tree x (empty_first (needs_be items before type a_tree x) _ behind)))
         (trees_of around type xs (empty_second (needs_be items before type a_tree x) (xs_failures items before around type xs) behind))
 
   whole_automaton : (type : Option (List ℕ)) (kind : Kind) (x : X) → is_tree (Some kind) ≡ false → is_empty (whole_failures items before type kind x) ≡ true → has_automaton_shape x ≡ true
@@ -161,10 +159,10 @@ module _ (items before : List Item) where
   pub claim_shape : (claim : Claim) → is_empty (claim_failures items before claim) ≡ true → has_claim_shape claim ≡ true
   claim_shape (equal x y) e =
       let first = whole_failures items before None language x in let second = whole_failures items before (type_as items before language x) language y in
-      both _ _ (whole_automaton None language x refl (empty_first first second e)) (whole_automaton (type_as items before language x) language y refl (empty_second first second e))
+      and_from _ _ (whole_automaton None language x refl (empty_first first second e)) (whole_automaton (type_as items before language x) language y refl (empty_second first second e))
   claim_shape (member x y) e =
       let first = whole_failures items before None language y in let second = whole_failures items before (type_as items before language y) a_tree x in
-      both _ _ (whole_tree (type_as items before language y) x (empty_second first second e)) (whole_automaton None language y refl (empty_first first second e))
+      and_from _ _ (whole_tree (type_as items before language y) x (empty_second first second e)) (whole_automaton None language y refl (empty_first first second e))
   claim_shape (empty x) e =
       let fx = x_failures items before 0 None x in let none = fails_if (is_tree (kind_of items x)) WrongKind (place_of_x x) in
       automaton 0 None x (empty_first fx none e) (passed (is_tree (kind_of items x)) WrongKind (place_of_x x) (empty_second fx none e))
@@ -173,8 +171,8 @@ module _ (items before : List Item) where
       let second = whole_failures items before (type_as items before language x) transformation f in
       let third = whole_failures items before (output_as items before transformation f) language z in
       let behind = empty_second first (second ++ third) e in
-      both _ _ (whole_automaton None language x refl (empty_first first (second ++ third) e))
-      (both _ _ (whole_automaton (type_as items before language x) transformation f refl (empty_first second third behind)) (whole_automaton (output_as items before transformation f) language z refl (empty_second second third behind)))
+      and_from _ _ (whole_automaton None language x refl (empty_first first (second ++ third) e))
+      (and_from _ _ (whole_automaton (type_as items before language x) transformation f refl (empty_first second third behind)) (whole_automaton (output_as items before transformation f) language z refl (empty_second second third behind)))
 
   pub body_shape : (body : Body) → is_empty (body_failures items before body) ≡ true → has_body_shape body ≡ true
   body_shape (sorts t) e = refl

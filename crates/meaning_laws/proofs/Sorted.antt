@@ -60,13 +60,13 @@ value_has fields values (chain Conjunction place parts) s sorts is = cc
 value_has fields values (chain Sum place parts) s sorts is = cc
 value_has fields values (chain Product place parts) s sorts is = cc
 
-none_is_some : (n : ℕ) → (0 == suc n) ≡ true → ⊥
+pub none_is_some : (n : ℕ) → (0 == suc n) ≡ true → ⊥
 none_is_some n e = grind (arith, nat_tests)
 
-some_is_none : (n : ℕ) → (suc n == 0) ≡ true → ⊥
+pub some_is_none : (n : ℕ) → (suc n == 0) ≡ true → ⊥
 some_is_none n e = grind (arith, nat_tests)
 
-suc_equal : (m n : ℕ) → (suc m == suc n) ≡ true → (m == n) ≡ true
+pub suc_equal : (m n : ℕ) → (suc m == suc n) ≡ true → (m == n) ≡ true
 suc_equal m n e = grind (arith, nat_tests)
 
 same_sort_of : (s : Sort) (o : Option Sort) (found : Sort) → o ≡ Some found → is_other_sort s o ≡ false → found ≡ s

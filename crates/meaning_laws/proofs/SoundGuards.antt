@@ -1,5 +1,6 @@
 -- What the check of a program finds sound is a guard, a whole number or a text, and its forms are in range.
 use Rattle.std.proofs.Common.{◌≡◌, ℕ, zero, suc, ◌<◌, ◌≤◌, ◌&&◌, ◌||◌, Bool, true, false, cond, List, [], ◌∷◌, ◌++◌, length, Option, Some, None, Contains, refl, sym, ap, ap₂, ◌∙◌, subst, arith}
+use Rattle.std.proofs.lemmas.Bool.{or_right}
 use Rattle.std.proofs.Math.IntN.{ℤ, pos, negsuc, ◌*ℤ◌}
 use Rattle.std.proofs.lemmas.Int.{ints}
 use Rattle.std.proofs.lemmas.Bool.Decides.{nat_tests}
@@ -46,10 +47,6 @@ use Rattle.model_checks.proofs.InRange.{constant_in, is_outside}
 both_false : (a b : Bool) → (a || b) ≡ false → (a ≡ false) × (b ≡ false)
 both_false true b e = absurd (cc)
 both_false false b e = (refl, e)
-
-or_second : (a b : Bool) → b ≡ true → (a || b) ≡ true
-or_second true b e = refl
-or_second false b e = e
 
 one_false : (a b : Bool) → (a && b) ≡ false → b ≡ true → a ≡ false
 one_false true true e f = absurd (cc)
@@ -124,7 +121,7 @@ product_is false f true g first second apart = by (is_constant g) refl
     by false is = refl
 
 factor_constant : (has : Bool) (f : Form) (has_too : Bool) (g : Form) → (has ≡ false → is_constant f ≡ true) → (has_too ≡ false → is_constant g ≡ true) → (has && has_too) ≡ false → (is_constant f || is_constant g) ≡ true
-factor_constant has f false g first second apart = or_second (is_constant f) (is_constant g) (second refl)
+factor_constant has f false g first second apart = or_right (is_constant f) (is_constant g) (second refl)
 factor_constant true f true g first second apart = absurd (cc)
 factor_constant false f true g first second apart = ap (λ b. b || is_constant g) (first refl)
 
@@ -404,16 +401,16 @@ module _ (fields : List FieldItem) where
 
     guard_sides : (rel : Rel) (a b : Expr) → is_equality rel ≡ true → Guard a → Guard b → Sides rel a b
     guard_sides rel a b equal x y = record {
-      is = or_second (is_whole (plain_fields fields) a && is_whole (plain_fields fields) b) _ (λ i. equal i && ((x.is i && y.is i) || (is_text (plain_fields fields) a && is_text (plain_fields fields) b)));
+      is = or_right (is_whole (plain_fields fields) a && is_whole (plain_fields fields) b) _ (λ i. equal i && ((x.is i && y.is i) || (is_text (plain_fields fields) a && is_text (plain_fields fields) b)));
       left = x.within;
       right = y.within;
     }
 
     text_sides : (rel : Rel) (a b : Expr) → is_equality rel ≡ true → Text a → Text b → Sides rel a b
     text_sides rel a b equal x y = record {
-      is = or_second (is_whole (plain_fields fields) a && is_whole (plain_fields fields) b) _
+      is = or_right (is_whole (plain_fields fields) a && is_whole (plain_fields fields) b) _
           (ap (λ e. e && ((is_guard (plain_fields fields) a && is_guard (plain_fields fields) b) || (is_text (plain_fields fields) a && is_text (plain_fields fields) b))) equal
-          ∙ or_second (is_guard (plain_fields fields) a && is_guard (plain_fields fields) b) (is_text (plain_fields fields) a && is_text (plain_fields fields) b) (λ i. x.is i && y.is i));
+          ∙ or_right (is_guard (plain_fields fields) a && is_guard (plain_fields fields) b) (is_text (plain_fields fields) a && is_text (plain_fields fields) b) (λ i. x.is i && y.is i));
       left = x.within;
       right = y.within;
     }

@@ -1,5 +1,5 @@
 -- A variable that has no coefficient in a system is 0 in each of its solutions by puts.
-use Rattle.std.proofs.Common.{◌≡◌, ℕ, zero, suc, ◌+◌, ◌<◌, ◌≤◌, inl, inr, ⊎_elim, List, [], ◌∷◌, ◌++◌, map, length, take, replicate, get_or, arith, refl, ap, sym, ◌∙◌, subst, add-one, length-take}
+use Rattle.std.proofs.Common.{◌≡◌, ℕ, zero, suc, ◌+◌, ◌<◌, ◌≤◌, inl, inr, ⊎_elim, List, [], ◌∷◌, ◌++◌, map, length, take, replicate, get_or, arith, refl, ap, ◌∙◌, subst, length-take}
 use Rattle.std.proofs.Math.IntN.{ℤ, pos, ◌+ℤ◌, ◌*ℤ◌, neg_ℤ}
 use Rattle.std.specs.Prelude.{unsigned_abs, ◌/◌}
 use Rattle.std.specs.List.{All}
@@ -10,7 +10,7 @@ use Rattle.std.proofs.lemmas.List.Elements.{All-nil, All-cons, All-append, All-m
 use Rattle.math_cooper.specs.System.{Condition, HasWidth, Affine, lead, sign, add_times, put, low_form, high_form, free_form, times_condition, unit, unit_by, unit_all, divides_condition}
 use Rattle.math_cooper.specs.Puts.{Put, IsPut, Absent, cut, cut_one, after, IsSolution}
 use Rattle.math_cooper.proofs.Scaling.{unit_all_width}
-use Rattle.math_cooper.proofs.Steps.{solution_solves, cut_width, after_width}
+use Rattle.math_cooper.proofs.Steps.{solution_solves, cut_width, after_width, wider}
 
 -- ---- rows
 
@@ -79,9 +79,6 @@ module _ (i k : ℕ) (low : k < i) where
   cut_absent S a = All-map (λ d. lead k d ≡ pos 0) (cut_one i) S (λ j d l. taken (get_or S j d).coefficients (a j d l))
 
 -- ---- a solution
-
-wider : (n : ℕ) (S : List Condition) → All (HasWidth (suc n)) S → All (HasWidth (n + 1)) S
-wider n S = subst (λ m. All (HasWidth m) S) (sym (add-one n))
 
 front : (ws vs : List ℤ) (x : ℤ) (i k : ℕ) → vs ≡ ws ++ x ∷ [] → length ws ≡ i → k < i → get_or ws k (pos 0) ≡ pos 0 → get_or vs k (pos 0) ≡ pos 0
 front ws vs x i k e many l h = ap (λ us. get_or us k (pos 0)) e ∙ get_or_append_left ws (x ∷ []) (pos 0) k (omega arith) ∙ h

@@ -1,5 +1,6 @@
 -- A form is in range where none of its numbers is outside.
 use Rattle.std.proofs.Common.{◌≡◌, ◌<◌, ◌^◌, inl, inr, Bool, true, false, ◌&&◌, List, [], ◌∷◌, refl, sym, ap, ◌∙◌, subst, arith}
+use Rattle.std.proofs.lemmas.Bool.{and_from}
 use Rattle.std.proofs.Math.IntN.{ℤ, pos, negsuc}
 use Rattle.std.proofs.lemmas.Int.{ints}
 use Rattle.std.proofs.lemmas.Bool.Decides.{nat_tests}
@@ -28,9 +29,6 @@ first_false a b e = ap (λ x. x && b) e
 second_false : (a b : Bool) → b ≡ false → (a && b) ≡ false
 second_false true b e = e
 second_false false b e = refl
-
-both_true : (a b : Bool) → a ≡ true → b ≡ true → (a && b) ≡ true
-both_true a b e f = ap (λ x. x && b) e ∙ f
 
 is_false : (b : Bool) → (b ≡ true → ⊥) → b ≡ false
 is_false true n = absurd (n refl)
@@ -66,19 +64,19 @@ is_outside (form c ts rs) n (inr o) = second_false (is_label_number c) (are_coef
 all_fields : (ts : List Term) → ((n : ℤ) → IsOfFields n ts → (IsCoefficient n → ⊥) → ⊥) → are_coefficients ts ≡ true
 all_fields [] none = refl
 all_fields (t ∷ ts) none =
-    both_true (is_coefficient t.coefficient) (are_coefficients ts)
+    and_from (is_coefficient t.coefficient) (are_coefficients ts)
     (is_true (is_coefficient t.coefficient) (λ e. none t.coefficient (inl refl) (λ h. (let no : true ≡ false = sym (coefficient_in t.coefficient h) ∙ e in absurd (cc)))))
     (all_fields ts (λ n i out. none n (inr i) out))
 
 all_remainders : (rs : Remainders) → ((n : ℤ) → IsOfRemainders n rs → (IsCoefficient n → ⊥) → ⊥) → are_multiples rs ≡ true
 all_remainders no_remainders none = refl
 all_remainders (remainder a f k rs) none =
-    both_true (is_coefficient a) (are_multiples rs)
+    and_from (is_coefficient a) (are_multiples rs)
     (is_true (is_coefficient a) (λ e. none a (inl refl) (λ h. (let no : true ≡ false = sym (coefficient_in a h) ∙ e in absurd (cc)))))
     (all_remainders rs (λ n i out. none n (inr i) out))
 
 pub is_within : (f : Form) → ((n : ℤ) → IsOutside f n → ⊥) → is_in_range f ≡ true
 is_within (form c ts rs) none =
-    both_true (is_label_number c) (are_coefficients ts && are_multiples rs)
+    and_from (is_label_number c) (are_coefficients ts && are_multiples rs)
     (is_true (is_label_number c) (λ e. none c (inl (refl, λ h. (let no : true ≡ false = sym (constant_in c h) ∙ e in absurd (cc))))))
-    (both_true (are_coefficients ts) (are_multiples rs) (all_fields ts (λ n i out. none n (inr (inl i, out)))) (all_remainders rs (λ n i out. none n (inr (inr i, out)))))
+    (and_from (are_coefficients ts) (are_multiples rs) (all_fields ts (λ n i out. none n (inr (inl i, out)))) (all_remainders rs (λ n i out. none n (inr (inr i, out)))))

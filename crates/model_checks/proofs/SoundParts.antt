@@ -130,7 +130,7 @@ has_type items name e =
 pub declared_as : (items : List Item) (name : Name) (h : HasType items name) → declared_type items name ≡ Some name.text
 declared_as items name h = ap (option_map (λ t. t.name.text)) h.found ∙ ap Some h.named
 
-same_types : (a b : List ℕ) → differ (Some a) (Some b) ≡ false → a ≡ b
+pub same_types : (a b : List ℕ) → differ (Some a) (Some b) ≡ false → a ≡ b
 same_types a b e = same_from_test a b (not_false (same_text a b) e)
 
 -- each language that is declared is of a declared type

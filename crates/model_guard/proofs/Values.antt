@@ -49,7 +49,7 @@ low_step true false rest n c below e = cc
 low_step false true rest n c below e = let h : n < c = below e in omega (arith, h)
 low_step false false rest n c below e = let h : n < c = below e in omega (arith, h)
 
-found_in : (sort s : Sort) (b : Bool) (rest : Option Sort) → is_field_of sort (cond b (Some s) rest) ≡ cond b (same_sort s sort) (is_field_of sort rest)
+pub found_in : (sort s : Sort) (b : Bool) (rest : Option Sort) → is_field_of sort (cond b (Some s) rest) ≡ cond b (same_sort s sort) (is_field_of sort rest)
 found_in sort s true rest = refl
 found_in sort s false rest = refl
 

@@ -17,7 +17,7 @@ use Rattle.model_layers.specs.Carries.{IsTyped, AreParts}
 use Rattle.model_layers.specs.Causes.{TreesGoUp, CountsGoUp}
 use Rattle.model_layers.proofs.Chosen.{first_of, second_of}
 
-exactly_one : (a b : Bool) → ¬ (a ≡ b) → ExactlyOne (a ≡ true) (b ≡ true)
+pub exactly_one : (a b : Bool) → ¬ (a ≡ b) → ExactlyOne (a ≡ true) (b ≡ true)
 exactly_one true true apart = absurd (apart refl)
 exactly_one true false apart = inl (refl, λ e. cc)
 exactly_one false true apart = inr (refl, λ e. cc)
@@ -28,7 +28,7 @@ differing a b (inl (yes_a, none)) e = none (sym e ∙ yes_a)
 differing a b (inr (yes_b, none)) e = none (e ∙ yes_b)
 
 -- exactly one of two that are as two others
-exactly_as : (P Q R S : Type 0) → P ↔ R → Q ↔ S → ExactlyOne P Q → ExactlyOne R S
+pub exactly_as : (P Q R S : Type 0) → P ↔ R → Q ↔ S → ExactlyOne P Q → ExactlyOne R S
 exactly_as P Q R S f g (inl (p, none)) = inl (f.0 p, λ s. none (g.1 s))
 exactly_as P Q R S f g (inr (q, none)) = inr (g.0 q, λ r. none (f.1 r))
 

@@ -1,6 +1,6 @@
 -- Names that are no definitions mean what their rules say; and where no rule demands a definition, a test tells it.
 use Rattle.std.proofs.Common.{◌≡◌, ◌↔◌, inl, inr, ℕ, suc, Bool, true, false, not, ◌&&◌, ◌||◌, cond, List, [], ◌∷◌, Some, None, Contains, refl, sym, subst, arith}
-use Rattle.std.proofs.lemmas.Bool.{and_parts}
+use Rattle.std.proofs.lemmas.Bool.{and_parts, and_from, or_right}
 use Rattle.std.specs.List.{list_any, list_all}
 use Rattle.model_tree.specs.Label.{Label}
 use Rattle.model_tree.specs.Tree.{node, Trees, no_trees, tree, LabelTree}
@@ -99,12 +99,8 @@ passes_one p [] x at e = absurd (none_of x at)
 passes_one p (y ∷ ys) x at e =
     elim (one_of y x ys at) [
       | inl same ↦ (let first : p y ≡ true = subst (λ z. p z ≡ true) (sym same) e in rw first refl)
-      | inr later ↦ or_true (p y) (list_any p ys) (passes_one p ys x later e)
+      | inr later ↦ or_right (p y) (list_any p ys) (passes_one p ys x later e)
     ]
-  where
-    or_true : (a b : Bool) → b ≡ true → (a || b) ≡ true
-    or_true true b e = refl
-    or_true false b e = e
 
 each_passes : {A : Type 0} (p : A → Bool) (xs : List A) (x : A) → list_all p xs ≡ true → Contains xs x → p x ≡ true
 each_passes p [] x all at = absurd (none_of x at)
@@ -118,9 +114,6 @@ all_pass p (y ∷ ys) each =
     let first = each y (0, omega arith, refl) in
     let rest = all_pass p ys (λ x at. each x (suc at.0, omega (arith, at.1), at.2)) in
     rw first rest
-
-true_both : (a b : Bool) → a ≡ true → b ≡ true → (a && b) ≡ true
-true_both a b e f = rw e f
 
 module _ (items : List Item) (D : Definitions) (rules : DemandNoDefinition items) where
   abbrev Plain : List Demand → Type 0
@@ -139,7 +132,7 @@ module _ (items : List Item) (D : Definitions) (rules : DemandNoDefinition items
     in_test (node c l ts) n none =
         let e = none in rw e (
           λ h. passes_one (λ r. heads (input_of items n) r c l && are_in items ts r.vars r.given) (rules_of items n) h.0 h.1
-              (true_both (heads (input_of items n) h.0 c l) (are_in items ts h.0.vars h.0.given) h.2 ((are_test ts h.0.vars h.0.given (λ d at. rules.in_languages n h.0 d h.1 at)).0 h.3)),
+              (and_from (heads (input_of items n) h.0 c l) (are_in items ts h.0.vars h.0.given) h.2 ((are_test ts h.0.vars h.0.given (λ d at. rules.in_languages n h.0 d h.1 at)).0 h.3)),
           λ h. (let r = one_passes (λ r. heads (input_of items n) r c l && are_in items ts r.vars r.given) (rules_of items n) h in
               let two = and_parts (heads (input_of items n) r.0 c l) (are_in items ts r.0.vars r.0.given) r.2 in
               (r.0, r.1, two.0, (are_test ts r.0.vars r.0.given (λ d at. rules.in_languages n r.0 d r.1 at)).1 two.1)),
@@ -149,7 +142,7 @@ module _ (items : List Item) (D : Definitions) (rules : DemandNoDefinition items
     are_test no_trees vars given plain = (λ h. refl, λ h. tt)
     are_test (tree t ts) [] given plain = (λ h. refl, λ h. tt)
     are_test (tree t ts) (v ∷ vars) given plain = (
-      λ h. true_both (list_all (λ d. not (same_text d.child.text v.text) || is_in items t d.language.text) given) (are_in items ts vars given)
+      λ h. and_from (list_all (λ d. not (same_text d.child.text v.text) || is_in items t d.language.text) given) (are_in items ts vars given)
           (all_pass (λ d. not (same_text d.child.text v.text) || is_in items t d.language.text) given (λ d at. (
           where_demanded (same_text d.child.text v.text) (is_in items t d.language.text) (λ same. (in_test t d.language.text (plain d at)).0 (h.0 d at same)))))
           ((are_test ts vars given plain).0 h.1),
@@ -161,7 +154,7 @@ module _ (items : List Item) (D : Definitions) (rules : DemandNoDefinition items
 
   rule_test : (signature : PlainSignature) (r : Rule) → Plain r.given → (t : LabelTree) → AppliesBy items D signature r t ↔ applies items signature r t ≡ true
   rule_test signature r plain (node c l ts) = (
-    λ h. true_both (heads signature r c l) (are_in items ts r.vars r.given) h.0 ((are_test ts r.vars r.given plain).0 h.1),
+    λ h. and_from (heads signature r c l) (are_in items ts r.vars r.given) h.0 ((are_test ts r.vars r.given plain).0 h.1),
     λ h. (let two = and_parts (heads signature r c l) (are_in items ts r.vars r.given) h in (two.0, (are_test ts r.vars r.given plain).1 two.1)),
   )
 

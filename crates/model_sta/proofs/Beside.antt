@@ -19,12 +19,13 @@ module _ {X : Type 0} where
   none_past : (xss : List (List X)) (q : ℕ) (x : X) → length xss ≤ q → Contains (get_or xss q []) x → ⊥
   none_past xss q x high at = let none : Contains [] x = subst (λ xs. Contains xs x) (get_or_past xss q [] high) at in absurd (omega (arith, none.1))
 
+-- tests over a mapped list
 module _ {X Y : Type 0} (p : Y → Bool) (f : X → Y) (q : X → Bool) where
-  any_mapped : (xs : List X) → ((x : X) → Contains xs x → p (f x) ≡ q x) → list_any p (map f xs) ≡ list_any q xs
+  pub any_mapped : (xs : List X) → ((x : X) → Contains xs x → p (f x) ≡ q x) → list_any p (map f xs) ≡ list_any q xs
   any_mapped [] same = refl
   any_mapped (x ∷ xs) same = ap₂ (λ a b. a || b) (same x (first_in x xs)) (any_mapped xs (λ y at. same y (later_in x y xs at)))
 
-  all_mapped : (xs : List X) → ((x : X) → Contains xs x → p (f x) ≡ q x) → list_all p (map f xs) ≡ list_all q xs
+  pub all_mapped : (xs : List X) → ((x : X) → Contains xs x → p (f x) ≡ q x) → list_all p (map f xs) ≡ list_all q xs
   all_mapped [] same = refl
   all_mapped (x ∷ xs) same = ap₂ (λ a b. a && b) (same x (first_in x xs)) (all_mapped xs (λ y at. same y (later_in x y xs at)))
 

@@ -1,6 +1,6 @@
 -- The test and the fact say the same.
 use Rattle.std.proofs.Common.{◌≡◌, ℕ, zero, suc, ◌<◌, Bool, true, false, ◌&&◌, ◌||◌, ◌==◌, List, [], ◌∷◌, length, All, refl, ◌∙◌, ap, arith}
-use Rattle.std.proofs.lemmas.Bool.{and_parts}
+use Rattle.std.proofs.lemmas.Bool.{and_parts, and_from, or_left, or_right}
 use Rattle.std.specs.Prelude.{Contains, slice_index_or}
 use Rattle.std.specs.List.{list_any, list_all}
 use Rattle.std.proofs.lemmas.Bool.Decides.{nat_tests}
@@ -8,18 +8,6 @@ use Rattle.std.proofs.lemmas.List.Elements.{All-nil, All-cons}
 use Rattle.model_tree.specs.Tree.{Tree, node, Trees, no_trees, tree}
 use Rattle.model_sta.specs.Automaton.{Rule, rules_of, is_accepted, meet_demands}
 use Rattle.model_sta.specs.Accepts.{Accepts, MeetDemands}
-
-join : (a b : Bool) → a ≡ true → b ≡ true → (a && b) ≡ true
-join true b g h = h
-join false b g h = cc
-
-left : (a b : Bool) → a ≡ true → (a || b) ≡ true
-left true b h = refl
-left false b h = cc
-
-right : (a b : Bool) → b ≡ true → (a || b) ≡ true
-right true b h = refl
-right false b h = h
 
 same_number : (m n : ℕ) → (m == n) ≡ true → m ≡ n
 same_number m n h = grind (arith, nat_tests)
@@ -38,8 +26,8 @@ module _ {X : Type 0} (p : X → Bool) where
 
   any_from : (xs : List X) (k : ℕ) (x : X) → k < length xs → slice_index_or xs k x ≡ x → p x ≡ true → list_any p xs ≡ true
   any_from [] k x l e h = absurd (omega arith)
-  any_from (y ∷ ys) zero x l e h = left (p y) (list_any p ys) (ap p e ∙ h)
-  any_from (y ∷ ys) (suc k) x l e h = right (p y) (list_any p ys) (any_from ys k x (omega arith) e h)
+  any_from (y ∷ ys) zero x l e h = or_left (p y) (list_any p ys) (ap p e ∙ h)
+  any_from (y ∷ ys) (suc k) x l e h = or_right (p y) (list_any p ys) (any_from ys k x (omega arith) e h)
 
   all_from_test : (P : X → Type 0) → ((x : X) → p x ≡ true → P x) → (xs : List X) → list_all p xs ≡ true → All P xs
   all_from_test P f [] h = All-nil P
@@ -47,7 +35,7 @@ module _ {X : Type 0} (p : X → Bool) where
 
   test_from_all : (P : X → Type 0) → ((x : X) → P x → p x ≡ true) → (xs : List X) → All P xs → list_all p xs ≡ true
   test_from_all P f [] h = refl
-  test_from_all P f (x ∷ xs) h = join (p x) (list_all p xs) (f x (h 0 x (omega arith))) (test_from_all P f xs (λ k d l. h (suc k) d (omega (arith, l))))
+  test_from_all P f (x ∷ xs) h = and_from (p x) (list_all p xs) (f x (h 0 x (omega arith))) (test_from_all P f xs (λ k d l. h (suc k) d (omega (arith, l))))
 
 module _ {A : Type 0} (rules : List (List (Rule A))) where
   mutual
@@ -69,10 +57,10 @@ module _ {A : Type 0} (rules : List (List (Rule A))) where
     pub test_from_accepts : (t : Tree A) (s : ℕ) → Accepts rules t s → is_accepted rules t s ≡ true
     test_from_accepts (node c l ts) s (r, k, e, g, m) =
         any_from (λ r. (r.constructor == c) && (r.guard l && meet_demands rules ts r.demands)) (rules_of rules s) k.0 r k.1 k.2
-        (join (r.constructor == c) (r.guard l && meet_demands rules ts r.demands) (number_same r.constructor c e) (join (r.guard l) (meet_demands rules ts r.demands) g (test_from_demands ts r.demands m)))
+        (and_from (r.constructor == c) (r.guard l && meet_demands rules ts r.demands) (number_same r.constructor c e) (and_from (r.guard l) (meet_demands rules ts r.demands) g (test_from_demands ts r.demands m)))
 
     pub test_from_demands : (ts : Trees A) (ds : List (List ℕ)) → MeetDemands rules ts ds → meet_demands rules ts ds ≡ true
     test_from_demands no_trees ds m = refl
     test_from_demands (tree t ts) [] m = refl
     test_from_demands (tree t ts) (d ∷ ds) m =
-        join (list_all (is_accepted rules t) d) (meet_demands rules ts ds) (test_from_all (is_accepted rules t) (Accepts rules t) (λ s. test_from_accepts t s) d m.0) (test_from_demands ts ds m.1)
+        and_from (list_all (is_accepted rules t) d) (meet_demands rules ts ds) (test_from_all (is_accepted rules t) (Accepts rules t) (λ s. test_from_accepts t s) d m.0) (test_from_demands ts ds m.1)

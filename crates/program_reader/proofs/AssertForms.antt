@@ -13,15 +13,13 @@ use Rattle.model_grammar.specs.Terms.{IsX, name, AreLabels}
 use Rattle.model_grammar.specs.Grammar.{IsIn, IsA, IsB}
 use Rattle.label_reader.proofs.Names.{name_starts}
 use Rattle.read_forms.proofs.Lists.{to_left, to_right}
+use Rattle.label_reader.proofs.Listed.{front_as}
 use Rattle.program_reader.specs.Nodes.{IsXInside, on_one, on_two, new, AreXsToClose}
 use Rattle.program_reader.specs.Assertions.{IsRelation, IsRight, related, IsBInside, no_trees, checked, compared, IsAInside, IsBehindName}
 use Rattle.program_reader.proofs.XForms.{x_begins, x_cases, x_opened, inside_begins, inside_no_open, inside_no_empty, inside_no_check, op_no_name, sample_x}
 
 joined_as : (p q r : List Lexeme → Type 0) (ts : List Lexeme) → ((l : List Lexeme) → q l → r l) → (p ⌢ q) ts → (p ⌢ r) ts
 joined_as p q r ts wider joined = record { front = joined.front; back = joined.back; split = joined.split; at_front = joined.at_front; at_back = wider joined.back joined.at_back }
-
-front_as : (p q r : List Lexeme → Type 0) (ts : List Lexeme) → ((l : List Lexeme) → p l → q l) → (p ⌢ r) ts → (q ⌢ r) ts
-front_as p q r ts wider joined = record { front = joined.front; back = joined.back; split = joined.split; at_front = wider joined.front joined.at_front; at_back = joined.at_back }
 
 -- What relates two expressions.
 

@@ -9,6 +9,7 @@ use Rattle.std.proofs.Common.{◌≡◌, ◌≢◌, ◌<◌, ◌+◌, ◌==◌, 
 use Rattle.model_tree.specs.Label.{Field, whole, truth, text}
 use Rattle.model_tree.specs.Signature.{Sort, wholes, truths, texts, PlainField, sort_of}
 use Rattle.model_label.specs.Fields.{same_name, same_sort, sort_at, is_field_of, has_field, number_at, value_at}
+use Rattle.model_guard.proofs.Values.{found_in}
 use Rattle.record_label.specs.Rows.{truths_in, texts_in, count_of}
 
 truth_step : (b : Bool) (v : Field) (vs : List Field) (n : ℕ) (rest : Option Sort) (later : Field) → (is_field_of truths rest ≡ true → later ≡ truth (get_or (truths_in vs) n false)) → is_field_of truths (cond b (Some (sort_of v)) rest) ≡ true → cond b v later ≡ truth (get_or (truths_in (v ∷ vs)) (cond b 0 (cond (same_sort (sort_of v) truths) (suc n) n)) false)
@@ -54,10 +55,6 @@ low_step true true rest n c below e = omega arith
 low_step true false rest n c below e = cc
 low_step false true rest n c below e = let h : n < c = below e in omega arith
 low_step false false rest n c below e = below e
-
-found_in : (sort s : Sort) (b : Bool) (rest : Option Sort) → is_field_of sort (cond b (Some s) rest) ≡ cond b (same_sort s sort) (is_field_of sort rest)
-found_in sort s true rest = refl
-found_in sort s false rest = refl
 
 -- the number of a field of a sort is less than there are
 pub number_low : (fields : List PlainField) (sort : Sort) (name : List ℕ) → has_field fields sort name ≡ true → number_at fields sort name < count_of sort (map (λ f. f.sort) fields)

@@ -1,7 +1,7 @@
 -- The rules of a constructor that fire, by their numbers.
 use Rattle.std.proofs.Common.{ℕ, zero, suc, Vec, ◌≡◌, ◌<◌, ◌==◌, ◌&&◌, ◌||◌, not, Bool, true, false, true≢false, List, [], ◌∷◌, ◌++◌, get_or, length, map, All, refl, sym, ap, ap₂, subst, ◌∙◌, arith, inl, inr, eqb-true, eq-eqb, ◌↔◌}
 use Rattle.std.specs.List.{list_any, list_all}
-use Rattle.std.proofs.lemmas.Bool.{cases_lt, and_parts}
+use Rattle.std.proofs.lemmas.Bool.{cases_lt, and_parts, and_from}
 use Rattle.std.proofs.lemmas.List.{get_or_past, get_or-map, length-map}
 use Rattle.model_tree.specs.Label.{Label}
 use Rattle.model_tree.specs.Formula.{Formula, yes, no, atom, negation, all_of, some_of, Formulas, no_formulas, formula, formula_holds, all_hold, some_hold}
@@ -15,7 +15,7 @@ use Rattle.sta_classes.specs.Applying.{plain_owned, is_fixed, are_fixed, truth_a
 use Rattle.sta_classes.specs.Bits.{both}
 use Rattle.sta_classes.specs.Rules.{plain_rules, meaning_of}
 use Rattle.sta_classes.specs.declared.rules.Owned.{Owned}
-use Rattle.sta_theory.proofs.Lists.{bool_same, join, any_member, any_true}
+use Rattle.sta_theory.proofs.Lists.{bool_same, any_member, any_true}
 use Rattle.sta_classes.proofs.Rows.{contains_map, contains_unmap}
 
 -- one more child
@@ -120,7 +120,7 @@ module _ {A G : Type 0} (holds : A → Label → Bool) (rules : List (Vec (StaRu
         let (same, (guard, meets)) = and_parts (r.constructor == c) (formula_holds (λ a. holds a l) (plain_rule r).guard) (rows_meet qs (plain_rule r).demands) meant in
         let there = (own (s, plain_rule r)).1 (s, low, v, at, r, r_in, (eqb-true r.constructor c same, refl)) in
         let (x, (i, i_low, i_at), x_is) = contains_unmap plain_owned list (s, plain_rule r) there in
-        let fire_x : fires_here x ≡ true = ap (λ p. rows_meet qs p.1.demands && formula_holds (λ a. holds a l) p.1.guard) x_is ∙ join (rows_meet qs (plain_rule r).demands) (formula_holds (λ a. holds a l) (plain_rule r).guard) meets guard in
+        let fire_x : fires_here x ≡ true = ap (λ p. rows_meet qs p.1.demands && formula_holds (λ a. holds a l) p.1.guard) x_is ∙ and_from (rows_meet qs (plain_rule r).demands) (formula_holds (λ a. holds a l) (plain_rule r).guard) meets guard in
         (i, i_low, get_or-map fires_here list i x false i_low ∙ ap fires_here i_at ∙ fire_x, x, i_at, ap (λ p. p.0) x_is)
   ]
 
@@ -132,8 +132,8 @@ module _ {A G : Type 0} (holds : A → Label → Bool) (rules : List (Vec (StaRu
       let state : s' ≡ s = ap (λ p. p.0) is ∙ state_is in
       let rule_is : plain_rule r ≡ plain_rule x.rule.now = ap (λ p. p.1) is in
       let fire : fires c l qs (rule_meaning holds (plain_rule r)) ≡ true =
-      join (r.constructor == c) (formula_holds (λ a. holds a l) (plain_rule r).guard && rows_meet qs (plain_rule r).demands) (eq-eqb r.constructor c same)
-      (join (formula_holds (λ a. holds a l) (plain_rule r).guard) (rows_meet qs (plain_rule r).demands) (ap (λ z. formula_holds (λ a. holds a l) z.guard) rule_is ∙ guard) (ap (λ z. rows_meet qs z.demands) rule_is ∙ meets)) in
+      and_from (r.constructor == c) (formula_holds (λ a. holds a l) (plain_rule r).guard && rows_meet qs (plain_rule r).demands) (eq-eqb r.constructor c same)
+      (and_from (formula_holds (λ a. holds a l) (plain_rule r).guard) (rows_meet qs (plain_rule r).demands) (ap (λ z. formula_holds (λ a. holds a l) z.guard) rule_is ∙ guard) (ap (λ z. rows_meet qs z.demands) rule_is ∙ meets)) in
       subst (λ k. has here k ≡ true) state
       (step_at s' v low at ∙ any_true (fires c l qs) (those_of v) (rule_meaning holds (plain_rule r)) (contains_map (rule_meaning holds) (map plain_rule v.items) (plain_rule r) (contains_map plain_rule v.items r r_in)) fire)
 

@@ -1,9 +1,9 @@
 -- Facts on pending sets.
-use Rattle.std.proofs.Common.{ℕ, zero, suc, ◌≡◌, ◌<◌, ◌≤◌, ◌+◌, ◌-◌, ◌==◌, ◌&&◌, ◌⊎◌, inl, inr, Bool, true, false, true≢false, Option, None, Some, List, [], ◌∷◌, ◌++◌, get_or, set, length, Contains, refl, sym, ap, subst, ◌∙◌, arith, eqb-true, eq-eqb}
+use Rattle.std.proofs.Common.{ℕ, zero, suc, ◌≡◌, ◌<◌, ◌≤◌, ◌+◌, ◌-◌, ◌==◌, ◌⊎◌, inl, inr, true, false, true≢false, Option, None, Some, List, [], ◌∷◌, ◌++◌, get_or, set, length, Contains, refl, sym, ap, subst, ◌∙◌, arith, eqb-true, eq-eqb}
 use Rattle.std.specs.Prelude.{nat_lt, nat_le, IsPermutation}
 use Rattle.std.specs.BinaryHeap.{heap_items, IsHeap}
 use Rattle.std.specs.Ordering.{nat_cmp, ordering_then}
-use Rattle.std.proofs.lemmas.Bool.{cases_lt, cases_eq, and_parts}
+use Rattle.std.proofs.lemmas.Bool.{cases_lt, cases_eq, and_parts, and_from}
 use Rattle.std.proofs.lemmas.List.{length_push, length-set, get_or-set_same, get_or-set_other}
 use Rattle.std.proofs.lemmas.List.Sorted.{IsPermutation-sym, Contains-permutation}
 use Rattle.model_tree.specs.Label.{Label}
@@ -86,12 +86,8 @@ module _ {V : Type 0} where
       less a b h = grind arith
 
   pub leaves_room : (c : Class V) → c.nodes ≤ CAP → leaves (Some c) (CAP - c.nodes) ≡ true
-  leaves_room c low = join (nat_le c.nodes CAP) (CAP - c.nodes == CAP - c.nodes) (most c.nodes CAP low) (eq-eqb (CAP - c.nodes) (CAP - c.nodes) refl)
+  leaves_room c low = and_from (nat_le c.nodes CAP) (CAP - c.nodes == CAP - c.nodes) (most c.nodes CAP low) (eq-eqb (CAP - c.nodes) (CAP - c.nodes) refl)
     where
-      join : (a b : Bool) → a ≡ true → b ≡ true → (a && b) ≡ true
-      join true b g h = h
-      join false b g h = cc
-
       most : (a b : ℕ) → a ≤ b → nat_le a b ≡ true
       most a b h = grind arith
 

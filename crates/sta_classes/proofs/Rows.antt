@@ -59,7 +59,7 @@ contains_unmap f (x ∷ xs) y h =
     (e, (k, k_low, same_default (x ∷ xs) k e x k_low), sym (get_or-map f (x ∷ xs) k x y k_low) ∙ is)
 
 -- truth values are decided, and so are rows
-same_bit : (a b : Bool) → (a ≡ b) ⊎ ¬ (a ≡ b)
+pub same_bit : (a b : Bool) → (a ≡ b) ⊎ ¬ (a ≡ b)
 same_bit true true = inl refl
 same_bit true false = inr (λ e. cc)
 same_bit false true = inr (λ e. cc)

@@ -1,5 +1,6 @@
 -- A disjunction of guards holds over the labels of any of them.
 use Rattle.std.proofs.Common.{ℕ, zero, suc, ◌+◌, ◌≡◌, ◌<◌, ◌||◌, Bool, true, false, IsTrue, List, [], ◌∷◌, ◌++◌, map, get_or, length, Contains, refl, sym, ap, subst, ◌∙◌, arith}
+use Rattle.std.proofs.lemmas.Bool.{or_right}
 use Rattle.std.proofs.lemmas.List.{map-append}
 use Rattle.model_tree.specs.Label.{Label}
 use Rattle.model_tree.specs.Formula.{Formula, yes, some_of, formulas_of, formula_holds, some_hold, EveryAtom}
@@ -28,11 +29,7 @@ module _ {A : Type 0} (holds : A → Bool) where
   pub true_some : (gs : List (Formula A)) (f : Formula A) → Contains gs f → formula_holds holds f ≡ true → some_hold holds (formulas_of gs) ≡ true
   true_some [] f at is = absurd (none_in f at)
   true_some (g ∷ gs) f (zero, low, same) is = ap (λ b. b || some_hold holds (formulas_of gs)) (ap (formula_holds holds) same ∙ is)
-  true_some (g ∷ gs) f (suc k, low, same) is = or_true (formula_holds holds g) (some_hold holds (formulas_of gs)) (true_some gs f (k, omega arith, same) is)
-    where
-      or_true : (a b : Bool) → b ≡ true → (a || b) ≡ true
-      or_true true b h = refl
-      or_true false b h = h
+  true_some (g ∷ gs) f (suc k, low, same) is = or_right (formula_holds holds g) (some_hold holds (formulas_of gs)) (true_some gs f (k, omega arith, same) is)
 
 module _ {A V : Type 0} (eq : A → A → Bool) (holds : A → Label → Bool) (t : PlainTable A V) (c : ℕ) (children : List ℕ) (classes : List ℕ) where
   abbrev pub Guards : ℕ → List (Formula A) → Type 0

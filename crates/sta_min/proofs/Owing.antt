@@ -2,7 +2,7 @@
 use Rattle.std.proofs.Common.{ℕ, suc, ◌≡◌, ◌<◌, ◌==◌, inl, inr, Bool, true, IsTrue, Vec, List, [], ◌∷◌, ◌++◌, map, nat_lt, get_or, length, All, Contains, refl, sym, ap, subst, ◌∙◌, arith, eq-eqb}
 use Rattle.std.specs.Cmp.{IsEquivalence}
 use Rattle.std.specs.List.{flat_map, list_any}
-use Rattle.std.proofs.lemmas.Bool.{cases_lt}
+use Rattle.std.proofs.lemmas.Bool.{cases_lt, and_from}
 use Rattle.std.proofs.lemmas.Bool.Decides.{nat_tests}
 use Rattle.std.proofs.lemmas.List.{length-map, get_or_past}
 use Rattle.model_tree.specs.Formula.{Formula, all_of, formulas_of, EveryAtom}
@@ -26,7 +26,7 @@ use Rattle.sta_classes.proofs.Atoms.{of_each_formula}
 use Rattle.sta_theory.specs.Built.{keys}
 use Rattle.sta_theory.specs.Kinds.{OneKind}
 use Rattle.sta_theory.specs.Minimal.{is_among, IsLeast}
-use Rattle.sta_theory.proofs.Lists.{join, in_left, flat_member}
+use Rattle.sta_theory.proofs.Lists.{in_left, flat_member}
 use Rattle.sta_ops.specs.Languages.{auto_of}
 use Rattle.sta_ops.proofs.Atoms.{Guarded, IsAmong, from_fit, to_fit, guard_of, among, each_equal, in_each}
 use Rattle.sta_ops.proofs.EachRule.{EachRule, each_at, all_in}
@@ -122,7 +122,7 @@ module _ {A V W : Type 0} {label_of : V → Label} {holds : A → Label → Bool
             let j_low : j < get_or t.machine.ranks c 0 = omega (arith, low, is.wide) in
             let some : 0 < length firsts = head_low is.blocks j low is.are_low in
             key_free (is_free t c) is.blocks j
-            (join (nat_lt j (get_or t.machine.ranks c 0)) (kind_count t c j == 1) (within j (get_or t.machine.ranks c 0) j_low)
+            (and_from (nat_lt j (get_or t.machine.ranks c 0)) (kind_count t c j == 1) (within j (get_or t.machine.ranks c 0) j_low)
             (eq-eqb (kind_count t c j) 1 (one_kind c j is.low j_low here (get_or firsts 0 0) (first_low 0 some)))))
         | inr past ↦ get_or_past (keys (is_free t c) is.blocks) j [] (omega (arith, past, keys_long (is_free t c) is.blocks))
       ] in

@@ -14,20 +14,14 @@ use Rattle.sta_classes.specs.Plain.{PlainTable, class_row, HasKinds}
 use Rattle.sta_theory.specs.Kinds.{OneKind, Represents}
 use Rattle.sta_theory.specs.Blocks.{KindTable, IsKindTable}
 use Rattle.sta_theory.specs.Made.{numbers}
-use Rattle.sta_theory.proofs.Lists.{none_in, map_member, in_map, append_member, in_left, in_right}
+use Rattle.sta_theory.proofs.Lists.{none_in, map_member, in_map, append_member}
 use Rattle.sta_theory.proofs.Tables.{kind_table as is_kind_table}
 use Rattle.sta_ops.proofs.Atoms.{in_each}
 use Rattle.sta_ops.proofs.EachRule.{all_in, only}
+use Rattle.sta_theory.proofs.Written.{number_in}
 use Rattle.sta_min.specs.Kinds.{AreOfPlaces, AreOfAllKinds}
 use Rattle.sta_min.specs.Tables.{listed, kind_table}
 use Rattle.sta_min.specs.Values.{TellAllApart}
-
-pub number_in : (n k : ℕ) → k < n → Contains (numbers n) k
-number_in zero k low = absurd (omega arith)
-number_in (suc n) k low = elim (cases_lt k n) [
-  | inl below ↦ in_left (numbers n) (n ∷ []) k (number_in n k below)
-  | inr high ↦ in_right (numbers n) (n ∷ []) k (let e : n ≡ k = omega (arith, low, high) in (0, omega arith, e))
-]
 
 pub number_low : (n k : ℕ) → Contains (numbers n) k → k < n
 number_low zero k at = absurd (none_in k at)

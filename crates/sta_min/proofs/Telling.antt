@@ -1,5 +1,5 @@
 -- Labels of all rows of signs tell the guards of a constructor apart.
-use Rattle.std.proofs.Common.{ℕ, zero, suc, ◌+◌, ◌≡◌, Vec, Bool, List, [], ◌∷◌, ◌++◌, map, All, Contains, refl, sym, subst, ◌∙◌, arith}
+use Rattle.std.proofs.Common.{ℕ, ◌+◌, ◌≡◌, Vec, Bool, List, [], ◌∷◌, ◌++◌, map, All, Contains, refl, sym, subst, ◌∙◌}
 use Rattle.std.specs.Cmp.{IsEquivalence}
 use Rattle.std.proofs.lemmas.Simd.{map-map}
 use Rattle.std.proofs.lemmas.List.Elements.{All-contains}
@@ -22,9 +22,8 @@ use Rattle.sta_classes.specs.declared.stop.ClassStop.TheVariants.{Wide}
 use Rattle.sta_classes.proofs.Covered.{Same, same_truths}
 use Rattle.sta_classes.proofs.Rows.{contains_map}
 use Rattle.sta_classes.proofs.Told.{stop_within, all_to_map}
-use Rattle.sta_ops.proofs.Atoms.{each_in, in_each}
+use Rattle.sta_ops.proofs.Atoms.{each_in, in_each, guard_in}
 use Rattle.sta_ops.proofs.EachRule.{all_in, in_all}
-use Rattle.sta_theory.proofs.Lists.{none_in, in_left, in_right, in_map}
 use Rattle.sta_min.specs.Values.{AreGuardsAt, TellApart, TellAllApart}
 use Rattle.sta_min.proofs.Made.{AreMade, lists_made}
 
@@ -32,15 +31,9 @@ signs_of : {A : Type 0} (holds : A → Label → Bool) (formulas : List (code.Fo
 signs_of holds formulas l = sym (map-map (λ g. formula_holds (λ a. holds a l) g) plain_formula formulas)
 
 module _ {A : Type 0} where
-  -- a rule's guard is one of all
-  guard_among : (rules : List (List (PlainRule A))) (rs : List (PlainRule A)) (r : PlainRule A) → Contains rules rs → Contains rs r → Contains (all_guards rules) r.guard
-  guard_among [] rs r at here = absurd (none_in rs at)
-  guard_among (qs ∷ rules) rs r (zero, low, is) here = in_left (map (λ r. r.guard) qs) (all_guards rules) r.guard (in_map (λ r. r.guard) qs r (subst (λ z. Contains z r) (sym is) here))
-  guard_among (qs ∷ rules) rs r (suc k, low, is) here = in_right (map (λ r. r.guard) qs) (all_guards rules) r.guard (guard_among rules rs r (k, omega arith, is) here)
-
   module _ (rules : List (List (PlainRule A))) (c : ℕ) (formulas : List (code.Formula A)) (are : AreGuardsAt rules c (map plain_formula formulas)) where
     among_all : (P : Formula A → Type 0) → Each P (all_guards rules) → Each P (map plain_formula formulas)
-    among_all P h = in_each P (map plain_formula formulas) (λ f at. (let (rs, at_rs, r, at_r, is) = (are f).0 at in subst P is.1 (each_in P (all_guards rules) h r.guard (guard_among rules rs r at_rs at_r))))
+    among_all P h = in_each P (map plain_formula formulas) (λ f at. (let (rs, at_rs, r, at_r, is) = (are f).0 at in subst P is.1 (each_in P (all_guards rules) h r.guard (guard_in rules rs r at_rs at_r))))
 
     pub formulas_fit : (F : A → Type 0) → GuardsFit F rules → FormulasFit F formulas
     formulas_fit F fit =

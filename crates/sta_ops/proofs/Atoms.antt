@@ -22,7 +22,8 @@ in_each P [] h = tt
 in_each P (x ∷ xs) h = (h x (first_in x xs), in_each P xs (λ y at. h y (later_in x y xs at)))
 
 module _ {A : Type 0} where
-  guard_in : (rules : List (List (PlainRule A))) (rs : List (PlainRule A)) (r : PlainRule A) → Contains rules rs → Contains rs r → Contains (all_guards rules) r.guard
+  -- a rule's guard is one of all
+  pub guard_in : (rules : List (List (PlainRule A))) (rs : List (PlainRule A)) (r : PlainRule A) → Contains rules rs → Contains rs r → Contains (all_guards rules) r.guard
   guard_in [] rs r at here = absurd (none_in rs at)
   guard_in (qs ∷ rules) rs r (zero, low, is) here = in_left (map (λ r. r.guard) qs) (all_guards rules) r.guard (in_map (λ r. r.guard) qs r (subst (λ z. Contains z r) (sym is) here))
   guard_in (qs ∷ rules) rs r (suc k, low, is) here = in_right (map (λ r. r.guard) qs) (all_guards rules) r.guard (guard_in rules rs r (k, omega arith, is) here)

@@ -1,6 +1,6 @@
 -- The rules for nodes are those of "not s".
 use Rattle.std.proofs.Common.{ℕ, suc, ◌≡◌, ◌<◌, ◌==◌, ◌&&◌, ◌||◌, inl, inr, not, Bool, true, false, List, [], ◌∷◌, ◌++◌, map, filter, get_or, length, Contains, refl, sym, ap, subst, ◌∙◌, arith}
-use Rattle.std.proofs.lemmas.Bool.{cases_lt}
+use Rattle.std.proofs.lemmas.Bool.{cases_lt, or_left, or_right}
 use Rattle.std.proofs.lemmas.Bool.Decides.{nat_tests}
 use Rattle.std.proofs.lemmas.List.{map-append}
 use Rattle.std.specs.List.{list_any}
@@ -49,17 +49,9 @@ module _ {A : Type 0} (holds : A → Bool) where
   some_yes [] e = absurd (cc)
   some_yes (g ∷ gs) e = by (λ h. some_yes gs h) (is_yes g) refl
     where
-      or_true : (a b : Bool) → a ≡ true → (a || b) ≡ true
-      or_true true b h = refl
-      or_true false b h = absurd (cc)
-
-      or_rest : (a b : Bool) → b ≡ true → (a || b) ≡ true
-      or_rest true b h = refl
-      or_rest false b h = h
-
       by : (list_any is_yes gs ≡ true → some_hold holds (formulas_of gs) ≡ true) → (b : Bool) → is_yes g ≡ b → (formula_holds holds g || some_hold holds (formulas_of gs)) ≡ true
-      by rest true is = or_true (formula_holds holds g) (some_hold holds (formulas_of gs)) (yes_holds g is)
-      by rest false is = or_rest (formula_holds holds g) (some_hold holds (formulas_of gs)) (rest (sym (ap (λ b. b || list_any is_yes gs) is) ∙ e))
+      by rest true is = or_left (formula_holds holds g) (some_hold holds (formulas_of gs)) (yes_holds g is)
+      by rest false is = or_right (formula_holds holds g) (some_hold holds (formulas_of gs)) (rest (sym (ap (λ b. b || list_any is_yes gs) is) ∙ e))
 
 -- the rules for the nodes with the first n constructors
 pub record AreMadeBelow {A : Type 0} (opposites ranks : List ℕ) (rows : List Row) (rs : List (PlainRule A)) (n : ℕ) (those : List (PlainRule A)) : Type 0 where

@@ -169,7 +169,7 @@ module _ {A : Type 0} where
       made : {b b' : ℕ} {g g' : Formula A} {ds ds' : List (List ℕ)} → b ≡ b' → g ≡ g' → ds ≡ ds' → rule b g ds ≡ rule b' g' ds'
       made p q r = λ i. rule (p i) (q i) (r i)
 
-at_place : (ds : List (List ℕ)) (j s : ℕ) → Contains (get_or ds j []) s → Contains ds (get_or ds j [])
+pub at_place : (ds : List (List ℕ)) (j s : ℕ) → Contains (get_or ds j []) s → Contains ds (get_or ds j [])
 at_place [] j s here = absurd (none_in s here)
 at_place (d ∷ ds) zero s here = first_in d ds
 at_place (d ∷ ds) (suc j) s here = later_in d (get_or ds j []) ds (at_place ds j s here)

@@ -1,6 +1,6 @@
 -- The states of two automata side by side accept what they did.
 use Rattle.std.proofs.Common.{ℕ, zero, suc, ◌+◌, ◌≡◌, ◌<◌, inl, inr, Bool, true, ◌&&◌, ◌||◌, ◌==◌, List, [], ◌∷◌, map, get_or, length, Contains, refl, sym, ap, ap₂, subst, ◌∙◌, arith}
-use Rattle.std.proofs.lemmas.Bool.{and_parts}
+use Rattle.std.proofs.lemmas.Bool.{and_parts, and_from}
 use Rattle.std.proofs.Math.ListN.{get_or-map}
 use Rattle.std.specs.List.{list_any}
 use Rattle.model_tree.specs.Tree.{Tree, node, Trees, no_trees, tree}
@@ -9,7 +9,7 @@ use Rattle.model_sta.specs.Sets.{Row, has, fires, rows_meet, set_of, sets_of}
 use Rattle.model_sta.proofs.Sets.{set_is_accepted, width_sets}
 use Rattle.model_sta.specs.Told.{AreOwn, moved, IsBeside}
 use Rattle.sta_theory.specs.Beside.{HasBoth, IsBoth, ArePairs}
-use Rattle.sta_theory.proofs.Lists.{bool_same, join, any_member, any_true, first_in, later_in, map_member, in_map}
+use Rattle.sta_theory.proofs.Lists.{bool_same, any_member, any_true, first_in, later_in, map_member, in_map}
 use Rattle.sta_theory.proofs.Fires.{meets, meet, Fires, fires_from_test, test_from_fires, same_fires}
 
 module _ {L : Type 0} (rules : List (List (Rule L))) where
@@ -107,7 +107,7 @@ module _ {L : Type 0} (rs ss ps : List (Rule L)) (are : ArePairs rs ss ps) (c : 
   pair_fires : (r s p : Rule L) → IsBoth r s p → Fires c l qs r → Fires c l qs s → Fires c l qs p
   pair_fires r s p is f g = record {
     constructor_is = is.constructor_is ∙ f.constructor_is;
-    guard_holds = is.guard_is l ∙ join (r.guard l) (s.guard l) f.guard_holds g.guard_holds;
+    guard_holds = is.guard_is l ∙ and_from (r.guard l) (s.guard l) f.guard_holds g.guard_holds;
     met = λ j low x at. elim ((is.demands_are j x).0 at) [ inl of_r ↦ f.met j low x of_r | inr of_s ↦ g.met j low x of_s ];
   }
 
@@ -130,7 +130,7 @@ module _ {L : Type 0} (rs ss ps : List (Rule L)) (are : ArePairs rs ss ps) (c : 
       let (p, at, holds) = any_member (fires c l qs) ps h in
       let (r, s, at_r, at_s, same, is) = are.sound p at in
       let f : Fires c l qs p = fires_from_test c l qs p holds in
-      join (list_any (fires c l qs) rs) (list_any (fires c l qs) ss)
+      and_from (list_any (fires c l qs) rs) (list_any (fires c l qs) ss)
       (any_true (fires c l qs) rs r at_r (test_from_fires c l qs r (first_fires r s p is f)))
       (any_true (fires c l qs) ss s at_s (test_from_fires c l qs s (second_fires r s p same is f)))
 

@@ -1,6 +1,6 @@
 -- Union, intersection and difference.
 use Rattle.std.proofs.Common.{ℕ, suc, ◌+◌, ◌-◌, ◌≡◌, ◌<◌, ◌⊎◌, ◌↔◌, inl, inr, Bool, true, false, ◌&&◌, ◌||◌, List, [], ◌∷◌, ◌++◌, map, Contains, refl, sym, ap, ap₂, subst, ◌∙◌, arith, length}
-use Rattle.std.proofs.lemmas.Bool.{cases_lt, and_parts}
+use Rattle.std.proofs.lemmas.Bool.{cases_lt, and_parts, and_from}
 use Rattle.std.proofs.lemmas.List.Folds.{list_any-append}
 use Rattle.model_tree.specs.Tree.{Tree, node}
 use Rattle.model_sta.specs.Automaton.{Rule, rules_of, is_accepted}
@@ -8,7 +8,7 @@ use Rattle.model_sta.specs.Sets.{Each, fires, sets_of}
 use Rattle.model_sta.specs.Told.{AreOwn, moved}
 use Rattle.sta_theory.specs.Beside.{ArePairs, HasStart, IsEither, IsPaired}
 use Rattle.model_sta.specs.Operations.{Auto, Class, AgreeIn, KeepsGuards, Has, AreStates, HasAll, HasNone, IsClassOf, InOne, Alike, OfState, OfClasses, IsUnion, IsIntersection, IsDifference, IsComplement}
-use Rattle.sta_theory.proofs.Lists.{join, map_member, append_member}
+use Rattle.sta_theory.proofs.Lists.{map_member, append_member}
 use Rattle.sta_theory.proofs.Guards.{AgreeOn, none_past}
 use Rattle.sta_theory.proofs.Beside.{some_apply, accepted_some, first_accepts, second_accepts, firsts_apply, seconds_apply, pairs_fire}
 use Rattle.sta_theory.proofs.Complement.{as_true}
@@ -36,7 +36,7 @@ either_true true b = (λ h. inl refl, λ h. refl)
 either_true false b = (λ h. inr h, λ h. elim h [ inl e ↦ absurd (cc) | inr e ↦ e ])
 
 both_true : (a b : Bool) → ((a && b) ≡ true) ↔ ((a ≡ true) × (b ≡ true))
-both_true a b = (and_parts a b, λ h. join a b h.0 h.1)
+both_true a b = (and_parts a b, λ h. and_from a b h.0 h.1)
 
 module _ {L : Type 0} (rules : List (List (Rule L))) where
   some_of_both : (t : Tree L) (rs ss : List (Rule L)) → some_apply rules t (rs ++ ss) ≡ (some_apply rules t rs || some_apply rules t ss)

@@ -1,28 +1,12 @@
 -- Tests over lists, by their elements.
-use Rattle.std.proofs.Common.{ℕ, zero, suc, ◌≡◌, ◌<◌, ◌⊎◌, inl, inr, Bool, true, false, cond, not, ◌&&◌, ◌||◌, List, [], ◌∷◌, ◌++◌, map, get_or, length, Contains, refl, sym, ap, ap₂, subst, ◌∙◌, arith}
-use Rattle.std.proofs.lemmas.Bool.{and_parts}
+use Rattle.std.proofs.Common.{ℕ, zero, suc, ◌≡◌, ◌<◌, ◌⊎◌, inl, inr, Bool, true, false, cond, not, List, [], ◌∷◌, ◌++◌, map, get_or, length, Contains, refl, sym, ap, ap₂, subst, ◌∙◌, arith}
+use Rattle.std.proofs.lemmas.Bool.{and_parts, and_from, or_left, or_right, or_cases}
 use Rattle.std.specs.List.{list_any, list_all, filter, flat_map}
 
 pub bool_same : (a b : Bool) → (a ≡ true → b ≡ true) → (b ≡ true → a ≡ true) → a ≡ b
 bool_same true b f g = sym (f refl)
 bool_same false true f g = g refl
 bool_same false false f g = refl
-
-pub join : (a b : Bool) → a ≡ true → b ≡ true → (a && b) ≡ true
-join true b g h = h
-join false b g h = cc
-
-either : (a b : Bool) → (a || b) ≡ true → (a ≡ true) ⊎ (b ≡ true)
-either true b h = inl refl
-either false b h = inr h
-
-left : (a b : Bool) → a ≡ true → (a || b) ≡ true
-left true b h = refl
-left false b h = cc
-
-right : (a b : Bool) → b ≡ true → (a || b) ≡ true
-right true b h = refl
-right false b h = h
 
 pub not_true : (b : Bool) → not b ≡ true → b ≡ false
 not_true true h = cc
@@ -45,15 +29,15 @@ module _ {X : Type 0} where
 module _ {X : Type 0} (p : X → Bool) where
   pub any_member : (xs : List X) → list_any p xs ≡ true → (x : X) × Contains xs x × (p x ≡ true)
   any_member [] h = absurd (cc)
-  any_member (x ∷ xs) h = elim (either (p x) (list_any p xs) h) [
+  any_member (x ∷ xs) h = elim (or_cases (p x) (list_any p xs) h) [
     | inl e ↦ (x, first_in x xs, e)
     | inr later ↦ (let (y, at, e) = any_member xs later in (y, later_in x y xs at, e))
   ]
 
   any_at : (xs : List X) (x : X) (k : ℕ) → k < length xs → get_or xs k x ≡ x → p x ≡ true → list_any p xs ≡ true
   any_at [] x k l e h = absurd (omega arith)
-  any_at (y ∷ xs) x zero l e h = left (p y) (list_any p xs) (ap p e ∙ h)
-  any_at (y ∷ xs) x (suc k) l e h = right (p y) (list_any p xs) (any_at xs x k (omega arith) e h)
+  any_at (y ∷ xs) x zero l e h = or_left (p y) (list_any p xs) (ap p e ∙ h)
+  any_at (y ∷ xs) x (suc k) l e h = or_right (p y) (list_any p xs) (any_at xs x k (omega arith) e h)
 
   pub any_true : (xs : List X) (x : X) → Contains xs x → p x ≡ true → list_any p xs ≡ true
   any_true xs x at h = any_at xs x at.0 at.1 at.2 h
@@ -68,7 +52,7 @@ module _ {X : Type 0} (p : X → Bool) where
 
   pub all_true : (xs : List X) → ((x : X) → Contains xs x → p x ≡ true) → list_all p xs ≡ true
   all_true [] f = refl
-  all_true (x ∷ xs) f = join (p x) (list_all p xs) (f x (first_in x xs)) (all_true xs (λ y at. f y (later_in x y xs at)))
+  all_true (x ∷ xs) f = and_from (p x) (list_all p xs) (f x (first_in x xs)) (all_true xs (λ y at. f y (later_in x y xs at)))
 
 -- two functions that agree at each place of a list
 pub map_same : {X Y : Type 0} (f g : X → Y) (xs : List X) (d : X) → ((i : ℕ) → f (get_or xs i d) ≡ g (get_or xs i d)) → map f xs ≡ map g xs
@@ -153,13 +137,3 @@ module _ {X : Type 0} (p : X → Bool) where
 
   pub in_filter : (xs : List X) (x : X) → Contains xs x → p x ≡ true → Contains (filter p xs) x
   in_filter xs x at h = in_filter_at xs x at.0 at.1 at.2 h
-
--- tests over a mapped list
-module _ {X Y : Type 0} (p : Y → Bool) (f : X → Y) (q : X → Bool) where
-  pub any_mapped : (xs : List X) → ((x : X) → Contains xs x → p (f x) ≡ q x) → list_any p (map f xs) ≡ list_any q xs
-  any_mapped [] same = refl
-  any_mapped (x ∷ xs) same = ap₂ (λ a b. a || b) (same x (first_in x xs)) (any_mapped xs (λ y at. same y (later_in x y xs at)))
-
-  pub all_mapped : (xs : List X) → ((x : X) → Contains xs x → p (f x) ≡ q x) → list_all p (map f xs) ≡ list_all q xs
-  all_mapped [] same = refl
-  all_mapped (x ∷ xs) same = ap₂ (λ a b. a && b) (same x (first_in x xs)) (all_mapped xs (λ y at. same y (later_in x y xs at)))

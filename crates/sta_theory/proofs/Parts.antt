@@ -6,7 +6,8 @@ use Rattle.model_tree.specs.Tree.{Tree, node, Trees, no_trees, tree}
 use Rattle.model_sta.specs.Automaton.{Rule, rules_of, is_accepted, meet_demands}
 use Rattle.model_sta.specs.Operations.{Auto, AgreeIn, KeepsGuards, Has, Alike, IsMadeOf}
 use Rattle.sta_theory.specs.Parts.{renamed, IsPart}
-use Rattle.sta_theory.proofs.Lists.{in_map, all_mapped, any_mapped}
+use Rattle.model_sta.proofs.Beside.{all_mapped, any_mapped}
+use Rattle.sta_theory.proofs.Lists.{in_map}
 use Rattle.sta_theory.proofs.Guards.{none_past}
 
 module _ {L : Type 0} (old : ℕ → ℕ) (whole part : List (List (Rule L))) (is : IsPart old whole part) where

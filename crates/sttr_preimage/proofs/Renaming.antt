@@ -1,7 +1,7 @@
 -- Terms that are made of others, part by part.
 use Rattle.std.proofs.Common.{ℕ, zero, suc, ◌≡◌, ◌⊎◌, inl, inr, Bool, true, Vec, Global, List, [], ◌∷◌, ◌++◌, map, Contains, Some, refl, sym, subst, ap, ◌∙◌, arith}
 use Rattle.model_tree.specs.Label.{Label}
-use Rattle.model_sttr.specs.Terms.{Term, on, build, part, with_maps, parts_with_maps, Occurs, OccursIn, StandsFor, StandFor}
+use Rattle.model_sttr.specs.Terms.{Term, on, build, with_maps, parts_with_maps, Occurs, OccursIn, StandsFor, StandFor}
 use Rattle.model_sttr.specs.Transducer.{Head, identity, run}
 use Rattle.model_sttr.specs.Guards.{MakesBy, MakesByOne}
 use Rattle.sttr_core.specs.Terms.{plain_term}
@@ -11,11 +11,11 @@ use Rattle.sttr_core.proofs.Parts.{parts_of, parts_are}
 use Rattle.sttr_theory.specs.Triples.{Triple}
 use Rattle.sttr_theory.specs.Lists.{IsAt, Extends}
 use Rattle.sttr_theory.proofs.Grow.{stand_map}
-use Rattle.sttr_run.specs.Plain.{plain_way_term, plain_way_parts}
-use Rattle.sttr_run.specs.declared.triples.WayTerm.{WayTerm, Row_of-WayTerm, end_of-WayTerm, more_of-WayTerm, items-the_row-WayTerm, items_hidden-the_row-WayTerm-0}
-use Rattle.sttr_run.specs.declared.triples.WayTerm.TheBlock.{hidden-the_row-WayTerm-0}
+use Rattle.sttr_run.specs.Plain.{plain_way_term}
+use Rattle.sttr_run.specs.declared.triples.WayTerm.{WayTerm}
 use Rattle.sttr_run.specs.declared.triples.WayTerm.TheVariants as way
 use Rattle.sttr_theory.specs.Copies.{on_same}
+use Rattle.sttr_run.proofs.Copies.{way_parts}
 use Rattle.sttr_preimage.specs.Names.{Adds, IsNumber, tidy}
 use Rattle.sttr_preimage.specs.declared.called.Called.{Called}
 use Rattle.sttr_preimage.specs.declared.called.Called.TheVariants as kind
@@ -24,16 +24,9 @@ use Rattle.sttr_preimage.specs.Tidy.{tidy_term, tidy_parts}
 use Rattle.sttr_preimage.proofs.Numbered.{adds_then, adds_same, adds_wider, adds_extends}
 
 module _ {M : Type 0} where
-  way_items : {n : _} (ps : Row_of-WayTerm M n) → plain_way_parts ps ≡ parts_of (map plain_way_term (items-the_row-WayTerm M _ ps))
-  way_items end_of-WayTerm = refl
-  way_items (more_of-WayTerm p ps) = ap (part (plain_way_term p)) (way_items ps)
-
-  pub way_parts_are : (v : Vec (WayTerm M) Global) → plain_way_parts (hidden-the_row-WayTerm-0 M v) ≡ parts_of (map plain_way_term v.items)
-  way_parts_are v = way_items (hidden-the_row-WayTerm-0 M v) ∙ ap (λ ps. parts_of (map plain_way_term ps)) (items_hidden-the_row-WayTerm-0 M v)
-
   -- a node by its parts
   pub way_node : (term : WayTerm M) (c : ℕ) (m : M) (parts : Vec (WayTerm M) Global) → term ≡ way.Node c m parts → plain_way_term term ≡ build c m (parts_of (map plain_way_term parts.items))
-  way_node term c m parts e = ap plain_way_term e ∙ ap (build c m) (way_parts_are parts)
+  way_node term c m parts e = ap plain_way_term e ∙ ap (build c m) (way_parts parts)
 
   pub out_node : (term : code.Term M) (c : ℕ) (m : M) (parts : Vec (code.Term M) Global) → term ≡ written.Node c m parts → plain_term term ≡ build c m (parts_of (map plain_term parts.items))
   out_node term c m parts e = ap plain_term e ∙ ap (build c m) (parts_are parts)

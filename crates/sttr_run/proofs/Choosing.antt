@@ -1,11 +1,11 @@
 -- Picks of rules for the same states, or for some of them.
 use Rattle.std.proofs.Common.{ℕ, zero, suc, ◌≡◌, ◌<◌, ◌⊎◌, inl, inr, true, List, [], ◌∷◌, map, get_or, length, Contains, refl, sym, subst, ap, ◌∙◌, arith}
-use Rattle.std.proofs.lemmas.Bool.{and_parts}
+use Rattle.std.proofs.lemmas.Bool.{and_parts, and_from}
 use Rattle.model_sta.specs.Automaton.{Rule, rules_of}
 use Rattle.sttr_theory.specs.Lists.{SameStates}
 use Rattle.sttr_theory.specs.Ways.{Pick, pick, picks_of, fires}
 use Rattle.sttr_theory.proofs.Members.{here, there, in_either, in_left, in_right, to_mapped, of_mapped, to_flat, of_flat}
-use Rattle.sttr_theory.proofs.Accept.{and_both, bool_same}
+use Rattle.sttr_theory.proofs.Accept.{bool_same}
 use Rattle.sttr_run.specs.Drafts.{AreAmong}
 use Rattle.sttr_run.specs.Sets.{IsAscending}
 use Rattle.sttr_run.proofs.Members.{nil_out, cons_out}
@@ -61,7 +61,7 @@ module _ {L : Type 0} (looks : List (List (Rule L))) (c : ℕ) where
 
   fires_all : (rs : List (Rule L)) (l : L) → ((r : Rule L) → Contains rs r → fires r c l ≡ true) → (picked rs).guard l ≡ true
   fires_all [] l f = refl
-  fires_all (q ∷ rs) l f = and_both (fires q c l) ((picked rs).guard l) (f q (here q rs)) (fires_all rs l (λ r at. f r (there q rs r at)))
+  fires_all (q ∷ rs) l f = and_from (fires q c l) ((picked rs).guard l) (f q (here q rs)) (fires_all rs l (λ r at. f r (there q rs r at)))
 
   wants_from : (rs : List (Rule L)) (j s : ℕ) → Contains ((picked rs).wants j) s → (r : Rule L) × Contains rs r × Contains (get_or r.demands j []) s
   wants_from [] j s at = absurd (nil_out s at)

@@ -1,6 +1,6 @@
 -- Drafts that cover lists of ways, as both are made.
 use Rattle.std.proofs.Common.{ℕ, ◌≡◌, ◌⊎◌, inl, inr, Bool, true, false, ◌&&◌, List, [], ◌∷◌, ◌++◌, map, get_or, Contains, refl, sym, subst, ap, ap₂, ◌∙◌}
-use Rattle.std.proofs.lemmas.Bool.{and_parts}
+use Rattle.std.proofs.lemmas.Bool.{and_parts, and_from}
 use Rattle.std.proofs.lemmas.List.{map-append}
 use Rattle.model_tree.specs.Label.{Label}
 use Rattle.model_tree.specs.Formula.{Formula, formula_holds}
@@ -11,7 +11,6 @@ use Rattle.sttr_theory.specs.Lists.{pairs, merge}
 use Rattle.sttr_theory.specs.Ways.{WayOf, joined}
 use Rattle.sttr_theory.proofs.OneOf.{merge_at}
 use Rattle.sttr_theory.proofs.Members.{in_either, in_left, in_right, to_mapped, of_mapped, to_flat, of_flat}
-use Rattle.sttr_theory.proofs.Accept.{and_both}
 use Rattle.sttr_theory.proofs.AlikeWays.{asked_append}
 use Rattle.sttr_run.specs.Drafts.{FollowsFrom, IsFreer, IsAskedIn, Asks, parts_of, list_of, IsCopy, AreCopies, AllCopies, all_say, AllStand, guards_of, terms_of, terms_at, IsBoth, AreProducts, NeverHolds, SaysSame, SaysLess, Covers}
 use Rattle.sttr_run.specs.declared.drafts.Demand.{Demand}
@@ -129,7 +128,7 @@ module _ {A M : Type 0} (holds : A → Label → Bool) (eq : M → M → Bool) (
 
   pub less_both : (a b y : Draft A M) (v : WayOf Label X) (w : WayOf Label Y) → IsBoth eq a b y → SaysLess holds make D left a v → SaysLess holds make D right b w → SaysLess holds make D whole y (joined f v w)
   less_both a b y v w is s t = record {
-    guard = λ l d h. let e = and_parts (v.guard l) (w.guard l) h in guards_both a b y l is ∙ and_both (all_say holds (guards_of a) l) (all_say holds (guards_of b) l) (s.guard l d e.0) (t.guard l d e.1);
+    guard = λ l d h. let e = and_parts (v.guard l) (w.guard l) h in guards_both a b y l is ∙ and_from (all_say holds (guards_of a) l) (all_say holds (guards_of b) l) (s.guard l d e.0) (t.guard l d e.1);
     asks = from_both FollowsFrom a.demands.items b.demands.items y.demands.items v.demands w.demands is.asks s.asks t.asks;
     freer_terms = terms_both IsFreer a b y v.term w.term is s.freer_terms t.freer_terms;
   }

@@ -16,6 +16,7 @@ use Rattle.sta_core.proofs.Meaning.{rules_of_automaton}
 use Rattle.sttr_core.specs.Machine.{OutMachine, transducer_of}
 use Rattle.sttr_core.proofs.Meaning.{meaning_of, rule_held, of_place, uses_as_with_maps}
 use Rattle.sttr_theory.proofs.Members.{of_mapped}
+use Rattle.sttr_theory.proofs.Each.{each_map}
 use Rattle.sttr_run.specs.Fits.{SttrStands, OutStands, LooksStand}
 use Rattle.sttr_run.proofs.Members.{all_at, all_of}
 use Rattle.sttr_run.proofs.Weights.{mapped_length}
@@ -24,13 +25,9 @@ each_of_all : {X : Type 0} (P : X → Type 0) (xs : List X) → All P xs → Eac
 each_of_all P [] all = tt
 each_of_all P (x ∷ xs) all = (all 0 x (omega arith), each_of_all P xs (All-tail P x xs all))
 
-each_weaker : {X : Type 0} (P Q : X → Type 0) → ((x : X) → P x → Q x) → (xs : List X) → Each P xs → Each Q xs
-each_weaker P Q f [] e = tt
-each_weaker P Q f (x ∷ xs) e = (f x e.0, each_weaker P Q f xs e.1)
-
 -- demands of states, as many as there are
 demands_low : (n m : ℕ) → n ≡ m → (ds : List (List ℕ)) → All (All (λ s. s < n)) ds → Each (Each (λ s. s < m)) ds
-demands_low n m e ds all = each_weaker (All (λ s. s < n)) (Each (λ s. s < m)) (λ d low. subst (λ k. Each (λ s. s < k) d) e (each_of_all (λ s. s < n) d low)) ds (each_of_all (All (λ s. s < n)) ds all)
+demands_low n m e ds all = each_map (All (λ s. s < n)) (Each (λ s. s < m)) (λ d low. subst (λ k. Each (λ s. s < k) d) e (each_of_all (λ s. s < n) d low)) ds (each_of_all (All (λ s. s < n)) ds all)
 
 -- states that there are
 pub are_states : {A M : Type 0} (holds : A → Label → Bool) (make : M → Label → Label) (d : OutMachine A M) (all : List ℕ) → All (λ s. s < length d.looks.rules) all → AreStates (transducer_of holds make d).looks all

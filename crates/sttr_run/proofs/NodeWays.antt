@@ -1,6 +1,6 @@
 -- Ways at a node, of picks of rules.
 use Rattle.std.proofs.Common.{ℕ, ◌≡◌, ◌==◌, ◌⊎◌, inl, inr, Bool, true, false, ◌&&◌, List, [], ◌++◌, map, get_or, Contains, Option, Some, refl, sym, subst, ap, ap₂, ◌∙◌}
-use Rattle.std.proofs.lemmas.Bool.{and_parts}
+use Rattle.std.proofs.lemmas.Bool.{and_parts, and_from}
 use Rattle.std.specs.List.{flat_map}
 use Rattle.model_tree.specs.Label.{Label}
 use Rattle.model_tree.specs.Formula.{formula_holds}
@@ -14,7 +14,7 @@ use Rattle.sttr_theory.specs.Lists.{once, SameStates}
 use Rattle.sttr_theory.specs.Alike.{SameTriple}
 use Rattle.sttr_theory.specs.Triples.{Triple, asked}
 use Rattle.sttr_theory.specs.Ways.{WayOf, Pick as Picking, picks_of, guarded, fires}
-use Rattle.sttr_theory.proofs.Accept.{same_number, number_same, and_both}
+use Rattle.sttr_theory.proofs.Accept.{same_number, number_same}
 use Rattle.sttr_theory.proofs.Once.{once_states}
 use Rattle.sttr_theory.proofs.Members.{to_mapped, of_mapped, to_flat, of_flat, in_either, in_left, in_right}
 use Rattle.sttr_run.specs.Drafts.{AreAmong, all_say, AllStand, terms_at, NeverHolds, SaysSame, SaysLess, Covers}
@@ -48,7 +48,7 @@ false_and true b c f e = subst (λ x. (x && c) ≡ false) (f refl) e
 false_and false b c f e = refl
 
 true_and_if : (a b c : Bool) → (a ≡ true → b ≡ true) → (a && c) ≡ true → (b && c) ≡ true
-true_and_if a b c f e = let both = and_parts a c e in and_both b c (f both.0) both.1
+true_and_if a b c f e = let both = and_parts a c e in and_from b c (f both.0) both.1
 
 pub same_trans : (Z V W : List ℕ) → SameStates Z V → SameStates V W → SameStates Z W
 same_trans Z V W a b = ((λ s at. b.0 s (a.0 s at)), λ s at. a.1 s (b.1 s at))
@@ -171,7 +171,7 @@ module _ {A M : Type 0} (holds : A → Label → Bool) (make : M → Label → L
       from_run q r z p x in_xs in_rules e s follows fewer in_ways =
           let known : (l : Label) → D l → q.guard (make m l) ≡ true → all_say holds (pick_guards x) l ≡ true = λ l d h. s.guard l d ∙ follows (make m l) h in
           let both : (l : Label) → D l → (q.guard (make m l) && Fires r l) ≡ true → (all_say holds (pick_guards x) l && Guard r (make m l)) ≡ true = λ l d h.
-          let h' = and_parts (q.guard (make m l)) (Fires r l) h in and_both (all_say holds (pick_guards x) l) (Guard r (make m l)) (known l d h'.0) (sym (fires_is r l e) ∙ h'.1) in
+          let h' = and_parts (q.guard (make m l)) (Fires r l) h in and_from (all_say holds (pick_guards x) l) (Guard r (make m l)) (known l d h'.0) (sym (fires_is r l e) ∙ h'.1) in
           elim (applied.all x in_xs r in_rules e) [
             | inl never ↦ inl (λ l d. sym (and_assoc (q.guard (make m l)) (Fires r l) (z.guard l)) ∙ and_false (q.guard (make m l) && Fires r l) (z.guard l) (inl (false_if (q.guard (make m l) && Fires r l) (all_say holds (pick_guards x) l && Guard r (make m l)) (both l d) (never l d))))
             | inr found ↦ (let (x', in_more, is) = found in

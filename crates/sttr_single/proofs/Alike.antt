@@ -1,6 +1,6 @@
 -- Terms that are compared.
 use Rattle.std.proofs.Common.{◌≡◌, ℕ, suc, ◌+◌, ◌<◌, ◌≤◌, ◌==◌, Bool, true, false, ◌&&◌, List, [], ◌∷◌, map, length, drop, get_or, Vec, Global, refl, ap, ap₂, sym, subst, ◌∙◌, eqb-true, eq-eqb}
-use Rattle.std.proofs.lemmas.Bool.{and_parts}
+use Rattle.std.proofs.lemmas.Bool.{and_parts, and_from}
 use Rattle.std.proofs.lemmas.List.{at_drop_more, at_drop_all}
 use Rattle.model_sttr.specs.Terms.{build, Parts, no_parts, part, on}
 use Rattle.model_sttr.specs.Terms as plain
@@ -9,7 +9,6 @@ use Rattle.sttr_core.specs.Terms.{plain_term}
 use Rattle.sttr_core.specs.declared.term.Term.{Term}
 use Rattle.sttr_core.specs.declared.term.Term.TheVariants.{Node}
 use Rattle.sttr_core.proofs.Parts.{parts_of, parts_are}
-use Rattle.sta_theory.proofs.Lists.{join}
 use Rattle.sttr_single.specs.Same.{AreEqual, AreEqualParts, same_head, same_term, same_parts, same_terms}
 
 same_heads : (h k : Head) → same_head h k ≡ true → h ≡ k
@@ -43,14 +42,14 @@ module _ {M : Type 0} (eq : M → M → Bool) where
   mutual
     -- and equal ones are found to be
     pub same_of : (p q : plain.Term Head M) → AreEqual eq p q → same_term eq p q ≡ true
-    same_of (on h j) (on k i) e = join (same_head h k) (j == i) (subst (λ z. same_head h z ≡ true) e.0 (own_head h)) (eq-eqb j i e.1)
-    same_of (build c m ps) (build d n qs) e = join (c == d) (eq m n && same_parts eq ps qs) (eq-eqb c d e.0) (join (eq m n) (same_parts eq ps qs) e.1 (same_parts_of ps qs e.2))
+    same_of (on h j) (on k i) e = and_from (same_head h k) (j == i) (subst (λ z. same_head h z ≡ true) e.0 (own_head h)) (eq-eqb j i e.1)
+    same_of (build c m ps) (build d n qs) e = and_from (c == d) (eq m n && same_parts eq ps qs) (eq-eqb c d e.0) (and_from (eq m n) (same_parts eq ps qs) e.1 (same_parts_of ps qs e.2))
     same_of (on h j) (build d n qs) e = absurd e
     same_of (build c m ps) (on k i) e = absurd e
 
     same_parts_of : (ps qs : Parts Head M) → AreEqualParts eq ps qs → same_parts eq ps qs ≡ true
     same_parts_of no_parts no_parts e = refl
-    same_parts_of (part p ps) (part q qs) e = join (same_term eq p q) (same_parts eq ps qs) (same_of p q e.0) (same_parts_of ps qs e.1)
+    same_parts_of (part p ps) (part q qs) e = and_from (same_term eq p q) (same_parts eq ps qs) (same_of p q e.0) (same_parts_of ps qs e.1)
     same_parts_of no_parts (part q qs) e = absurd e
     same_parts_of (part p ps) no_parts e = absurd e
 

@@ -1,6 +1,6 @@
 -- What the trees of the joints' state say of rules that meet.
 use Rattle.std.proofs.Common.{ℕ, ◌≡◌, ◌≤◌, ◌<◌, inl, inr, Bool, true, List, [], ◌∷◌, map, All, length, get_or, Contains, sym, ap, subst, ◌∙◌, arith}
-use Rattle.std.proofs.lemmas.Bool.{and_parts}
+use Rattle.std.proofs.lemmas.Bool.{and_parts, and_from}
 use Rattle.std.specs.Prelude.{⊤}
 use Rattle.std.specs.List.{list_any}
 use Rattle.model_tree.specs.Limits.{most_nodes}
@@ -21,7 +21,7 @@ use Rattle.sta_ops.specs.declared.emptiness.Found.TheVariants.{Absent, Shown, To
 use Rattle.sta_ops.proofs.Atoms.{Guarded, from_fit, to_fit}
 use Rattle.sta_ops.proofs.EachRule.{in_all, only}
 use Rattle.sta_ops.proofs.Fitting.{plain_fits}
-use Rattle.sta_theory.proofs.Lists.{any_member, any_true, join, append_member, map_member}
+use Rattle.sta_theory.proofs.Lists.{any_member, any_true, append_member, map_member}
 use Rattle.sttr_single.specs.declared.joints.Joint.{Joint}
 use Rattle.sttr_single.specs.declared.meetings.Meeting.{Meeting}
 use Rattle.sttr_single.specs.declared.meetings.OverlapFound.TheVariants as found
@@ -78,8 +78,8 @@ module _ {A M : Type 0} (holds : A → Label → Bool) (map_eq : M → M → Boo
   -- where rules meet, a joint applies
   pub some_joint : (t : LabelTree) → Fits f.looks.ranks D t → MeetSome holds map_eq f t → list_any (joint_applies holds f.looks t) xs ≡ true
   some_joint t fits (q, i, j, (r, s, unlike, first, second)) = elim (are.complete q i j r s tt unlike) [
-    | inl has ↦ any_true (joint_applies holds f.looks t) xs has.it has.there (joint_applies_as holds f.looks r.rule s.rule D (plain_rule has.it.rule) has.joint t fits ∙ join (applies holds map_eq f r t) (applies holds map_eq f s t) first second)
-    | inr never ↦ absurd (never t fits (join (applies holds map_eq f r t) (applies holds map_eq f s t) first second))
+    | inl has ↦ any_true (joint_applies holds f.looks t) xs has.it has.there (joint_applies_as holds f.looks r.rule s.rule D (plain_rule has.it.rule) has.joint t fits ∙ and_from (applies holds map_eq f r t) (applies holds map_eq f s t) first second)
+    | inr never ↦ absurd (never t fits (and_from (applies holds map_eq f r t) (applies holds map_eq f s t) first second))
   ]
 
   -- where a joint applies, its rules meet

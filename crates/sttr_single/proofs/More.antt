@@ -1,5 +1,5 @@
 -- An automaton with more states behind its own.
-use Rattle.std.proofs.Common.{ℕ, zero, suc, ◌≡◌, ◌+◌, ◌<◌, ◌≤◌, ◌==◌, ◌&&◌, ◌||◌, inl, inr, Vec, Bool, true, false, List, [], ◌∷◌, ◌++◌, map, get_or, length, Contains, All, refl, sym, ap, ap₂, subst, ◌∙◌, arith}
+use Rattle.std.proofs.Common.{ℕ, ◌≡◌, ◌+◌, ◌<◌, ◌≤◌, ◌==◌, ◌&&◌, ◌||◌, inl, inr, Vec, Bool, true, false, List, [], ◌∷◌, ◌++◌, map, get_or, length, Contains, All, refl, sym, ap, ap₂, subst, ◌∙◌, arith}
 use Rattle.std.specs.List.{list_any, list_all}
 use Rattle.std.proofs.lemmas.List.{get_or_append_left, get_or-append-add, length-append, length-map, map-append, get_or-map, get_or_past}
 use Rattle.std.proofs.lemmas.Bool.{cases_lt}
@@ -19,7 +19,9 @@ use Rattle.sta_classes.specs.Rules.{plain_rules}
 use Rattle.sta_ops.proofs.EachRule.{EachRule, all_in, only}
 use Rattle.sta_ops.proofs.Fitting.{PlainFits, fit_each, each_fit, rules_fit, fits_among, machine_fits, fits_plain}
 use Rattle.sta_theory.proofs.Beside.{first_accepts}
-use Rattle.sta_theory.proofs.Lists.{none_in, first_in, later_in, append_member, map_member, any_mapped}
+use Rattle.model_sta.proofs.Beside.{any_mapped}
+use Rattle.sta_theory.proofs.Lists.{none_in, first_in, later_in, append_member, map_member}
+use Rattle.sta_ops.proofs.Trimming.{at_place}
 use Rattle.sttr_single.specs.declared.joints.Joint.{Joint}
 use Rattle.sttr_single.specs.Joints.{rules_in, DemandsOwn, with_more, with_one, with_each, joint_applies}
 
@@ -37,11 +39,6 @@ state_in xss q x at = elim (cases_lt q (length xss)) [
 or_false : (b : Bool) → (b || false) ≡ b
 or_false true = refl
 or_false false = refl
-
-at_place : (ds : List (List ℕ)) (j s : ℕ) → Contains (get_or ds j []) s → Contains ds (get_or ds j [])
-at_place [] j s here = absurd (none_in s here)
-at_place (d ∷ ds) zero s here = first_in d ds
-at_place (d ∷ ds) (suc j) s here = later_in d (get_or ds j []) ds (at_place ds j s here)
 
 -- over labels too
 own_states : {A : Type 0} (holds : A → Label → Bool) (looks : Machine A) → DemandsOwn looks → AreOwn (automaton_of holds looks)

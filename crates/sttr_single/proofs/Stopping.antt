@@ -1,5 +1,5 @@
 -- What stops the search, told by states of the lookahead and by rules that meet.
-use Rattle.std.proofs.Common.{ℕ, suc, ◌≡◌, ◌<◌, ◌⊎◌, inl, inr, Bool, true, false, IsTrue, ◌&&◌, ◌||◌, Some, List, [], ◌∷◌, map, All, length, get_or, slice_get, Contains, refl, sym, ap, ap₂, subst, ◌∙◌, arith}
+use Rattle.std.proofs.Common.{ℕ, suc, ◌≡◌, ◌<◌, inl, inr, Bool, true, IsTrue, ◌&&◌, ◌||◌, Some, List, [], ◌∷◌, map, All, length, get_or, slice_get, Contains, refl, sym, ap, ap₂, subst, ◌∙◌, arith}
 use Rattle.std.specs.Cmp.{IsEquivalence}
 use Rattle.std.specs.Prelude.{⊤}
 use Rattle.std.specs.List.{list_any, flat_map}
@@ -33,6 +33,7 @@ use Rattle.sttr_core.specs.Machine.{OutMachine}
 use Rattle.sta_ops.proofs.Atoms.{each_in, in_each, guard_of}
 use Rattle.sta_ops.proofs.EachRule.{only}
 use Rattle.sta_theory.proofs.Lists.{none_in, first_in, later_in, append_member, map_member, in_map, in_left, in_right, in_flat}
+use Rattle.sta_classes.proofs.Rows.{same_bit}
 use Rattle.sttr_single.specs.declared.joints.Joint.{Joint}
 use Rattle.sttr_single.specs.Overlap.{AreToldByMeeting, guards_of, StopsOverlap}
 use Rattle.sttr_single.specs.Joints.{both_hold, rules_in, DemandsOwn, with_one, joint_applies, AreJoints}
@@ -46,16 +47,10 @@ apart_more T P Q f [] typed h = tt
 apart_more T P Q f (x ∷ xs) typed h =
     let others = All-tail T x xs typed in ((λ k d low. f x (get_or xs k d) (All-head T x xs typed) (others k d low) (h.0 k d low)), apart_more T P Q f xs others h.1)
 
-bool_is : (a b : Bool) → (a ≡ b) ⊎ ¬ (a ≡ b)
-bool_is true true = inl refl
-bool_is true false = inr (λ e. cc)
-bool_is false true = inr (λ e. cc)
-bool_is false false = inl refl
-
 -- where one of two lists of tests has a hit and the other hasn't, some test differs
 differing : {X : Type 0} (p q : X → Bool) (xs : List X) → ¬ (list_any p xs ≡ list_any q xs) → (x : X) × Contains xs x × ¬ (p x ≡ q x)
 differing p q [] other = absurd (other refl)
-differing p q (x ∷ xs) other = elim (bool_is (p x) (q x)) [
+differing p q (x ∷ xs) other = elim (same_bit (p x) (q x)) [
   | inl same ↦ (let (y, at, differs) = differing p q xs (λ e. other (ap₂ (λ a b. a || b) same e)) in (y, later_in x y xs at, differs))
   | inr differs ↦ (x, first_in x xs, differs)
 ]

@@ -2,7 +2,7 @@
 use Rattle.std.specs.Prelude.{⊤}
 use Rattle.std.specs.List.{list_any, list_all}
 use Rattle.std.proofs.Common.{ℕ, zero, suc, ◌≡◌, Bool, true, false, ◌&&◌, ◌||◌, ◌==◌, List, [], ◌∷◌, ◌++◌, get_or, Contains, refl, sym, ap, ◌∙◌, arith}
-use Rattle.std.proofs.lemmas.Bool.{and_parts}
+use Rattle.std.proofs.lemmas.Bool.{and_parts, and_from, or_left, or_right}
 use Rattle.std.proofs.lemmas.Bool.Decides.{nat_tests}
 use Rattle.model_tree.specs.Tree.{node, Trees, no_trees, tree}
 use Rattle.model_sta.specs.Automaton.{Rule, rules_of, is_accepted, meet_demands, rule_applies}
@@ -10,21 +10,9 @@ use Rattle.model_sta.specs.Sets.{Each}
 use Rattle.model_sta.specs.Operations.{Has, HasAll}
 use Rattle.sttr_theory.proofs.Each.{each_both, each_split}
 
-pub and_both : (a b : Bool) → a ≡ true → b ≡ true → (a && b) ≡ true
-and_both true b g h = h
-and_both false b g h = cc
-
 pub or_split : {P : Type 0} (a b : Bool) → (a ≡ true → P) → (b ≡ true → P) → (a || b) ≡ true → P
 or_split true b f g h = f refl
 or_split false b f g h = g h
-
-pub or_left : (a b : Bool) → a ≡ true → (a || b) ≡ true
-or_left true b h = refl
-or_left false b h = cc
-
-pub or_right : (a b : Bool) → b ≡ true → (a || b) ≡ true
-or_right true b h = refl
-or_right false b h = h
 
 pub bool_same : (a b : Bool) → (a ≡ true → b ≡ true) → (b ≡ true → a ≡ true) → a ≡ b
 bool_same true b f g = sym (f refl)
@@ -58,7 +46,7 @@ module _ {X : Type 0} (p : X → Bool) where
 
   pub all_in : (xs : List X) → Each (λ x. p x ≡ true) xs → list_all p xs ≡ true
   all_in [] h = refl
-  all_in (x ∷ xs) h = and_both (p x) (list_all p xs) h.0 (all_in xs h.1)
+  all_in (x ∷ xs) h = and_from (p x) (list_all p xs) h.0 (all_in xs h.1)
 
 module _ {L : Type 0} where
   -- the constructor is right and the guard holds
@@ -100,7 +88,7 @@ module _ {L : Type 0} (A : List (List (Rule L))) where
   pub meets_in : (ts : Trees L) (ds : List (List ℕ)) → AccEach (λ j. get_or ds j []) ts → meet_demands A ts ds ≡ true
   meets_in no_trees ds h = refl
   meets_in (tree t ts) [] h = refl
-  meets_in (tree t ts) (d ∷ ds) h = and_both (list_all (is_accepted A t) d) (meet_demands A ts ds) (all_in (is_accepted A t) d h.0) (meets_in ts ds h.1)
+  meets_in (tree t ts) (d ∷ ds) h = and_from (list_all (is_accepted A t) d) (meet_demands A ts ds) (all_in (is_accepted A t) d h.0) (meets_in ts ds h.1)
 
   -- the rule applies
   pub applies_out : (c : ℕ) (l : L) (ts : Trees L) (r : Rule L) → rule_applies A (node c l ts) r ≡ true → Fires r c l × AccEach (wants r) ts
@@ -111,8 +99,8 @@ module _ {L : Type 0} (A : List (List (Rule L))) where
 
   pub applies_in : (c : ℕ) (l : L) (ts : Trees L) (r : Rule L) → Fires r c l → AccEach (wants r) ts → rule_applies A (node c l ts) r ≡ true
   applies_in c l ts r f a =
-      and_both (r.constructor == c) (r.guard l && meet_demands A ts r.demands) (number_same r.constructor c f.0)
-      (and_both (r.guard l) (meet_demands A ts r.demands) f.1 (meets_in ts r.demands a))
+      and_from (r.constructor == c) (r.guard l && meet_demands A ts r.demands) (number_same r.constructor c f.0)
+      (and_from (r.guard l) (meet_demands A ts r.demands) f.1 (meets_in ts r.demands a))
 
   -- some rule of the state does
   pub has_out : (c : ℕ) (l : L) (ts : Trees L) (s : ℕ) → Has A s (node c l ts) → (r : Rule L) × Contains (rules_of A s) r × Fires r c l × AccEach (wants r) ts

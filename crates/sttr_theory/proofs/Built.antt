@@ -1,5 +1,6 @@
 -- The relation of each state of a transducer that is built.
 use Rattle.std.proofs.Common.{◌&&◌, ℕ, zero, suc, ◌≡◌, ◌⊎◌, ◌<◌, ◌↔◌, List, [], get_or, length, Option, Some, None, Contains, sym, subst, ◌∙◌}
+use Rattle.std.proofs.lemmas.Bool.{and_from}
 use Rattle.model_tree.specs.Tree.{Tree, node, Trees, no_trees, tree}
 use Rattle.model_sta.specs.Sets.{width, Fits, FitsAll}
 use Rattle.model_sttr.specs.Terms.{Term, IsInstance, IsLinear}
@@ -9,7 +10,7 @@ use Rattle.model_sttr.proofs.Heads.{identity_eq, in_range}
 use Rattle.sttr_theory.specs.Lists.{IsAt}
 use Rattle.sttr_theory.specs.Triples.{Triple, Through, ThroughAt, Yields, CanReturn, IsTermFor, LookName}
 use Rattle.sttr_theory.specs.Built.{IsNamed, IsWayTerm, IsRuleOf, AreOutRules, IsBuilt}
-use Rattle.sttr_theory.proofs.Accept.{and_both, applies_out, applies_in}
+use Rattle.sttr_theory.proofs.Accept.{applies_out, applies_in}
 use Rattle.sttr_theory.proofs.Covers.{held}
 use Rattle.sttr_theory.proofs.Complete.{identity_refl}
 use Rattle.sttr_theory.proofs.Kept.{kept_linear}
@@ -67,7 +68,7 @@ module _ {L : Type 0} (ranks : List ℕ) (D : L → Type 0) (S T : Sttr L) where
             let (ρ, is, (fires, acc, i)) = rule_out ranks D S T c l ts u x.first lt wide gives in
             let (ys, ways, each) = are.all ρ is in
             let (y, mine, (g, met, yields)) = ways.all l d ts w (u, i, has, end) in
-            let (r, here, (made, stands)) = held D (λ l. ρ.rule.guard l && y.guard l) l d (and_both (ρ.rule.guard l) (y.guard l) fires.1 g) (each y mine) in
+            let (r, here, (made, stands)) = held D (λ l. ρ.rule.guard l && y.guard l) l d (and_from (ρ.rule.guard l) (y.guard l) fires.1 g) (each y mine) in
             let (fires', acc') = way_in ranks D S T looks F.looks c l d ts child_looks ok wide r.rule ρ y made fires acc g met in
             (r, here, (fires', acc', term_in l d r.term y.term w stands yields))
 

@@ -1,7 +1,7 @@
 -- The language of each state of an automaton that is built.
 use Rattle.std.specs.Prelude.{⊤}
 use Rattle.std.proofs.Common.{ℕ, zero, suc, ◌≡◌, ◌<◌, ◌↔◌, ◌&&◌, true, Bool, List, [], ◌++◌, map, get_or, length, Option, Some, None, Contains, refl, sym, subst, ◌∙◌, arith}
-use Rattle.std.proofs.lemmas.Bool.{and_parts}
+use Rattle.std.proofs.lemmas.Bool.{and_parts, and_from}
 use Rattle.model_tree.specs.Tree.{Tree, node, Trees, no_trees, tree}
 use Rattle.model_sta.specs.Automaton.{Rule, rules_of}
 use Rattle.model_sta.specs.Sets.{Each, width, Fits, FitsAll}
@@ -13,7 +13,7 @@ use Rattle.sttr_theory.specs.Triples.{Triple, Way, LookName, of_first, of_second
 use Rattle.sttr_theory.specs.Built.{IsRuleOf, IsMadeRule, IsCopy, IsWayRule, AreLookRules, IsBuiltLook}
 use Rattle.sttr_theory.proofs.Each.{each_both, each_split, each_map, each_of_map, each_to_map}
 use Rattle.sttr_theory.proofs.Matches.{match_out, match_in}
-use Rattle.sttr_theory.proofs.Accept.{Fires, wants, AccEach, and_both, has_out, has_in}
+use Rattle.sttr_theory.proofs.Accept.{Fires, wants, AccEach, has_out, has_in}
 use Rattle.sttr_theory.proofs.Covers.{held}
 use Rattle.sttr_theory.proofs.Asked.{asked_uses}
 use Rattle.sttr_theory.proofs.Heads.{rule_out, rule_in, rule_range}
@@ -112,7 +112,7 @@ module _ {L : Type 0} (ranks : List ℕ) (D : L → Type 0) (S T : Sttr L) where
 
         pub way_in : (r : Rule L) (ρ : OutRule L) (y : Way L) → IsWayRule ranks D S T names r ρ y → Fires ρ.rule c l → AccEach S.looks (wants ρ.rule) ts → y.guard l ≡ true → AreMet S T ts y.demands → Fires r c l × AccEach looks (wants r) ts
         way_in r ρ y made fires acc g met =
-            made_in r ρ.rule.constructor (λ l. ρ.rule.guard l && y.guard l) (λ j. firsts (get_or ρ.rule.demands j []) ++ asked (get_or y.demands j [])) made fires.0 (and_both (ρ.rule.guard l) (y.guard l) fires.1 g)
+            made_in r ρ.rule.constructor (λ l. ρ.rule.guard l && y.guard l) (λ j. firsts (get_or ρ.rule.demands j []) ++ asked (get_or y.demands j [])) made fires.0 (and_from (ρ.rule.guard l) (y.guard l) fires.1 g)
             (means_both (λ j. firsts (get_or ρ.rule.demands j [])) (λ j. asked (get_or y.demands j [])) ts
             (means_old_in S.looks of_first (λ s t. (λ x. x, λ x. x)) (wants ρ.rule) ts acc) (means_in (λ j. asked (get_or y.demands j [])) ts met))
 
@@ -138,7 +138,7 @@ module _ {L : Type 0} (ranks : List ℕ) (D : L → Type 0) (S T : Sttr L) where
             let (ρ, is, (fires, acc, i)) = rule_out ranks D S T c l ts u (run q) lt wide gives in
             let (ys, ways, each) = are.all ρ is in
             let (y, mine, (g, met, yields)) = ways.all l d ts (node c l ts) (u, i, has, tt) in
-            let (r, here, made) = held D (λ l. ρ.rule.guard l && y.guard l) l d (and_both (ρ.rule.guard l) (y.guard l) fires.1 g) (each y mine) in
+            let (r, here, made) = held D (λ l. ρ.rule.guard l && y.guard l) l d (and_from (ρ.rule.guard l) (y.guard l) fires.1 g) (each y mine) in
             let (fires', acc') = way_in r ρ y made fires acc g met in
             (r, here, fires', acc')
 

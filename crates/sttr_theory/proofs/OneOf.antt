@@ -1,11 +1,10 @@
 -- One element of a list with a property, as the list is made.
 use Rattle.std.specs.List.{flat_map}
 use Rattle.std.proofs.Common.{ℕ, zero, suc, ◌≡◌, ◌⊎◌, ◌↔◌, ◌&&◌, Bool, true, List, [], ◌∷◌, ◌++◌, map, get_or, Contains, refl, sym, subst, inl, inr, arith, append-nil}
-use Rattle.std.proofs.lemmas.Bool.{and_parts}
+use Rattle.std.proofs.lemmas.Bool.{and_parts, and_from}
 use Rattle.model_sta.specs.Sets.{Each}
 use Rattle.sttr_theory.specs.Lists.{pairs, merge, alone}
 use Rattle.sttr_theory.proofs.Each.{each_both, each_split}
-use Rattle.sttr_theory.proofs.Accept.{and_both}
 
 -- P holds of one of the elements
 abbrev pub OneOf : {X : Type 0} → (X → Type 0) → List X → Type 0
@@ -16,7 +15,7 @@ pub to_and_fro : (A B C : Type 0) → A ↔ B → B ↔ C → A ↔ C
 to_and_fro A B C f g = (λ a. g.0 (f.0 a), λ c. f.1 (g.1 c))
 
 pub and_iff : (a b : Bool) → ((a && b) ≡ true) ↔ ((a ≡ true) × (b ≡ true))
-and_iff a b = (λ e. and_parts a b e, λ x. and_both a b x.0 x.1)
+and_iff a b = (λ e. and_parts a b e, λ x. and_from a b x.0 x.1)
 
 module _ {X : Type 0} (P : X → Type 0) where
   oneof_append : (xs ys : List X) → OneOf P (xs ++ ys) → OneOf P xs ⊎ OneOf P ys

@@ -1,7 +1,7 @@
 -- Rules picked for demanded states depend on the states as a set.
 use Rattle.std.specs.Prelude.{⊤}
 use Rattle.std.proofs.Common.{ℕ, zero, suc, ◌≡◌, ◌⊎◌, true, List, [], ◌∷◌, get_or, Contains, refl, sym, ap, subst, ◌∙◌, inl, inr, arith}
-use Rattle.std.proofs.lemmas.Bool.{and_parts}
+use Rattle.std.proofs.lemmas.Bool.{and_parts, and_from}
 use Rattle.model_sta.specs.Automaton.{Rule, rules_of}
 use Rattle.model_sta.specs.Sets.{Each}
 use Rattle.sttr_theory.specs.Lists.{SameStates, IsOnce}
@@ -10,7 +10,7 @@ use Rattle.sttr_theory.specs.Ways.{Pick, fires, pick, picks_of}
 use Rattle.sttr_theory.specs.Alike.{AlikePick}
 use Rattle.sttr_theory.proofs.Members.{here, there, in_left, in_right, in_either, in_single, of_pairs, to_pairs}
 use Rattle.sttr_theory.proofs.Each.{each_at, each_all}
-use Rattle.sttr_theory.proofs.Accept.{and_both, bool_same}
+use Rattle.sttr_theory.proofs.Accept.{bool_same}
 use Rattle.sttr_theory.proofs.Once.{same_turned}
 
 module _ {L : Type 0} where
@@ -106,7 +106,7 @@ module _ {L : Type 0} (A : List (List (Rule L))) where
 
     guard_in : (rs : List (Rule L)) (l : L) → Each (λ r. fires r c l ≡ true) rs → (pick_all rs).guard l ≡ true
     guard_in [] l e = refl
-    guard_in (r ∷ rs) l e = and_both (fires r c l) ((pick_all rs).guard l) e.0 (guard_in rs l e.1)
+    guard_in (r ∷ rs) l e = and_from (fires r c l) ((pick_all rs).guard l) e.0 (guard_in rs l e.1)
 
     wants_out : (rs : List (Rule L)) (j s : ℕ) → Contains ((pick_all rs).wants j) s → (r : Rule L) × Contains rs r × Contains (get_or r.demands j []) s
     wants_out [] j s at = absurd (omega (arith, at.1))

@@ -1,6 +1,6 @@
 -- Restriction: the rules of a start together with those of an automaton's.
 use Rattle.std.proofs.Common.{ℕ, zero, suc, ◌≡◌, ◌⊎◌, ◌<◌, ◌↔◌, ◌&&◌, List, [], ◌++◌, get_or, length, Contains, sym, subst, ◌∙◌, inl, inr, arith}
-use Rattle.std.proofs.lemmas.Bool.{and_parts}
+use Rattle.std.proofs.lemmas.Bool.{and_parts, and_from}
 use Rattle.model_tree.specs.Tree.{Tree, node, Trees, no_trees, tree}
 use Rattle.model_sta.specs.Sets.{Fits, FitsAll}
 use Rattle.model_sta.specs.Operations.{Auto, Has, OfState}
@@ -12,7 +12,7 @@ use Rattle.model_sttr.proofs.Heads.{in_range}
 use Rattle.sttr_theory.specs.Lists.{IsAt}
 use Rattle.sttr_theory.specs.Triples.{LookName, of_first, of_second, middle, firsts, seconds}
 use Rattle.sttr_theory.specs.Results.{OfEither, IsOldHead, IsBuiltRestriction}
-use Rattle.sttr_theory.proofs.Accept.{wants, and_both, applies_out, applies_in, has_out, has_in}
+use Rattle.sttr_theory.proofs.Accept.{wants, applies_out, applies_in, has_out, has_in}
 use Rattle.sttr_theory.proofs.Covers.{held}
 use Rattle.sttr_theory.proofs.Places.{at_place, last_or_before}
 use Rattle.sttr_theory.proofs.Looks.{ChildLooks, means_split, means_both, means_old_out, means_old_in, made_out, made_in, look_exact, looks_exact}
@@ -63,8 +63,8 @@ module _ {L : Type 0} (ranks : List ℕ) (D : L → Type 0) (f : Trans L) (a : A
         let (ρ, mine, applies, i) = g in
         let (fires, acc) = applies_out f.sttr.looks k l ts ρ.rule applies in
         let (σ, its, fires', acc') = has_out a.rules k l ts a.start h in
-        let (r, here, (made, stands)) = held D (λ l. ρ.rule.guard l && σ.guard l) l d (and_both (ρ.rule.guard l) (σ.guard l) fires.1 fires'.1) (b.all ρ mine σ its (fires.0 ∙ sym fires'.0)) in
-        let (fr, ar) = made_in ranks D f.sttr (asking a.rules) looks c.sttr.looks k l d ts child_looks r.rule ρ.rule.constructor (λ l. ρ.rule.guard l && σ.guard l) (λ j. firsts (get_or ρ.rule.demands j []) ++ seconds (get_or σ.demands j [])) made fires.0 (and_both (ρ.rule.guard l) (σ.guard l) fires.1 fires'.1)
+        let (r, here, (made, stands)) = held D (λ l. ρ.rule.guard l && σ.guard l) l d (and_from (ρ.rule.guard l) (σ.guard l) fires.1 fires'.1) (b.all ρ mine σ its (fires.0 ∙ sym fires'.0)) in
+        let (fr, ar) = made_in ranks D f.sttr (asking a.rules) looks c.sttr.looks k l d ts child_looks r.rule ρ.rule.constructor (λ l. ρ.rule.guard l && σ.guard l) (λ j. firsts (get_or ρ.rule.demands j []) ++ seconds (get_or σ.demands j [])) made fires.0 (and_from (ρ.rule.guard l) (σ.guard l) fires.1 fires'.1)
         (means_both ranks D f.sttr (asking a.rules) (λ j. firsts (get_or ρ.rule.demands j [])) (λ j. seconds (get_or σ.demands j [])) ts
         (means_old_in ranks D f.sttr (asking a.rules) f.sttr.looks of_first (λ s t. (λ x. x, λ x. x)) (wants ρ.rule) ts acc)
         (means_old_in ranks D f.sttr (asking a.rules) a.rules of_second (λ s t. (λ x. x, λ x. x)) (wants σ) ts acc')) in

@@ -1,6 +1,7 @@
 -- The lists of ways hold exactly the runs.
 use Rattle.std.specs.Prelude.{⊤}
 use Rattle.std.proofs.Common.{ℕ, zero, suc, ◌≡◌, ◌⊎◌, ◌<◌, ◌↔◌, ◌==◌, cond, Bool, true, false, List, [], ◌∷◌, ◌++◌, map, get_or, Some, None, refl, inl, inr, arith}
+use Rattle.std.proofs.lemmas.Bool.{or_left, or_right}
 use Rattle.model_tree.specs.Tree.{Tree, node, Trees, no_trees, tree}
 use Rattle.model_sta.specs.Automaton.{Rule, rules_of}
 use Rattle.model_sttr.specs.Terms.{Term, on, build, Parts, no_parts, part, Uses, UsesIn, IsInstance, AreInstances}
@@ -8,7 +9,7 @@ use Rattle.model_sttr.specs.Transducer.{Head, identity, run, OutRule, Sttr, out_
 use Rattle.sttr_theory.specs.Lists.{pairs, alone, once}
 use Rattle.sttr_theory.specs.Triples.{Triple}
 use Rattle.sttr_theory.specs.Ways.{WayOf, plain, leaf_ways, joined, guarded, with_term, first_of, second_of, Pick, pick, picks_of, fires, size, uses, uses_in, over_term, over_parts, free_ways, rest_ways, rule_ways, step_ways, gives_ways, gives_at}
-use Rattle.sttr_theory.proofs.Accept.{Fires, or_split, or_left, or_right, same_number, number_same}
+use Rattle.sttr_theory.proofs.Accept.{Fires, or_split, same_number, number_same}
 use Rattle.sttr_theory.proofs.Runs.{Aim, free, gives, Picks, merged, copy, Step, Run, RunAt}
 use Rattle.sttr_theory.proofs.OneOf.{OneOf, to_and_fro, and_iff, member, of_member, flat_iff, map_iff, fixed_iff, pairs_iff, EachAt, merge_iff, alone_out, alone_in}
 

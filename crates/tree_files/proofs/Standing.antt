@@ -13,13 +13,12 @@ use Rattle.model_tree.specs.Label.{Field, Label, row}
 use Rattle.model_tree.specs.Tree.{node, Trees, no_trees, tree, list_of, LabelTree}
 use Rattle.model_tree.specs.Tree as model
 use Rattle.model_tree.specs.Kept.{is_kept, is_kept_field, is_kept_label, are_kept}
-use Rattle.model_tree.specs.Signature.{Sort, wholes, truths, texts, sort_of, PlainField, PlainConstructor, PlainSignature, names_of, ranks_of, sorts_of, HasSorts, HasType, EachHasType}
+use Rattle.model_tree.specs.Signature.{sort_of, PlainField, PlainConstructor, PlainSignature, names_of, ranks_of, sorts_of, HasSorts, HasType, EachHasType}
 use Rattle.model_tree.proofs.Sorts.{have_these_sorts}
 use Rattle.model_program.specs.Syntax.{Name}
 use Rattle.model_grammar.specs.Syntax.{Expr}
 use Rattle.model_grammar.specs.TreeFiles.{FileTree, FileTrees, and_tree, trees_of}
 use Rattle.model_grammar.specs.TreeFiles as file
-use Rattle.model_label.specs.Fields.{same_sort}
 use Rattle.model_checks.specs.Failures.{fails_if}
 use Rattle.model_names.specs.Declared.{same_text}
 use Rattle.model_meaning.specs.Outputs.{number_named}
@@ -27,6 +26,7 @@ use Rattle.model_run.specs.Texts.{file_tree_count, sort_failures, range_failures
 use Rattle.tree_reader.specs.declared.Constant.{Constant}
 use Rattle.tree_reader.specs.declared.FileTree as code
 use Rattle.tree_reader.specs.Plain.{plain_constant, plain_tree}
+use Rattle.model_label.proofs.Sorted.{one_sort}
 use Rattle.tree_files.specs.Labels.{meant_by}
 use Rattle.tree_files.specs.Placed.{IsMade, AreMade, IsPlacedOf, IsOfType, ArePlacedOf}
 use Rattle.tree_files.proofs.Failing.{none_before, none_behind, passed}
@@ -37,23 +37,12 @@ use Rattle.tree_files.proofs.Constants.{value_is, values_are, all_kept}
 abbrev values : List Constant → List Field
 values cs = map (λ (c : Constant). meant_by c.value) cs
 
-sort_from_test : (s t : Sort) → same_sort s t ≡ true → s ≡ t
-sort_from_test wholes wholes e = refl
-sort_from_test wholes truths e = cc
-sort_from_test wholes texts e = cc
-sort_from_test truths wholes e = cc
-sort_from_test truths truths e = refl
-sort_from_test truths texts e = cc
-sort_from_test texts wholes e = cc
-sort_from_test texts truths e = cc
-sort_from_test texts texts e = refl
-
 not_false : (b : Bool) → not b ≡ false → b ≡ true
 not_false true e = refl
 not_false false e = cc
 
 sort_fits : (f : PlainField) (c : Constant) → sort_failures f (plain_constant c) ≡ [] → sort_of (meant_by c.value) ≡ f.sort
-sort_fits f c e = ap sort_of (sym (value_is c.value c.place)) ∙ sort_from_test _ f.sort (not_false _ (passed _ WrongSort _ e))
+sort_fits f c e = ap sort_of (sym (value_is c.value c.place)) ∙ one_sort _ f.sort (not_false _ (passed _ WrongSort _ e))
 
 sorts_fit : (fields : List PlainField) (cs : List Constant) → length fields ≡ length cs → label_failures fields (map plain_constant cs) ≡ [] → map sort_of (values cs) ≡ map (λ (f : PlainField). f.sort) fields
 sorts_fit [] [] many e = refl

@@ -12,6 +12,7 @@ use Rattle.model_grammar.specs.Syntax.{Expr}
 use Rattle.model_grammar.specs.TreeFiles.{FileTree, node, FileTrees, no_trees, and_tree, trees_of, AreConstants, IsTree, a_tree, AreTrees, no_more, one_more, IsTreeFile}
 use Rattle.label_reader.proofs.Names.{sample_name}
 use Rattle.label_reader.proofs.Closings.{closing_of, IsClosable, sample_to_close}
+use Rattle.program_reader.proofs.ItemForms.{some_token}
 use Rattle.tree_reader.specs.Trees.{AreTreesToClose}
 use Rattle.tree_reader.proofs.ConstantForms.{sample_constants}
 
@@ -107,10 +108,6 @@ file_first {tokens} {rest} all tree is_first = subst (λ (l : List FileTree). Is
   where
     tree_comes : {x : FileTree} → IsRead IsTree closed tokens x rest → StartsIn anything tokens
     tree_comes read = subst (λ (l : List Lexeme). StartsIn anything l) (sym read.split) (starts_append anything read.part rest (some_starts.starts _ read.part read.spelled))
-
-pub some_token : (tokens : List Lexeme) → (tokens ≡ [] → ⊥) → StartsIn anything tokens
-some_token [] not_end = absurd (not_end refl)
-some_token (t ∷ ts) not_end = tt
 
 pub file_first_fails : (tokens : List Lexeme) (bad : Option (List Lexeme)) → (tokens ≡ [] → ⊥) → Fails IsTree closed tokens bad → Fails IsTreeFile anything tokens bad
 file_first_fails tokens bad not_end fails = as_fails bad (file_makes tokens) (as_fails bad (many_make IsTree tokens (some_token tokens not_end)) (first_fails bad (ends_closed (Many IsTree) anything) (sample_many IsTree) fails))

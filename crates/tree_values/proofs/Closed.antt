@@ -1,9 +1,8 @@
 -- Label expressions without fields that pass the check of a program are a label that is kept.
-use Rattle.std.proofs.Common.{◌≡◌, inl, inr, ℕ, suc, Bool, true, false, ◌&&◌, ◌||◌, List, [], ◌∷◌, ◌++◌, map, length, Some, Contains, refl, sym, ap, ap₂, subst, ◌∙◌, arith}
+use Rattle.std.proofs.Common.{◌≡◌, inl, inr, suc, Bool, true, false, ◌&&◌, ◌||◌, List, [], ◌∷◌, ◌++◌, map, length, Some, Contains, refl, sym, ap, ap₂, subst, ◌∙◌, arith}
 use Rattle.std.proofs.lemmas.Bool.{and_parts}
 use Rattle.std.proofs.Math.IntN.{pos}
 use Rattle.std.proofs.lemmas.Int.{ints}
-use Rattle.std.proofs.lemmas.Bool.Decides.{nat_tests}
 use Rattle.std.proofs.lemmas.List.Elements.{Contains-append_left, Contains-append_right, Contains-append_cases}
 use Rattle.std.specs.Prelude.{◌==◌, is_some}
 use Rattle.std.specs.List.{list_all}
@@ -38,6 +37,7 @@ use Rattle.meaning_laws.proofs.SoundGuards.{sound_guard, sound_whole, sound_text
 use Rattle.record_label.specs.Maps.{is_of_sort, AreOfSorts, forms_in_each}
 use Rattle.record_label.specs.Parts.{AreWithin}
 use Rattle.record_label.proofs.GuardFacts.{truth_of_sort, whole_of_sort, text_value}
+use Rattle.meaning_laws.proofs.Sorted.{suc_equal, none_is_some, some_is_none}
 use Rattle.tree_values.specs.Forms.{AreClosed}
 
 -- ---- no fields
@@ -147,15 +147,6 @@ fine_of : (sort : Sort) (e : Expr) → IsSoundLabel [] sort e → IsFine sort e
 fine_of wholes e h = let w = sound_whole [] refl (omega arith) e h in record { is = w.is; within = w.within }
 fine_of truths e h = let g = sound_guard [] refl (omega arith) e h in record { is = g.is; within = g.within }
 fine_of texts e h = let t = sound_text [] refl (omega arith) e h in record { is = t.is; within = t.within }
-
-none_is_some : (n : ℕ) → (0 == suc n) ≡ true → ⊥
-none_is_some n e = grind (arith, nat_tests)
-
-some_is_none : (n : ℕ) → (suc n == 0) ≡ true → ⊥
-some_is_none n e = grind (arith, nat_tests)
-
-suc_equal : (m n : ℕ) → (suc m == suc n) ≡ true → (m == n) ≡ true
-suc_equal m n e = grind (arith, nat_tests)
 
 -- the sorts as the type's signature has them
 abbrev sorts_of_fields : List FieldItem → List Sort

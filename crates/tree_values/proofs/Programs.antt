@@ -1,9 +1,8 @@
 -- What an item of a well-formed program brings to the evaluation of its trees, once the items before it are done.
 use Rattle.meaning_laws.specs.Shapes.{have_tree_shapes, has_automaton_shape, has_tree_shape}
-use Rattle.std.proofs.Common.{◌≡◌, ◌<◌, ◌++◌, ℕ, suc, ℤ, Bool, true, false, ◌&&◌, not, cond, List, [], ◌∷◌, map, length, get_or, Option, Some, None, refl, sym, ap, subst, ◌∙◌, arith}
-use Rattle.std.specs.Prelude.{◌==◌, is_some, pos, negsuc}
+use Rattle.std.proofs.Common.{◌≡◌, ◌<◌, ◌++◌, ℕ, suc, Bool, true, false, ◌&&◌, not, cond, List, [], ◌∷◌, map, length, get_or, Option, Some, None, refl, sym, ap, subst, ◌∙◌, arith}
+use Rattle.std.specs.Prelude.{◌==◌, is_some}
 use Rattle.std.proofs.lemmas.Bool.{and_parts}
-use Rattle.std.proofs.lemmas.Bool.Decides.{nat_tests}
 use Rattle.std.specs.Option.{option_map, option_map_or, option_and_then}
 use Rattle.fast_fault.specs.declared.code.Code.TheVariants.{WrongRank}
 use Rattle.fast_fault.specs.declared.place.Pos.{Pos}
@@ -20,7 +19,6 @@ use Rattle.model_meaning.specs.Outputs.{number_named}
 use Rattle.model_meaning.proofs.Named.{input_type_of_name}
 use Rattle.model_checks.specs.Failures.{is_empty}
 use Rattle.model_checks.specs.Labels.{labels_failures}
-use Rattle.model_checks.specs.Types.{is_rank}
 use Rattle.model_checks.specs.Rules.{differ, find_ctor, constructor_failures, label_count_failures, type_name_failures, fields_of}
 use Rattle.model_checks.specs.Expressions.{is_known_later, nesting_failures, count_xs, type_called, type_as, needs_be, wanted_second, x_failures, xs_failures, whole_failures}
 use Rattle.model_checks.specs.Programs.{name_again, body_failures, claim_failures}
@@ -38,6 +36,7 @@ use Rattle.fast_eval.specs.Forms.{IsMadeOn, IsMadeFrom, AreKnown}
 use Rattle.fast_eval.specs.Defined.{AreDefined}
 use Rattle.fast_eval.proofs.Stepping.{find_in_front, found_there, some_same, known_of, trans_known_of}
 use Rattle.fast_eval.proofs.Typing.{made_of_form, made_from_form}
+use Rattle.meaning_laws.proofs.Rules.{has_rank}
 use Rattle.tree_values.specs.declared.trees.Trees.{Trees}
 use Rattle.tree_values.specs.Forms.{IsNodeOf, IsTreeOn, AreTreesOn, IsTreeKnown, AreTreesKnown}
 use Rattle.tree_values.specs.Trees.{tree_at, ArePrinted}
@@ -85,10 +84,6 @@ placed (c ∷ ctors) name ctor e = by (same_text c.name.text name) refl e (place
           low = omega (arith, p.low);
           rank = p.rank;
         }
-
-has_rank : (n : ℕ) (r : ℤ) → is_rank n r ≡ true → n ≡ rank_of r
-has_rank n (pos k) e = let same : (k == n) ≡ true = e in grind (arith, nat_tests)
-has_rank n (negsuc k) e = absurd (cc)
 
 module _ (items : List Item) (whole : IsSound items) where
   -- a literal of a declared type

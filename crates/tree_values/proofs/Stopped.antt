@@ -1,5 +1,6 @@
 -- What stops the evaluation of a part of a tree expression stops that of the whole.
-use Rattle.std.proofs.Common.{◌≡◌, inl, inr, ◌||◌, ◌<◌, ℕ, Bool, true, false, List, [], ◌∷◌, ◌++◌, Contains, refl, sym, subst}
+use Rattle.std.proofs.Common.{◌≡◌, inl, inr, ◌||◌, ◌<◌, ℕ, Bool, true, List, [], ◌∷◌, ◌++◌, Contains, refl, sym, subst}
+use Rattle.std.proofs.lemmas.Bool.{or_left, or_right}
 use Rattle.std.proofs.lemmas.List.Elements.{Contains-append_left, Contains-append_right}
 use Rattle.fast_fault.specs.declared.place.Pos.{Pos}
 use Rattle.model_tree.specs.Limits.{most_nodes}
@@ -32,7 +33,7 @@ use Rattle.tree_values.specs.Trees.{meant}
 use Rattle.tree_values.specs.Values.{IsFindStop}
 
 -- a tree in limits whose texts can be shown can be shown
-printable : (t : LabelTree) → IsInLimits t → has_scalars t ≡ true → IsPrintable t
+pub printable : (t : LabelTree) → IsInLimits t → has_scalars t ≡ true → IsPrintable t
 printable t limits scalars = record { kept = limits.kept; scalars = scalars; small = limits.small; shallow = limits.shallow }
 
 -- the trees that are shown of an input have their types
@@ -48,14 +49,6 @@ output_typed items most f t typed (SeveralOutputs w) h = (
   subst (λ s. HasType s (meant w.first)) (sym h.2) h.4,
   subst (λ s. HasType s (meant w.second)) (sym h.2) h.5,
 )
-
-left_true : (a b : Bool) → a ≡ true → (a || b) ≡ true
-left_true true b e = refl
-left_true false b e = absurd (cc)
-
-right_true : (a b : Bool) → b ≡ true → (a || b) ≡ true
-right_true true b e = refl
-right_true false b e = e
 
 needs : (has has_too : Bool) → (has ≡ true → has_too ≡ true) → (s : EvalStop) → NeedsClasses has s → NeedsClasses has_too s
 needs has has_too to Classes h = to h
@@ -90,12 +83,12 @@ module _ (items : List Item) (printed : List Printed) (most : ℕ) where
     pub stop_first : (x : X) (xs : Xs) (s : ValueStop) → IsValueStop items printed most signature x s → IsStopIn items printed most signature (and_x x xs) s
     stop_first x xs =
         goes_up (has_classes x) (some_has_classes (and_x x xs)) (used_in x) (used_in_all (and_x x xs)) (λ P. OfSomeTree items P signature x) (λ P. OfSomeTreeIn items P signature (and_x x xs))
-        (left_true (has_classes x) (some_has_classes xs)) (Contains-append_left (used_in x) (used_in_all xs)) (λ P h. inl h)
+        (or_left (has_classes x) (some_has_classes xs)) (Contains-append_left (used_in x) (used_in_all xs)) (λ P h. inl h)
 
     pub stop_later : (x : X) (xs : Xs) (s : ValueStop) → IsStopIn items printed most signature xs s → IsStopIn items printed most signature (and_x x xs) s
     stop_later x xs =
         goes_up (some_has_classes xs) (some_has_classes (and_x x xs)) (used_in_all xs) (used_in_all (and_x x xs)) (λ P. OfSomeTreeIn items P signature xs) (λ P. OfSomeTreeIn items P signature (and_x x xs))
-        (right_true (has_classes x) (some_has_classes xs)) (Contains-append_right (used_in x) (used_in_all xs)) (λ P h. inr h)
+        (or_right (has_classes x) (some_has_classes xs)) (Contains-append_right (used_in x) (used_in_all xs)) (λ P h. inr h)
 
     pub stop_literal : (name : Name) (labels : List Expr) (xs : Xs) (s : ValueStop) → IsStopIn items printed most signature xs s → IsValueStop items printed most signature (literal name labels xs) s
     stop_literal name labels xs =
@@ -129,12 +122,12 @@ module _ (items : List Item) (printed : List Printed) (most : ℕ) where
     pub stop_inside : (place : Pos) (f x : X) (s : ValueStop) → IsValueStop items printed most (input_type items f) x s → IsValueStop items printed most signature (two Apply place f x) s
     stop_inside place f x =
         goes_up (has_classes x) (has_classes f || has_classes x) (used_in x) (f ∷ used_in x) (λ P. OfSomeTree items P (input_type items f) x) (λ P. OfSomeTree items P signature (two Apply place f x))
-        (right_true (has_classes f) (has_classes x)) (λ e at. later_in f e (used_in x) at) (λ P h. inr h)
+        (or_right (has_classes f) (has_classes x)) (λ e at. later_in f e (used_in x) at) (λ P h. inr h)
 
     -- of its outputs
     pub stop_output : (place : Pos) (f x : X) (t : LabelTree) → IsValue items printed (input_type items f) x t → IsInLimits t → (s : ValueStop) → IsOutputStop items most f t s → IsValueStop items printed most signature (two Apply place f x) s
     stop_output place f x t is limits (Stopped s) h = (
-      needs (has_classes f) (has_classes f || has_classes x) (left_true (has_classes f) (has_classes x)) s (told f s h),
+      needs (has_classes f) (has_classes f || has_classes x) (or_left (has_classes f) (has_classes x)) s (told f s h),
       widened items most (f ∷ []) (f ∷ used_in x) (λ e at. (e, Contains-append_left (f ∷ []) (used_in x) e at, (are_among items).same e)) s (of_expression items most f s h),
     )
     stop_output place f x t is limits NoTree h = absurd h
@@ -191,10 +184,10 @@ module _ (items : List Item) (printed : List Printed) (most : ℕ) where
   pub stop_value : (x y : X) (s : ValueStop) → IsValueStop items printed most (input_type items y) x s → IsMemberStop items printed most x y s
   stop_value x y =
       goes_up (has_classes x) (has_classes x || has_classes y) (used_in x) (used_in x ++ y ∷ []) (λ P. OfSomeTree items P (input_type items y) x) (λ P. OfSomeTree items P (input_type items y) x)
-      (left_true (has_classes x) (has_classes y)) (Contains-append_left (used_in x) (y ∷ [])) (λ P h. h)
+      (or_left (has_classes x) (has_classes y)) (Contains-append_left (used_in x) (y ∷ [])) (λ P h. h)
 
   pub stop_language : (x y : X) (s : EvalStop) → StopsExpression items y most s → IsMemberStop items printed most x y (Stopped s)
   stop_language x y s h = (
-    needs (has_classes y) (has_classes x || has_classes y) (right_true (has_classes x) (has_classes y)) s (told y s h),
+    needs (has_classes y) (has_classes x || has_classes y) (or_right (has_classes x) (has_classes y)) s (told y s h),
     widened items most (y ∷ []) (used_in x ++ y ∷ []) (λ e at. (e, Contains-append_right (used_in x) (y ∷ []) e at, (are_among items).same e)) s (of_expression items most y s h),
   )

@@ -1,6 +1,7 @@
 use Rattle.fast_session.specs.Sessions.{items_in}
 use Rattle.tree_files.specs.Placed.{plain_placed}
-use Rattle.fast_tool.proofs.Answering.{on_ok, if_err, answered_by, unanswered_by}
+use Rattle.fast_eval.proofs.Applying.{if_err}
+use Rattle.fast_tool.proofs.Answering.{on_ok, answered_by, unanswered_by}
 use Rattle.fast_tool.proofs.answers.tell_inside.Goals as goal
 
 pub is_inside-requires : goal.is_inside-requires

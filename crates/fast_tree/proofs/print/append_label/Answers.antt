@@ -1,7 +1,8 @@
 use Rattle.std.proofs.Common.{◌≡◌, ◌+◌, ◌∷◌, ◌++◌, drop, map, refl, ap, sym, subst, ◌∙◌, append-nil, rules, arith}
+use Rattle.std.proofs.lemmas.Bool.{and_from}
 use Rattle.std.specs.List.{list_all}
 use Rattle.model_tree.specs.Scalars.{is_of_scalars}
-use Rattle.fast_tree.proofs.Scalars.{both_true, values_have, value_more}
+use Rattle.fast_tree.proofs.Scalars.{values_have, value_more}
 use Rattle.std.proofs.lemmas.List.{drop_all}
 use Rattle.std.specs.Str.{encode_utf8_all}
 use Rattle.model_tree.specs.Printed.{printed_field}
@@ -30,5 +31,5 @@ returns-after-loop-value c =
     let have = c.loop-value.invariant.1 (subst values_have (sym none) refl) in
     record {
       text = sym (append-nil c.loop-value.out.items) ∙ ap (λ vs. c.loop-value.out.items ++ encode_utf8_all (later_fields vs)) (sym none) ∙ c.loop-value.invariant.0 ∙ ap (λ xs. xs ++ encode_utf8_all (later_fields c.in-Some.later.now)) c.in_ok-append_value.ensures.text ∙ all;
-      scalars = subst values_have (sym values) (both_true (is_of_scalars (field_of c.in-Some.first.now)) (list_all is_of_scalars (map field_of c.in-Some.later.now)) c.in_ok-append_value.ensures.scalars have);
+      scalars = subst values_have (sym values) (and_from (is_of_scalars (field_of c.in-Some.first.now)) (list_all is_of_scalars (map field_of c.in-Some.later.now)) c.in_ok-append_value.ensures.scalars have);
     }

@@ -7,7 +7,8 @@ use Rattle.read_forms.proofs.Forms.{read_at}
 use Rattle.read_forms.proofs.Lists.{many_more, many_more_fails}
 use Rattle.tree_reader.specs.Plain.{plain_tree}
 use Rattle.label_reader.proofs.Exits.{exit, shorter, none_left, some_left}
-use Rattle.tree_reader.proofs.TreeForms.{no_file, file_first, file_first_fails, file_ends, some_token, some_starts}
+use Rattle.program_reader.proofs.ItemForms.{some_token}
+use Rattle.tree_reader.proofs.TreeForms.{no_file, file_first, file_first_fails, file_ends, some_starts}
 use Rattle.tree_reader.proofs.trees.read_file.Goals as goal
 
 pub returns-then-is_empty : goal.returns-then-is_empty
