@@ -18,4 +18,5 @@ mod transducer;
 
 pub use automaton::languages;
 pub use named::{lang, trans};
+pub use reached::add_name;
 pub use transducer::{BuiltTrans, transformation};

@@ -1,28 +1,19 @@
 //! The names of transformations of which an expression is made.
 
-ghost use Rattle.std.specs.Prelude.{◌≡◌, ◌<◌, Some, None, IfOk, OnOk, MatchOption, get_or, length, [], ◌∷◌};
+ghost use Rattle.std.specs.Prelude.{◌≡◌, ◌<◌, Some, None, IfOk, OnOk, MatchOption, get_or, length, []};
 ghost use Rattle.fast_syntax.specs.Plain.{plain_x};
 ghost use Rattle.model_meaning.specs.Reached.{definition_of};
 ghost use Rattle.fast_build.specs.Items.{items_of};
 ghost use Rattle.fast_build.specs.Reached.{IsGrown};
 ghost use Rattle.fast_compose.specs.Sources.{sources_in, opened_by, AreDeclared, AreSources};
 
+use fast_build::add_name;
 use fast_fault::{Memory, Text};
 use fast_syntax::items::{Body, X};
 use indexmap::IndexSet;
 use model_grammar::Op2;
 use program_check::Checked;
 use std::alloc::Global;
-
-/// Adds the name, unless it is there.
-fn add_name(alloc: Global, name: &Text, names: &mut IndexSet<Text>) -> Result<(), Memory>
-    ensures { OnOk result (IsGrown names.old.keys names.new.keys (name.now ∷ [])) }
-{
-    if !names.contains(name) {
-        names.insert(name.copy(alloc)?)?;
-    }
-    Ok(())
-}
 
 /// Adds the names of transformations in the expression: of both parts of a composition, and of what a restriction restricts.
 fn add_sources(alloc: Global, x: &X, names: &mut IndexSet<Text>) -> Result<(), Memory>

@@ -1,6 +1,6 @@
 //! The names that a name needs.
 
-ghost use Rattle.std.specs.Prelude.{◌≡◌, true, [], ◌∷◌, OnOk, IfOk};
+ghost use Rattle.std.specs.Prelude.{◌≡◌, true, OnOk, IfOk};
 ghost use Rattle.std.specs.Option.{option_map};
 ghost use Rattle.fast_syntax.specs.Plain.{plain_x, plain_def, plain_item};
 ghost use Rattle.model_grammar.specs.Syntax as plain;
@@ -11,21 +11,12 @@ ghost use Rattle.fast_build.specs.Items.{items_of};
 ghost use Rattle.fast_build.specs.Reached.{IsGrown};
 ghost use Rattle.fast_session.specs.Needed.{own_def, names_in, IsFollowed, AreNeeded};
 
+use fast_build::add_name;
 use fast_fault::{Memory, Text};
 use fast_syntax::items::{Body, DefItem, Item, X};
 use indexmap::IndexSet;
 use program_check::Checked;
 use std::alloc::Global;
-
-/// Adds the name, unless it is there.
-fn add_name(alloc: Global, name: &Text, names: &mut IndexSet<Text>) -> Result<(), Memory>
-    ensures { OnOk result (IsGrown names.old.keys names.new.keys (name.now ∷ [])) }
-{
-    if !names.contains(name) {
-        names.insert(name.copy(alloc)?)?;
-    }
-    Ok(())
-}
 
 /// Adds the names in the expression.
 fn add_names(alloc: Global, x: &X, names: &mut IndexSet<Text>) -> Result<(), Memory>
