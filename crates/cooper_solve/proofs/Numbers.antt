@@ -11,7 +11,7 @@ use Rattle.math_cooper.specs.Line.{IsMultiple, Kind, AtLeastZero, DividedBy}
 use Rattle.math_cooper.specs.System.{Condition, lead, IsCommonAt, RepeatsAt}
 use Rattle.math_cooper.specs.Puts.{IsScale, IsPeriod}
 use Rattle.math_cooper.proofs.Elimination.{all_unmap}
-use Rattle.math_cooper.proofs.Composition.{dvd_of, multiple_of}
+use Rattle.math_cooper.proofs.Composition.{dvd_of, multiple_of, divided_once}
 use Rattle.cooper_solve.specs.Multiples.{IsLeastMultiple, IsBeyond}
 use Rattle.cooper_solve.specs.Views.{unless_zero, divisor_of, scale_number, period_number, IsPositive}
 use Rattle.cooper_solve.proofs.Multiples.{least_with, beyond_with}
@@ -77,12 +77,9 @@ divisor_some (DividedBy m) p e = let q = p m refl in omega (arith, ints)
 no_divisor : (n : ℕ) (P : Type 0) → AtLeastZero ≡ DividedBy n → P
 no_divisor n P e = cc
 
-one_divisor : (m n : ℕ) → DividedBy m ≡ DividedBy n → m ≡ n
-one_divisor m n e = cc
-
 repeats_out : (m : ℕ) (a : ℤ) (k : Kind) → DivisorIsPositive k → unsigned_abs (unless_zero a (divisor_of k)) ∣ m → (n : ℕ) → k ≡ DividedBy n → (a ≡ pos 0) ⊎ IsMultiple n m
 repeats_out m a AtLeastZero p h n e = no_divisor n ((a ≡ pos 0) ⊎ IsMultiple n m) e
-repeats_out m a (DividedBy d) p h n e = unless_out a (pos d) m n (one_divisor d n e) (p n e) h
+repeats_out m a (DividedBy d) p h n e = unless_out a (pos d) m n (divided_once d n e) (p n e) h
 
 repeats_in : (m : ℕ) (a : ℤ) (k : Kind) → ((n : ℕ) → k ≡ DividedBy n → (a ≡ pos 0) ⊎ IsMultiple n m) → unsigned_abs (unless_zero a (divisor_of k)) ∣ m
 repeats_in m (pos zero) AtLeastZero h = one-dvd m

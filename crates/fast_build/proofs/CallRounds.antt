@@ -1,5 +1,5 @@
 -- The rounds in which the transformations that are called, and the languages that are demanded, are gathered.
-use Rattle.std.proofs.Common.{◌≡◌, ℕ, zero, suc, ◌≤◌, true, List, [], ◌∷◌, ◌++◌, Option, Some, None, length, get_or, All, Contains, ap, subst, ◌∙◌, arith}
+use Rattle.std.proofs.Common.{◌≡◌, ℕ, zero, suc, ◌≤◌, true, List, [], ◌∷◌, ◌++◌, Some, length, get_or, All, Contains, ap, subst, ◌∙◌, arith}
 use Rattle.std.specs.Prelude.{is_some}
 use Rattle.std.specs.List.{IsDistinct}
 use Rattle.std.specs.Cmp.{IsEquivalence}
@@ -8,6 +8,7 @@ use Rattle.model_names.specs.Declared.{same_text, rules_of, out_rules_of}
 use Rattle.model_checks.specs.Programs.{is_well_formed}
 use Rattle.model_meaning.specs.Reached.{Reaches, itself}
 use Rattle.meaning_laws.specs.Reaching.{IsTransFrom}
+use Rattle.model_checks.proofs.Soundness.{is_there}
 use Rattle.fast_build.specs.Items.{find_lang}
 use Rattle.fast_build.specs.Transformations.{find_trans}
 use Rattle.fast_build.specs.Reached.{IsGrown, AreReached, demanded_in}
@@ -19,10 +20,6 @@ use Rattle.fast_build.proofs.Rounds.{demanded_reached}
 use Rattle.fast_build.proofs.Standing.{item_there, lang_there}
 use Rattle.fast_build.proofs.Transforming.{trans_from, found_trans, found_item, call_from, call_reached}
 use Rattle.fast_build.proofs.WellFormed.{all_stand}
-
-some_there : {A : Type 0} (o : Option A) → is_some o ≡ true → (x : A) × (o ≡ Some x)
-some_there None e = absurd (cc)
-some_there (Some x) e = (x, λ i. Some x)
 
 -- the only name of one
 only_name : (name x : List ℕ) → Contains (name ∷ []) x → name ≡ x
@@ -55,13 +52,13 @@ more_called items name old new n so_far at g = record {
 
 pub found_one : (items : List Item) (name n : List ℕ) (names : List (List ℕ)) → is_some (find_trans items name) ≡ true → AreKnown items name names → Contains names n → (t : TransItem) × (find_trans items n ≡ Some t)
 found_one items name n names there known at =
-    let own = some_there (find_trans items name) there in
+    let own = is_there (find_trans items name) there in
     let t = all_of_contained (λ m. IsTransFrom items m own.0.from.text own.0.into.text) names n (known own.0 own.1) at in
     (t.own, found_trans items n own.0.from.text own.0.into.text t)
 
 pub no_more : (items : List Item) (name : List ℕ) (laws : IsEquivalence same_text) (names : List (List ℕ)) → is_some (find_trans items name) ≡ true → AreKnown items name names → IsDistinct same_text names → length names ≤ length items
 no_more items name laws names there known apart =
-    let own = some_there (find_trans items name) there in
+    let own = is_there (find_trans items name) there in
     not_more_than_items items laws names (λ k d low. found_item items (get_or names k d) own.0.from.text own.0.into.text (known own.0 own.1 k d low)) apart
 
 -- ---- languages

@@ -20,7 +20,7 @@ use Rattle.model_sttr.specs.Transducer.{Head, identity, run}
 use Rattle.sttr_core.specs.Machine.{OutMachine}
 use Rattle.sttr_core.specs.Uses.{use_count, uses_in}
 use Rattle.sttr_core.specs.Linear.{AreLinear, IsFirstCopying}
-use Rattle.sttr_core.proofs.Uses.{counted_here, here_if_counted}
+use Rattle.sttr_core.proofs.Uses.{counted_here, here_if_counted, either}
 use Rattle.sttr_core.proofs.Linearity.{uses_few}
 use Rattle.sttr_core.proofs.Meaning.{of_place}
 use Rattle.record_label.specs.Rows.{RowAtom}
@@ -75,10 +75,6 @@ one_of_two (suc zero) zero h = absurd (omega arith)
 one_of_two (suc zero) (suc b) h = inr (inl (omega arith, omega arith))
 one_of_two (suc (suc a)) b h = inl (omega arith)
 
-one_or_other : (a b : ℕ) → 0 < a + b → (0 < a) ⊎ (0 < b)
-one_or_other zero b h = inr (omega arith)
-one_or_other (suc a) b h = inl (omega arith)
-
 -- ---- terms
 
 module _ (s t : PlainSignature) (place : List ℕ → ℕ) (vars : List Name) where
@@ -98,7 +94,7 @@ module _ (s t : PlainSignature) (place : List ℕ → ℕ) (vars : List Name) wh
     names_in no_out (part p ps) j are used = absurd are
     names_in (and_out out outs) no_parts j are used = absurd are
     names_in (and_out out outs) (part p ps) j are used =
-        elim (one_or_other (use_count j p) (uses_in j ps) used) as (λ _. NamesInOne (and_out out outs) (variable vars j)) [ inl h ↦ inl (names out p j are.0 h) | inr h ↦ inr (names_in outs ps j are.1 h) ]
+        elim (either (use_count j p) (uses_in j ps) used) as (λ _. NamesInOne (and_out out outs) (variable vars j)) [ inl h ↦ inl (names out p j are.0 h) | inr h ↦ inr (names_in outs ps j are.1 h) ]
 
   mutual
     -- a child that is used twice is named twice

@@ -44,8 +44,5 @@ all_right P (x ∷ xs) ys all = all_right P xs ys (All-tail P x (xs ++ ys) all)
 pub all_of_contained : {A : Type 0} (P : A → Type 0) (xs : List A) (x : A) → All P xs → Contains xs x → P x
 all_of_contained P xs x all (k, low, is) = subst P is (all k x low)
 
-pub test_of_contained : {A : Type 0} (p : A → Bool) (xs : List A) (x : A) → list_all p xs ≡ true → Contains xs x → p x ≡ true
-test_of_contained p xs x all (k, low, is) = all_contained p xs k x all (sym is) low
-
 pub all_here : {A : Type 0} (P : A → Type 0) (xs : List A) (i : ℕ) (x : A) → All P xs → x ≡ get_or xs i x → i < length xs → P x
 all_here P xs i x all is low = subst P (sym is) (all i x low)

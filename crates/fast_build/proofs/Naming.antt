@@ -10,7 +10,7 @@ use Rattle.model_names.specs.Declared.{same_text}
 use Rattle.fast_tree.specs.declared.signature.CtorOf as code
 use Rattle.fast_tree.specs.Signatures.{plain_constructor}
 use Rattle.std.proofs.lemmas.List.Folds.{list_any_at}
-use Rattle.model_checks.proofs.Soundness.{same_itself}
+use Rattle.model_checks.proofs.Soundness.{same_itself, found_passes}
 use Rattle.fast_build.specs.Numbers.{find_constructor, ctor_at, IsNumbered, number_in}
 use Rattle.fast_build.proofs.Stands.{are_apart}
 use Rattle.fast_build.proofs.Elements.{first_true, second_true}
@@ -150,13 +150,8 @@ passes_by : {A : Type 0} (p : A → Bool) (y x : A) (later : Option A) (b : Bool
 passes_by p y x later true t rest e = let same : y ≡ x = cc in ap p (sym same) ∙ t
 passes_by p y x later false t rest e = rest e
 
--- what is found passes
-pub find_passes : {A : Type 0} (p : A → Bool) (xs : List A) (x : A) → find p xs ≡ Some x → p x ≡ true
-find_passes p [] x e = absurd (cc)
-find_passes p (y ∷ ys) x e = passes_by p y x (find p ys) (p y) refl (find_passes p ys x) e
-
 -- a tree has the constructor of a name where it has that constructor's number
 pub number_named : (t : PlainSignature) (name : List ℕ) (n c : ℕ) → are_apart (names_of t) ≡ true → IsNumbered t.constructors name n → c < length t.constructors → same_text (get_or (names_of t) c []) name ≡ (n == c)
 number_named t name n c apart at low =
-    let is : name ≡ get_or (names_of t) n [] = sym (same_from_test (ctor_at t.constructors n).name name (find_passes (λ x. same_text x.name name) t.constructors (ctor_at t.constructors n) at.found)) ∙ sym (ctor_name t n at.below) in
+    let is : name ≡ get_or (names_of t) n [] = sym (same_from_test (ctor_at t.constructors n).name name (found_passes (λ x. same_text x.name name) t.constructors (ctor_at t.constructors n) at.found)) ∙ sym (ctor_name t n at.below) in
     ap (same_text (get_or (names_of t) c [])) is ∙ told_apart (names_of t) n c (rw length-map at.below) (rw length-map low) apart

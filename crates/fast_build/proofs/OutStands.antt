@@ -37,12 +37,13 @@ use Rattle.fast_build.specs.OutRules.{OutRuleStands}
 use Rattle.fast_build.specs.Transformations.{find_trans}
 use Rattle.fast_build.proofs.Stands.{are_apart, has_rank}
 use Rattle.fast_build.proofs.WellFormed.{ctor_found, rank_same, ctor_texts, apart_texts}
-use Rattle.fast_build.proofs.Transforming.{trans_there, in_parts}
+use Rattle.sta_theory.proofs.Lists.{append_member}
+use Rattle.fast_build.proofs.Transforming.{trans_there}
 
 -- ---- labels
 
 outside_of_both : (fs gs : List Form) (n : ℤ) → (HasOutside fs n → ⊥) → (HasOutside gs n → ⊥) → HasOutside (fs ++ gs) n → ⊥
-outside_of_both fs gs n first second (f, at, out) = elim (in_parts fs gs f at) [ inl h ↦ first (f, h, out) | inr h ↦ second (f, h, out) ]
+outside_of_both fs gs n first second (f, at, out) = elim (append_member fs gs f at) [ inl h ↦ first (f, h, out) | inr h ↦ second (f, h, out) ]
 
 none_outside : (n : ℤ) → HasOutside [] n → ⊥
 none_outside n (f, (k, low, is), out) = omega (arith, low)

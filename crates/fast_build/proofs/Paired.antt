@@ -5,6 +5,7 @@ use Rattle.std.proofs.lemmas.List.{get_or_default}
 use Rattle.std.proofs.lemmas.List.Elements.{All-tail}
 use Rattle.model_sta.specs.Pairwise.{Pairwise}
 use Rattle.model_sta.specs.Sets.{Each}
+use Rattle.sta_classes.proofs.Rows.{all_each}
 
 -- what goes together of lists of lists goes together at each place
 pub paired_at : {X Y : Type 0} (R : X → Y → Type 0) (xss : List (List X)) (yss : List (List Y)) (k : ℕ) → Pairwise (Pairwise R) xss yss → Pairwise R (get_or xss k []) (get_or yss k [])
@@ -45,13 +46,9 @@ paired_weaker R S weaker (x ∷ xs) (y ∷ ys) are = (weaker x y are.0, paired_w
 pub each_all : {X : Type 0} (P : X → Type 0) (xs : List X) → ((x : X) → Contains xs x → P x) → All P xs
 each_all P xs each k d low = each (get_or xs k d) (k, low, get_or_default xs k (get_or xs k d) d low)
 
-pub each_of_all : {X : Type 0} (P : X → Type 0) (xs : List X) → All P xs → Each P xs
-each_of_all P [] all = tt
-each_of_all P (x ∷ xs) all = (all zero x (omega arith), each_of_all P xs (All-tail P x xs all))
-
 pub each_each_all : {X : Type 0} (P : X → Type 0) (xss : List (List X)) → All (λ xs. All P xs) xss → Each (λ xs. Each P xs) xss
 each_each_all P [] all = tt
-each_each_all P (xs ∷ xss) all = (each_of_all P xs (all zero xs (omega arith)), each_each_all P xss (All-tail (λ ys. All P ys) xs xss all))
+each_each_all P (xs ∷ xss) all = (all_each P xs (all zero xs (omega arith)), each_each_all P xss (All-tail (λ ys. All P ys) xs xss all))
 
 -- what holds of each element of each list
 pub each_place : {X : Type 0} (P : X → Type 0) (xss : List (List X)) → ((k : ℕ) (x : X) → k < length xss → Contains (get_or xss k []) x → P x) → All (λ xs. All P xs) xss

@@ -9,7 +9,7 @@ use Rattle.model_meaning.specs.Reached.{Reaches, itself, by_demand, by_lookahead
 use Rattle.fast_build.specs.Items.{find_lang}
 use Rattle.fast_build.proofs.Stands.{demand_stands, rule_stands, AllStand}
 use Rattle.fast_build.proofs.Standing.{demands_there, rules_are, no_out_rules, type_is, same_type}
-use Rattle.fast_build.proofs.Elements.{test_of_contained}
+use Rattle.model_meaning.proofs.Rules.{each_passes}
 use Rattle.fast_build.proofs.Naming.{same_from_test}
 
 -- the name is that of a language with trees of this type
@@ -25,8 +25,8 @@ by_name of (Some l) e = (l, refl, same_from_test l.of.text of e)
 demanded : (items : List Item) (of other : List ℕ) (r : Rule) (d : Demand) → AllStand items → IsOf items of other → Contains (rules_of items other) r → Contains r.given d → IsOf items of d.language.text
 demanded items of other r d stand at among named =
     let l = stand other at.lang at.found in
-    let r_stands = test_of_contained (rule_stands items at.lang.of (signature_at items at.lang.of)) at.lang.rules r l.rules (subst (λ rs. Contains rs r) (rules_are items other at.lang at.found) among) in
-    let d_stands = test_of_contained (demand_stands items at.lang.of) r.given d (demands_there items at.lang.of (signature_at items at.lang.of) r r_stands) named in
+    let r_stands = each_passes (rule_stands items at.lang.of (signature_at items at.lang.of)) at.lang.rules r l.rules (subst (λ rs. Contains rs r) (rules_are items other at.lang at.found) among) in
+    let d_stands = each_passes (demand_stands items at.lang.of) r.given d (demands_there items at.lang.of (signature_at items at.lang.of) r r_stands) named in
     let k = by_name at.lang.of.text (find_lang items d.language.text) d_stands in
     record { lang = k.0; found = k.1; of_is = k.2 ∙ at.of_is }
 

@@ -2,7 +2,6 @@
 use Rattle.std.proofs.Common.{◌≡◌, ◌+◌, ◌<◌, inl, inr, true, false, Bool, not, cond, ℕ, zero, suc, List, [], ◌∷◌, Some, All, length, map, get_or, slice_get, Contains, refl, sym, ap, subst, ◌∙◌, arith}
 use Rattle.std.specs.Option.{option_map_or}
 use Rattle.std.proofs.lemmas.List.{get_or-map}
-use Rattle.std.proofs.lemmas.Option.{slice_get_within, get_or_from_slice_get}
 use Rattle.model_tree.specs.Label.{Label}
 use Rattle.model_tree.specs.Signature.{PlainSignature, names_of}
 use Rattle.model_program.specs.Syntax.{Name}
@@ -24,6 +23,7 @@ use Rattle.sttr_core.specs.Machine.{OutMachine, transducer_of}
 use Rattle.sttr_core.proofs.Meaning.{meaning_of, rules_meant}
 use Rattle.record_label.specs.Rows.{RowAtom, row_holds}
 use Rattle.record_label.specs.declared.maps.RowMap.{RowMap}
+use Rattle.sttr_single.proofs.Stopping.{slice_in}
 use Rattle.fast_build.specs.Numbers.{number_in}
 use Rattle.fast_build.specs.OutRules.{IsOutRuleFor}
 use Rattle.fast_build.specs.Reached.{demanded_by}
@@ -63,9 +63,6 @@ pub there_at : {X : Type 0} (xs : List X) (x : X) → Contains xs x → (i : ℕ
 there_at [] x (k, low, is) = absurd (omega arith)
 there_at (y ∷ xs) x (zero, low, is) = (0, ap (λ z. Some z) is)
 there_at (y ∷ xs) x (suc k, low, is) = let later = there_at xs x (k, omega (arith, low), is) in (suc later.0, later.1)
-
-pub at_there : {X : Type 0} (xs : List X) (i : ℕ) (x : X) → slice_get xs i ≡ Some x → Contains xs x
-at_there xs i x at = (i, slice_get_within xs i x at, get_or_from_slice_get xs i x x at)
 
 -- a name with a number among names is one of them
 numbered_there : (names : List (List ℕ)) (name : List ℕ) → number_in names name < length names → Contains names name
@@ -152,7 +149,7 @@ module _ (items : List Item) (well : is_well_formed items ≡ true) (n : Name) (
       let x = own_at k low in
       let f = rule_for k i r w low at at' in
       let sides = trans_sound items well (name_at k) x.item x.found_item in
-      let own_rule : Contains x.item.rules w = subst (λ rs. Contains rs w) (outs_are items (name_at k) x.item x.found_item) (at_there (out_rules_of items (name_at k)) i w at') in
+      let own_rule : Contains x.item.rules w = subst (λ rs. Contains rs w) (outs_are items (name_at k) x.item x.found_item) (slice_in (out_rules_of items (name_at k)) i w at') in
       let stands = out_rule_stands items well (name_at k) x.item x.found_item (demanded_by w.rule.given) names w own_rule (itself (demanded_by w.rule.given)) (called_there w.rule.vars w.out r.term f.term (is.fit.rules k (meaning_of row_holds row_make r) (meant_there k i r at)).heads) in
       let begins : signature_of sides.from ≡ s = sym (facts.input_is items (name_at k) x.item x.found_item ∙ ap (λ z. option_map_or signature_of z no_signature) sides.found_from) ∙ input_beside items well n t found from into goes names d is k low in
       let ends : signature_of sides.into ≡ o = sym (facts.output_is items (name_at k) x.item x.found_item ∙ ap (λ z. option_map_or signature_of z no_signature) sides.found_into) ∙ output_beside items well n t found from into goes names d is k low in

@@ -16,7 +16,8 @@ use Rattle.sttr_single.specs.Same.{AreEqual, AreEqualParts}
 use Rattle.fast_build.specs.CarriedTrans.{same_maps}
 use Rattle.fast_build.specs.Numbers.{number_in, ctor_at, IsNumbered}
 use Rattle.fast_build.specs.Terms.{IsChild, IsTermFor, AreTermsFor, TermStands, TermsStand}
-use Rattle.fast_build.proofs.Naming.{same_from_test, named_by_number, find_passes}
+use Rattle.model_checks.proofs.Soundness.{found_passes}
+use Rattle.fast_build.proofs.Naming.{same_from_test, named_by_number}
 use Rattle.fast_build.proofs.Relating.{numbered_named}
 use Rattle.fast_build.proofs.SameMaps.{maps_same}
 
@@ -58,9 +59,9 @@ number_told names p q at at' e = sym (named_by_number names p at) ∙ ap (λ k. 
 -- so does that of a constructor
 ctor_told : (t : PlainSignature) (p q : List ℕ) (c d : ℕ) → IsNumbered t.constructors p c → IsNumbered t.constructors q d → c ≡ d → p ≡ q
 ctor_told t p q c d is is' e =
-    sym (same_from_test (ctor_at t.constructors c).name p (find_passes (λ x. same_text x.name p) t.constructors (ctor_at t.constructors c) is.found))
+    sym (same_from_test (ctor_at t.constructors c).name p (found_passes (λ x. same_text x.name p) t.constructors (ctor_at t.constructors c) is.found))
     ∙ ap (λ k. (ctor_at t.constructors k).name) e
-    ∙ same_from_test (ctor_at t.constructors d).name q (find_passes (λ x. same_text x.name q) t.constructors (ctor_at t.constructors d) is'.found)
+    ∙ same_from_test (ctor_at t.constructors d).name q (found_passes (λ x. same_text x.name q) t.constructors (ctor_at t.constructors d) is'.found)
 
 ctor_same : (t : PlainSignature) (p q : List ℕ) (c d : ℕ) → are_apart (names_of t) ≡ true → IsNumbered t.constructors p c → IsNumbered t.constructors q d → p ≡ q → c ≡ d
 ctor_same t p q c d apart is is' e = some_same (sym (numbered_named t p c apart is) ∙ ap (number_named (names_of t)) e ∙ numbered_named t q d apart is')

@@ -1,5 +1,5 @@
 -- Names of transformations, and what their rules call and demand.
-use Rattle.std.proofs.Common.{◌≡◌, ◌⊎◌, inl, inr, ℕ, zero, suc, true, List, [], ◌∷◌, ◌++◌, Option, Some, None, Contains, refl, sym, ap, subst, ◌∙◌, arith}
+use Rattle.std.proofs.Common.{◌≡◌, inl, inr, ℕ, zero, suc, true, List, [], ◌∷◌, Option, Some, None, Contains, refl, sym, ap, subst, ◌∙◌, arith}
 use Rattle.std.specs.Prelude.{is_some}
 use Rattle.std.specs.List.{flat_map}
 use Rattle.std.specs.Option.{option_and_then, option_map_or}
@@ -17,6 +17,8 @@ use Rattle.model_meaning.proofs.Named.{lang_kind}
 use Rattle.meaning_laws.specs.Reaching.{IsLangOn, IsTransFrom}
 use Rattle.meaning_laws.proofs.Reaching.{reached_by_trans}
 use Rattle.meaning_laws.proofs.Rules.{terms_typed_of}
+use Rattle.model_layers.proofs.Sight.{the_only}
+use Rattle.sta_theory.proofs.Lists.{append_member}
 use Rattle.fast_build.specs.Items.{own_lang, find_lang}
 use Rattle.fast_build.specs.Reached.{demanded_by}
 use Rattle.fast_build.specs.Transformations.{own_trans, find_trans}
@@ -64,17 +66,8 @@ outs_are items name t e = outs_by (find_item items name) t e
 
 -- ---- what is called
 
-pub in_parts : {X : Type 0} (xs ys : List X) (x : X) → Contains (xs ++ ys) x → Contains xs x ⊎ Contains ys x
-in_parts [] ys x at = inr at
-in_parts (y ∷ xs) ys x (zero, low, is) = inl (zero, omega arith, is)
-in_parts (y ∷ xs) ys x (suc k, low, is) = elim (in_parts xs ys x (k, omega (arith, low), is)) [ inl h ↦ inl (Contains-append_right (y ∷ []) xs x h) | inr h ↦ inr h ]
-
 pub no_part : {X : Type 0} (x : X) → Contains [] x → ⊥
 no_part x (k, low, is) = omega (arith, low)
-
-only_part : {X : Type 0} (x y : X) → Contains (x ∷ []) y → x ≡ y
-only_part x y (zero, low, is) = is
-only_part x y (suc k, low, is) = absurd (omega (arith, low))
 
 pub first_part : {X : Type 0} (x : X) (xs : List X) → Contains (x ∷ xs) x
 first_part x xs = (0, omega arith, refl)
@@ -85,12 +78,12 @@ later_part x y xs at = Contains-append_right (x ∷ []) xs y at
 mutual
   pub is_called : (out : Out) (q : List ℕ) → Contains (called_by out) q → IsCalledIn out q
   is_called (child y) q at = no_part q at
-  is_called (call p y) q at = only_part p.text q at
+  is_called (call p y) q at = the_only p.text q at
   is_called (node name labels outs) q at = is_called_in outs q at
 
   pub is_called_in : (outs : Outs) (q : List ℕ) → Contains (called_by_all outs) q → IsCalledInOne outs q
   is_called_in no_out q at = no_part q at
-  is_called_in (and_out out outs) q at = elim (in_parts (called_by out) (called_by_all outs) q at) as (λ _. IsCalledInOne (and_out out outs) q) [ inl h ↦ inl (is_called out q h) | inr h ↦ inr (is_called_in outs q h) ]
+  is_called_in (and_out out outs) q at = elim (append_member (called_by out) (called_by_all outs) q at) as (λ _. IsCalledInOne (and_out out outs) q) [ inl h ↦ inl (is_called out q h) | inr h ↦ inr (is_called_in outs q h) ]
 
 mutual
   pub calls_there : (out : Out) (q : List ℕ) → IsCalledIn out q → Contains (called_by out) q
@@ -106,7 +99,7 @@ mutual
 -- what is given by some of a list is given by one of it
 pub given_by_one : {X Y : Type 0} (f : X → List Y) (xs : List X) (y : Y) → Contains (flat_map f xs) y → (x : X) × Contains xs x × Contains (f x) y
 given_by_one f [] y at = absurd (no_part y at)
-given_by_one f (x ∷ xs) y at = elim (in_parts (f x) (flat_map f xs) y at) [
+given_by_one f (x ∷ xs) y at = elim (append_member (f x) (flat_map f xs) y at) [
   | inl h ↦ (x, first_part x xs, h)
   | inr h ↦ (let (z, there, by) = given_by_one f xs y h in (z, later_part x z xs there, by))
 ]

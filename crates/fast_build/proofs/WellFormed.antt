@@ -1,7 +1,7 @@
 -- What is said of the languages of a well-formed program.
-use Rattle.std.proofs.Common.{◌≡◌, ℕ, suc, ℤ, pos, negsuc, ◌≤◌, ◌==◌, Bool, true, false, cond, ◌&&◌, ◌||◌, List, [], ◌∷◌, Option, Some, None, map, length, get_or, Contains, refl, sym, ap, ap₂, subst, ◌∙◌, arith}
+use Rattle.std.proofs.Common.{◌≡◌, ℕ, ℤ, pos, negsuc, ◌≤◌, ◌==◌, Bool, true, false, cond, ◌&&◌, ◌||◌, List, [], ◌∷◌, Option, Some, None, map, length, get_or, Contains, refl, sym, ap, ap₂, subst, ◌∙◌}
 use Rattle.std.specs.Prelude.{not}
-use Rattle.std.specs.List.{list_all, list_any}
+use Rattle.std.specs.List.{list_any}
 use Rattle.std.specs.Option.{option_map_or, option_and_then}
 use Rattle.std.proofs.lemmas.List.{length-map}
 use Rattle.std.proofs.lemmas.List.Elements.{Contains-get_or}
@@ -18,19 +18,12 @@ use Rattle.model_checks.specs.Sound.{are_distinct, names_of_ctors, IsSoundType, 
 use Rattle.model_checks.proofs.SoundWhole.{sound, finds}
 use Rattle.meaning_laws.proofs.SoundGuards.{sound_guard}
 use Rattle.model_checks.proofs.Soundness.{same_itself}
+use Rattle.model_meaning.proofs.Rules.{all_pass}
 use Rattle.fast_build.specs.Items.{own_lang, find_lang}
 use Rattle.fast_build.specs.Numbers.{find_constructor}
 use Rattle.fast_build.specs.Stands.{GuardStands}
 use Rattle.fast_build.proofs.Stands.{are_apart, has_rank, demand_stands, rule_stands, LangStands, AllStand}
 use Rattle.fast_build.proofs.Standing.{item_there}
-
--- what is true of each that is contained is true of all
-pub all_from : {A : Type 0} (p : A → Bool) (xs : List A) → ((x : A) → Contains xs x → p x ≡ true) → list_all p xs ≡ true
-all_from p [] each = refl
-all_from p (x ∷ xs) each = ap₂ (λ a b. a && b) (each x (0, omega arith, refl)) (all_from p xs (λ y at. each y (later y at)))
-  where
-    later : (y : _) → Contains xs y → Contains (x ∷ xs) y
-    later y (k, low, is) = (suc k, omega (arith, low), is)
 
 -- names that are different are different texts
 none_mapped : (x : Name) (ns : List Name) → list_any (same_text x.text) (map (λ (n : Name). n.text) ns) ≡ list_any (λ m. same_text x.text m.text) ns
@@ -86,7 +79,7 @@ module _ (items : List Item) (ok : is_well_formed items ≡ true) where
     rule_ok : (r : Rule) → Contains l.rules r → rule_stands items l.of (signature_at items l.of) r ≡ true
     rule_ok r at =
         let sr = s.rules r at in
-        ap₂ (λ a b. a && b) (ap (λ g. has_rank g r) signature_is ∙ rank_ok r sr) (all_from (demand_stands items l.of) r.given (λ d named. demand_ok r.vars d (sr.given d named)))
+        ap₂ (λ a b. a && b) (ap (λ g. has_rank g r) signature_is ∙ rank_ok r sr) (all_pass (demand_stands items l.of) r.given (λ d named. demand_ok r.vars d (sr.given d named)))
 
     guard_ok : IsSoundType t → (guard : Option Expr) → IsSoundGuard t.fields guard → GuardStands (signature_of t).fields guard
     guard_ok st None sound = tt
@@ -98,7 +91,7 @@ module _ (items : List Item) (ok : is_well_formed items ≡ true) where
       found = s.found;
       apart = ap (λ g. are_apart (names_of g)) signature_is ∙ ap are_apart (ctor_texts t.ctors) ∙ apart_texts (names_of_ctors t.ctors) ∙ st.ctors;
       few = subst (λ (g : PlainSignature). length g.fields ≤ most_fields) (sym signature_is) (rw length-map st.few_fields);
-      rules = all_from (rule_stands items l.of (signature_at items l.of)) l.rules rule_ok;
+      rules = all_pass (rule_stands items l.of (signature_at items l.of)) l.rules rule_ok;
       guards = λ k d low. let r = get_or l.rules k d in
           subst (λ (g : PlainSignature). GuardStands g.fields r.guard) (sym signature_is) (guard_ok st r.guard (s.rules r (Contains-get_or l.rules k d low)).guard);
     }

@@ -7,12 +7,13 @@ use Rattle.model_meaning.specs.Types.{input_of}
 use Rattle.model_meaning.specs.Meaning.{signature_named}
 use Rattle.model_meaning.proofs.Members.{one_of, none_of}
 use Rattle.model_grammar.specs.Syntax.{X, Claim, equal, member, empty, type_check, Body, TreeItem, tree, DefItem, def, AssertItem, assertion, Item}
-use Rattle.model_run.specs.Plain.{ReachesSome, at_name, at_opened, of_first, of_second, of_restricted, of_out_restricted, Meet}
+use Rattle.model_run.specs.Plain.{Meet}
 use Rattle.model_run.specs.Items.{used_in, claimed, expressions_in, judged, IsComposedIn, in_expression, IsComposable, AreComposable}
 use Rattle.model_layers.specs.Causes.{IsAmong, CausesWiden}
 use Rattle.model_layers.proofs.Wider.{are_widened}
 use Rattle.lin_solve.specs.Shown.{bits_of}
 use Rattle.sta_theory.proofs.Lists.{append_member, first_in, later_in}
+use Rattle.model_run.proofs.Laws.{one_reached}
 use Rattle.fast_compose.specs.declared.stops.ComposeStop.{ComposeStop}
 use Rattle.fast_compose.specs.declared.stops.ComposeStop.TheVariants.{Classes, Wide, NotComposable, TooLarge, Memory}
 use Rattle.fast_compose.specs.declared.stops.Uncomposable.{Uncomposable}
@@ -47,14 +48,6 @@ module _ (items : List Item) where
 
 -- ---- one can't
 
-some_holds : (items : List Item) (P : List ℕ → Type 0) (x : X) → ReachesSome items P x → (q : List ℕ) × P q
-some_holds items P _ (at_name n q reached holds) = (q, holds)
-some_holds items P _ (at_opened n x opens reached) = some_holds items P x reached
-some_holds items P _ (of_first place x y reached) = some_holds items P x reached
-some_holds items P _ (of_second place x y reached) = some_holds items P y reached
-some_holds items P _ (of_restricted place x y reached) = some_holds items P x reached
-some_holds items P _ (of_out_restricted place x y reached) = some_holds items P x reached
-
 module _ (items : List Item) (whole : IsSound items) (limit : ℕ) (x y : X) (body : Body) (own : IsOfItem items whole x y body) where
   only : (a b : X) → Contains (a ∷ []) b → a ≡ b
   only a b is = elim (one_of a b [] is) [ inl same ↦ same | inr none ↦ absurd (none_of b none) ]
@@ -67,7 +60,7 @@ module _ (items : List Item) (whole : IsSound items) (limit : ℕ) (x y : X) (bo
 
   typed_meeting : (u : Uncomposable) → IsUncomposable items x y u → HasType (signature_named items (Some u.meeting.of)) (meeting_of u)
   typed_meeting u s =
-      let (q, holds) = some_holds items (λ q. (q ≡ u.meeting.name) × Meet items q u.meeting.first u.meeting.second (meeting_of u)) x s.meet in
+      let (q, holds) = one_reached items (λ q. (q ≡ u.meeting.name) × Meet items q u.meeting.first u.meeting.second (meeting_of u)) x s.meet in
       subst (λ z. HasType z (meeting_of u)) (ap (input_of items) holds.0 ∙ sym s.type) (typed_by_meet q u holds.1)
 
   pub cause_of : (stop : ComposeStop) → StopsPair items limit x y stop → IsComposeCause items limit body stop

@@ -33,7 +33,8 @@ use Rattle.fast_compose.specs.declared.meetings.Met.TheVariants as met
 use Rattle.fast_compose.specs.declared.stops.Meeting.{Meeting}
 use Rattle.fast_compose.specs.Meetings.{IsMeetingFor, IsMet, StopsMeeting}
 use Rattle.fast_compose.proofs.Named.{no_outs}
-use Rattle.fast_compose.proofs.States.{goes_between, signature_is, none_meet, all_large, meeting_low, meeting_is, at_place}
+use Rattle.sttr_single.proofs.Stopping.{slice_in}
+use Rattle.fast_compose.proofs.States.{goes_between, signature_is, none_meet, all_large, meeting_low, meeting_is}
 use Rattle.fast_compose.proofs.Stopping.{StopsName, stops_name}
 
 -- the signature of a type that is found
@@ -52,7 +53,7 @@ labels_by items type sorts s own found = own ∙ ap sorts_of (signature_found (f
 
 -- a name that isn't that of a transformation
 pub none_met : (items : List Item) (whole : IsSound items) (name : List ℕ) → find_trans items name ≡ None → IsMet items (Reaches items name) met.Nowhere
-none_met items whole name none t (q, reached, i, j, meet) = no_outs items whole name q meet.1 none reached (at_place (out_rules_of items q) i meet.1 meet.3)
+none_met items whole name none t (q, reached, i, j, meet) = no_outs items whole name q meet.1 none reached (slice_in (out_rules_of items q) i meet.1 meet.3)
 
 module _ (items : List Item) (well : is_well_formed items ≡ true) (name : List ℕ) (t : TransItem) (found : find_trans items name ≡ Some t) (sorts : List Sort) (labels : sorts ≡ sorts_of (signature_named items (Some t.from.text))) (names : List (List ℕ)) (d : Trans RowAtom RowMap)
     (is : IsTransducerOf items name names d.sttr) (carried : (n : Name) (from into : List ℕ) → n.text ≡ name → IsFrom items (named n) from into → IsBuiltTransFor items n from into names d.sttr d.state) where

@@ -3,7 +3,7 @@ use Rattle.std.proofs.Common.{◌≡◌, ◌↔◌, ℕ, zero, suc, ◌<◌, ◌
 use Rattle.std.specs.Prelude.{slice_get}
 use Rattle.std.specs.Option.{option_map}
 use Rattle.std.proofs.lemmas.List.{length-map}
-use Rattle.std.proofs.lemmas.Option.{slice_get_within, slice_get-map, get_or_from_slice_get}
+use Rattle.std.proofs.lemmas.Option.{slice_get_within, slice_get-map}
 use Rattle.model_tree.specs.Limits.{most_nodes, greatest_depth, most_rules, most_classes}
 use Rattle.model_tree.specs.Tree.{LabelTree, relabel, node_count, depth}
 use Rattle.model_tree.specs.Kept.{is_kept}
@@ -50,6 +50,7 @@ use Rattle.fast_build.proofs.OutStands.{trans_sound}
 use Rattle.fast_build.proofs.Paired.{paired_many, place_low}
 use Rattle.fast_build.proofs.Transforming.{found_trans, outs_are}
 use Rattle.fast_eval.proofs.Typed.{fits_from_type, type_from_fits, fits_if_kept, kept_if_fits}
+use Rattle.sttr_single.proofs.Stopping.{slice_in}
 use Rattle.fast_compose.specs.declared.stops.Meeting.{Meeting}
 use Rattle.fast_compose.specs.Meetings.{tree_of, IsMeetingFor, IsMeeting, MeetSome}
 use Rattle.fast_compose.proofs.Named.{outs_trans}
@@ -67,9 +68,6 @@ module _ {A B : Type 0} (R : A → B → Type 0) where
   pair_second [] (b ∷ ys) all i y at = absurd all
   pair_second (a ∷ xs) (b ∷ ys) all zero y at = let same : b ≡ y = cc in (a, refl, subst (λ z. R a z) same all.0)
   pair_second (a ∷ xs) (b ∷ ys) all (suc i) y at = pair_second xs ys all.1 i y at
-
-pub at_place : {A : Type 0} (xs : List A) (i : ℕ) (x : A) → slice_get xs i ≡ Some x → Contains xs x
-at_place xs i x at = (i, slice_get_within xs i x at, get_or_from_slice_get xs i x x at)
 
 -- the type of the inputs is declared
 module _ (items : List Item) (well : is_well_formed items ≡ true) (n : Name) (t : TransItem) (found : find_trans items n.text ≡ Some t) where
@@ -109,7 +107,7 @@ module _ (items : List Item) (well : is_well_formed items ≡ true) (n : Name) (
   many = paired_many _ d.sttr.rules (map (out_rules_of items) names) is.rules ∙ length-map names (out_rules_of items)
 
   pub low_by_rule : (q i : ℕ) (r : Rule) → slice_get (rules_at q) i ≡ Some r → q < length names
-  low_by_rule q i r at = let low = place_low d.sttr.rules q r (at_place (rules_at q) i r at) in omega (arith, low, many)
+  low_by_rule q i r at = let low = place_low d.sttr.rules q r (slice_in (rules_at q) i r at) in omega (arith, low, many)
 
   module _ (q : ℕ) (low : q < length names) where
     pub goes_at : IsFrom items (named (name_of (name_at q))) from into
@@ -183,7 +181,7 @@ module _ (items : List Item) (well : is_well_formed items ≡ true) (n : Name) (
     -- a rule's place
     pub few : (i : ℕ) (w : OutRule) → slice_get (out_rules_of items (name_at q)) i ≡ Some w → i < most_rules
     few i w at =
-        let (p, q2, own) = outs_trans items (sound items well) (name_at q) w (find_item items (name_at q)) refl (at_place (out_rules_of items (name_at q)) i w at) in
+        let (p, q2, own) = outs_trans items (sound items well) (name_at q) w (find_item items (name_at q)) refl (slice_in (out_rules_of items (name_at q)) i w at) in
         let found = found_trans items (name_at q) p q2 own in
         let s = trans_sound items well (name_at q) own.own found in
         let inside = slice_get_within (out_rules_of items (name_at q)) i w at in
@@ -204,7 +202,7 @@ module _ (items : List Item) (well : is_well_formed items ≡ true) (n : Name) (
 
   pub state_meets : (p : List ℕ) (i j : ℕ) (t : LabelTree) → Reaches items n.text p → run.Meet items p i j t → IsTyped items from t × ((q : ℕ) × single.Meet row_holds same_maps d.sttr q i j t)
   state_meets p i j t reached meet =
-      let (q, low, same) = state_of p meet.1 reached (at_place (out_rules_of items p) i meet.1 meet.3) in
+      let (q, low, same) = state_of p meet.1 reached (slice_in (out_rules_of items p) i meet.1 meet.3) in
       let (typed, own) = meet_down q low i j t (subst (λ z. run.Meet items z i j t) (sym same) meet) in
       (typed, (q, own))
 

@@ -1,5 +1,5 @@
 -- What stops the search for meetings shows of the name whose transducer is searched.
-use Rattle.std.proofs.Common.{◌≡◌, ◌↔◌, inl, inr, ℕ, zero, suc, Bool, true, false, ◌&&◌, List, [], ◌∷◌, Some, map, get_or, Contains, All, refl, sym, ap, subst, arith}
+use Rattle.std.proofs.Common.{◌≡◌, ◌↔◌, inl, inr, ℕ, zero, suc, true, ◌&&◌, List, [], ◌∷◌, Some, map, get_or, Contains, All, refl, sym, ap, subst, arith}
 use Rattle.std.specs.List.{flat_map}
 use Rattle.std.proofs.lemmas.List.Elements.{All-head, All-tail, All-map, All-weaker}
 use Rattle.model_tree.specs.Label.{Label}
@@ -52,13 +52,10 @@ use Rattle.fast_eval.proofs.Stopped.{guards_agree, wide_over}
 use Rattle.fast_eval.proofs.TransWritten.{trans_compared}
 use Rattle.fast_eval.proofs.Typed.{fits_if_kept}
 use Rattle.model_layers.proofs.Told.{exactly_one, exactly_as}
+use Rattle.sttr_theory.proofs.OneOf.{and_iff}
 use Rattle.fast_compose.proofs.States.{meant, low_by_rule, goes_at, reached_at, applied, meant_at, name_at, typed_by}
 
 -- ---- exactly one of two
-
-both_ways : (a b : Bool) → ((a && b) ≡ true) ↔ ((a ≡ true) × (b ≡ true))
-both_ways true b = (λ e. (refl, e), λ h. h.1)
-both_ways false b = (λ e. absurd (cc), λ h. absurd (let bad : false ≡ true = h.0 in cc))
 
 through : {P Q R : Type 0} → P ↔ Q → Q ↔ R → P ↔ R
 through f g = (λ p. g.0 (f.0 p), λ r. f.1 (g.1 r))
@@ -132,7 +129,7 @@ module _ (items : List Item) (well : is_well_formed items ≡ true) (n : Name) (
       let other = meant_at items well n from into goes names d is built q low j p unlike.second in
       let (part, own, alike) = two_rules_are_part items n m from into f q (reached_at items well n from into goes names d is built q low) (goes_at items well n from into goes names d is built q low) (applied items well n from into goes names d is built q low)
       i j (meaning_of row_holds row_make r) (meaning_of row_holds row_make p) unlike.in_order one other in
-      (named n, first_in (named n) [], part, own, exactly_as _ _ _ _ (through (both_ways _ _) (alike s first)) (through (both_ways _ _) (alike u second)) (exactly_one _ _ told))
+      (named n, first_in (named n) [], part, own, exactly_as _ _ _ _ (through (and_iff _ _) (alike s first)) (through (and_iff _ _) (alike u second)) (exactly_one _ _ told))
 
   told_apart : (s u : LabelTree) → IsTyped items from s → IsTyped items from u → Told s u → AreApart items (named n ∷ []) from s u
   told_apart s u first second (inl told) = by_look s u first second told

@@ -45,6 +45,7 @@ use Rattle.record_label.specs.declared.maps.RowMap.{RowMap}
 use Rattle.record_label.specs.Maps.{forms_of, formulas_in, are_one, put_side, put_atom, put_compare, IsOutsidePut}
 use Rattle.record_label.specs.PlainMaps.{plain_entry}
 use Rattle.record_label.specs.Rows.{RowAtom}
+use Rattle.model_layers.proofs.Sight.{the_only}
 use Rattle.fast_eval.specs.Built.{compares_in, entries_of, HasTest, IsCompared, AreListed, AreTransCompared}
 use Rattle.fast_build.proofs.Paired.{each_all}
 use Rattle.fast_eval.proofs.NamesBuilt.{guards_listed, atoms_listed, lefts_listed}
@@ -61,10 +62,6 @@ pub itself : (c : plain.Compare) → IsSameCompare c c
 itself c = (refl, same_itself c.left, same_itself c.right)
 
 -- ---- atoms in guards
-
-one_alone : {X : Type 0} (a b : X) → Contains (a ∷ []) b → a ≡ b
-one_alone a b (zero, low, is) = is
-one_alone a b (suc k, low, is) = absurd (omega (arith, low))
 
 pub none : {X : Type 0} (x : X) → Contains [] x → ⊥
 none x (k, low, is) = omega (arith, low)
@@ -197,8 +194,8 @@ row_outside m = IsOutsidePut (entries_of m)
 
 one_text : (items : List Item) (e : X) (from : List ℕ) (s t : TextSide) (p : RowAtom) → Contains (atoms_in (are_one s t)) p → IsFine items e from p
 one_text items e from (side.Constant s) (side.Constant t) p at = absurd (decided_none (bytes_eq s t) p at)
-one_text items e from (side.Constant s) (side.Field k) p at = subst (IsFine items e from) (one_alone _ p at) tt
-one_text items e from (side.Field k) t p at = subst (IsFine items e from) (one_alone _ p at) tt
+one_text items e from (side.Constant s) (side.Field k) p at = subst (IsFine items e from) (the_only _ p at) tt
+one_text items e from (side.Field k) t p at = subst (IsFine items e from) (the_only _ p at) tt
 
 module _ (items : List Item) (e f y : X) (from into : List ℕ) (back : LooksBack e f y) (at_f : Contains (operands e) f) (at_y : Contains (operands e) y) (out : output_of items f ≡ Some into)
     (d : OutMachine RowAtom RowMap) (own : AreTransCompared items f from into d) where
@@ -213,7 +210,7 @@ module _ (items : List Item) (e f y : X) (from into : List ℕ) (back : LooksBac
         (All-cons (IsPutOf (from ≡ into) (one_map items ms) (k ∷ [])) c [] (inr (inl (ms, first_in ms [], k, first_in k [], itself c))) (All-nil (IsPutOf (from ≡ into) (one_map items ms) (k ∷ [])))))
 
     pub put_fine : (m : RowMap) → HasMap d m → (a : RowAtom) → Asked a → (p : RowAtom) → row_is_put m a p → IsFine items e from p
-    put_fine m has (Left k) is p at = subst (IsFine items e from) (one_alone (Left (put_compare (forms_of (entries_of m)) k)) p at) (put_one m has (plain_compare k) (asked k is))
+    put_fine m has (Left k) is p at = subst (IsFine items e from) (the_only (Left (put_compare (forms_of (entries_of m)) k)) p at) (put_one m has (plain_compare k) (asked k is))
     put_fine m has (Right (Left t)) is p at =
         let (g, there, in_g) = formula_at (formulas_in (entries_of m)) t.field p at in
         test_fine items e f from into d own at_f p (inr (m, has, g, there, in_g))

@@ -21,14 +21,11 @@ use Rattle.record_label.specs.declared.maps.RowMap.{RowMap}
 use Rattle.fast_build.specs.Terms.{row_make}
 use Rattle.fast_build.specs.Transducer.{IsTransducerOf}
 use Rattle.fast_build.proofs.Paired.{each_place}
-
-all_of_each : {X : Type 0} (P : X → Type 0) (xs : List X) → Each P xs → All P xs
-all_of_each P [] each = All-nil P
-all_of_each P (x ∷ xs) each = All-cons P x xs each.0 (all_of_each P xs each.1)
+use Rattle.sta_classes.proofs.Rows.{each_all}
 
 all_of_each_each : {X : Type 0} (P : X → Type 0) (xss : List (List X)) → Each (Each P) xss → All (All P) xss
 all_of_each_each P [] each = All-nil (All P)
-all_of_each_each P (xs ∷ xss) each = All-cons (All P) xs xss (all_of_each P xs each.0) (all_of_each_each P xss each.1)
+all_of_each_each P (xs ∷ xss) each = All-cons (All P) xs xss (each_all P xs each.0) (all_of_each_each P xss each.1)
 
 -- the same children and states with other maps
 module _ {M N : Type 0} (f : M → N) where

@@ -46,11 +46,6 @@ module _ (items : List Item) (name : List ℕ) where
   unanswered_by file number p inside status before after is (inl none) = inl none
   unanswered_by file number p inside status before after is (inr (fault, front)) = inr (inl (fault, (answer_line number inside, line_of_answer number p.tree inside is, front)))
 
--- what goes on from an answer
-pub on_ok : {T E P Q : Type 0} (r : Result T E) → (P → Q) → OnOk r P → OnOk r Q
-on_ok (Ok x) f p = f p
-on_ok (Err e) f p = tt
-
 -- ---- a session that is ready for a name
 
 running_ready : (kind : Kind) (s : Session) (name : List ℕ) (done : List Outcome) → IsAt s done → of.IsPrepared kind s name → IsReadyFor kind s name

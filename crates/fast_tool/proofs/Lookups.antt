@@ -17,12 +17,10 @@ use Rattle.program_check.specs.Tells.{Told, stands_for}
 use Rattle.model_run.specs.Report.{named_x}
 use Rattle.model_run.specs.Texts.{IsNameRefused, IsNameOf}
 use Rattle.fast_session.proofs.Building.{name_made, trans_name_made}
+use Rattle.fast_eval.proofs.Stepping.{some_same}
 use Rattle.fast_tool.specs.Commands.{kind_asked}
 use Rattle.fast_tool.specs.declared.words.Question.{Question}
 use Rattle.fast_tool.specs.declared.words.Question.TheVariants.{Inside, Outputs}
-
-some_same : {A : Type 0} {a b : A} → Some a ≡ Some b → a ≡ b
-some_same e = cc
 
 -- ---- what is told of a name that is declared
 

@@ -3,8 +3,6 @@ use Rattle.std.proofs.Common.{◌≡◌, ℕ, ◌≤◌, ◌==◌, ◌&&◌, inl
 use Rattle.std.proofs.lemmas.Bool.{and_from}
 use Rattle.std.proofs.Math.IntN.{ℤ, pos, ◌+ℤ◌, ◌*ℤ◌}
 use Rattle.std.proofs.lemmas.Int.{ints}
-use Rattle.std.specs.declared.cmp.Ordering.{Ordering}
-use Rattle.std.specs.declared.cmp.Ordering.TheVariants.{Less, Equal, Greater}
 use Rattle.std.specs.Ordering.{int_cmp, int_eq, is_eq, is_gt}
 use Rattle.std.specs.Cmp.Lexicographic.{slice_cmp}
 use Rattle.math_int.proofs.Laws.{times-add}
@@ -14,7 +12,7 @@ use Rattle.model_form.specs.Sums.{is_like, add_like, add_remainders, without_zer
 use Rattle.model_form.specs.Ranges.{IsApart, AreApart}
 use Rattle.model_form.proofs.Written.{written_once, tied, tied_lists}
 use Rattle.model_form.proofs.Sorted.{AreIn, AreOnce, sorted, taken, one_less, all_still_in}
-use Rattle.model_form.proofs.Equals.{ordered_members, members_once}
+use Rattle.model_form.proofs.Equals.{ordered_members, members_once, equal_by}
 use Rattle.model_form.proofs.Values.{int_eq-out, both_out}
 
 -- ---- whole numbers
@@ -42,11 +40,6 @@ times_none by = omega (arith, ints)
 -- the inner form, in order, and the divisor are these
 abbrev is_at : Form → ℕ → Form → ℕ → Bool
 is_at x k h m = (k == m) && is_eq (slice_cmp int_cmp (written x) (written h))
-
-equal_by : (o : Ordering) → is_eq o ≡ true → o ≡ Equal
-equal_by Less e = absurd (cc)
-equal_by Equal e = refl
-equal_by Greater e = absurd (cc)
 
 at_out : (x h : Form) (k m : ℕ) → is_at x k h m ≡ true → (x ≡ h) × (k ≡ m)
 at_out x h k m e = let both = both_out (k == m) (is_eq (slice_cmp int_cmp (written x) (written h))) e in (written_once x h (tied _ _ (equal_by _ both.1)), eqb-true k m both.0)

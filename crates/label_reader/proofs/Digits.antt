@@ -11,6 +11,7 @@ use Rattle.std.proofs.Math.Nat.{pow-suc, pow-succ', pow-le-pow_right, mul-le-mul
 use Rattle.model_program.specs.Lexeme.{Lexeme}
 use Rattle.read_forms.specs.Reads.{IsRead, closed}
 use Rattle.model_program.specs.Grammar.{IsDigits, IsNumber}
+use Rattle.model_grammar.proofs.Constants.{digits_small}
 
 -- so many of the characters are digits, and write the value; the rest are left
 pub record IsCounting (all rest : List ℕ) (value count : ℕ) : Type 0 where
@@ -76,14 +77,6 @@ digits_below before (c ∷ cs) h =
     let step : (before * 10 + digit_value c + 1) * 10 ^ length cs ≤ (before + 1) * 10 * 10 ^ length cs = mul-le-mul_right (10 ^ length cs) (omega (arith, d)) in
     subst (λ (m : ℕ). digits_value_after 10 (before * 10 + digit_value c) cs + 1 ≤ m) (mul_assoc (before + 1) 10 (10 ^ length cs) ∙ ap (λ p. (before + 1) * p) (sym (pow-succ' 10 (length cs))))
     (through (digits_value_after 10 (before * 10 + digit_value c) cs + 1) ((before * 10 + digit_value c + 1) * 10 ^ length cs) ((before + 1) * 10 * 10 ^ length cs) (digits_below (before * 10 + digit_value c) cs h.1) step)
-
--- the number that a token writes fits
-pub digits_small : (text : List ℕ) → IsDigits text → digits_value 10 text < 10 ^ 38
-digits_small text digits =
-    let b = digits_below 0 text digits.0.1 in
-    let p : 10 ^ length text ≤ 10 ^ 38 = pow-le-pow_right (omega arith) digits.1 in
-    let one : (0 + 1) * 10 ^ length text ≡ 10 ^ length text = omega arith in
-    omega (arith, b, p, one)
 
 pub number_fits : (n : ℤ) (tokens rest : List Lexeme) → IsRead IsNumber closed tokens n rest → FitsSigned w128 n
 number_fits n tokens rest read = let s = read.spelled in fits_below n (digits_value 10 s.0.text) s.3 (digits_small s.0.text s.2)

@@ -14,6 +14,7 @@ use Rattle.model_form.specs.Simpler.{add_outer, add_term, add_open, add_all_open
 use Rattle.model_form.specs.Ranges.{IsOfFields, IsOfRemainders, IsOutside, IsApart, AreApart}
 use Rattle.model_form.proofs.Modulo.{modulo_twice, modulo_sum, modulo_product}
 use Rattle.model_form.proofs.Values.{length-add_fields}
+use Rattle.model_form.proofs.Simplified.{length-reduced}
 use Rattle.lin_form.specs.declared.form.RemTerm.{RemTerm}
 use Rattle.lin_form.specs.declared.sum.Like.{Like}
 use Rattle.lin_form.specs.Terms.{plain_remainders}
@@ -138,10 +139,6 @@ apart_one m f k (remainder b g n rs) h = (h.0, apart_one m f k rs h.1)
 apart_reduced : (m : ℕ) (rs : Remainders) → AreApart rs → AreApart (reduced_terms m rs)
 apart_reduced m no_remainders h = tt
 apart_reduced m (remainder a f k rs) h = (apart_one m f k rs h.0, apart_reduced m rs h.1)
-
-length-reduced : (m : ℕ) (cs : List ℤ) → length (reduced_totals m cs) ≡ length cs
-length-reduced m [] = refl
-length-reduced m (c ∷ cs) = ap suc (length-reduced m cs)
 
 -- what is so of a sum and of its remainders
 pub record IsHeld (s : Sum) : Type 0 where

@@ -1,5 +1,5 @@
 -- The steps of numbering.
-use Rattle.std.proofs.Common.{◌≡◌, ℕ, zero, suc, ◌+◌, ◌<◌, ◌≤◌, List, [], ◌∷◌, ◌++◌, length, drop, get_or, Bool, true, false, cond, ◌||◌, refl, ap, sym, ◌∙◌, subst, arith}
+use Rattle.std.proofs.Common.{◌≡◌, ℕ, suc, ◌+◌, ◌<◌, ◌≤◌, List, [], ◌∷◌, ◌++◌, length, drop, get_or, Bool, true, false, cond, ◌||◌, refl, ap, sym, ◌∙◌, subst, arith}
 use Rattle.std.proofs.lemmas.List.{at_drop_more, at_drop_all, map-append, length-map}
 use Rattle.std.proofs.lemmas.List.Elements.{All-push}
 use Rattle.model_form.specs.Form.{Form, form, remainders_of, heights, height}
@@ -11,6 +11,7 @@ use Rattle.label_core.specs.declared.theory.Lit.{Lit}
 use Rattle.lin_form.specs.declared.form.RemTerm.{RemTerm}
 use Rattle.lin_form.specs.Terms.{plain_remainders}
 use Rattle.lin_form.proofs.Evaluating.{remainder_at}
+use Rattle.lin_form.proofs.Reducing.{inner_lower}
 use Rattle.lin_solve.specs.declared.compare.Compare.{Compare}
 use Rattle.lin_solve.specs.declared.numbering.Remainder.{Remainder}
 use Rattle.lin_solve.specs.Plain.{plain_literals, plain_remainder, plain_known, plain_term, ArePositive}
@@ -43,17 +44,12 @@ positive_push xs ys r e p h = subst ArePositive (sym e) (All-push (λ x. 0 < x.d
 
 -- ---- a form
 
-lower : (ts : List RemTerm) (k : ℕ) (d : RemTerm) → k < length ts → height (get_or ts k d).inner ≤ heights (plain_remainders ts)
-lower [] k d l = absurd (omega arith)
-lower (t ∷ ts) zero d l = omega arith
-lower (t ∷ ts) (suc k) d l = let r = lower ts k d (omega arith) in omega arith
-
 height_of : (f : Form) → height f ≡ suc (heights (remainders_of f))
 height_of (form c ts rs) = refl
 
 pub item_lower : (f : Form) (ts : List RemTerm) (k : ℕ) (t : RemTerm) → plain_remainders ts ≡ remainders_of f → k < length ts → t ≡ get_or ts k t → height t.inner < height f
 item_lower f ts k t e l is =
-    let low = subst (λ (x : RemTerm). height x.inner ≤ heights (plain_remainders ts)) (sym is) (lower ts k t l) in
+    let low = subst (λ (x : RemTerm). height x.inner ≤ heights (plain_remainders ts)) (sym is) (inner_lower ts k t l) in
     let whole = height_of f ∙ ap (λ r. suc (heights r)) (sym e) in
     omega arith
 

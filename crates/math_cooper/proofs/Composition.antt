@@ -178,7 +178,7 @@ scale_exists i S = let r = least_exists (λ d m. IsCommonAt i m d) S (λ d h. sc
 abbrev pub IsPositive : Condition → Type 0
 IsPositive d = (m : ℕ) → d.kind ≡ DividedBy m → 0 < m
 
-divided_once : (m n : ℕ) → DividedBy m ≡ DividedBy n → m ≡ n
+pub divided_once : (m n : ℕ) → DividedBy m ≡ DividedBy n → m ≡ n
 divided_once m n e = cc
 
 not_divided : (m : ℕ) → AtLeastZero ≡ DividedBy m → ⊥

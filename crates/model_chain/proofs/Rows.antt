@@ -9,6 +9,7 @@ use Rattle.math_cooper.proofs.Systems.{dot-zeros}
 use Rattle.model_form.specs.Form.{Form, form, Term, Remainders, no_remainders, remainder, constant_of, terms_value}
 use Rattle.model_form.specs.Sums.{add_fields}
 use Rattle.model_form.specs.Over.{AreBelow, IsOver}
+use Rattle.model_form.proofs.Values.{length-add_fields}
 use Rattle.model_chain.specs.Literals.{Remainder, place, add_at, add_places, add_terms, width, zeros}
 
 pub length-add_at : (n : ℕ) (a : ℤ) (row : List ℤ) → length (add_at n a row) ≡ length row
@@ -26,10 +27,6 @@ dot-add_at zero a (x ∷ row) [] h = omega (arith, ints)
 dot-add_at zero a (x ∷ row) (v ∷ vs) h = omega (arith, ints, add-times v x a)
 dot-add_at (suc n) a (x ∷ row) [] h = omega (arith, ints)
 dot-add_at (suc n) a (x ∷ row) (v ∷ vs) h = let r = dot-add_at n a row vs (omega arith) in omega (arith, ints)
-
-pub length-fields : (by : ℤ) (ts : List Term) (row : List ℤ) → length (add_fields by ts row) ≡ length row
-length-fields by [] row = refl
-length-fields by (t ∷ ts) row = length-fields by ts (add_at t.field (by *ℤ t.coefficient) row) ∙ length-add_at t.field (by *ℤ t.coefficient) row
 
 pub dot-fields : (by : ℤ) (ts : List Term) (row vs : List ℤ) → AreBelow 8 ts → 8 ≤ length row → dot (add_fields by ts row) vs ≡ (by *ℤ terms_value ts vs) +ℤ dot row vs
 dot-fields by [] row vs b h = omega (arith, ints)
@@ -78,12 +75,12 @@ abbrev pub IsPlaced : List Remainder → ℕ → Form → Type 0
 IsPlaced R n (form c ts rs) = IsOver 8 (form c ts rs) × ArePlaced R n rs
 
 pub length-terms : (R : List Remainder) (by : ℤ) (f : Form) (row : List ℤ) → length (add_terms R by f row) ≡ length row
-length-terms R by (form c ts rs) row = length-places R by rs (add_fields by ts row) ∙ length-fields by ts row
+length-terms R by (form c ts rs) row = length-places R by rs (add_fields by ts row) ∙ length-add_fields by ts row
 
 pub dot-terms : (R : List Remainder) (by : ℤ) (f : Form) (row vs : List ℤ) → IsPlaced R (length R) f → length row ≡ width R → dot (add_terms R by f row) vs ≡ (by *ℤ (linear_value R f vs -ℤ constant_of f)) +ℤ dot row vs
 dot-terms R by (form c ts rs) row vs p h =
     let next = add_fields by ts row in
-    let len = length-fields by ts row in
+    let len = length-add_fields by ts row in
     let e : (c +ℤ (terms_value ts vs +ℤ places_value R rs vs)) -ℤ c ≡ terms_value ts vs +ℤ places_value R rs vs = omega (arith, ints) in
     omega (arith, ints, dot-places R by rs next vs p.1 (omega arith), dot-fields by ts row vs p.0.0 (omega arith), times-add by (terms_value ts vs) (places_value R rs vs), ap (λ z. by *ℤ z) e)
 

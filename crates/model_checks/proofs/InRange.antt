@@ -9,7 +9,7 @@ use Rattle.model_tree.specs.Range.{is_label_number, IsLabelNumber}
 use Rattle.model_form.specs.Ranges.{IsCoefficient, IsOfFields, IsOfRemainders, IsOutside}
 use Rattle.model_checks.specs.Forms.{is_coefficient, are_coefficients, are_multiples, is_in_range}
 
-constant_out : (z : ℤ) → is_label_number z ≡ true → IsLabelNumber z
+pub constant_out : (z : ℤ) → is_label_number z ≡ true → IsLabelNumber z
 constant_out (pos n) e = let low : n < 2 ^ 63 = grind (arith, nat_tests) in omega (arith, ints)
 constant_out (negsuc n) e = let low : n < 2 ^ 63 = grind (arith, nat_tests) in omega (arith, ints)
 

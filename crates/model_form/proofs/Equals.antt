@@ -22,7 +22,7 @@ same_laws = eq_by_cmp_equiv (on_total (λ (f : Form). written (ordered f)) (list
 
 -- ---- equality, and equality once the remainders are in order
 
-equal_by : (o : Ordering) → is_eq o ≡ true → o ≡ Equal
+pub equal_by : (o : Ordering) → is_eq o ≡ true → o ≡ Equal
 equal_by Less e = absurd (cc)
 equal_by Equal e = refl
 equal_by Greater e = absurd (cc)

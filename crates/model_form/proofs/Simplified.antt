@@ -191,7 +191,7 @@ remainder_form-fine (form c [] (remainder a f m rs)) k p o d = ((tt, (o, tt)), (
 add_form-fine : (by : ℤ) (f : Form) (s : Sum) → IsOver 8 f → IsDivided f → Fine s.terms → Fine (add_form by f s).terms
 add_form-fine by (form c ts rs) s o d h = add_remainders-fine by rs s.terms (o.1, d) h
 
-length-reduced : (m : ℕ) (cs : List ℤ) → length (reduced_totals m cs) ≡ length cs
+pub length-reduced : (m : ℕ) (cs : List ℤ) → length (reduced_totals m cs) ≡ length cs
 length-reduced m [] = refl
 length-reduced m (c ∷ cs) = ap suc (length-reduced m cs)
 

@@ -102,13 +102,13 @@ passes_one p (y ∷ ys) x at e =
       | inr later ↦ or_right (p y) (list_any p ys) (passes_one p ys x later e)
     ]
 
-each_passes : {A : Type 0} (p : A → Bool) (xs : List A) (x : A) → list_all p xs ≡ true → Contains xs x → p x ≡ true
+pub each_passes : {A : Type 0} (p : A → Bool) (xs : List A) (x : A) → list_all p xs ≡ true → Contains xs x → p x ≡ true
 each_passes p [] x all at = absurd (none_of x at)
 each_passes p (y ∷ ys) x all at =
     let two = and_parts (p y) (list_all p ys) all in
     elim (one_of y x ys at) [ inl same ↦ subst (λ z. p z ≡ true) same two.0 | inr later ↦ each_passes p ys x two.1 later ]
 
-all_pass : {A : Type 0} (p : A → Bool) (xs : List A) → ((x : A) → Contains xs x → p x ≡ true) → list_all p xs ≡ true
+pub all_pass : {A : Type 0} (p : A → Bool) (xs : List A) → ((x : A) → Contains xs x → p x ≡ true) → list_all p xs ≡ true
 all_pass p [] each = refl
 all_pass p (y ∷ ys) each =
     let first = each y (0, omega arith, refl) in

@@ -19,7 +19,7 @@ use Rattle.model_meaning.specs.Meaning.{Relates, LinksByValue, followed, meaning
 use Rattle.model_meaning.specs.Laws.{part_count, IsBetween, IsTermTyped, AreTermsTyped, AreRulesTyped, FitTogether}
 use Rattle.model_meaning.proofs.Named.{input_type_of_name, output_type_of_name}
 
-below : (names : List (List ℕ)) (name : List ℕ) (c : ℕ) → number_named names name ≡ Some c → c < length names
+pub below : (names : List (List ℕ)) (name : List ℕ) (c : ℕ) → number_named names name ≡ Some c → c < length names
 below [] name c e = absurd (cc)
 below (n ∷ names) name c e = by (same_text n name) (number_named names name) e (below names name)
   where

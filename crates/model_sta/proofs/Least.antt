@@ -15,7 +15,7 @@ least_at cap ranks D rules [] k l h = absurd (omega arith)
 least_at cap ranks D rules (f ∷ found) zero l h = h.0
 least_at cap ranks D rules (f ∷ found) (suc k) l h = least_at cap ranks D rules found k (omega arith) h.1
 
-either_of : {A B C E : Type 0} → (A → C) → (B → E) → A ⊎ B → C ⊎ E
+pub either_of : {A B C E : Type 0} → (A → C) → (B → E) → A ⊎ B → C ⊎ E
 either_of f g (inl a) = inl (f a)
 either_of f g (inr b) = inr (g b)
 

@@ -1,14 +1,12 @@
 -- Forms over the first fields, term by term.
-use Rattle.std.proofs.Common.{◌≡◌, ◌↔◌, ℕ, ◌+◌, ◌<◌, ◌≤◌, List, ◌∷◌, length, drop, get_or, sym, ap, ◌∙◌, subst, arith}
+use Rattle.std.proofs.Common.{◌≡◌, ◌↔◌, ℕ, ◌+◌, ◌<◌, ◌≤◌, List, length, drop, get_or, sym, subst, arith}
 use Rattle.std.proofs.lemmas.List.{at_drop_more, at_drop_all}
 use Rattle.model_form.specs.Form.{Form, form, fields_of, remainders_of}
 use Rattle.model_form.specs.Over.{IsOver, AreBelow, AreOver}
 use Rattle.lin_form.specs.declared.form.FieldTerm.{FieldTerm}
 use Rattle.lin_form.specs.declared.form.RemTerm.{RemTerm}
 use Rattle.lin_form.specs.Terms.{plain_fields, plain_remainders}
-
-drop_is : {X : Type 0} (xs : List X) (i : ℕ) (x : X) → i < length xs → x ≡ get_or xs i x → drop i xs ≡ x ∷ drop (i + 1) xs
-drop_is xs i x l is = at_drop_more (λ us. us) xs i x l ∙ ap (λ y. y ∷ drop (i + 1) xs) (sym is)
+use Rattle.fast_tree.proofs.Printing.{drop_at}
 
 module _ (n : ℕ) where
   abbrev Below : List FieldTerm → Type 0
@@ -28,10 +26,10 @@ module _ (n : ℕ) where
   below_all ts i h inv = inv.0 (subst Below (sym (at_drop_all (λ us. us) ts i h)) tt)
 
   pub over_more : (ts : List RemTerm) (i : ℕ) (t : RemTerm) → i < length ts → t ≡ get_or ts i t → IsOver n t.inner → Over (drop i ts) ↔ Over ts → Over (drop (i + 1) ts) ↔ Over ts
-  over_more ts i t l is low inv = let here = drop_is ts i t l is in (λ h. inv.0 (subst Over (sym here) (low, h)), λ w. (subst Over here (inv.1 w)).1)
+  over_more ts i t l is low inv = let here = drop_at ts i t l is in (λ h. inv.0 (subst Over (sym here) (low, h)), λ w. (subst Over here (inv.1 w)).1)
 
   pub not_over : (ts : List RemTerm) (i : ℕ) (t : RemTerm) → i < length ts → t ≡ get_or ts i t → (IsOver n t.inner → ⊥) → Over (drop i ts) ↔ Over ts → Over ts → ⊥
-  not_over ts i t l is other inv w = other (subst Over (drop_is ts i t l is) (inv.1 w)).0
+  not_over ts i t l is other inv w = other (subst Over (drop_at ts i t l is) (inv.1 w)).0
 
   pub over_all : (ts : List RemTerm) (i : ℕ) → length ts ≤ i → Over (drop i ts) ↔ Over ts → Over ts
   over_all ts i h inv = inv.0 (subst Over (sym (at_drop_all (λ us. us) ts i h)) tt)

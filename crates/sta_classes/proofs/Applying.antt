@@ -1,6 +1,6 @@
 -- The rules of a constructor that fire, by their numbers.
-use Rattle.std.proofs.Common.{ℕ, zero, suc, Vec, ◌≡◌, ◌<◌, ◌==◌, ◌&&◌, ◌||◌, not, Bool, true, false, true≢false, List, [], ◌∷◌, ◌++◌, get_or, length, map, All, refl, sym, ap, ap₂, subst, ◌∙◌, arith, inl, inr, eqb-true, eq-eqb, ◌↔◌}
-use Rattle.std.specs.List.{list_any, list_all}
+use Rattle.std.proofs.Common.{ℕ, zero, suc, Vec, ◌≡◌, ◌<◌, ◌==◌, ◌&&◌, ◌||◌, not, Bool, true, false, true≢false, List, [], ◌∷◌, get_or, length, map, All, refl, sym, ap, ap₂, subst, ◌∙◌, arith, inl, inr, eqb-true, eq-eqb, ◌↔◌}
+use Rattle.std.specs.List.{list_any}
 use Rattle.std.proofs.lemmas.Bool.{cases_lt, and_parts, and_from}
 use Rattle.std.proofs.lemmas.List.{get_or_past, get_or-map, length-map}
 use Rattle.model_tree.specs.Label.{Label}
@@ -15,23 +15,7 @@ use Rattle.sta_classes.specs.Applying.{plain_owned, is_fixed, are_fixed, truth_a
 use Rattle.sta_classes.specs.Bits.{both}
 use Rattle.sta_classes.specs.Rules.{plain_rules, meaning_of}
 use Rattle.sta_classes.specs.declared.rules.Owned.{Owned}
-use Rattle.sta_theory.proofs.Lists.{bool_same, any_member, any_true}
-use Rattle.sta_classes.proofs.Rows.{contains_map, contains_unmap}
-
--- one more child
-pub meet_one_more : (qs : List Row) (q : Row) (ds : List (List ℕ)) → rows_meet (qs ++ q ∷ []) ds ≡ (rows_meet qs ds && list_all (has q) (get_or ds (length qs) []))
-meet_one_more [] q [] = refl
-meet_one_more [] q (d ∷ ds) = and_true (list_all (has q) d)
-  where
-    and_true : (b : Bool) → (b && true) ≡ b
-    and_true true = refl
-    and_true false = refl
-meet_one_more (p ∷ qs) q [] = refl
-meet_one_more (p ∷ qs) q (d ∷ ds) = grouped (list_all (has p) d) (rows_meet (qs ++ q ∷ []) ds) (rows_meet qs ds) (list_all (has q) (get_or ds (length qs) [])) (meet_one_more qs q ds)
-  where
-    grouped : (a b x y : Bool) → b ≡ (x && y) → (a && b) ≡ ((a && x) && y)
-    grouped true b x y e = e
-    grouped false b x y e = refl
+use Rattle.sta_theory.proofs.Lists.{bool_same, any_member, any_true, map_member, in_map}
 
 -- rows of one length that have the same numbers are one
 pub rows_equal : (p q : Row) → length p ≡ length q → ((s : ℕ) → has p s ≡ true ↔ has q s ≡ true) → p ≡ q
@@ -114,12 +98,12 @@ module _ {A G : Type 0} (holds : A → Label → Bool) (rules : List (Vec (StaRu
     | inl low ↦
         let (v, at) = element rules s low in
         let (rule, inside, fire) = any_member (fires c l qs) (those_of v) (sym (step_at s v low at) ∙ h) in
-        let (plain, plain_in, is) = contains_unmap (rule_meaning holds) (map plain_rule v.items) rule inside in
-        let (r, r_in, r_is) = contains_unmap plain_rule v.items plain plain_in in
+        let (plain, plain_in, is) = map_member (rule_meaning holds) (map plain_rule v.items) rule inside in
+        let (r, r_in, r_is) = map_member plain_rule v.items plain plain_in in
         let meant : fires c l qs (rule_meaning holds (plain_rule r)) ≡ true = ap (λ z. fires c l qs (rule_meaning holds z)) r_is ∙ ap (fires c l qs) is ∙ fire in
         let (same, (guard, meets)) = and_parts (r.constructor == c) (formula_holds (λ a. holds a l) (plain_rule r).guard) (rows_meet qs (plain_rule r).demands) meant in
         let there = (own (s, plain_rule r)).1 (s, low, v, at, r, r_in, (eqb-true r.constructor c same, refl)) in
-        let (x, (i, i_low, i_at), x_is) = contains_unmap plain_owned list (s, plain_rule r) there in
+        let (x, (i, i_low, i_at), x_is) = map_member plain_owned list (s, plain_rule r) there in
         let fire_x : fires_here x ≡ true = ap (λ p. rows_meet qs p.1.demands && formula_holds (λ a. holds a l) p.1.guard) x_is ∙ and_from (rows_meet qs (plain_rule r).demands) (formula_holds (λ a. holds a l) (plain_rule r).guard) meets guard in
         (i, i_low, get_or-map fires_here list i x false i_low ∙ ap fires_here i_at ∙ fire_x, x, i_at, ap (λ p. p.0) x_is)
   ]
@@ -127,7 +111,7 @@ module _ {A G : Type 0} (holds : A → Label → Bool) (rules : List (Vec (StaRu
   -- and the other way round
   has_fired : (s : ℕ) → IsFired list (map fires_here list) s → has here s ≡ true
   has_fired s (i, i_low, fired, x, i_at, state_is) =
-      let (s', low, v, at, r, r_in, (same, is)) = (own (plain_owned x)).0 (contains_map plain_owned list x (i, i_low, i_at)) in
+      let (s', low, v, at, r, r_in, (same, is)) = (own (plain_owned x)).0 (in_map plain_owned list x (i, i_low, i_at)) in
       let (meets, guard) = and_parts (rows_meet qs (plain_rule x.rule.now).demands) (truth_at holds l x) (sym (get_or-map fires_here list i x false i_low ∙ ap fires_here i_at) ∙ fired) in
       let state : s' ≡ s = ap (λ p. p.0) is ∙ state_is in
       let rule_is : plain_rule r ≡ plain_rule x.rule.now = ap (λ p. p.1) is in
@@ -135,7 +119,7 @@ module _ {A G : Type 0} (holds : A → Label → Bool) (rules : List (Vec (StaRu
       and_from (r.constructor == c) (formula_holds (λ a. holds a l) (plain_rule r).guard && rows_meet qs (plain_rule r).demands) (eq-eqb r.constructor c same)
       (and_from (formula_holds (λ a. holds a l) (plain_rule r).guard) (rows_meet qs (plain_rule r).demands) (ap (λ z. formula_holds (λ a. holds a l) z.guard) rule_is ∙ guard) (ap (λ z. rows_meet qs z.demands) rule_is ∙ meets)) in
       subst (λ k. has here k ≡ true) state
-      (step_at s' v low at ∙ any_true (fires c l qs) (those_of v) (rule_meaning holds (plain_rule r)) (contains_map (rule_meaning holds) (map plain_rule v.items) (plain_rule r) (contains_map plain_rule v.items r r_in)) fire)
+      (step_at s' v low at ∙ any_true (fires c l qs) (those_of v) (rule_meaning holds (plain_rule r)) (in_map (rule_meaning holds) (map plain_rule v.items) (plain_rule r) (in_map plain_rule v.items r r_in)) fire)
 
   -- the row with exactly the states of rules that fire is the set
   pub row_is_step : (row : Row) → length row ≡ length rules → ((s : ℕ) → has row s ≡ true ↔ IsFired list (map fires_here list) s) → row ≡ here
@@ -154,5 +138,5 @@ module _ {A G : Type 0} (holds : A → Label → Bool) (rules : List (Vec (StaRu
 pub states_low : {A G : Type 0} (rules : List (Vec (StaRule A) G)) (c : ℕ) (list : List (Owned A)) → AreOwned rules c list → All (λ x. x.state < length rules) list
 states_low rules c list own k d low =
     let x = get_or list k d in
-    let (s, s_low, v, at, r, r_in, (same, is)) = (own (plain_owned x)).0 (contains_map plain_owned list x (k, low, same_default list k x d low)) in
+    let (s, s_low, v, at, r, r_in, (same, is)) = (own (plain_owned x)).0 (in_map plain_owned list x (k, low, same_default list k x d low)) in
     subst (λ n. n < length rules) (ap (λ p. p.0) is) s_low

@@ -21,7 +21,8 @@ use Rattle.sta_classes.specs.Searched.{listed_at, ArePlaces, NextPlaces, AreKind
 use Rattle.sta_classes.specs.declared.class.Class.{Class}
 use Rattle.sta_classes.specs.declared.place.Place.{Place}
 use Rattle.sta_classes.specs.declared.pending.Pending.{Pending}
-use Rattle.sta_classes.proofs.Rows.{contains_map, contains_unmap, rows_are}
+use Rattle.sta_theory.proofs.Lists.{map_member, in_map}
+use Rattle.sta_classes.proofs.Rows.{rows_are}
 use Rattle.sta_theory.proofs.Tables.{one_kind_is}
 use Rattle.sta_classes.proofs.Listed.{map_at}
 use Rattle.sta_classes.proofs.Places.{numbers_tell}
@@ -46,7 +47,7 @@ module _ {A G : Type 0} (holds : A → Label → Bool) (rules : List (Vec (StaRu
           t,
           (
             rule_meaning holds (plain_rule r),
-            subst (λ rs. Contains rs (rule_meaning holds (plain_rule r))) (sym (meaning_at t v low is)) (contains_map (rule_meaning holds) (map plain_rule v.items) (plain_rule r) (contains_map plain_rule v.items r there)),
+            subst (λ rs. Contains rs (rule_meaning holds (plain_rule r))) (sym (meaning_at t v low is)) (in_map (rule_meaning holds) (map plain_rule v.items) (plain_rule r) (in_map plain_rule v.items r there)),
             e,
             demanded,
           ),
@@ -58,8 +59,8 @@ module _ {A G : Type 0} (holds : A → Label → Bool) (rules : List (Vec (StaRu
       back t (m, there, e, demanded) = elim (cases_lt t (length rules)) [
         | inl low ↦
             let (v, at) = element_at rules t low in
-            let (p, in_plain, is_m) = contains_unmap (rule_meaning holds) (map plain_rule v.items) m (subst (λ rs. Contains rs m) (meaning_at t v low at) there) in
-            let (r, in_v, is_p) = contains_unmap plain_rule v.items p in_plain in
+            let (p, in_plain, is_m) = map_member (rule_meaning holds) (map plain_rule v.items) m (subst (λ rs. Contains rs m) (meaning_at t v low at) there) in
+            let (r, in_v, is_p) = map_member plain_rule v.items p in_plain in
             let same : rule_meaning holds (plain_rule r) ≡ m = ap (rule_meaning holds) is_p ∙ is_m in
             (are s).1 (v, (t, low, at), (r, in_v, (ap (λ z. z.constructor) same ∙ e, subst (λ z. Contains (get_or z.demands j []) s) (sym same) demanded)))
         | inr high ↦

@@ -16,7 +16,7 @@ use Rattle.sta_classes.specs.declared.rules.Owned.{Owned}
 use Rattle.sta_classes.specs.declared.rules.Rules.{Rules}
 use Rattle.sta_classes.specs.declared.splits.Splits.{Splits}
 use Rattle.sta_classes.specs.declared.splits.Told.{Told}
-use Rattle.sta_classes.proofs.Applying.{meet_one_more}
+use Rattle.sta_theory.proofs.Asked.{meet_more}
 use Rattle.sta_classes.proofs.Meet.{both_maps}
 use Rattle.sta_classes.proofs.Places.{old_at, new_at}
 use Rattle.sta_classes.proofs.Rows.{lists_push, list_at}
@@ -59,7 +59,7 @@ module _ {A : Type 0} (list : List (Owned A)) where
       let qs = map (λ n. get_or rows n []) (take i ks) in
       let many : length qs ≡ i = length-map (take i ks) (λ n. get_or rows n []) ∙ taken ks i (omega (arith, low)) in
       e ∙ ap₂ both h is ∙ both_maps (λ x. rows_meet qs (plain_rule x.rule.now).demands) (λ x. meets_at i (get_or rows k []) (plain_rule x.rule.now)) list
-      ∙ (λ j. map (λ x. (ap (λ n. rows_meet qs (plain_rule x.rule.now).demands && meets_at n (get_or rows k []) (plain_rule x.rule.now)) (sym many) ∙ sym (meet_one_more qs (get_or rows k []) (plain_rule x.rule.now).demands)) j) list)
+      ∙ (λ j. map (λ x. (ap (λ n. rows_meet qs (plain_rule x.rule.now).demands && meets_at n (get_or rows k []) (plain_rule x.rule.now)) (sym many) ∙ sym (meet_more qs (get_or rows k []) (plain_rule x.rule.now).demands)) j) list)
       ∙ ap (λ z. map (λ x. rows_meet z (plain_rule x.rule.now).demands) list)
       (sym (ap (map (λ n. get_or rows n [])) (take_more ks i k low ∙ ap (λ z. take i ks ++ z ∷ []) (sym at)) ∙ map-append (λ n. get_or rows n []) (take i ks) (k ∷ [])))
     where

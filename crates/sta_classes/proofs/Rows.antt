@@ -2,10 +2,9 @@
 use Rattle.std.proofs.Common.{ℕ, zero, suc, Vec, ◌≡◌, ◌≤◌, ◌<◌, ◌+◌, ◌-◌, ◌⊎◌, inl, inr, Bool, true, false, true≢false, Decides, Contains, All, subst, get_or, ◌++◌, length-append, arith, List, [], ◌∷◌, map, length, drop, take, refl, sym, ap, ap₂, ◌∙◌, take_all, drop_of_length-le}
 use Rattle.std.proofs.lemmas.Simd.{map-map}
 use Rattle.std.proofs.Math.Seq.{take-append_seam}
-use Rattle.std.proofs.lemmas.List.{get_or-map, map-append, length-map, take_more}
+use Rattle.std.proofs.lemmas.List.{get_or-map, map-append, take_more}
 use Rattle.std.proofs.lemmas.List.Elements.{Contains-push_cases}
 use Rattle.model_sta.specs.Sets.{Row, Each, rows_meet}
-use Rattle.model_sta.proofs.Reached.{same_default}
 use Rattle.model_tree.specs.Label.{Label}
 use Rattle.model_sta.specs.Least.{rows_of, counts_of}
 use Rattle.sta_classes.specs.Rows.{lists_of, found_of, founds, class_rows}
@@ -45,18 +44,6 @@ each_all P (x ∷ xs) h (suc k) d l = each_all P xs h.1 k d (omega arith)
 pub all_each : {X : Type 0} (P : X → Type 0) (xs : List X) → All P xs → Each P xs
 all_each P [] h = tt
 all_each P (x ∷ xs) h = (h 0 x (omega arith), all_each P xs (λ k d l. h (suc k) d (omega arith)))
-
-pub contains_map : {X Y : Type 0} (f : X → Y) (xs : List X) (x : X) → Contains xs x → Contains (map f xs) (f x)
-contains_map f xs x h = let (k, low, is) = h in (k, (let n : length (map f xs) ≡ length xs = length-map xs f in omega arith), get_or-map f xs k x (f x) low ∙ ap f is)
-
-pub contains_unmap : {X Y : Type 0} (f : X → Y) (xs : List X) (y : Y) → Contains (map f xs) y → (x : X) × Contains xs x × (f x ≡ y)
-contains_unmap f [] y h = absurd (let low : h.0 < 0 = h.1 in omega arith)
-contains_unmap f (x ∷ xs) y h =
-    let (k, low, is) = h in
-    let n : length (map f (x ∷ xs)) ≡ length (x ∷ xs) = length-map (x ∷ xs) f in
-    let k_low : k < length (x ∷ xs) = omega arith in
-    let e = get_or (x ∷ xs) k x in
-    (e, (k, k_low, same_default (x ∷ xs) k e x k_low), sym (get_or-map f (x ∷ xs) k x y k_low) ∙ is)
 
 -- truth values are decided, and so are rows
 pub same_bit : (a b : Bool) → (a ≡ b) ⊎ ¬ (a ≡ b)

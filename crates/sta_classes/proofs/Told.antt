@@ -34,7 +34,8 @@ use Rattle.sta_classes.proofs.Applying.{element}
 use Rattle.sta_classes.proofs.Atoms.{of_each_formula, guards_among}
 use Rattle.sta_classes.proofs.Covered.{Same, same_truths, truths_same}
 use Rattle.sta_classes.proofs.Kept.{each_split, each_fits}
-use Rattle.sta_classes.proofs.Rows.{contains_map, contains_unmap, each_all, all_each}
+use Rattle.sta_theory.proofs.Lists.{map_member, in_map}
+use Rattle.sta_classes.proofs.Rows.{each_all, all_each}
 
 pub all_to_map : {X Y : Type 0} (P : Y → Type 0) (f : X → Y) (xs : List X) → All (λ x. P (f x)) xs → All P (map f xs)
 all_to_map P f xs h k d low =
@@ -89,8 +90,8 @@ module _ {A G : Type 0} (rules : List (Vec (StaRule A) G)) (c : ℕ) (list : Lis
   pub guards_of_all : (P : Formula A → Type 0) → Each P (all_guards (plain_rules rules)) → Each P (guards_in list)
   guards_of_all P h = all_each P (guards_in list) (all_to_map P (λ x. (plain_rule x.rule.now).guard) list (λ k d low.
       let x = get_or list k d in
-      let (s, s_low, v, at, r, r_in, (same, is)) = (own (plain_owned x)).0 (contains_map plain_owned list x (k, low, same_default list k x d low)) in
-      subst (λ z. P z.guard) (ap (λ p. p.1) is) (guard_of_all P (plain_rules rules) (map plain_rule v.items) (plain_rule r) h (contains_map (λ z. map plain_rule z.items) rules v (s, s_low, at)) (contains_map plain_rule v.items r r_in))))
+      let (s, s_low, v, at, r, r_in, (same, is)) = (own (plain_owned x)).0 (in_map plain_owned list x (k, low, same_default list k x d low)) in
+      subst (λ z. P z.guard) (ap (λ p. p.1) is) (guard_of_all P (plain_rules rules) (map plain_rule v.items) (plain_rule r) h (in_map (λ z. map plain_rule z.items) rules v (s, s_low, at)) (in_map plain_rule v.items r r_in))))
 
   pub guards_fit : (F : A → Type 0) → GuardsFit F (plain_rules rules) → All (λ x. EveryAtom F (plain_rule x.rule.now).guard) list
   guards_fit F h = All_from_map (EveryAtom F) (λ x. (plain_rule x.rule.now).guard) list (each_all (EveryAtom F) (guards_in list) (guards_of_all (EveryAtom F) (each_fits F (plain_rules rules) h)))
@@ -127,7 +128,7 @@ module _ {A : Type 0} (list : List (Owned A)) (numbers : Row) {V W : Type 0} {la
     complete = λ l d.
         let (r, r_in, signs) = split.complete l d in
         let sound = All-contains (IsRow M (truths holds (chosen numbers (guards_in list)))) rows r split.sound r_in in
-        let (t, t_in, t_is) = contains_unmap (λ z. z.value) told r.value (subst (λ vs. Contains vs r.value) (sym values) (contains_map (λ z. z.value) rows r r_in)) in (
+        let (t, t_in, t_is) = map_member (λ z. z.value) told r.value (subst (λ vs. Contains vs r.value) (sym values) (in_map (λ z. z.value) rows r r_in)) in (
           t,
           t_in,
           one_row l (label_of t.value) numbers list (sym signs ∙ sound.1 ∙ ap (λ v. truths holds (chosen numbers (guards_in list)) (label_of v)) (sym t_is)),

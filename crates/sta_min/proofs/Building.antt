@@ -19,7 +19,7 @@ use Rattle.sta_min.specs.Written.{AreRulesFor, AreRulesOfBlocks, IsGoodParents, 
 use Rattle.sta_min.specs.declared.heads.Head.{Head}
 use Rattle.sta_min.specs.declared.parents.Parents.{Parents}
 use Rattle.sta_min.proofs.Choosing.{chosen_low}
-use Rattle.sta_min.proofs.Ending.{nth}
+use Rattle.sta_classes.proofs.Firsts.{element_at}
 use Rattle.sta_min.proofs.Made.{AreMade, made_more}
 
 flat_same : {X : Type 0} (old new : List (List X)) (n : ℕ) → ((i : ℕ) → i < n → get_or new i [] ≡ get_or old i []) → (states : List ℕ) → ((i : ℕ) → Contains states i → i < n) → flat_map (λ i. get_or old i []) states ≡ flat_map (λ i. get_or new i []) states
@@ -55,7 +55,7 @@ module _ {A V : Type 0} (t : PlainTable A V) (firsts dense : List ℕ) (blocks :
     good_parents heads are_heads parents given same are = subst (All (λ p. IsGoodParents t (plain_parents p))) (sym same) (in_all (λ p. IsGoodParents t (plain_parents p)) parents (λ p at.
         let (i, low, is) = in_map plain_parents parents p at in
         let i_low : i < length heads = omega (arith, low, are.many) in
-        let (h, at_h) = nth heads i i_low in
+        let (h, at_h) = element_at heads i i_low in
         good_one h (good_head heads are_heads h (i, i_low, at_h)) (plain_parents p) (are.each i i_low h at_h (plain_parents p) is)))
 
     module _ (eq : A → A → Bool) (heads : List PlainHead) (are_heads : AreHeads t (length firsts) (length t.machine.ranks) heads) (parents : List PlainParents) (are_parents : AreAllParents label_of holds t values firsts heads (length heads) parents)

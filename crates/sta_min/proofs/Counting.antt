@@ -22,8 +22,7 @@ use Rattle.sta_theory.proofs.Lists.{filter_member, in_filter}
 use Rattle.sta_theory.proofs.Rounds.{stays_stable, dense_blocks, dense_stable, dense_numbered}
 use Rattle.sta_min.specs.Tables.{IsPartition}
 use Rattle.sta_min.proofs.Finals.{AreFinals, finals_are}
-use Rattle.sta_theory.proofs.Written.{number_in}
-use Rattle.sta_min.proofs.TableFacts.{number_low}
+use Rattle.sta_theory.proofs.Written.{number_in, number_low}
 
 filtered : (test : ℕ → Bool) (n : ℕ) → AreFinals test n (filter test (numbers n))
 filtered test n = record {

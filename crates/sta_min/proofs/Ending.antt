@@ -1,5 +1,5 @@
 -- What the rounds end with.
-use Rattle.std.proofs.Common.{ℕ, zero, suc, ◌≡◌, ◌<◌, Vec, Bool, List, [], ◌∷◌, map, get_or, length, Contains, refl, sym, ap, subst, ◌∙◌, arith}
+use Rattle.std.proofs.Common.{ℕ, ◌≡◌, ◌<◌, Vec, Bool, List, [], map, get_or, length, Contains, sym, ap, subst, ◌∙◌, arith}
 use Rattle.std.proofs.lemmas.List.{length-map, get_or-map}
 use Rattle.model_tree.specs.Label.{Label}
 use Rattle.model_sta.specs.Sets.{has}
@@ -12,6 +12,7 @@ use Rattle.sta_theory.specs.Blocks.{KindTable, IsKindTable, AreBlocks}
 use Rattle.sta_theory.specs.Rounds.{AreFirsts, block, IsStart, IsDense}
 use Rattle.sta_theory.proofs.Rounds.{start_firsts, start_blocks, finer_firsts}
 use Rattle.sta_theory.proofs.Whole.{split_blocks}
+use Rattle.sta_classes.proofs.Firsts.{element_at}
 use Rattle.sta_min.specs.Firsts as firsts
 use Rattle.sta_min.specs.Nodes.{IsGood, AreAllNodes, AreNodesOver}
 use Rattle.sta_min.specs.Probes.{PlainProbe, IsProbe, ArePlainProbes}
@@ -19,11 +20,6 @@ use Rattle.sta_min.specs.Rounds.{AreAfter, begun, later, AreRefined, AreBelow}
 use Rattle.sta_min.specs.Tables.{kind_table, IsSpace, IsPartition}
 use Rattle.sta_min.proofs.Splitting.{of_all, one_long, is_split}
 use Rattle.sta_min.proofs.TableFacts.{facts}
-
-pub nth : {X : Type 0} (xs : List X) (k : ℕ) → k < length xs → (x : X) × (get_or xs k x ≡ x)
-nth [] k low = absurd (omega arith)
-nth (x ∷ xs) zero low = (x, refl)
-nth (x ∷ xs) (suc k) low = nth xs k (omega arith)
 
 module _ {A V W : Type 0} {label_of : V → Label} {holds : A → Label → Bool} (M : Meaning label_of holds W) (t : PlainTable A V) (keeps_labels : (l : Label) → M.keeps l → M.has l) (values : List (List V)) (kinds : List (List (List ℕ)))
     (space : IsSpace label_of holds t values kinds M) where
@@ -67,9 +63,9 @@ module _ {A V W : Type 0} {label_of : V → Label} {holds : A → Label → Bool
       node_low i low e within =
           let over : AreNodesOver label_of holds t values probes i (length probes) (get_or nodes i []) = are.each i low in
           let e_low : e < length probes = omega (arith, within, over.many) in
-          let (p, at) = nth probes e e_low in
+          let (p, at) = element_at probes e e_low in
           let is_good : IsGood t values p = good p (e, e_low, at) in
-          let (v, at_v) = nth (get_or values p.constructor []) p.value is_good.value in
+          let (v, at_v) = element_at (get_or values p.constructor []) p.value is_good.value in
           (over.each e e_low p at v at_v).low
 
       pub are_below : {G : Type 0} (vs : List (Vec ℕ G)) → lists_of vs ≡ nodes → AreBelow (length t.found) vs

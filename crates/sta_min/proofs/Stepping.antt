@@ -22,7 +22,7 @@ use Rattle.sta_classes.specs.Guards.{GuardsFit}
 use Rattle.sta_classes.specs.Meant.{IsTableOf}
 use Rattle.sta_classes.specs.Plain.{PlainTable, class_row}
 use Rattle.sta_classes.specs.Rules.{plain_rules}
-use Rattle.sta_classes.proofs.Rows.{contains_map}
+use Rattle.sta_theory.proofs.Lists.{in_map}
 use Rattle.sta_theory.proofs.Rows.{set_long}
 use Rattle.sta_ops.proofs.EachRule.{all_in}
 use Rattle.sta_min.specs.Steps.{AreRows, IsNode, IsClassOf}
@@ -35,7 +35,7 @@ decides_rows x y = slice_eq-Decides booleans_Decides x y (pointwise beq x y) ref
 pub state_fits : {A G : Type 0} (F : A → Type 0) (rules : List (Vec (StaRule A) G)) (v : Vec (StaRule A) G) (given : List (StaRule A)) (i : ℕ) → i < length rules → v ≡ get_or rules i v → given ≡ v.items → GuardsFit F (plain_rules rules) → All (λ r. EveryAtom F (plain_rule r).guard) given
 state_fits F rules v given i low at is fit =
     subst (All (λ r. EveryAtom F (plain_rule r).guard)) (sym is)
-    (All_from_map (λ r. EveryAtom F r.guard) plain_rule v.items (all_in (λ rs. All (λ r. EveryAtom F r.guard) rs) (plain_rules rules) fit (map plain_rule v.items) (contains_map (λ those. map plain_rule those.items) rules v (i, low, sym at))))
+    (All_from_map (λ r. EveryAtom F r.guard) plain_rule v.items (all_in (λ rs. All (λ r. EveryAtom F r.guard) rs) (plain_rules rules) fit (map plain_rule v.items) (in_map (λ those. map plain_rule those.items) rules v (i, low, sym at))))
 
 module _ {A V W : Type 0} {label_of : V → Label} {holds : A → Label → Bool} (M : Meaning label_of holds W) (t : PlainTable A V) (table : IsTableOf M t.machine t) where
   row_reached : (k : ℕ) → k < length t.found → IsReached t.machine.ranks M.keeps (automaton_of holds t.machine) (class_row t k)

@@ -1,5 +1,5 @@
 -- What is made of a table is a table of kinds.
-use Rattle.std.proofs.Common.{ℕ, zero, suc, ◌≡◌, ◌<◌, ◌≤◌, inl, inr, Bool, List, [], ◌∷◌, map, get_or, length, Contains, refl, sym, ap, subst, ◌∙◌, arith}
+use Rattle.std.proofs.Common.{ℕ, ◌≡◌, ◌<◌, ◌≤◌, inl, inr, Bool, List, [], map, get_or, length, Contains, refl, sym, ap, subst, ◌∙◌, arith}
 use Rattle.std.proofs.lemmas.Bool.{cases_lt}
 use Rattle.std.proofs.lemmas.List.{length-map, get_or_past}
 use Rattle.model_tree.specs.Label.{Label}
@@ -14,18 +14,14 @@ use Rattle.sta_classes.specs.Plain.{PlainTable, class_row, HasKinds}
 use Rattle.sta_theory.specs.Kinds.{OneKind, Represents}
 use Rattle.sta_theory.specs.Blocks.{KindTable, IsKindTable}
 use Rattle.sta_theory.specs.Made.{numbers}
-use Rattle.sta_theory.proofs.Lists.{none_in, map_member, in_map, append_member}
+use Rattle.sta_theory.proofs.Lists.{none_in, map_member, in_map}
 use Rattle.sta_theory.proofs.Tables.{kind_table as is_kind_table}
 use Rattle.sta_ops.proofs.Atoms.{in_each}
-use Rattle.sta_ops.proofs.EachRule.{all_in, only}
-use Rattle.sta_theory.proofs.Written.{number_in}
+use Rattle.sta_ops.proofs.EachRule.{all_in}
+use Rattle.sta_theory.proofs.Written.{number_in, number_low}
 use Rattle.sta_min.specs.Kinds.{AreOfPlaces, AreOfAllKinds}
 use Rattle.sta_min.specs.Tables.{listed, kind_table}
 use Rattle.sta_min.specs.Values.{TellAllApart}
-
-pub number_low : (n k : ℕ) → Contains (numbers n) k → k < n
-number_low zero k at = absurd (none_in k at)
-number_low (suc n) k at = elim (append_member (numbers n) (n ∷ []) k at) [ inl here ↦ omega (arith, number_low n k here) | inr there ↦ omega (arith, only n k there) ]
 
 module _ {A V W : Type 0} {label_of : V → Label} {holds : A → Label → Bool} (M : Meaning label_of holds W) (t : PlainTable A V) (table : IsTableOf M t.machine t) (has_kinds : HasKinds holds t) (keeps_labels : (l : Label) → M.keeps l → M.has l)
     (values : List (List V)) (tell : TellAllApart M t.machine.rules (length t.machine.ranks) values) (kinds : List (List (List ℕ))) (kinds_many : length kinds ≡ length t.machine.ranks)

@@ -20,7 +20,7 @@ use Rattle.sta_classes.specs.Stop.{ClassStopsFor}
 use Rattle.sta_classes.specs.declared.stop.ClassStop.{ClassStop}
 use Rattle.sta_classes.specs.declared.stop.ClassStop.TheVariants.{Wide}
 use Rattle.sta_classes.proofs.Covered.{Same, same_truths}
-use Rattle.sta_classes.proofs.Rows.{contains_map}
+use Rattle.sta_theory.proofs.Lists.{in_map}
 use Rattle.sta_classes.proofs.Told.{stop_within, all_to_map}
 use Rattle.sta_ops.proofs.Atoms.{each_in, in_each, guard_in}
 use Rattle.sta_ops.proofs.EachRule.{all_in, in_all}
@@ -52,7 +52,7 @@ module _ {A : Type 0} where
             let sound : IsRow M (signs_at holds formulas) r = All-contains (IsRow M (signs_at holds formulas)) rows r split.sound r_in in
             let same : truths holds (map plain_formula formulas) l ≡ truths holds (map plain_formula formulas) (label_of r.value) = sym (signs_of holds formulas l) ∙ sym signs ∙ sound.1 ∙ signs_of holds formulas (label_of r.value) in (
               r.value,
-              subst (λ vs. Contains vs r.value) (sym is) (contains_map (λ z. z.value) rows r r_in),
+              subst (λ vs. Contains vs r.value) (sym is) (in_map (λ z. z.value) rows r r_in),
               λ rs at_rs q at_q own. each_in (Same holds l (label_of r.value)) (map plain_formula formulas) (same_truths holds l (label_of r.value) (map plain_formula formulas) same) q.guard ((are q.guard).1 (rs, at_rs, q, at_q, (own, refl))),
             );
       }

@@ -36,7 +36,8 @@ use Rattle.sta_min.specs.Tables.{kind_table, IsSpace, IsPartition}
 use Rattle.sta_min.specs.Written.{AreBlocksOf, AreAllRules}
 use Rattle.sta_min.specs.Written as written
 use Rattle.sta_min.proofs.Choosing.{choose, chosen_low}
-use Rattle.sta_min.proofs.Ending.{nth, are_facts}
+use Rattle.sta_classes.proofs.Firsts.{element_at}
+use Rattle.sta_min.proofs.Ending.{are_facts}
 
 less : (n m : ℕ) → nat_lt n m ≡ true → n < m
 less n m h = grind (arith, nat_tests)
@@ -182,7 +183,7 @@ module _ {A V W : Type 0} {label_of : V → Label} {holds : A → Label → Bool
         let (p, at_p, is) = (all.blocks i low).sound r at in
         let e : ℕ = at_p.0 in
         let e_low : e < length all.heads = omega (arith, at_p.1, all.are_parents.many) in
-        let (h, at_h) = nth all.heads e e_low in
+        let (h, at_h) = element_at all.heads e e_low in
         let (c, c_low, head) = (all.are_heads h).0 (e, e_low, at_h) in
         let (ks, chosen, h_is) = head in
         record {
@@ -232,7 +233,7 @@ module _ {A V W : Type 0} {label_of : V → Label} {holds : A → Label → Bool
             let chosen : AreChosen t n c js = (wide, λ j l. may j (omega (arith, l, ks_are.1))) in
             let at_h : Contains all.heads h = (all.are_heads h).1 (c, c_low, (js, chosen, refl)) in
             let x : ℕ = at_h.0 in
-            let (p, at_p) = nth all.parents x (omega (arith, at_h.1, all.are_parents.many)) in
+            let (p, at_p) = element_at all.parents x (omega (arith, at_h.1, all.are_parents.many)) in
             let are : AreParentsOf label_of holds t values firsts h p = all.are_parents.each x at_h.1 h at_h.2 p at_p in
             let (k, at_k, k_low, row) = node_class c c_low js p are l d in
             let there : get_or dense k 0 ≡ i = sym (next_is c c_low js p are l k k_low row) ∙ alike c c_low l js ks js_low wide ks_are.0 ks_are.1 same ∙ e in

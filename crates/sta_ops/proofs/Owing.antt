@@ -5,7 +5,6 @@ use Rattle.std.proofs.lemmas.Simd.{map-map}
 use Rattle.model_tree.specs.Label.{Label}
 use Rattle.model_tree.specs.Tree.{LabelTree}
 use Rattle.model_tree.specs.Formula.{Formula}
-use Rattle.model_sta.specs.EachTwo.{EachTwo}
 use Rattle.model_sta.specs.Sets.{Fits}
 use Rattle.model_sta.specs.Told.{HasMoreApart, AreTold, AreToldByEither}
 use Rattle.model_sta.proofs.Told.{more_told}
@@ -19,6 +18,7 @@ use Rattle.sta_classes.specs.declared.stop.ClassStop.TheVariants.{Classes, Wide,
 use Rattle.sta_classes.specs.Guards.{all_guards}
 use Rattle.sta_classes.specs.Meant.{HasMoreClasses, StopsClasses}
 use Rattle.sta_classes.specs.Stop.{ClassStopsFor}
+use Rattle.model_sta.proofs.Counts.{each_two_weaker}
 use Rattle.sta_ops.specs.Empty.{side_by_side, StopsEither}
 use Rattle.sta_ops.specs.Rules.{moved, beside}
 use Rattle.sta_ops.proofs.Answered.{is_beside}
@@ -38,10 +38,6 @@ module _ {A : Type 0} where
   guards_beside : (xs ys : List (List (PlainRule A))) → all_guards (beside xs ys) ≡ all_guards xs ++ all_guards ys
   guards_beside xs ys = guards_append xs (map (map (moved (length xs))) ys) ∙ ap (λ l. all_guards xs ++ l) (guards_moved (length xs) ys)
 
-each_two : {X : Type 0} (P Q : X → X → Type 0) → ((x y : X) → P x y → Q x y) → (xs : List X) → EachTwo P xs → EachTwo Q xs
-each_two P Q f [] h = tt
-each_two P Q f (x ∷ xs) h = ((λ k d low. f x _ (h.0 k d low)), each_two P Q f xs h.1)
-
 module _ {A V W : Type 0} {label_of : V → Label} {holds : A → Label → Bool} (M : Meaning label_of holds W) (a b : Lang A) (fit_a : EachRule (PlainFits a.sta.ranks (length a.sta.rules)) a.sta.rules) (fit_b : EachRule (PlainFits b.sta.ranks (length b.sta.rules)) b.sta.rules)
     (low_a : a.state < length a.sta.rules) (low_b : b.state < length b.sta.rules) (most : ℕ) where
   abbrev Many : Type 0
@@ -53,7 +49,7 @@ module _ {A V W : Type 0} {label_of : V → Label} {holds : A → Label → Bool
       record {
         trees = told.trees;
         typed = told.typed;
-        apart = each_two (AreTold (automaton_of holds (side_by_side a b))) (AreToldByEither (automaton_of holds a.sta) (automaton_of holds b.sta))
+        apart = each_two_weaker (AreTold (automaton_of holds (side_by_side a b))) (AreToldByEither (automaton_of holds a.sta) (automaton_of holds b.sta))
             (told_by_either (automaton_of holds a.sta) (automaton_of holds b.sta) (automaton_of holds (side_by_side a b)) (own_of holds a.sta fit_a) (own_of holds b.sta fit_b) (is_beside M a b fit_a fit_b low_a low_b)) told.trees told.apart;
         more = told.more;
       }

@@ -112,11 +112,6 @@ module _ {X : Type 0} (f : X → ℕ × ℕ) (q : ℕ) where
           pick false true t u = refl
           pick false false t u = refl
 
-pub any_default : {X : Type 0} (xs : List X) (i : ℕ) (d e : X) → i < length xs → get_or xs i d ≡ get_or xs i e
-any_default [] i d e l = absurd (omega (arith, l))
-any_default (x ∷ xs) zero d e l = refl
-any_default (x ∷ xs) (suc i) d e l = any_default xs i d e (omega arith)
-
 -- ---- calls of terms
 
 module _ {X Y : Type 0} (f : X → Y) (h : Y → ℕ) where

@@ -21,7 +21,7 @@ counted_apart i j e = grind (arith, nat_tests)
 pub here_if_counted : (i j : ℕ) → 0 < cond (i == j) 1 0 → i ≡ j
 here_if_counted i j h = grind (arith, nat_tests)
 
-either : (a b : ℕ) → 0 < a + b → (0 < a) ⊎ (0 < b)
+pub either : (a b : ℕ) → 0 < a + b → (0 < a) ⊎ (0 < b)
 either zero b h = inr (omega arith)
 either (suc a) b h = inl (omega arith)
 

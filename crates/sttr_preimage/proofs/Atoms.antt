@@ -5,10 +5,6 @@ use Rattle.model_tree.specs.Formula.{Formula, yes, no, atom, negation, all_of, s
 use Rattle.label_core.specs.Formula.{atoms_in, atoms_in_all}
 use Rattle.sttr_theory.proofs.Members.{here, there, in_left, in_right}
 
-pub ok_map : {X Y : Type 0} (P Q : X → Type 0) (r : Result X Y) → ((x : X) → P x → Q x) → IfOk r P → IfOk r Q
-ok_map P Q (Ok x) f h = f x h
-ok_map P Q (Err e) f h = h
-
 pub err_map : {X Y : Type 0} (P Q : Y → Type 0) (r : Result X Y) → ((y : Y) → P y → Q y) → IfErr r P → IfErr r Q
 err_map P Q (Ok x) f h = h
 err_map P Q (Err e) f h = f e h

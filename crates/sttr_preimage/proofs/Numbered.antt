@@ -3,13 +3,13 @@ use Rattle.std.proofs.Common.{ℕ, zero, suc, ◌+◌, ◌≡◌, ◌<◌, ◌�
 use Rattle.std.proofs.lemmas.Bool.{and_parts}
 use Rattle.std.specs.List.{list_any}
 use Rattle.std.specs.Cmp.Lexicographic.{same_text}
-use Rattle.std.proofs.lemmas.Grind.{flat_map-append}
 use Rattle.std.proofs.lemmas.List.{map-append, length-append, take_more}
 use Rattle.indexmap.specs.IndexSet.{insert_key}
 use Rattle.sttr_theory.specs.Lists.{IsAt, Extends, Match}
 use Rattle.sttr_theory.specs.Triples.{Triple, LookName, of_first, of_second, middle, asked_by, asked}
 use Rattle.sttr_run.specs.Plain.{plain_triple}
 use Rattle.sttr_run.specs.declared.triples.Triple as code
+use Rattle.sttr_theory.proofs.AlikeWays.{asked_append}
 use Rattle.sttr_preimage.specs.declared.names.Name.{Name}
 use Rattle.sttr_preimage.specs.declared.names.Name.TheVariants as name
 use Rattle.sttr_preimage.specs.declared.names.Side.{Side}
@@ -119,9 +119,6 @@ side_append side.Second xs ys = map-append of_second xs ys
 pub states_more : (side : Side) (states : List ℕ) (i d : ℕ) (x : LookName) → i < length states → side_names side (get_or states i d ∷ []) ≡ x ∷ [] → side_names side (take (i + 1) states) ≡ side_names side (take i states) ++ x ∷ []
 states_more side states i d x low is =
     ap (side_names side) (take_more states i d low) ∙ side_append side (take i states) (get_or states i d ∷ []) ∙ ap (λ z. side_names side (take i states) ++ z) is
-
-asked_append : (xs ys : List Triple) → asked (xs ++ ys) ≡ asked xs ++ asked ys
-asked_append xs ys = flat_map-append (λ d. asked_by d.first d.all) xs ys
 
 pub asked_more : (triples : List code.Triple) (i : ℕ) (t : code.Triple) → i < length triples → t ≡ get_or triples i t
     → asked (map tidy (map plain_triple (take (i + 1) triples))) ≡ asked (map tidy (map plain_triple (take i triples))) ++ asked_by (tidy (plain_triple t)).first (tidy (plain_triple t)).all

@@ -24,7 +24,7 @@ use Rattle.sttr_run.specs.declared.picks.Fired.{Fired}
 use Rattle.sttr_run.specs.declared.picks.Pick.{Pick}
 use Rattle.sttr_run.proofs.Covering.{all_say_both, and_false}
 use Rattle.sttr_run.proofs.Members.{nil_out, push_out, push_old, push_new, all_at, all_of}
-use Rattle.sttr_run.proofs.NodeWays.{same_trans}
+use Rattle.sttr_theory.proofs.Once.{same_twice}
 
 and_comm : (a b : Bool) → (a && b) ≡ (b && a)
 and_comm true true = refl
@@ -114,8 +114,8 @@ module _ {A M : Type 0} (holds : A → Label → Bool) (make : M → Label → L
             with_guard x y f r l d w is ∙ ap (λ b. b && formula_holds (λ a. holds a (make m l)) r.guard) (says.guard l d) ∙ and_comm (p.guard (make m l)) (formula_holds (λ a. holds a (make m l)) r.guard)
             ∙ ap (λ b. (b && formula_holds (λ a. holds a (make m l)) r.guard) && p.guard (make m l)) (sym (number_same r.constructor c is.same_constructor));
         wants = λ j.
-            same_trans (wants_of y j) (get_or r.demands j [] ++ wants_of x j) (get_or r.demands j [] ++ p.wants j)
-            (same_trans (wants_of y j) (wants_of x j ++ get_or r.demands j []) (get_or r.demands j [] ++ wants_of x j) (to_same (wants_of y j) (wants_of x j ++ get_or r.demands j []) (with_wants x y f r j w is)) (swapped (wants_of x j) (get_or r.demands j [])))
+            same_twice (wants_of y j) (get_or r.demands j [] ++ wants_of x j) (get_or r.demands j [] ++ p.wants j)
+            (same_twice (wants_of y j) (wants_of x j ++ get_or r.demands j []) (get_or r.demands j [] ++ wants_of x j) (to_same (wants_of y j) (wants_of x j ++ get_or r.demands j []) (with_wants x y f r j w is)) (swapped (wants_of x j) (get_or r.demands j [])))
             (sides (wants_of x j) (p.wants j) (get_or r.demands j []) (says.wants j));
       }
 

@@ -15,7 +15,7 @@ use Rattle.sttr_theory.specs.Alike.{SameTriple}
 use Rattle.sttr_theory.specs.Triples.{Triple, asked}
 use Rattle.sttr_theory.specs.Ways.{WayOf, Pick as Picking, picks_of, guarded, fires}
 use Rattle.sttr_theory.proofs.Accept.{same_number, number_same}
-use Rattle.sttr_theory.proofs.Once.{once_states}
+use Rattle.sttr_theory.proofs.Once.{once_states, same_twice}
 use Rattle.sttr_theory.proofs.Members.{to_mapped, of_mapped, to_flat, of_flat, in_either, in_left, in_right}
 use Rattle.sttr_run.specs.Drafts.{AreAmong, all_say, AllStand, terms_at, NeverHolds, SaysSame, SaysLess, Covers}
 use Rattle.sttr_run.specs.Found.{CoversPicks}
@@ -50,9 +50,6 @@ false_and false b c f e = refl
 true_and_if : (a b c : Bool) → (a ≡ true → b ≡ true) → (a && c) ≡ true → (b && c) ≡ true
 true_and_if a b c f e = let both = and_parts a c e in and_from b c (f both.0) both.1
 
-pub same_trans : (Z V W : List ℕ) → SameStates Z V → SameStates V W → SameStates Z W
-same_trans Z V W a b = ((λ s at. b.0 s (a.0 s at)), λ s at. a.1 s (b.1 s at))
-
 same_more : (Z W V : List ℕ) → SameStates Z W → SameStates (Z ++ V) (W ++ V)
 same_more Z W V a = (
   (λ s at. elim (in_either Z V s at) [ inl b ↦ in_left W V s (a.0 s b) | inr b ↦ in_right W V s b ]),
@@ -85,7 +82,7 @@ module _ {A M : Type 0} (holds : A → Label → Bool) (make : M → Label → L
           let (x, in_xs, says) = covers.each y at in
           let (p, in_picks, s) = picks.each x in_xs in
           let (q, in_z, guards, wants) = pick_same looks c all Z asc same p in_picks in
-          let (z, in_ways, is) = says q.wants (λ j. same_trans (wants_of x j) (p.wants j) (q.wants j) (s.wants j) (wants j)) in
+          let (z, in_ways, is) = says q.wants (λ j. same_twice (wants_of x j) (p.wants j) (q.wants j) (s.wants j) (wants j)) in
           let in_t : Contains (G q.wants) z = subst (λ F. Contains (F q.wants) z) (same_ways x) in_ways in (
             Picked q z,
             to_flat (λ q. map (Picked q) (G q.wants)) (picks_of looks c Z) q (Picked q z) in_z (to_mapped (Picked q) (G q.wants) z in_t),
@@ -159,7 +156,7 @@ module _ {A M : Type 0} (holds : A → Label → Bool) (make : M → Label → L
           let (p, in_picks, s) = picks.each x in_xs in
           let (q, in_z, guards, wants) = pick_same looks c all Z asc same p in_picks in
           let wanted : (j : ℕ) → SameStates (wants_of x' j) (Wants q r j) = λ j.
-          same_trans (wants_of x' j) (wants_of x j ++ get_or r.rule.demands j []) (Wants q r j) (is.wants j) (same_more (wants_of x j) (q.wants j) (get_or r.rule.demands j []) (same_trans (wants_of x j) (p.wants j) (q.wants j) (s.wants j) (wants j))) in
+          same_twice (wants_of x' j) (wants_of x j ++ get_or r.rule.demands j []) (Wants q r j) (is.wants j) (same_more (wants_of x j) (q.wants j) (get_or r.rule.demands j []) (same_twice (wants_of x j) (p.wants j) (q.wants j) (s.wants j) (wants j))) in
           let (z, in_ways, ok) = says (Wants q r) wanted in
           let in_t : Contains (ways (Some r.term) (Wants q r)) z = subst (λ t. Contains (ways t (Wants q r)) z) is.same_term in_ways in
           let guard : (l : Label) → D l → (all_say holds (pick_guards x') l && z.guard l) ≡ (q.guard (make m l) && (Fires r l && z.guard l)) = λ l d.

@@ -24,7 +24,7 @@ use Rattle.sttr_run.proofs.Asking.{nothing_asked}
 use Rattle.sttr_run.proofs.Covering.{same_both, less_both, covers_pairs, and_false, parts_stand}
 use Rattle.sttr_run.proofs.LeafWays.{covers_plain}
 use Rattle.sttr_run.proofs.Members.{nil_out, push_out, push_old, push_new}
-use Rattle.sttr_run.proofs.NodeWays.{same_trans}
+use Rattle.sttr_theory.proofs.Once.{same_twice}
 
 -- from place n on
 abbrev pub shift : {X : Type 0} → ℕ → (ℕ → X) → ℕ → X
@@ -49,7 +49,7 @@ module _ {A M : Type 0} (holds : A → Label → Bool) (make : M → Label → L
         → Covers holds make D terms (SameStates all) (AreAmong all) F ys → Covers holds make D terms (AreWanted holds make D second parts demands) (AreMoreWanted holds make D second parts demands) (λ E. F (pick E)) ys
     covers_at i all g pick is F ys c =
         let same = set_same all (wanted_in demands i) g in record {
-          each = λ E w. c.each (pick E) (subst (SameStates all) (sym (is E)) (same_trans all (wanted_in demands i) (E i) same (w i)));
+          each = λ E w. c.each (pick E) (subst (SameStates all) (sym (is E)) (same_twice all (wanted_in demands i) (E i) same (w i)));
           all = λ E w. c.all (pick E) (subst (AreAmong all) (sym (is E)) (λ s at. w i s (same.0 s at)));
         }
 

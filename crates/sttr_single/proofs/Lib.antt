@@ -5,4 +5,4 @@ mod Low
 mod More
 mod Marked
 mod Answered
-mod Stopping
+pub mod Stopping

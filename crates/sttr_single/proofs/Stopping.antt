@@ -55,7 +55,7 @@ differing p q (x ∷ xs) other = elim (same_bit (p x) (q x)) [
   | inr differs ↦ (x, first_in x xs, differs)
 ]
 
-slice_in : {X : Type 0} (xs : List X) (i : ℕ) (x : X) → slice_get xs i ≡ Some x → Contains xs x
+pub slice_in : {X : Type 0} (xs : List X) (i : ℕ) (x : X) → slice_get xs i ≡ Some x → Contains xs x
 slice_in xs i x e = (i, slice_get_within xs i x e, get_or_from_slice_get xs i x x e)
 
 module _ {A M V W : Type 0} {label_of : V → Label} {holds : A → Label → Bool} (N : Meaning label_of holds W) (eq : A → A → Bool) (is_own : N.equal ≡ eq) (laws : IsEquivalence eq) (map_eq : M → M → Bool) (f : OutMachine A M)

@@ -1,14 +1,11 @@
 -- Constants, by what they are.
-use Rattle.std.proofs.Common.{◌≡◌, Bool, true, false, ◌&&◌, List, [], ◌∷◌, ◌++◌, map, Option, Some, None, refl, sym, ap, ap₂, ◌∙◌, arith}
-use Rattle.std.proofs.Math.IntN.{ℤ, pos, negsuc}
-use Rattle.std.proofs.lemmas.Bool.Decides.{nat_tests}
+use Rattle.std.proofs.Common.{◌≡◌, Bool, true, false, ◌&&◌, List, [], ◌∷◌, ◌++◌, map, Option, Some, None, refl, sym, ap, ap₂, ◌∙◌}
 use Rattle.std.specs.Prelude.{not}
 use Rattle.std.specs.List.{list_all}
 use Rattle.fast_fault.specs.declared.code.Code.TheVariants.{WrongSort, NumberRange, TooMany}
 use Rattle.fast_fault.specs.declared.place.Pos.{Pos}
 use Rattle.fast_fault.specs.declared.refusal.Refusal.{Refusal}
 use Rattle.model_tree.specs.Kept.{is_kept_field}
-use Rattle.model_tree.specs.Range.{is_label_number, IsLabelNumber}
 use Rattle.model_tree.specs.Signature.{PlainField}
 use Rattle.model_label.specs.Meaning.{value_of}
 use Rattle.model_checks.specs.Failures.{fails_if, first_among}
@@ -54,10 +51,6 @@ values_are [] = refl
 values_are (c ∷ cs) = ap₂ (λ v vs. v ∷ vs) (value_is c.value c.place) (values_are cs)
 
 -- ---- ranges
-
-pub in_range : (z : ℤ) → is_label_number z ≡ true → IsLabelNumber z
-in_range (pos n) e = grind (arith, nat_tests)
-in_range (negsuc n) e = grind (arith, nat_tests)
 
 not_false : (b : Bool) → not b ≡ false → b ≡ true
 not_false true e = refl

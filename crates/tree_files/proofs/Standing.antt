@@ -20,13 +20,13 @@ use Rattle.model_grammar.specs.Syntax.{Expr}
 use Rattle.model_grammar.specs.TreeFiles.{FileTree, FileTrees, and_tree, trees_of}
 use Rattle.model_grammar.specs.TreeFiles as file
 use Rattle.model_checks.specs.Failures.{fails_if}
-use Rattle.model_names.specs.Declared.{same_text}
 use Rattle.model_meaning.specs.Outputs.{number_named}
 use Rattle.model_run.specs.Texts.{file_tree_count, sort_failures, range_failures, length_failures, label_failures, head_failures, tree_failures, trees_failures, StandsFor, StandFor, PlacedTree, AreTreesOf}
 use Rattle.tree_reader.specs.declared.Constant.{Constant}
 use Rattle.tree_reader.specs.declared.FileTree as code
 use Rattle.tree_reader.specs.Plain.{plain_constant, plain_tree}
 use Rattle.model_label.proofs.Sorted.{one_sort}
+use Rattle.model_meaning.proofs.Typed.{below}
 use Rattle.tree_files.specs.Labels.{meant_by}
 use Rattle.tree_files.specs.Placed.{IsMade, AreMade, IsPlacedOf, IsOfType, ArePlacedOf}
 use Rattle.tree_files.proofs.Failing.{none_before, none_behind, passed}
@@ -58,14 +58,6 @@ list_all_map p f [] = refl
 list_all_map p f (x ∷ xs) = ap (λ b. p (f x) && b) (list_all_map p f xs)
 
 -- ---- nodes
-
-number_low : (names : List (List ℕ)) (name : List ℕ) (c : ℕ) → number_named names name ≡ Some c → c < length names
-number_low [] name c e = cc
-number_low (n ∷ names) name c e = by (same_text n name) (number_named names name) e (number_low names name)
-  where
-    one_more : (o : Option ℕ) → option_map (λ k. suc k) o ≡ Some c → ((k : ℕ) → o ≡ Some k → k < length names) → c < suc (length names)
-    one_more None e later = cc
-    one_more (Some k) e later = let same : suc k ≡ c = cc in omega (arith, same, later k refl)
 
     by : (b : Bool) (o : Option ℕ) → cond b (Some 0) (option_map (λ k. suc k) o) ≡ Some c → ((k : ℕ) → o ≡ Some k → k < length names) → c < suc (length names)
     by true o e later = let same : 0 ≡ c = cc in omega (arith, same)
@@ -124,7 +116,7 @@ module _ (s : PlainSignature) where
       let sorts = have_these_sorts (sorts_of s) (values cs) (sorts_fit s.fields cs (count_is place name labels reads sound ∙ length_mapped plain_constant cs) fit) in
       record {
         stands = (found, label ∙ ap row (sym (values_are cs)), made.stand);
-        typed = (subst (λ n. c < n) (as_many s.constructors) (number_low (names_of s) name.text c found), length_stood s reads ts made.stand ∙ sym rank, subst (HasSorts (sorts_of s)) (sym label) sorts, made.typed);
+        typed = (subst (λ n. c < n) (as_many s.constructors) (below (names_of s) name.text c found), length_stood s reads ts made.stand ∙ sym rank, subst (HasSorts (sorts_of s)) (sym label) sorts, made.typed);
         kept = ap₂ (λ a b. a && b) (ap is_kept_label label ∙ list_all_map is_kept_field (λ (x : Constant). meant_by x.value) cs ∙ all_kept s.fields cs fit) made.kept;
       }
 

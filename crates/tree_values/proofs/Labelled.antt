@@ -1,12 +1,11 @@
 -- The label of a literal, and the node above trees.
-use Rattle.std.proofs.Common.{◌≡◌, ℕ, true, List, [], ◌∷◌, Some, Contains, map, refl, ap, ap₂, ◌∙◌, arith}
-use Rattle.std.proofs.Math.IntN.{ℤ, pos, negsuc}
-use Rattle.std.proofs.lemmas.Bool.Decides.{nat_tests}
+use Rattle.std.proofs.Common.{◌≡◌, ℕ, true, List, [], ◌∷◌, Some, Contains, map, refl, ap, ap₂, ◌∙◌}
+use Rattle.std.proofs.Math.IntN.{ℤ}
 use Rattle.std.specs.List.{list_all}
 use Rattle.model_tree.specs.Label as model
 use Rattle.model_tree.specs.Label.{Field, whole, row}
 use Rattle.model_tree.specs.Kept.{is_kept_field}
-use Rattle.model_tree.specs.Range.{is_label_number, IsLabelNumber}
+use Rattle.model_tree.specs.Range.{IsLabelNumber}
 use Rattle.model_tree.specs.Signature.{Sort, PlainField}
 use Rattle.model_tree.specs.Tree.{Tree, node, trees_of}
 use Rattle.model_tree.proofs.Trees.{relabel_all_of_list}
@@ -16,6 +15,7 @@ use Rattle.fast_tree.specs.Entries.{label_meaning}
 use Rattle.fast_tree.specs.declared.label.Label.{Label}
 use Rattle.record_label.specs.Maps.{Entry, made_by, EntriesFit, AreEntriesOf}
 use Rattle.sta_theory.proofs.Lists.{all_member}
+use Rattle.model_checks.proofs.InRange.{constant_out}
 use Rattle.tree_values.specs.Trees.{meant}
 
 -- ---- maps
@@ -40,13 +40,9 @@ made_is (e ∷ es) (s ∷ sorts) (x ∷ entries) are = ap₂ (λ y ys. y ∷ ys)
 
 -- ---- ranges
 
-from_test : (z : ℤ) → is_label_number z ≡ true → IsLabelNumber z
-from_test (pos n) e = grind (arith, nat_tests)
-from_test (negsuc n) e = grind (arith, nat_tests)
-
 -- a label that is kept has no number outside
 pub none_outside : (fields : List Field) (n : ℤ) → list_all is_kept_field fields ≡ true → Contains fields (whole n) → (IsLabelNumber n → ⊥) → ⊥
-none_outside fields n kept at out = out (from_test n (all_member is_kept_field fields (whole n) at kept))
+none_outside fields n kept at out = out (constant_out n (all_member is_kept_field fields (whole n) at kept))
 
 -- ---- nodes
 

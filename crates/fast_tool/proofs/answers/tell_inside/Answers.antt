@@ -1,7 +1,8 @@
 use Rattle.fast_session.specs.Sessions.{items_in}
 use Rattle.tree_files.specs.Placed.{plain_placed}
 use Rattle.fast_eval.proofs.Applying.{if_err}
-use Rattle.fast_tool.proofs.Answering.{on_ok, answered_by, unanswered_by}
+use Rattle.fast_eval.proofs.Places.{on_ok}
+use Rattle.fast_tool.proofs.Answering.{answered_by, unanswered_by}
 use Rattle.fast_tool.proofs.answers.tell_inside.Goals as goal
 
 pub is_inside-requires : goal.is_inside-requires

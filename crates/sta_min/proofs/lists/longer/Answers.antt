@@ -1,7 +1,7 @@
 use Rattle.std.proofs.Common.{ℕ, ◌≡◌, ◌∷◌, ◌++◌, [], inl, inr, ap, subst, ◌∙◌, arith, Contains}
 use Rattle.sta_classes.specs.Grow.{Grown}
 use Rattle.sta_classes.specs.Rows.{lists_of}
-use Rattle.sta_classes.proofs.Rows.{contains_map, contains_unmap}
+use Rattle.sta_theory.proofs.Lists.{map_member, in_map}
 use Rattle.sta_classes.proofs.Grown.{nowhere, grown_more, grown_all}
 use Rattle.sta_min.proofs.lists.longer.Goals as goal
 
@@ -15,10 +15,10 @@ returns c ks =
     let h = grown_all (λ v l. (k : ℕ) × Contains c.args.numbers.now k × (v.items ++ k ∷ [] ≡ l)) c.args.lists.now [] (lists_of c.lists.made.items) c.lists.list-index (omega (arith, c.lists-test.false)) c.lists.invariant in (
       (λ at. elim ((h ks).0 at) [
         | inl none ↦ absurd (nowhere ks none)
-        | inr w ↦ (let (v, there, (k, chosen, e)) = w in (v.items, contains_map (λ z. z.items) c.args.lists.now v there, k, chosen, e))
+        | inr w ↦ (let (v, there, (k, chosen, e)) = w in (v.items, in_map (λ z. z.items) c.args.lists.now v there, k, chosen, e))
       ]),
       (λ w.
           let (front, there, k, chosen, e) = w in
-          let (v, in_lists, is) = contains_unmap (λ z. z.items) c.args.lists.now front there in
+          let (v, in_lists, is) = map_member (λ z. z.items) c.args.lists.now front there in
           (h ks).1 (inr (v, in_lists, (k, chosen, ap (λ l. l ++ k ∷ []) is ∙ e)))),
     )

@@ -6,7 +6,8 @@ use Rattle.sttr_preimage.specs.Called.{through, KeepsOutput}
 use Rattle.sttr_preimage.specs.Images.{CanAsk}
 use Rattle.sttr_preimage.specs.Outs.{HasState}
 use Rattle.sttr_preimage.specs.Through.{IsThroughStop}
-use Rattle.sttr_preimage.proofs.Atoms.{ok_map, err_map}
+use Rattle.sttr_run.proofs.Asking.{ok_map}
+use Rattle.sttr_preimage.proofs.Atoms.{err_map}
 use Rattle.sttr_preimage.proofs.Standing.{sttr_fits}
 use Rattle.sttr_compose.specs.Results.{IsComposed, IsTransThrough, IsComposeStop}
 use Rattle.sttr_compose.proofs.Composed.{pair_known, can_compose, stop_through, trans_as, composed, made_through}

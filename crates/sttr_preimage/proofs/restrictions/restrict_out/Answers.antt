@@ -2,7 +2,8 @@ use Rattle.std.proofs.Common.{sym, subst, inl, inr}
 use Rattle.sttr_preimage.specs.Called.{KeepsOutput}
 use Rattle.sttr_preimage.specs.Outs.{HasState, IsTransFor}
 use Rattle.sttr_preimage.specs.Results.{IsOutRestricted, IsTransPutFrom, IsImageStop}
-use Rattle.sttr_preimage.proofs.Atoms.{ok_map, err_map}
+use Rattle.sttr_run.proofs.Asking.{ok_map}
+use Rattle.sttr_preimage.proofs.Atoms.{err_map}
 use Rattle.sttr_preimage.proofs.Finished.{can_ask, stop_asked}
 use Rattle.sttr_preimage.specs.Through.{nothing_of, IsThroughMap}
 use Rattle.sttr_preimage.proofs.Restricted.{start_known, out_relation, out_made}

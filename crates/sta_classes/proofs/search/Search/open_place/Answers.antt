@@ -7,25 +7,26 @@ use Rattle.sta_classes.specs.Rules.{plain_rules, meaning_of}
 use Rattle.sta_classes.specs.Rows.{founds, lists_of}
 use Rattle.sta_classes.specs.Searched.{IsOpened}
 use Rattle.sta_classes.specs.declared.class.TheConstants.{CAP}
-use Rattle.sta_classes.proofs.Rows.{list_at, contains_map}
+use Rattle.sta_theory.proofs.Lists.{in_map}
+use Rattle.sta_classes.proofs.Rows.{list_at}
 use Rattle.sta_classes.proofs.Opens.{lists_same, list_low, list_has, above_all}
 use Rattle.sta_classes.proofs.Turns.{opened_later}
 use Rattle.sta_classes.proofs.search.Search.open_place.Goals as goal
 
 pub open-requires-clause-wide : goal.open-requires-clause-wide
 open-requires-clause-wide g c = ap length c.deref-in-lists.ensures.value ∙ (((lists_same (Contains (lists_of c.in_ok-lists.lists.items)) c.deref.result.now (get_or (lists_of c.args.known.now.places.items) c.args.constructor []) c.args.place _ (length c.args.known.now.classes.items - 1) (get_or c.args.self.now.ranks.now c.args.constructor 0)
-    (list_at c.args.known.now.places.items c.args.constructor c.index.result.now c.deref.result.now (omega (arith, c.requires.low, c.requires.kinds.many)) c.index.ensures c.deref.ensures.value) (omega (arith, c.len-last.ensures, c.args.known.now.classes.ok.0)) (c.requires.kinds.each c.args.constructor c.requires.low).many c.in_ok-lists.ensures c.children-item.result.items).0 (contains_map (λ v. v.items) c.in_ok-lists.lists.items c.children-item.result (subst (λ l. Contains l c.children-item.result) c.deref-children-items.ensures.value (c.lists.children-index, c.lists-test.true, sym c.children-item.is))))).0
+    (list_at c.args.known.now.places.items c.args.constructor c.index.result.now c.deref.result.now (omega (arith, c.requires.low, c.requires.kinds.many)) c.index.ensures c.deref.ensures.value) (omega (arith, c.len-last.ensures, c.args.known.now.classes.ok.0)) (c.requires.kinds.each c.args.constructor c.requires.low).many c.in_ok-lists.ensures c.children-item.result.items).0 (in_map (λ v. v.items) c.in_ok-lists.lists.items c.children-item.result (subst (λ l. Contains l c.children-item.result) c.deref-children-items.ensures.value (c.lists.children-index, c.lists-test.true, sym c.children-item.is))))).0
 
 pub open-requires-clause-children : goal.open-requires-clause-children
 open-requires-clause-children g c =
     subst (All (λ k. k < length c.args.known.now.classes.items)) (sym c.deref-in-lists.ensures.value) (list_low g.T.Theory.atom_holds c.args.self.now.ranks.now c.args.self.now.rules.now c.args.known.now.classes.items c.args.known.now.places.items c.requires.kinds c.args.constructor c.args.place (length c.args.known.now.classes.items - 1) c.children-item.result.items c.requires.low ((lists_same (Contains (lists_of c.in_ok-lists.lists.items)) c.deref.result.now (get_or (lists_of c.args.known.now.places.items) c.args.constructor []) c.args.place _ (length c.args.known.now.classes.items - 1) (get_or c.args.self.now.ranks.now c.args.constructor 0)
-    (list_at c.args.known.now.places.items c.args.constructor c.index.result.now c.deref.result.now (omega (arith, c.requires.low, c.requires.kinds.many)) c.index.ensures c.deref.ensures.value) (omega (arith, c.len-last.ensures, c.args.known.now.classes.ok.0)) (c.requires.kinds.each c.args.constructor c.requires.low).many c.in_ok-lists.ensures c.children-item.result.items).0 (contains_map (λ v. v.items) c.in_ok-lists.lists.items c.children-item.result (subst (λ l. Contains l c.children-item.result) c.deref-children-items.ensures.value (c.lists.children-index, c.lists-test.true, sym c.children-item.is)))))
+    (list_at c.args.known.now.places.items c.args.constructor c.index.result.now c.deref.result.now (omega (arith, c.requires.low, c.requires.kinds.many)) c.index.ensures c.deref.ensures.value) (omega (arith, c.len-last.ensures, c.args.known.now.classes.ok.0)) (c.requires.kinds.each c.args.constructor c.requires.low).many c.in_ok-lists.ensures c.children-item.result.items).0 (in_map (λ v. v.items) c.in_ok-lists.lists.items c.children-item.result (subst (λ l. Contains l c.children-item.result) c.deref-children-items.ensures.value (c.lists.children-index, c.lists-test.true, sym c.children-item.is)))))
 
 pub open-requires-clause-above : goal.open-requires-clause-above
 open-requires-clause-above g c k low =
     subst (λ ks. get_or (counts_of (founds g.T.Theory.label_of c.args.known.now.classes.items)) k 0 ≤ cost CAP (nodes_at (founds g.T.Theory.label_of c.args.known.now.classes.items) ks)) (sym c.deref-in-lists.ensures.value)
     (above_all c.args.self.now.ranks.now (g.T.Theory.meaning c.args.self.now.theory.now).has (g.T.Theory.meaning c.args.self.now.theory.now).keeps (meaning_of g.T.Theory.atom_holds (plain_rules c.args.self.now.rules.now)) g.T.Theory.label_of c.args.known.now.classes.items c.lists.pending c.lists.invariant.sound c.children-item.result.items (list_has g.T.Theory.atom_holds c.args.self.now.ranks.now c.args.self.now.rules.now c.args.known.now.classes.items c.args.known.now.places.items c.requires.kinds c.args.constructor c.args.place (length c.args.known.now.classes.items - 1) c.children-item.result.items c.requires.place ((lists_same (Contains (lists_of c.in_ok-lists.lists.items)) c.deref.result.now (get_or (lists_of c.args.known.now.places.items) c.args.constructor []) c.args.place _ (length c.args.known.now.classes.items - 1) (get_or c.args.self.now.ranks.now c.args.constructor 0)
-    (list_at c.args.known.now.places.items c.args.constructor c.index.result.now c.deref.result.now (omega (arith, c.requires.low, c.requires.kinds.many)) c.index.ensures c.deref.ensures.value) (omega (arith, c.len-last.ensures, c.args.known.now.classes.ok.0)) (c.requires.kinds.each c.args.constructor c.requires.low).many c.in_ok-lists.ensures c.children-item.result.items).0 (contains_map (λ v. v.items) c.in_ok-lists.lists.items c.children-item.result (subst (λ l. Contains l c.children-item.result) c.deref-children-items.ensures.value (c.lists.children-index, c.lists-test.true, sym c.children-item.is))))) k low)
+    (list_at c.args.known.now.places.items c.args.constructor c.index.result.now c.deref.result.now (omega (arith, c.requires.low, c.requires.kinds.many)) c.index.ensures c.deref.ensures.value) (omega (arith, c.len-last.ensures, c.args.known.now.classes.ok.0)) (c.requires.kinds.each c.args.constructor c.requires.low).many c.in_ok-lists.ensures c.children-item.result.items).0 (in_map (λ v. v.items) c.in_ok-lists.lists.items c.children-item.result (subst (λ l. Contains l c.children-item.result) c.deref-children-items.ensures.value (c.lists.children-index, c.lists-test.true, sym c.children-item.is))))) k low)
 
 pub lists-preserved : goal.lists-preserved
 lists-preserved g c = record {

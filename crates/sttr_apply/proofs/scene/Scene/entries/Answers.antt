@@ -16,7 +16,7 @@ use Rattle.sttr_apply.specs.Calls.{calls_of, asks_in, uses_in}
 use Rattle.sttr_apply.specs.Labels.{keeps, Outside}
 use Rattle.sttr_apply.specs.Plain.{found_of, out_cut}
 use Rattle.sttr_apply.specs.Solve.{IsEntry}
-use Rattle.sttr_apply.proofs.Used.{any_default}
+use Rattle.model_sta.proofs.Reached.{same_default}
 use Rattle.sttr_apply.proofs.Placed.{all_push}
 use Rattle.sttr_apply.proofs.Gathered.{one_taken, sum_dropped}
 use Rattle.sttr_apply.proofs.Asked.{same_at, state_found, stop_here}
@@ -51,8 +51,8 @@ terms_found-requires-clause-uses g c =
 
 pub returns-in-TooMuch-clause-stop : goal.returns-in-TooMuch-clause-stop
 returns-in-TooMuch-clause-stop g c =
-    stop_here g.T.Theory.label_of g.T.Value.Ord.cmp g.met.T.Value.Ord.total g.met.T.Theory.equal_values (transducer_of g.T.Theory.atom_holds g.T.Labels.make c.args.self.now.sttr.now) c.args.place.now.tree.now c.args.asks.now (get_or c.args.asks.now c.asks.ask-index (record { state = 0; uses = 0 })) (map (λ t. with_maps g.T.Labels.make (plain_term t.now)) c.deref.result.now) c.in-TooMuch.load c.requires.some (c.asks.ask-index, c.asks-test.true, sym (any_default c.args.asks.now c.asks.ask-index (record { state = 0; uses = 0 }) (get_or c.args.asks.now c.asks.ask-index (record { state = 0; uses = 0 })) c.asks-test.true))
-    (ap (map (λ t. with_maps g.T.Labels.make (plain_term t.now))) c.deref.ensures.value ∙ same_at (λ those. map (λ t. with_maps g.T.Labels.make (plain_term t.now)) those.items) (λ a. terms_of (automaton_of g.T.Theory.atom_holds c.args.self.now.sttr.now.looks) (relabel g.T.Theory.label_of c.args.place.now.tree.now) (out_rules (transducer_of g.T.Theory.atom_holds g.T.Labels.make c.args.self.now.sttr.now) a.state)) c.args.lists.now c.args.asks.now c.asks.i c.index-lists-i.result (get_or c.args.asks.now c.asks.ask-index (record { state = 0; uses = 0 })) c.requires.terms (omega (arith, c.asks.invariant.at, c.asks-test.true)) c.index-lists-i.is ((any_default c.args.asks.now c.asks.ask-index (record { state = 0; uses = 0 }) (get_or c.args.asks.now c.asks.ask-index (record { state = 0; uses = 0 })) c.asks-test.true) ∙ ap (λ k. get_or c.args.asks.now k (get_or c.args.asks.now c.asks.ask-index (record { state = 0; uses = 0 }))) (sym c.asks.invariant.at)))
+    stop_here g.T.Theory.label_of g.T.Value.Ord.cmp g.met.T.Value.Ord.total g.met.T.Theory.equal_values (transducer_of g.T.Theory.atom_holds g.T.Labels.make c.args.self.now.sttr.now) c.args.place.now.tree.now c.args.asks.now (get_or c.args.asks.now c.asks.ask-index (record { state = 0; uses = 0 })) (map (λ t. with_maps g.T.Labels.make (plain_term t.now)) c.deref.result.now) c.in-TooMuch.load c.requires.some (c.asks.ask-index, c.asks-test.true, sym (same_default c.args.asks.now c.asks.ask-index (record { state = 0; uses = 0 }) (get_or c.args.asks.now c.asks.ask-index (record { state = 0; uses = 0 })) c.asks-test.true))
+    (ap (map (λ t. with_maps g.T.Labels.make (plain_term t.now))) c.deref.ensures.value ∙ same_at (λ those. map (λ t. with_maps g.T.Labels.make (plain_term t.now)) those.items) (λ a. terms_of (automaton_of g.T.Theory.atom_holds c.args.self.now.sttr.now.looks) (relabel g.T.Theory.label_of c.args.place.now.tree.now) (out_rules (transducer_of g.T.Theory.atom_holds g.T.Labels.make c.args.self.now.sttr.now) a.state)) c.args.lists.now c.args.asks.now c.asks.i c.index-lists-i.result (get_or c.args.asks.now c.asks.ask-index (record { state = 0; uses = 0 })) c.requires.terms (omega (arith, c.asks.invariant.at, c.asks-test.true)) c.index-lists-i.is ((same_default c.args.asks.now c.asks.ask-index (record { state = 0; uses = 0 }) (get_or c.args.asks.now c.asks.ask-index (record { state = 0; uses = 0 })) c.asks-test.true) ∙ ap (λ k. get_or c.args.asks.now k (get_or c.args.asks.now c.asks.ask-index (record { state = 0; uses = 0 }))) (sym c.asks.invariant.at)))
     (subst (λ r. AreTermsFound g.T.Theory.label_of g.T.Value.Ord.cmp keeps Outside (transducer_of g.T.Theory.atom_holds g.T.Labels.make c.args.self.now.sttr.now) (children_of c.args.place.now.tree.now) (g.T.Theory.label_of (label_of c.args.place.now.tree.now)) (map (λ t. with_maps g.T.Labels.make (plain_term t.now)) c.deref.result.now) (found_of r)) c.in-TooMuch.is c.in_ok-load.ensures.found)
 
 pub asks-init : goal.asks-init
@@ -73,14 +73,14 @@ asks-preserved g c =
     record {
       at = omega (arith, c.asks.invariant.at);
       entries = all_push (IsEntry (transducer_of g.T.Theory.atom_holds g.T.Labels.make c.args.self.now.sttr.now) g.T.Theory.label_of g.T.Value.Ord.cmp c.args.place.now.tree.now) c.asks.entries.items _ _ c.asks.invariant.entries
-          (subst (λ q. IsCallFound g.T.Theory.label_of g.T.Value.Ord.cmp keeps Outside (transducer_of g.T.Theory.atom_holds g.T.Labels.make c.args.self.now.sttr.now) q c.args.place.now.tree.now (listed (map out_cut c.in-Listed.listing.outs.items) c.in-Listed.listing.far)) (ap (λ a. a.state) (any_default c.args.asks.now c.asks.ask-index (record { state = 0; uses = 0 }) _ c.asks-test.true))
+          (subst (λ q. IsCallFound g.T.Theory.label_of g.T.Value.Ord.cmp keeps Outside (transducer_of g.T.Theory.atom_holds g.T.Labels.make c.args.self.now.sttr.now) q c.args.place.now.tree.now (listed (map out_cut c.in-Listed.listing.outs.items) c.in-Listed.listing.far)) (ap (λ a. a.state) (same_default c.args.asks.now c.asks.ask-index (record { state = 0; uses = 0 }) _ c.asks-test.true))
           (state_found g.T.Theory.label_of g.T.Value.Ord.cmp g.met.T.Value.Ord.total g.met.T.Theory.equal_values (transducer_of g.T.Theory.atom_holds g.T.Labels.make c.args.self.now.sttr.now) c.args.place.now.tree.now (get_or c.args.asks.now c.asks.ask-index (record { state = 0; uses = 0 })).state (map (λ t. with_maps g.T.Labels.make (plain_term t.now)) c.deref.result.now) (listed (map out_cut c.in-Listed.listing.outs.items) c.in-Listed.listing.far)
-          (ap (map (λ t. with_maps g.T.Labels.make (plain_term t.now))) c.deref.ensures.value ∙ same_at (λ those. map (λ t. with_maps g.T.Labels.make (plain_term t.now)) those.items) (λ a. terms_of (automaton_of g.T.Theory.atom_holds c.args.self.now.sttr.now.looks) (relabel g.T.Theory.label_of c.args.place.now.tree.now) (out_rules (transducer_of g.T.Theory.atom_holds g.T.Labels.make c.args.self.now.sttr.now) a.state)) c.args.lists.now c.args.asks.now c.asks.i c.index-lists-i.result (get_or c.args.asks.now c.asks.ask-index (record { state = 0; uses = 0 })) c.requires.terms (omega (arith, c.asks.invariant.at, c.asks-test.true)) c.index-lists-i.is ((any_default c.args.asks.now c.asks.ask-index (record { state = 0; uses = 0 }) (get_or c.args.asks.now c.asks.ask-index (record { state = 0; uses = 0 })) c.asks-test.true) ∙ ap (λ k. get_or c.args.asks.now k (get_or c.args.asks.now c.asks.ask-index (record { state = 0; uses = 0 }))) (sym c.asks.invariant.at)))
+          (ap (map (λ t. with_maps g.T.Labels.make (plain_term t.now))) c.deref.ensures.value ∙ same_at (λ those. map (λ t. with_maps g.T.Labels.make (plain_term t.now)) those.items) (λ a. terms_of (automaton_of g.T.Theory.atom_holds c.args.self.now.sttr.now.looks) (relabel g.T.Theory.label_of c.args.place.now.tree.now) (out_rules (transducer_of g.T.Theory.atom_holds g.T.Labels.make c.args.self.now.sttr.now) a.state)) c.args.lists.now c.args.asks.now c.asks.i c.index-lists-i.result (get_or c.args.asks.now c.asks.ask-index (record { state = 0; uses = 0 })) c.requires.terms (omega (arith, c.asks.invariant.at, c.asks-test.true)) c.index-lists-i.is ((same_default c.args.asks.now c.asks.ask-index (record { state = 0; uses = 0 }) (get_or c.args.asks.now c.asks.ask-index (record { state = 0; uses = 0 })) c.asks-test.true) ∙ ap (λ k. get_or c.args.asks.now k (get_or c.args.asks.now c.asks.ask-index (record { state = 0; uses = 0 }))) (sym c.asks.invariant.at)))
           (subst (λ r. AreTermsFound g.T.Theory.label_of g.T.Value.Ord.cmp keeps Outside (transducer_of g.T.Theory.atom_holds g.T.Labels.make c.args.self.now.sttr.now) (children_of c.args.place.now.tree.now) (g.T.Theory.label_of (label_of c.args.place.now.tree.now)) (map (λ t. with_maps g.T.Labels.make (plain_term t.now)) c.deref.result.now) (found_of r)) c.in-Listed.is c.in_ok-load.ensures.found)))
           c.in_ok-push-in-Listed.ensures.items;
       uses = ap uses_in c.in_ok-push-in-Listed.ensures.items ∙ (map-append (λ e. (e.state, e.uses)) c.asks.entries.items _
-          ∙ (ap₂ (λ xs y. xs ++ y ∷ []) c.asks.invariant.uses (ap (λ a. (a.state, a.uses)) (any_default c.args.asks.now c.asks.ask-index _ (record { state = 0; uses = 0 }) c.asks-test.true))
-          ∙ sym (one_taken (λ a. (a.state, a.uses)) c.args.asks.now c.asks.ask-index (get_or c.args.asks.now c.asks.ask-index (record { state = 0; uses = 0 })) c.asks-test.true (any_default c.args.asks.now c.asks.ask-index (record { state = 0; uses = 0 }) (get_or c.args.asks.now c.asks.ask-index (record { state = 0; uses = 0 })) c.asks-test.true))));
+          ∙ (ap₂ (λ xs y. xs ++ y ∷ []) c.asks.invariant.uses (ap (λ a. (a.state, a.uses)) (same_default c.args.asks.now c.asks.ask-index _ (record { state = 0; uses = 0 }) c.asks-test.true))
+          ∙ sym (one_taken (λ a. (a.state, a.uses)) c.args.asks.now c.asks.ask-index (get_or c.args.asks.now c.asks.ask-index (record { state = 0; uses = 0 })) c.asks-test.true (same_default c.args.asks.now c.asks.ask-index (record { state = 0; uses = 0 }) (get_or c.args.asks.now c.asks.ask-index (record { state = 0; uses = 0 })) c.asks-test.true))));
       table = c.in_ok-load.ensures.table;
       has = λ q k l.
           let old = c.asks.invariant.has q k (omega (arith, l, c.in_ok-load.ensures.table.width, c.asks.invariant.table.width)) in

@@ -5,7 +5,7 @@ use Rattle.sta_core.specs.Sta.{automaton_of}
 use Rattle.sta_marks.specs.Nodes.{nodes_of, nodes_of_all}
 use Rattle.sttr_core.specs.Machine.{transducer_of}
 use Rattle.sttr_apply.specs.Sizes.{StandsAt}
-use Rattle.sttr_apply.proofs.Used.{any_default}
+use Rattle.model_sta.proofs.Reached.{same_default}
 use Rattle.sttr_apply.proofs.Placed.{child_stands, number_low, placed_low, size_placed}
 use Rattle.sttr_apply.proofs.Tabled.{kept_nothing, kept_one, kept_deep}
 use Rattle.sttr_apply.proofs.scene.Scene.kept.Goals as goal
@@ -30,7 +30,7 @@ returns-then-levels-gt-MOST_LEVELS g c =
     let are = ap trees_of c.children-children.ensures ∙ trees_of-list_of (children_of c.args.place.now.tree.now) in
     let stands = child_stands c.number_of-number.result c.children-children.result.now c.args.child c.args.place.now.tree.now (nodes_of c.args.self.now.root.now) low c.number_of-number.ensures in
     let size = ap (λ s. s.levels) (size_placed g.T.Theory.label_of (automaton_of g.T.Theory.atom_holds c.args.self.now.sttr.now.looks) c.args.self.now.root.now c.args.self.now.sizes.now c.args.self.now.marks.now.rows c.requires.scene c.number_of-number.result _ stands (record { nodes = 0; levels = 0 })) in
-    kept_deep g.T.Theory.label_of g.T.Value.Ord.cmp g.met.T.Value.Ord.total g.met.T.Theory.equal_values (transducer_of g.T.Theory.atom_holds g.T.Labels.make c.args.self.now.sttr.now) c.args.place.now.tree.now c.children-children.result.now are c.requires.kept c.args.child (get_or c.children-children.result.now c.args.child c.args.place.now.tree.now) low (any_default c.children-children.result.now c.args.child c.args.place.now.tree.now _ low) (omega (arith, c.if-levels-gt-MOST_LEVELS.true, size))
+    kept_deep g.T.Theory.label_of g.T.Value.Ord.cmp g.met.T.Value.Ord.total g.met.T.Theory.equal_values (transducer_of g.T.Theory.atom_holds g.T.Labels.make c.args.self.now.sttr.now) c.args.place.now.tree.now c.children-children.result.now are c.requires.kept c.args.child (get_or c.children-children.result.now c.args.child c.args.place.now.tree.now) low (same_default c.children-children.result.now c.args.child c.args.place.now.tree.now _ low) (omega (arith, c.if-levels-gt-MOST_LEVELS.true, size))
 
 pub invariant_of-out : goal.invariant_of-out
 invariant_of-out g c =

@@ -8,7 +8,8 @@ use Rattle.sttr_preimage.specs.Called.{KeepsOutput}
 use Rattle.sttr_preimage.specs.Images.{first_of, second_of, WayStands}
 use Rattle.sttr_preimage.specs.Through.{IsThroughMap, IsThroughStop}
 use Rattle.sttr_preimage.specs.Tidy.{tidy_way}
-use Rattle.sttr_preimage.proofs.Atoms.{ok_map, err_map, all_map}
+use Rattle.sttr_run.proofs.Asking.{ok_map}
+use Rattle.sttr_preimage.proofs.Atoms.{err_map, all_map}
 use Rattle.sttr_preimage.proofs.Tidied.{tidy_are_ways}
 use Rattle.sttr_preimage.proofs.Running.{can_run, stop_of, way_stands}
 use Rattle.sttr_preimage.proofs.image.Image.ways_over.Goals as goal
