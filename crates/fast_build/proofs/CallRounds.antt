@@ -13,7 +13,7 @@ use Rattle.fast_build.specs.Items.{find_lang}
 use Rattle.fast_build.specs.Transformations.{find_trans}
 use Rattle.fast_build.specs.Reached.{IsGrown, AreReached, demanded_in}
 use Rattle.fast_build.specs.Called.{called_in}
-use Rattle.fast_build.proofs.Elements.{all_of_contained}
+use Rattle.std.proofs.lemmas.List.Elements.{All-contains}
 use Rattle.fast_build.proofs.Closing.{all_grown, not_more_than_items}
 use Rattle.fast_build.proofs.Reaching.{reached_of}
 use Rattle.fast_build.proofs.Rounds.{demanded_reached}
@@ -41,19 +41,19 @@ first_known items name names t found g =
 
 pub more_known : (items : List Item) (well : is_well_formed items ≡ true) (old new : List (List ℕ)) (n from into : List ℕ) → All (λ m. IsTransFrom items m from into) old → Contains old n → IsGrown old new (called_in (out_rules_of items n)) → All (λ m. IsTransFrom items m from into) new
 more_known items well old new n from into known at g =
-    all_grown (λ m. IsTransFrom items m from into) old new (called_in (out_rules_of items n)) g known (λ m by. call_from items well n from into m (all_of_contained (λ m. IsTransFrom items m from into) old n known at) by)
+    all_grown (λ m. IsTransFrom items m from into) old new (called_in (out_rules_of items n)) g known (λ m by. call_from items well n from into m (All-contains (λ m. IsTransFrom items m from into) old n known at) by)
 
 pub more_called : (items : List Item) (name : List ℕ) (old new : List (List ℕ)) (n : List ℕ) → AreReached items name old → Contains old n → IsGrown old new (called_in (out_rules_of items n)) → AreReached items name new
 more_called items name old new n so_far at g = record {
   others = so_far.others ++ g.added;
   first = g.is ∙ ap (λ z. z ++ g.added) so_far.first;
-  reached = all_grown (Reaches items name) old new (called_in (out_rules_of items n)) g so_far.reached (λ m by. call_reached items name n m (all_of_contained (Reaches items name) old n so_far.reached at) by);
+  reached = all_grown (Reaches items name) old new (called_in (out_rules_of items n)) g so_far.reached (λ m by. call_reached items name n m (All-contains (Reaches items name) old n so_far.reached at) by);
 }
 
 pub found_one : (items : List Item) (name n : List ℕ) (names : List (List ℕ)) → is_some (find_trans items name) ≡ true → AreKnown items name names → Contains names n → (t : TransItem) × (find_trans items n ≡ Some t)
 found_one items name n names there known at =
     let own = is_there (find_trans items name) there in
-    let t = all_of_contained (λ m. IsTransFrom items m own.0.from.text own.0.into.text) names n (known own.0 own.1) at in
+    let t = All-contains (λ m. IsTransFrom items m own.0.from.text own.0.into.text) names n (known own.0 own.1) at in
     (t.own, found_trans items n own.0.from.text own.0.into.text t)
 
 pub no_more : (items : List Item) (name : List ℕ) (laws : IsEquivalence same_text) (names : List (List ℕ)) → is_some (find_trans items name) ≡ true → AreKnown items name names → IsDistinct same_text names → length names ≤ length items
@@ -74,7 +74,7 @@ more_languages items well old new n l known found g =
 pub more_from_seeds : (items : List Item) (seeds old new : List (List ℕ)) (n : List ℕ) → All (λ m. (s : List ℕ) × Contains seeds s × Reaches items s m) old → Contains old n → IsGrown old new (demanded_in (rules_of items n))
     → All (λ m. (s : List ℕ) × Contains seeds s × Reaches items s m) new
 more_from_seeds items seeds old new n so_far at g =
-    let own = all_of_contained (λ m. (s : List ℕ) × Contains seeds s × Reaches items s m) old n so_far at in
+    let own = All-contains (λ m. (s : List ℕ) × Contains seeds s × Reaches items s m) old n so_far at in
     all_grown (λ m. (s : List ℕ) × Contains seeds s × Reaches items s m) old new (demanded_in (rules_of items n)) g so_far (λ m by. (own.0, own.1, demanded_reached items own.0 n m own.2 by))
 
 pub no_more_languages : (items : List Item) (laws : IsEquivalence same_text) (names : List (List ℕ)) → AreLanguages items names → IsDistinct same_text names → length names ≤ length items

@@ -4,7 +4,7 @@ use Rattle.std.specs.Prelude.{is_some, ◌≢◌}
 use Rattle.std.specs.List.{list_all, flat_map, IsDistinct, AllPairs}
 use Rattle.std.specs.Option.{option_map, option_map_or, option_and_then}
 use Rattle.std.proofs.lemmas.List.{length-map, get_or-map, get_or_default}
-use Rattle.std.proofs.lemmas.List.Elements.{Contains-get_or}
+use Rattle.std.proofs.lemmas.List.Elements.{Contains-get_or, All-contains}
 use Rattle.std.proofs.lemmas.Map.Made.{AllPairs-from_IsDistinct}
 use Rattle.std.proofs.lemmas.Slice.Eq.{bytes_eq-Decides}
 use Rattle.model_tree.specs.Limits.{most_fields}
@@ -30,7 +30,6 @@ use Rattle.fast_build.specs.Stands.{GuardStands}
 use Rattle.fast_build.specs.Automaton.{IsLanguageBeside}
 use Rattle.fast_build.specs.OutRules.{OutRuleStands}
 use Rattle.fast_build.specs.Transducer.{IsTransformationBeside}
-use Rattle.fast_build.proofs.Elements.{all_of_contained}
 use Rattle.fast_build.proofs.Stands.{are_apart, has_rank, rule_stands, LangStands, AllStand}
 use Rattle.fast_build.proofs.Standing.{ctors_there, rules_are, type_is, same_type, kind_is, type_named}
 use Rattle.fast_build.proofs.Reaching.{IsOf, reached_of}
@@ -93,7 +92,7 @@ module _ (items : List Item) (well : is_well_formed items ≡ true) (name : List
   from_at n (k, low, is) =
       let below : k < length ts = omega (arith, low, names_many) in
       let here : get_or names k [] ≡ n = get_or_default names k [] n low ∙ is in
-      reached_from items well name t.from.text t.into.text n own_from (all_of_contained (Reaches items name) names n reached.reached (k, low, is)) (kind_there items n (get_or ts k t) (ap (find_trans items) (sym here) ∙ trans_at k t below))
+      reached_from items well name t.from.text t.into.text n own_from (All-contains (Reaches items name) names n reached.reached (k, low, is)) (kind_there items n (get_or ts k t) (ap (find_trans items) (sym here) ∙ trans_at k t below))
 
   -- each transformation is that of one of the names
   pub named_one : (x : TransItem) → Contains ts x → (n : List ℕ) × Contains names n × (find_trans items n ≡ Some x)
@@ -127,7 +126,7 @@ module _ (items : List Item) (well : is_well_formed items ≡ true) (name : List
 
   pub call_there : (n q : List ℕ) (r : OutRule) → Contains names n → Contains (out_rules_of items n) r → IsCalledIn r.out q → Contains names q
   call_there n q r at there calls =
-      all_of_contained (Contains names) (called_in (out_rules_of items n)) q (all_of_contained (λ m. All (Contains names) (called_in (out_rules_of items m))) names n closed at)
+      All-contains (Contains names) (called_in (out_rules_of items n)) q (All-contains (λ m. All (Contains names) (called_in (out_rules_of items m))) names n closed at)
       (given_by_all (λ (x : OutRule). called_by x.out) (out_rules_of items n) r q there (calls_there r.out q calls))
 
   -- a transformation that is reached is one of the names
@@ -161,14 +160,14 @@ module _ (items : List Item) (well : is_well_formed items ≡ true) (name : List
 
     pub seed_is : (n : List ℕ) → Contains seeds n → IsSeed n
     seed_is n at =
-        let (x, there, by) = given_by_one (λ (y : TransItem). looked_in y.rules) ts n (all_of_contained (Contains (flat_map (λ (y : TransItem). looked_in y.rules) ts)) seeds n seeded.only at) in
+        let (x, there, by) = given_by_one (λ (y : TransItem). looked_in y.rules) ts n (All-contains (Contains (flat_map (λ (y : TransItem). looked_in y.rules) ts)) seeds n seeded.only at) in
         let (r, among, wanted) = given_by_one (λ (q : OutRule). demanded_by q.rule.given) x.rules n by in
         let (d, given, is) = demanded_there r.rule.given n wanted in
         let (m, in_names, e) = named_one x there in
         let own = subst (λ rs. Contains rs r) (sym (outs_are items m x e)) among in
         record {
           on = subst (λ k. IsLangOn items k t.from.text) is (demand_on items well m t.from.text t.into.text r d (from_at m in_names) own given);
-          reach = subst (Reaches items name) is (by_lookahead m r d (all_of_contained (Reaches items name) names m reached.reached in_names) own given);
+          reach = subst (Reaches items name) is (by_lookahead m r d (All-contains (Reaches items name) names m reached.reached in_names) own given);
         }
 
     pub seeds_known : All (λ n. is_some (find_lang items n) ≡ true) seeds
@@ -181,13 +180,13 @@ module _ (items : List Item) (well : is_well_formed items ≡ true) (name : List
 
       pub looked_of : (n : List ℕ) → Contains looked n → IsOf items t.from.text n
       looked_of n at =
-          let (m, there, reach) = all_of_contained (λ n. (s : List ℕ) × Contains seeds s × Reaches items s n) looked n from_seeds at in
+          let (m, there, reach) = All-contains (λ n. (s : List ℕ) × Contains seeds s × Reaches items s n) looked n from_seeds at in
           let l = (seed_is m there).on in
           reached_of items t.from.text m n stand (record { lang = l.own; found = found_lang items well m t.from.text l; of_is = l.on }) reach
 
       pub looked_reached : (n : List ℕ) → Contains looked n → Reaches items name n
       looked_reached n at =
-          let (m, there, reach) = all_of_contained (λ n. (s : List ℕ) × Contains seeds s × Reaches items s n) looked n from_seeds at in
+          let (m, there, reach) = All-contains (λ n. (s : List ℕ) × Contains seeds s × Reaches items s n) looked n from_seeds at in
           reached_on items name m n (seed_is m there).reach reach
 
       pub looked_many : length looked ≡ length ls
@@ -206,13 +205,13 @@ module _ (items : List Item) (well : is_well_formed items ≡ true) (name : List
 
       pub look_demands : (n : List ℕ) → Contains looked n → (r : Rule) (d : Demand) → Contains (rules_of items n) r → Contains r.given d → Contains looked d.language.text
       look_demands n at r d among given =
-          all_of_contained (Contains looked) (demanded_in (rules_of items n)) d.language.text (all_of_contained (λ m. All (Contains looked) (demanded_in (rules_of items m))) looked n closed_looks at) (in_demanded (rules_of items n) r d among given)
+          All-contains (Contains looked) (demanded_in (rules_of items n)) d.language.text (All-contains (λ m. All (Contains looked) (demanded_in (rules_of items m))) looked n closed_looks at) (in_demanded (rules_of items n) r d among given)
 
       -- what a rule of a transformation demands is there
       pub rule_looks : (x : TransItem) (r : OutRule) (d : Demand) → Contains ts x → Contains x.rules r → Contains r.rule.given d → Contains looked d.language.text
       rule_looks x r d there among given =
-          all_of_contained (Contains looked) seeds d.language.text kept
-          (all_of_contained (Contains seeds) (flat_map (λ (y : TransItem). looked_in y.rules) ts) d.language.text seeded.all
+          All-contains (Contains looked) seeds d.language.text kept
+          (All-contains (Contains seeds) (flat_map (λ (y : TransItem). looked_in y.rules) ts) d.language.text seeded.all
           (given_by_all (λ (y : TransItem). looked_in y.rules) ts x d.language.text there (given_by_all (λ (q : OutRule). demanded_by q.rule.given) x.rules r d.language.text among (there_demanded r.rule.given d given))))
 
       module _ (s o : PlainSignature) (begins : input_of items name ≡ s) (ends : output_of items name ≡ o) where

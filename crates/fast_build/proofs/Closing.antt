@@ -4,7 +4,7 @@ use Rattle.std.specs.Prelude.{is_some}
 use Rattle.std.specs.List.{IsDistinct}
 use Rattle.std.specs.Cmp.{IsEquivalence}
 use Rattle.std.proofs.lemmas.List.{length-append, length-map, map-append, take-append-le}
-use Rattle.std.proofs.lemmas.List.Elements.{All-nil, All-cons, All-append, Contains-append_left}
+use Rattle.std.proofs.lemmas.List.Elements.{All-nil, All-cons, All-append, Contains-append_left, All-contains}
 use Rattle.std.proofs.lemmas.Map.Made.{length-le_from_is_member}
 use Rattle.std.proofs.Math.Seq.{take-suc}
 use Rattle.model_grammar.specs.Syntax.{Item}
@@ -12,7 +12,6 @@ use Rattle.model_names.specs.Declared.{same_text, find_item}
 use Rattle.fast_build.specs.Reached.{IsGrown}
 use Rattle.fast_build.proofs.Declaring.{own_text, item_declared}
 use Rattle.fast_build.proofs.Grown.{test_by_there, there_by_test}
-use Rattle.fast_build.proofs.Elements.{all_of_contained}
 
 -- the names of the old ones are names of the new ones
 pub still_there : (old new more xs : List (List ℕ)) → IsGrown old new more → All (Contains old) xs → All (Contains new) xs
@@ -50,4 +49,4 @@ module _ {D X : Type 0} (find : List ℕ → Option D) (f : X → D) where
 pub not_more_than_items : (items : List Item) (laws : IsEquivalence same_text) (names : List (List ℕ)) → All (λ n. is_some (find_item items n) ≡ true) names → IsDistinct same_text names → length names ≤ length items
 not_more_than_items items laws names declared apart =
     subst (λ n. length names ≤ n) (length-map items own_text)
-    (length-le_from_is_member laws names (map own_text items) apart (λ q h. test_by_there (map own_text items) q (item_declared items q (all_of_contained (λ n. is_some (find_item items n) ≡ true) names q declared (there_by_test names q h)))))
+    (length-le_from_is_member laws names (map own_text items) apart (λ q h. test_by_there (map own_text items) q (item_declared items q (All-contains (λ n. is_some (find_item items n) ≡ true) names q declared (there_by_test names q h)))))

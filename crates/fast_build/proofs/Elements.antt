@@ -40,9 +40,5 @@ pub all_right : {A : Type 0} (P : A → Type 0) (xs ys : List A) → All P (xs +
 all_right P [] ys all = all
 all_right P (x ∷ xs) ys all = all_right P xs ys (All-tail P x (xs ++ ys) all)
 
--- what holds of each holds of one that is contained
-pub all_of_contained : {A : Type 0} (P : A → Type 0) (xs : List A) (x : A) → All P xs → Contains xs x → P x
-all_of_contained P xs x all (k, low, is) = subst P is (all k x low)
-
 pub all_here : {A : Type 0} (P : A → Type 0) (xs : List A) (i : ℕ) (x : A) → All P xs → x ≡ get_or xs i x → i < length xs → P x
 all_here P xs i x all is low = subst P (sym is) (all i x low)

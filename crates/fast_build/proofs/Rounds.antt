@@ -4,7 +4,7 @@ use Rattle.std.specs.Prelude.{is_some}
 use Rattle.std.specs.List.{IsDistinct}
 use Rattle.std.specs.Cmp.{IsEquivalence}
 use Rattle.std.proofs.lemmas.List.{length-append, length-map, map-append, take-append-le}
-use Rattle.std.proofs.lemmas.List.Elements.{All-nil, All-cons, All-append, Contains-append_left, Contains-append_right, Contains-get_or}
+use Rattle.std.proofs.lemmas.List.Elements.{All-nil, All-cons, All-append, Contains-append_left, Contains-append_right, Contains-get_or, All-contains}
 use Rattle.std.proofs.lemmas.Map.Made.{length-le_from_is_member}
 use Rattle.std.proofs.Math.Seq.{take-suc}
 use Rattle.model_program.specs.Syntax.{Demand}
@@ -17,7 +17,6 @@ use Rattle.fast_build.specs.Reached.{demanded_by, demanded_in, IsGrown, AreReach
 use Rattle.fast_build.proofs.Reaching.{reached_of}
 use Rattle.fast_build.proofs.Declaring.{own_text, lang_declared}
 use Rattle.fast_build.proofs.Grown.{test_by_there, there_by_test}
-use Rattle.fast_build.proofs.Elements.{all_of_contained}
 
 -- who demands a language
 record IsDemanded (rules : List Rule) (name : List ℕ) : Type 0 where
@@ -81,7 +80,7 @@ module _ (items : List Item) (name : List ℕ) where
   more_reached old new n so_far at g = subst (AreReached items name) (sym g.is) (record {
     others = so_far.others ++ g.added;
     first = ap (λ z. z ++ g.added) so_far.first;
-    reached = All-append (Reaches items name) old g.added so_far.reached (λ k d low. demanded_reached n (get_or g.added k d) (all_of_contained (Reaches items name) old n so_far.reached at) (g.of_more k d low));
+    reached = All-append (Reaches items name) old g.added so_far.reached (λ k d low. demanded_reached n (get_or g.added k d) (All-contains (Reaches items name) old n so_far.reached at) (g.of_more k d low));
   })
 
   more_within : (old new : List (List ℕ)) (more : List (List ℕ)) (xs : List (List ℕ)) → IsGrown old new more → All (Contains old) xs → All (Contains new) xs
@@ -120,4 +119,4 @@ module _ (items : List Item) (name : List ℕ) where
   pub not_more : (laws : IsEquivalence same_text) (names : List (List ℕ)) → AllStand items → is_some (find_lang items name) ≡ true → AreReached items name names → IsDistinct same_text names → length names ≤ length items
   not_more laws names stand at reached apart =
       subst (λ n. length names ≤ n) (length-map items own_text) (length-le_from_is_member laws names (map own_text items) apart
-      (λ q h. let n = declared q stand at (all_of_contained (Reaches items name) names q reached.reached (there_by_test names q h)) in test_by_there (map own_text items) q (lang_declared items q n.0 n.1)))
+      (λ q h. let n = declared q stand at (All-contains (Reaches items name) names q reached.reached (there_by_test names q h)) in test_by_there (map own_text items) q (lang_declared items q n.0 n.1)))

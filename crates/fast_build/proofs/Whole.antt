@@ -4,7 +4,7 @@ use Rattle.std.specs.Prelude.{is_some, ◌≢◌}
 use Rattle.std.specs.List.{list_all, IsDistinct, AllPairs}
 use Rattle.std.specs.Option.{option_map, option_map_or}
 use Rattle.std.proofs.lemmas.List.{length-map, get_or-map, get_or_default}
-use Rattle.std.proofs.lemmas.List.Elements.{All-nil, All-cons, All-tail, Contains-append_right, Contains-get_or}
+use Rattle.std.proofs.lemmas.List.Elements.{All-nil, All-cons, All-tail, Contains-append_right, Contains-get_or, All-contains}
 use Rattle.std.proofs.lemmas.Bool.{eqb-true}
 use Rattle.std.proofs.lemmas.Map.Made.{AllPairs-from_IsDistinct}
 use Rattle.std.proofs.lemmas.Slice.Eq.{bytes_eq-Decides}
@@ -38,7 +38,7 @@ use Rattle.fast_build.specs.Stands.{GuardStands}
 use Rattle.fast_build.proofs.Stands.{are_apart, has_rank, rule_stands, LangStands, AllStand}
 use Rattle.fast_build.specs.Automaton.{IsGuardReached, IsLanguageBeside, IsAutomatonOf}
 use Rattle.fast_build.proofs.Naming.{numbered_below, named_by_number, number_at_place}
-use Rattle.fast_build.proofs.Elements.{first_true, second_true, all_left, all_right, all_of_contained}
+use Rattle.fast_build.proofs.Elements.{first_true, second_true, all_left, all_right}
 use Rattle.fast_build.proofs.Standing.{rank_there, ctors_there, rules_are, type_is, same_type, no_out_rules, no_definition, kind_is, type_named}
 use Rattle.fast_build.proofs.Reaching.{IsOf, reached_of, reached_type}
 use Rattle.fast_build.proofs.Guarding.{guard_fits}
@@ -162,10 +162,10 @@ module _ (items : List Item) (well : is_well_formed items ≡ true) (name : List
   -- ---- the names that are reached
 
   contained_at : (n : List ℕ) → Contains names n → All (Contains names) (demanded_in (rules_of items n))
-  contained_at n at = all_of_contained (λ m. All (Contains names) (demanded_in (rules_of items m))) names n closed at
+  contained_at n at = All-contains (λ m. All (Contains names) (demanded_in (rules_of items m))) names n closed at
 
   demanded_there : (n : List ℕ) → Contains names n → (r : Rule) (d : Demand) → Contains (rules_of items n) r → Contains r.given d → Contains names d.language.text
-  demanded_there n at r d among given = all_of_contained (Contains names) (demanded_in (rules_of items n)) d.language.text (contained_at n at) (in_demanded (rules_of items n) r d among given)
+  demanded_there n at r d among given = All-contains (Contains names) (demanded_in (rules_of items n)) d.language.text (contained_at n at) (in_demanded (rules_of items n) r d among given)
 
   is_lang : (n : List ℕ) → Reaches items name n → IsOf items own.0.of.text n
   is_lang n reach = reached_of items own.0.of.text name n stand own_of reach
@@ -252,7 +252,7 @@ module _ (items : List Item) (well : is_well_formed items ≡ true) (name : List
       -- each state has rules for those of its language
       by_rules : (n : List ℕ) → Contains names n → IsByRules items laws.by_rules t (number_in names) (map (λ those. map plain_rule those.items) states) (Contains names) n
       by_rules n at =
-          let reach = all_of_contained (Reaches items name) names n reached.reached at in
+          let reach = All-contains (Reaches items name) names n reached.reached at in
           let l = is_lang n reach in
           record {
             typed = reached_type items own.0.of.text name n stand own_of reach ∙ typed;

@@ -2,7 +2,7 @@
 use Rattle.std.proofs.Common.{◌≡◌, ◌⊎◌, ◌↔◌, inl, ℕ, ◌<◌, ◌≤◌, true, List, [], Some, Vec, map, length, get_or, All, Contains, sym, ap, subst, ◌∙◌}
 use Rattle.std.specs.List.{list_all, IsDistinct}
 use Rattle.std.proofs.lemmas.List.{length-map, get_or-map}
-use Rattle.std.proofs.lemmas.List.Elements.{Contains-get_or}
+use Rattle.std.proofs.lemmas.List.Elements.{Contains-get_or, All-contains}
 use Rattle.std.proofs.Math.ListN.{get_or-map as get_or-map_same}
 use Rattle.model_tree.specs.Limits.{most_fields}
 use Rattle.model_tree.specs.Label.{Label}
@@ -50,7 +50,6 @@ use Rattle.fast_build.specs.Terms.{row_make, IsMapFor, LabelsStand}
 use Rattle.fast_build.specs.OutRules.{IsOutRuleFor, AreOutRulesFor, AreOutStatesFor, OutRuleStands}
 use Rattle.fast_build.specs.Automaton.{IsGuardReached, IsLanguageBeside}
 use Rattle.fast_build.specs.Transducer.{IsOutGuardReached, IsMapReached, IsTransformationBeside, IsTransducerOf}
-use Rattle.fast_build.proofs.Elements.{all_of_contained}
 use Rattle.fast_build.proofs.Naming.{numbered_below, named_by_number, number_at_place}
 use Rattle.fast_build.proofs.Stands.{are_apart, has_rank, rule_stands}
 use Rattle.fast_build.proofs.Standing.{rules_are, no_definition}
@@ -109,7 +108,7 @@ module _ (items : List Item) (well : is_well_formed items ≡ true) (name : List
   apart_into = facts.apart_into items well name t g.found names ts g.reached g.closed g.once g.founds seeds g.seeded looked ls g.kept g.from_seeds g.closed_looks g.once_looks g.founds_looks s o begins ends
 
   reached_one : (n : List ℕ) → Contains names n → Reaches items name n
-  reached_one n at = all_of_contained (Reaches items name) names n g.reached.reached at
+  reached_one n at = All-contains (Reaches items name) names n g.reached.reached at
 
   module _ {G : Type 0} (states : List (Vec (StaRule RowAtom) G)) (outs : List (Vec (SttrRule RowAtom RowMap) G))
       (are_looks : AreStatesFor s (number_in looked) (map (λ those. map plain_rule those.items) states) (map (λ l. l.rules) ls))

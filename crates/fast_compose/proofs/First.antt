@@ -21,7 +21,7 @@ use Rattle.fast_build.specs.Transformations.{find_trans}
 use Rattle.fast_build.proofs.CalledFacts.{kind_there}
 use Rattle.fast_build.proofs.Transforming.{found_trans}
 use Rattle.fast_compose.proofs.Named.{some_source, reached_by_source, no_outs, outs_trans}
-use Rattle.fast_build.proofs.Elements.{all_of_contained}
+use Rattle.std.proofs.lemmas.List.Elements.{All-contains}
 
 -- ---- places
 
@@ -99,13 +99,13 @@ module _ (items : List Item) where
     pub first_shown : (p : Placed) → IsFirst items OfSources (Some p) → IsFirstCopying items y p.copying.name p.copying.rule
     first_shown p (r, (n, at, reach), copies, place, least) = (
       r,
-      reached_by_source items (λ q. (q ≡ p.copying.name) × Copies items q p.copying.rule r) y n p.copying.name (all_of_contained (IsSource items y) names n are.only at) reach (refl, copies),
+      reached_by_source items (λ q. (q ≡ p.copying.name) × Copies items q p.copying.rule r) y n p.copying.name (All-contains (IsSource items y) names n are.only at) reach (refl, copies),
       λ i s reached. (let (m, there, q, its, own) = some_source items whole (λ q. Copies items q i s) y names are reached in
           subst (λ at. is_before s.rule.ctor.place at ≡ false) place (least q i s (m, there, its) own)),
     )
 
     pub copying_shown : (p : Placed) → IsFirst items OfSources (Some p) → ReachesSome items (λ q. (i : ℕ) × (r : OutRule) × Copies items q i r) y
-    copying_shown p (r, (n, at, reach), copies, place, least) = reached_by_source items (λ q. (i : ℕ) × (r : OutRule) × Copies items q i r) y n p.copying.name (all_of_contained (IsSource items y) names n are.only at) reach (p.copying.rule, r, copies)
+    copying_shown p (r, (n, at, reach), copies, place, least) = reached_by_source items (λ q. (i : ℕ) × (r : OutRule) × Copies items q i r) y n p.copying.name (All-contains (IsSource items y) names n are.only at) reach (p.copying.rule, r, copies)
 
   -- ---- what a name reaches
 
@@ -117,7 +117,7 @@ module _ (items : List Item) where
         rule_there q i r copies = (i, slice_get_within (out_rules_of items q) i r copies.0, get_or_from_slice_get (out_rules_of items q) i r r copies.0)
 
     pub first_of_names : (names : List (List ℕ)) (d : OutMachine RowAtom RowMap) → IsTransducerOf items name names d → (a : Option Placed) → IsFirst items (λ q i. Contains names q) a → IsFirst items (λ q i. Reaches items name q) a
-    first_of_names names d is a first = first_as (λ q i. Contains names q) (λ q i. Reaches items name q) (λ q i at. all_of_contained (Reaches items name) names q is.reached at) back a first
+    first_of_names names d is a first = first_as (λ q i. Contains names q) (λ q i. Reaches items name q) (λ q i at. All-contains (Reaches items name) names q is.reached at) back a first
       where
         back : (q : List ℕ) (i : ℕ) (r : OutRule) → Reaches items name q → Copies items q i r → Contains names q
         back q i r reached copies =

@@ -25,7 +25,8 @@ use Rattle.meaning_laws.proofs.Known.{names_known, found_of}
 use Rattle.meaning_laws.proofs.Reaching.{rules_there, outs_there, value_there, lang_no_value, trans_no_value, reached_by_lang, reached_by_trans}
 use Rattle.sta_theory.proofs.Lists.{append_member, first_in, later_in}
 use Rattle.fast_build.specs.Transformations.{own_trans, find_trans}
-use Rattle.fast_build.proofs.Elements.{all_of_contained, all_left, all_right}
+use Rattle.std.proofs.lemmas.List.Elements.{All-contains}
+use Rattle.fast_build.proofs.Elements.{all_left, all_right}
 use Rattle.fast_build.proofs.Paired.{each_all}
 use Rattle.fast_compose.specs.Sources.{sources_in, opened_by, AreDeclared, IsSource, stands, opened, AreSources}
 
@@ -166,12 +167,12 @@ module _ (items : List Item) (whole : IsSound items) where
 
   module _ (P : List ℕ → Type 0) (names : List (List ℕ)) (closed : All (λ n. All (Contains names) (opened_by items n)) names) where
     by_expression : (x : X) → All (Contains names) (sources_in x) → ReachesSome items P x → (n : List ℕ) × Contains names n × (q : List ℕ) × Reaches items n q × P q
-    by_expression _ all (at_name n q reached holds) = (n.text, all_of_contained (Contains names) (n.text ∷ []) n.text all (first_in n.text []), q, reached, holds)
+    by_expression _ all (at_name n q reached holds) = (n.text, All-contains (Contains names) (n.text ∷ []) n.text all (first_in n.text []), q, reached, holds)
     by_expression _ all (at_opened n x opens reached) =
         let own = own_definition n.text opens.definition x opens.reached opens.is in
         let is : opened_by items n.text ≡ sources_in x = ap (λ o. option_map_or sources_in o []) (ap (definition_of items) (sym own) ∙ opens.is) in
-        let there = all_of_contained (Contains names) (n.text ∷ []) n.text all (first_in n.text []) in
-        by_expression x (subst (All (Contains names)) is (all_of_contained (λ m. All (Contains names) (opened_by items m)) names n.text closed there)) reached
+        let there = All-contains (Contains names) (n.text ∷ []) n.text all (first_in n.text []) in
+        by_expression x (subst (All (Contains names)) is (All-contains (λ m. All (Contains names) (opened_by items m)) names n.text closed there)) reached
     by_expression _ all (of_first place x y reached) = by_expression x (all_left (Contains names) (sources_in x) (sources_in y) all) reached
     by_expression _ all (of_second place x y reached) = by_expression y (all_right (Contains names) (sources_in x) (sources_in y) all) reached
     by_expression _ all (of_restricted place x y reached) = by_expression x all reached

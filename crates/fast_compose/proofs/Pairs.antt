@@ -14,7 +14,7 @@ use Rattle.lin_solve.specs.Shown.{bits_of}
 use Rattle.sta_classes.specs.declared.stop.ClassStop.{ClassStop}
 use Rattle.sta_classes.specs.declared.stop.ClassStop.TheVariants.{Classes, Wide, Memory}
 use Rattle.sta_theory.proofs.Lists.{first_in}
-use Rattle.fast_build.proofs.Elements.{all_of_contained}
+use Rattle.std.proofs.lemmas.List.Elements.{All-contains}
 use Rattle.model_meaning.proofs.Members.{one_of, none_of}
 use Rattle.fast_compose.specs.declared.copying.Placed.{Placed}
 use Rattle.fast_compose.specs.declared.meetings.Met.TheVariants.{Nowhere, At, TooLarge}
@@ -31,7 +31,7 @@ module _ (items : List Item) (whole : IsSound items) (x : X) (names : List (List
   Own q = (n : List ℕ) × Contains names n × Reaches items n q
 
   by_own : (P : List ℕ → Type 0) (q : List ℕ) → Own q → P q → ReachesSome items P x
-  by_own P q (n, at, reach) holds = reached_by_source items P x n q (all_of_contained (IsSource items x) names n are.only at) reach holds
+  by_own P q (n, at, reach) holds = reached_by_source items P x n q (All-contains (IsSource items x) names n are.only at) reach holds
 
   own_by : (P : List ℕ → Type 0) → ReachesSome items P x → (q : List ℕ) × Own q × P q
   own_by P reached = let (n, at, q, reach, holds) = some_source items whole P x names are reached in (q, (n, at, reach), holds)
@@ -55,7 +55,7 @@ module _ (items : List Item) (whole : IsSound items) (x : X) (names : List (List
 
   widened : (n : List ℕ) → Contains names n → (m : Name) × (m.text ≡ n) × CausesWiden items (named m ∷ []) (x ∷ [])
   widened n at =
-      let (m, same, among) = source_among items x n (all_of_contained (IsSource items x) names n are.only at) in
+      let (m, same, among) = source_among items x n (All-contains (IsSource items x) names n are.only at) in
       (m, same, are_widened items (named m ∷ []) (x ∷ []) (λ e is. (x, first_in x [], subst (λ z. IsAmong items z x) (only (named m) e is) among)))
     where
       only : (a b : X) → Contains (a ∷ []) b → a ≡ b

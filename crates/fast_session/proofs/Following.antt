@@ -5,7 +5,7 @@ use Rattle.std.specs.List.{list_any}
 use Rattle.std.specs.Option.{option_and_then}
 use Rattle.std.proofs.lemmas.Bool.{cases_lt}
 use Rattle.std.proofs.lemmas.List.{get_or_at}
-use Rattle.std.proofs.lemmas.List.Elements.{Contains-append_left, Contains-append_right, Contains-append_cases}
+use Rattle.std.proofs.lemmas.List.Elements.{Contains-append_left, Contains-append_right, Contains-append_cases, All-contains}
 use Rattle.model_grammar.specs.Syntax.{X, named, one, two, literal, DefItem, Body, sorts, tree, lang, trans, def, assertion, Item}
 use Rattle.model_names.specs.Declared.{same_text, own_name, find_item}
 use Rattle.model_names.specs.Kinds.{defined_kind, declared_type}
@@ -19,7 +19,7 @@ use Rattle.model_run.specs.Report.{named_x}
 use Rattle.meaning_laws.proofs.Known.{names_known, found_of, stands_earlier}
 use Rattle.meaning_laws.proofs.Valued.{checked}
 use Rattle.sta_theory.proofs.Lists.{first_in}
-use Rattle.fast_build.proofs.Elements.{first_true, second_true, all_of_contained}
+use Rattle.fast_build.proofs.Elements.{first_true, second_true}
 use Rattle.fast_build.specs.Reached.{IsGrown}
 use Rattle.fast_build.proofs.Grown.{test_by_there}
 use Rattle.fast_session.specs.Needed.{own_def, names_in, IsFollowed, AreClosedFrom, AreNeeded}
@@ -82,9 +82,9 @@ module _ (body : Body) (old new : List (List ℕ)) where
     kept = λ m own. subst (λ l. Contains l m) (sym grown.is) (Contains-append_left old grown.added m own);
     added = λ m own. elim (Contains-append_cases old grown.added m (subst (λ l. Contains l m) grown.is own)) [
       | inl was ↦ inl was
-      | inr more ↦ inr (d, is, at, of_names d.value m (all_of_contained (Contains (names_in d.value)) grown.added m grown.of_more more))
+      | inr more ↦ inr (d, is, at, of_names d.value m (All-contains (Contains (names_in d.value)) grown.added m grown.of_more more))
     ];
-    followed = λ e other own m there. (let same : e ≡ d = one_def e d (sym other ∙ is) in all_of_contained (Contains new) (names_in d.value) m grown.all (in_names d.value form m (subst (λ (f : DefItem). IsNamedIn f.value m) same there)));
+    followed = λ e other own m there. (let same : e ≡ d = one_def e d (sym other ∙ is) in All-contains (Contains new) (names_in d.value) m grown.all (in_names d.value form m (subst (λ (f : DefItem). IsNamedIn f.value m) same there)));
   }
 
 -- a definition with none of them
@@ -162,8 +162,8 @@ module _ (items : List Item) where
     -- before the last item nothing is followed
     pub none_yet : (name : List ℕ) (n : ℕ) (names : List (List ℕ)) → length items ≤ n → IsGrown [] names (name ∷ []) → AreSoFar name n names
     none_yet name n names all grown = record {
-      itself = all_of_contained (Contains names) (name ∷ []) name grown.all (first_in name []);
-      needed = λ m at. (let own = all_of_contained (Contains (name ∷ [])) grown.added m grown.of_more (subst (λ l. Contains l m) grown.is at) in elim (one_of name m [] own) [
+      itself = All-contains (Contains names) (name ∷ []) name grown.all (first_in name []);
+      needed = λ m at. (let own = All-contains (Contains (name ∷ [])) grown.added m grown.of_more (subst (λ l. Contains l m) grown.is at) in elim (one_of name m [] own) [
         | inl same ↦ subst (DependsOn items (named_x name)) same (on_itself name)
         | inr none ↦ absurd (none_of m none)
       ]);

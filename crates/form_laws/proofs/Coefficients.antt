@@ -144,7 +144,7 @@ pub add_remainders_apart : (by : ℤ) (rs terms : Remainders) → AreApart terms
 add_remainders_apart by no_remainders terms h = h
 add_remainders_apart by (remainder a f k rs) terms h = add_remainders_apart by rs (add_like (by *ℤ a) f k terms) (add_like_apart (by *ℤ a) f k terms h)
 
-fewer_apart : (f : Form) (k : ℕ) (rs : Remainders) → IsApart f k rs → IsApart f k (without_zeros rs)
+pub fewer_apart : (f : Form) (k : ℕ) (rs : Remainders) → IsApart f k rs → IsApart f k (without_zeros rs)
 fewer_apart f k no_remainders h = tt
 fewer_apart f k (remainder b g m rs) h = by (int_eq b (pos 0)) (fewer_apart f k rs h.1)
   where

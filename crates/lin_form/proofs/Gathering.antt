@@ -5,12 +5,12 @@ use Rattle.std.proofs.Math.IntN.{ℤ, pos, ◌+ℤ◌, ◌*ℤ◌}
 use Rattle.std.proofs.Math.Nat.{mul-le-mul}
 use Rattle.std.proofs.lemmas.Int.{ints, unsigned_abs-mul}
 use Rattle.std.proofs.lemmas.Bool.{eqb-true}
-use Rattle.std.specs.Ordering.{int_eq}
 use Rattle.model_tree.specs.Limits.{greatest_divisor}
 use Rattle.model_form.specs.Form.{Form, form, Remainders, no_remainders, remainder, remainders_of, Term}
 use Rattle.model_form.specs.Same.{same_form}
-use Rattle.model_form.specs.Sums.{Sum, add_fields, add_like, add_remainders, add_form, is_like, without_zeros, started}
+use Rattle.model_form.specs.Sums.{Sum, add_fields, add_like, add_remainders, add_form, is_like, started}
 use Rattle.model_form.specs.Ranges.{IsForm, IsCoefficient, AreFields, AreRemainders, AreApart, IsApart}
+use Rattle.form_laws.proofs.Coefficients.{add_remainders_apart}
 use Rattle.lin_form.specs.Within.{IsWithin, AreTotals, AreLikes, IsGathered, TotalsBefore, LikesBefore}
 use Rattle.lin_form.specs.Whole.{AreInner}
 use Rattle.lin_form.proofs.Wholes.{add_remainders_inner}
@@ -106,44 +106,6 @@ pub add_remainders_within : (m : ℕ) (by : ℤ) (rs terms : Remainders) → uns
 add_remainders_within m by no_remainders terms b r s h = likes_end m no_remainders terms h
 add_remainders_within m by (remainder a f k rs) terms b r s h =
     add_remainders_within m by rs (add_like (by *ℤ a) f k terms) b r.4 s.1 (like_step m (by *ℤ a) f k a rs terms (product_within by a b r.1) r.2 r.3 s.0 h)
-
--- ---- like terms stay merged
-
-apart_more : (c : ℤ) (f g : Form) (k m : ℕ) (rs : Remainders) → is_like f k g m ≡ false → IsApart f k rs → IsApart f k (add_like c g m rs)
-apart_more c f g k m no_remainders e h = (e, tt)
-apart_more c f g k m (remainder b q n rs) e h = by (is_like q n g m) (apart_more c f g k m rs e h.1)
-  where
-    by : (t : Bool) → IsApart f k (add_like c g m rs) → IsApart f k (cond t (remainder (b +ℤ c) q n rs) (remainder b q n (add_like c g m rs)))
-    by false r = (h.0, r)
-    by true r = h
-
-pub add_like_apart : (c : ℤ) (g : Form) (m : ℕ) (rs : Remainders) → AreApart rs → AreApart (add_like c g m rs)
-add_like_apart c g m no_remainders h = (tt, tt)
-add_like_apart c g m (remainder b f k rs) h = by (is_like f k g m) refl (add_like_apart c g m rs h.1)
-  where
-    by : (t : Bool) → is_like f k g m ≡ t → AreApart (add_like c g m rs) → AreApart (cond t (remainder (b +ℤ c) f k rs) (remainder b f k (add_like c g m rs)))
-    by false e r = (apart_more c f g k m rs e h.0, r)
-    by true e r = h
-
-pub add_remainders_apart : (by : ℤ) (rs terms : Remainders) → AreApart terms → AreApart (add_remainders by rs terms)
-add_remainders_apart by no_remainders terms h = h
-add_remainders_apart by (remainder a f k rs) terms h = add_remainders_apart by rs (add_like (by *ℤ a) f k terms) (add_like_apart (by *ℤ a) f k terms h)
-
-apart_without_zeros : (f : Form) (k : ℕ) (rs : Remainders) → IsApart f k rs → IsApart f k (without_zeros rs)
-apart_without_zeros f k no_remainders h = tt
-apart_without_zeros f k (remainder a g m rs) h = by (int_eq a (pos 0)) (apart_without_zeros f k rs h.1)
-  where
-    by : (t : Bool) → IsApart f k (without_zeros rs) → IsApart f k (cond t (without_zeros rs) (remainder a g m (without_zeros rs)))
-    by false r = (h.0, r)
-    by true r = r
-
-pub without_zeros_apart : (rs : Remainders) → AreApart rs → AreApart (without_zeros rs)
-without_zeros_apart no_remainders h = tt
-without_zeros_apart (remainder a f k rs) h = by (int_eq a (pos 0)) (without_zeros_apart rs h.1)
-  where
-    by : (t : Bool) → AreApart (without_zeros rs) → AreApart (cond t (without_zeros rs) (remainder a f k (without_zeros rs)))
-    by false r = (apart_without_zeros f k rs h.0, r)
-    by true r = r
 
 -- ---- one more form
 

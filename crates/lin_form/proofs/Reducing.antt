@@ -21,7 +21,8 @@ use Rattle.lin_form.specs.Terms.{plain_remainders}
 use Rattle.lin_form.specs.Gathered.{plain_likes}
 use Rattle.lin_form.specs.Within.{IsWithin, AreTotals, AreLikes, IsGathered, IsReduced}
 use Rattle.lin_form.specs.Whole.{IsInner, AreInner}
-use Rattle.lin_form.proofs.Gathering.{sum_within, more_within, add_like_apart}
+use Rattle.form_laws.proofs.Coefficients.{add_like_apart}
+use Rattle.lin_form.proofs.Gathering.{sum_within, more_within}
 use Rattle.lin_form.proofs.Wholes.{reduced_inner, add_like_inner}
 
 -- ---- reduced twice

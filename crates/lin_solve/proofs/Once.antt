@@ -6,7 +6,7 @@ use Rattle.std.specs.Prelude.{Result, IfOk}
 use Rattle.std.specs.List.{list_any}
 use Rattle.std.specs.Cmp.{IsEquivalence, bool_eq_equiv}
 use Rattle.std.proofs.lemmas.Result.{IfOk-weaker}
-use Rattle.std.proofs.lemmas.Bool.{and_parts, or_cases, both_ways}
+use Rattle.std.proofs.lemmas.Bool.{and_parts, or_cases, both_ways, or_parts}
 use Rattle.std.proofs.lemmas.List.{at_drop_more}
 use Rattle.std.proofs.lemmas.List.Elements.{All-nil, All-cons, All-head, All-tail, All-append, All-more, All-map, All-weaker}
 use Rattle.std.proofs.lemmas.List.Folds.{list_any-append, list_any_none}
@@ -61,10 +61,6 @@ any_left false c e = cc
 any_right : (b c : Bool) → c ≡ true → (b || c) ≡ true
 any_right true c e = refl
 any_right false c e = e
-
-either : (b c : Bool) → (b || c) ≡ false → (b ≡ false) × (c ≡ false)
-either true c e = cc
-either false c e = (refl, e)
 
 any_grows : {A : Type 0} (p : A → Bool) (xs ys : List A) → list_any p xs ≡ true → list_any p (xs ++ ys) ≡ true
 any_grows p xs ys e = list_any-append p xs ys ∙ any_left (list_any p xs) (list_any p ys) e
@@ -141,7 +137,7 @@ module _ (E : Compare → Compare → Bool) (laws : IsEquivalence E) where
   different_more : (ks : List (Lit Compare)) (l : Lit Compare) → AreDifferent E ks → list_any (is_same E l) ks ≡ false → AreDifferent E (ks ++ l ∷ [])
   different_more [] l h e = (All-nil (λ m. is_same E l m ≡ false), tt)
   different_more (k ∷ ks) l h e =
-      let p = either (is_same E l k) (list_any (is_same E l) ks) e in
+      let p = or_parts (is_same E l k) (list_any (is_same E l) ks) e in
       let P : Lit Compare → Type 0 = λ m. is_same E k m ≡ false in
       (All-append P ks (l ∷ []) h.0 (All-cons P l [] (literal_laws.symm k l ∙ p.0) (All-nil P)), different_more ks l h.1 p.1)
 

@@ -3,6 +3,7 @@ use Rattle.std.proofs.Common.{◌≡◌, ℕ, suc, ℤ, pos, negsuc, Bool, true,
 use Rattle.std.specs.Prelude.{◌==◌, ◌||◌}
 use Rattle.std.specs.Option.{option_map, option_map_or, option_and_then}
 use Rattle.std.proofs.lemmas.Bool.Decides.{nat_tests}
+use Rattle.std.proofs.lemmas.Bool.{or_parts}
 use Rattle.fast_fault.specs.declared.code.Code.TheVariants.{UnknownName, WrongKind, WrongType, WrongRank}
 use Rattle.model_tree.specs.Label.{row, pair}
 use Rattle.model_tree.specs.Signature.{PlainConstructor}
@@ -62,11 +63,6 @@ same_count no_out = refl
 same_count (and_out out outs) = ap (λ n. suc n) (same_count outs)
 
 -- ---- types by their names
-
-neither : (a b : Bool) → (a || b) ≡ false → (a ≡ false) × (b ≡ false)
-neither false false e = (refl, refl)
-neither false true e = absurd (cc)
-neither true b e = absurd (cc)
 
 module _ (items : List Item) (whole : IsSound items) where
   -- a declared type by its name
@@ -142,7 +138,7 @@ module _ (items : List Item) (whole : IsSound items) where
   call_between from into f t q e =
       let called = by_item q from into (find_item items q.text) refl e in
       let stands = (finds items).item q.text called.item called.found in
-      let two = neither (differ (declared_type items called.own.from) (declared_type items from)) (differ (declared_type items called.own.into) (declared_type items into)) called.same in
+      let two = or_parts (differ (declared_type items called.own.from) (declared_type items from)) (differ (declared_type items called.own.into) (declared_type items into)) called.same in
       record {
         item = called.item;
         own = called.own;
@@ -168,7 +164,7 @@ module _ (items : List Item) (whole : IsSound items) where
     call_typed q e =
         let called = by_item q from into (find_item items q.text) refl e in
         let stands = (finds items).item q.text called.item called.found in
-        let two = neither (differ (declared_type items called.own.from) (declared_type items from)) (differ (declared_type items called.own.into) (declared_type items into)) called.same in
+        let two = or_parts (differ (declared_type items called.own.from) (declared_type items from)) (differ (declared_type items called.own.into) (declared_type items into)) called.same in
         record {
           kind = trans_kind items q called.item called.own called.found called.is;
           begins = input_there q.text called.item called.own called.found called.is ∙ (one_signature called.own.from from (from_of called.item called.own stands called.is) f two.0 ∙ signature from f);

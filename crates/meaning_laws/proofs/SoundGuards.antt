@@ -1,6 +1,6 @@
 -- What the check of a program finds sound is a guard, a whole number or a text, and its forms are in range.
 use Rattle.std.proofs.Common.{◌≡◌, ℕ, zero, suc, ◌<◌, ◌≤◌, ◌&&◌, ◌||◌, Bool, true, false, cond, List, [], ◌∷◌, ◌++◌, length, Option, Some, None, Contains, refl, sym, ap, ap₂, ◌∙◌, subst, arith}
-use Rattle.std.proofs.lemmas.Bool.{or_right}
+use Rattle.std.proofs.lemmas.Bool.{or_right, or_parts}
 use Rattle.std.proofs.Math.IntN.{ℤ, pos, negsuc, ◌*ℤ◌}
 use Rattle.std.proofs.lemmas.Int.{ints}
 use Rattle.std.proofs.lemmas.Bool.Decides.{nat_tests}
@@ -43,10 +43,6 @@ use Rattle.model_checks.proofs.SoundParts.{known_sort, sound_label}
 use Rattle.model_checks.proofs.InRange.{constant_in, is_outside}
 
 -- ---- truth values
-
-both_false : (a b : Bool) → (a || b) ≡ false → (a ≡ false) × (b ≡ false)
-both_false true b e = absurd (cc)
-both_false false b e = (refl, e)
 
 one_false : (a b : Bool) → (a && b) ≡ false → b ≡ true → a ≡ false
 one_false true true e f = absurd (cc)
@@ -191,7 +187,7 @@ module _ (fields : List FieldItem) where
     no_whole (truth place b) h = refl
     no_whole (negation place e) h = no_whole e h
     no_whole (compare place rel a b) h =
-        let two = both_false (checks.has_field (Some fields) a) (checks.has_field (Some fields) b) h in
+        let two = or_parts (checks.has_field (Some fields) a) (checks.has_field (Some fields) b) h in
         ap (λ x. x || has_whole (plain_fields fields) b) (no_whole a two.0) ∙ no_whole b two.1
     no_whole (minus place e) h = no_whole e h
     no_whole (chain kind place parts) h = no_wholes parts h
@@ -199,7 +195,7 @@ module _ (fields : List FieldItem) where
     no_wholes : (parts : Parts) → checks.have_field (Some fields) parts ≡ false → have_whole (plain_fields fields) parts ≡ false
     no_wholes no_parts h = refl
     no_wholes (part marked e parts) h =
-        let two = both_false (checks.has_field (Some fields) e) (checks.have_field (Some fields) parts) h in
+        let two = or_parts (checks.has_field (Some fields) e) (checks.have_field (Some fields) parts) h in
         ap (λ x. x || have_whole (plain_fields fields) parts) (no_whole e two.0) ∙ no_wholes parts two.1
 
   constant_without : (e : Expr) → checks.has_field (Some fields) e ≡ false → is_constant (form_of (plain_fields fields) e) ≡ true
@@ -289,7 +285,7 @@ module _ (fields : List FieldItem) where
     -- the step keeps that a product without fields is constant
     bare_step : (before : Form) (has divides : Bool) (e : Expr) → (has ≡ false → is_constant before ≡ true) → (has || checks.has_field (Some fields) e) ≡ false → is_constant (step before divides e (form_of (plain_fields fields) e)) ≡ true
     bare_step before has divides e bare none =
-        let two = both_false has (checks.has_field (Some fields) e) none in
+        let two = or_parts has (checks.has_field (Some fields) e) none in
         step_constant before divides e (form_of (plain_fields fields) e) (bare two.0) (constant_without fields e two.1)
 
     mutual

@@ -2,7 +2,7 @@
 use Rattle.std.proofs.Common.{◌≡◌, ℕ, zero, suc, ◌+◌, ◌<◌, ◌≤◌, List, [], ◌∷◌, ◌++◌, get_or, Bool, true, false, cond, ◌||◌, ◌==◌, arith, refl, ap, sym, ◌∙◌}
 use Rattle.std.proofs.Math.IntN.{ℤ, pos, negsuc, ◌+ℤ◌, ◌-ℤ◌, ◌*ℤ◌, neg_ℤ}
 use Rattle.std.specs.List.{All}
-use Rattle.std.proofs.lemmas.Bool.{eqb-false}
+use Rattle.std.proofs.lemmas.Bool.{eqb-false, or_parts}
 use Rattle.std.proofs.lemmas.List.{get_or-set_other, get_or-replicate}
 use Rattle.std.proofs.lemmas.List.Elements.{All-nil, All-cons, All-append}
 use Rattle.math_cooper.specs.Line.{AtLeastZero, DividedBy}
@@ -13,10 +13,6 @@ use Rattle.model_form.specs.Sums.{add_fields}
 use Rattle.model_chain.specs.Literals.{Relation, less, at_most, equal, Literal, Remainder, place, is_in, with_one, seen, seen_all, seen_in, remainders_in, width, zeros, over, add_at, add_places, add_terms, own_side, later_sides, conditions_of, literal_conditions, literals_conditions, remainder_conditions, remainders_conditions, bound_conditions, bounds_conditions, has_term, has_field, has_inner, field_in}
 use Rattle.model_chain.specs.Chains.{least, greatest, first_system}
 
-neither : (b c : Bool) → (b || c) ≡ false → (b ≡ false) × (c ≡ false)
-neither true c e = cc
-neither false c e = (refl, e)
-
 module _ (k : ℕ) (low : k < 8) where
   -- ---- rows
 
@@ -26,11 +22,11 @@ module _ (k : ℕ) (low : k < 8) where
   fields_other : (by : ℤ) (ts : List Term) (row : List ℤ) → has_term k ts ≡ false → get_or (add_fields by ts row) k (pos 0) ≡ get_or row k (pos 0)
   fields_other by [] row h = refl
   fields_other by (t ∷ ts) row h =
-      let p = neither (t.field == k) (has_term k ts) h in
+      let p = or_parts (t.field == k) (has_term k ts) h in
       fields_other by ts (add_at t.field (by *ℤ t.coefficient) row) p.1 ∙ at_other t.field (by *ℤ t.coefficient) row (λ e. eqb-false t.field k p.0 (sym e))
 
   terms_other : (R : List Remainder) (by : ℤ) (f : Form) (row : List ℤ) → has_field k f ≡ false → get_or (add_terms R by f row) k (pos 0) ≡ get_or row k (pos 0)
-  terms_other R by (form c ts rs) row h = places rs (add_fields by ts row) ∙ fields_other by ts row (neither (has_term k ts) (has_inner k rs) h).0
+  terms_other R by (form c ts rs) row h = places rs (add_fields by ts row) ∙ fields_other by ts row (or_parts (has_term k ts) (has_inner k rs) h).0
     where
       places : (qs : Remainders) (row : List ℤ) → get_or (add_places R by qs row) k (pos 0) ≡ get_or row k (pos 0)
       places no_remainders row = refl
@@ -65,8 +61,8 @@ module _ (k : ℕ) (low : k < 8) where
     literals_missing : (ls : List Literal) (sides : List Bool) → field_in k ls ≡ false → Absent k (literals_conditions R ls sides)
     literals_missing [] sides h = All-nil IsMissing
     literals_missing (l ∷ ls) sides h =
-        let p = neither (has_field k l.compare.left || has_field k l.compare.right) (field_in k ls) h in
-        let q = neither (has_field k l.compare.left) (has_field k l.compare.right) p.0 in
+        let p = or_parts (has_field k l.compare.left || has_field k l.compare.right) (field_in k ls) h in
+        let q = or_parts (has_field k l.compare.left) (has_field k l.compare.right) p.0 in
         All-append IsMissing (conditions_of R l (own_side l sides)) (literals_conditions R ls (later_sides l sides))
         (literal_missing l.compare.relation l.positive (own_side l sides) l.compare.left l.compare.right q.0 q.1) (literals_missing ls (later_sides l sides) p.1)
 
@@ -117,19 +113,19 @@ module _ (k : ℕ) (low : k < 8) where
 
   mutual
     seen_missing : (f : Form) (R : List Remainder) → has_field k f ≡ false → AreMissing R → AreMissing (seen f R)
-    seen_missing (form c ts rs) R h a = seen_all_missing rs R (neither (has_term k ts) (has_inner k rs) h).1 a
+    seen_missing (form c ts rs) R h a = seen_all_missing rs R (or_parts (has_term k ts) (has_inner k rs) h).1 a
 
     seen_all_missing : (rs : Remainders) (R : List Remainder) → has_inner k rs ≡ false → AreMissing R → AreMissing (seen_all rs R)
     seen_all_missing no_remainders R h a = a
     seen_all_missing (remainder c f n rs) R h a =
-        let p = neither (has_field k f) (has_inner k rs) h in
+        let p = or_parts (has_field k f) (has_inner k rs) h in
         seen_all_missing rs (with_one (record { inner = f; divisor = n }) (seen f R)) p.1 (one_more (record { inner = f; divisor = n }) (seen f R) p.0 (seen_missing f R p.0 a))
 
   seen_in_missing : (ls : List Literal) (R : List Remainder) → field_in k ls ≡ false → AreMissing R → AreMissing (seen_in ls R)
   seen_in_missing [] R h a = a
   seen_in_missing (l ∷ ls) R h a =
-      let p = neither (has_field k l.compare.left || has_field k l.compare.right) (field_in k ls) h in
-      let q = neither (has_field k l.compare.left) (has_field k l.compare.right) p.0 in
+      let p = or_parts (has_field k l.compare.left || has_field k l.compare.right) (field_in k ls) h in
+      let q = or_parts (has_field k l.compare.left) (has_field k l.compare.right) p.0 in
       seen_in_missing ls (seen l.compare.right (seen l.compare.left R)) p.1 (seen_missing l.compare.right (seen l.compare.left R) q.1 (seen_missing l.compare.left R q.0 a))
 
   pub first_missing : (ls : List Literal) (bounded : Bool) (sides : List Bool) → field_in k ls ≡ false → Absent k (first_system ls bounded sides)

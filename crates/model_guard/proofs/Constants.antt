@@ -1,7 +1,8 @@
 -- An expression with no field in it has a constant form, so a product by it is one of a form and a number.
-use Rattle.std.proofs.Common.{◌≡◌, ℕ, ◌||◌, List, [], ◌∷◌, Bool, true, false, cond, refl, ap, ◌∙◌}
+use Rattle.std.proofs.Common.{◌≡◌, ℕ, List, [], ◌∷◌, Bool, true, false, cond, refl, ap, ◌∙◌}
 use Rattle.std.proofs.Math.IntN.{ℤ, pos, negsuc, ◌*ℤ◌}
 use Rattle.std.specs.Ordering.{int_eq}
+use Rattle.std.proofs.lemmas.Bool.{or_parts}
 use Rattle.model_tree.specs.Signature.{wholes, PlainField}
 use Rattle.model_grammar.specs.declared.Chain.TheVariants.{Disjunction, Conjunction, Sum, Product}
 use Rattle.model_grammar.specs.Syntax.{Expr, field, number, text, truth, negation, compare, minus, chain, Parts, no_parts, part}
@@ -10,10 +11,6 @@ use Rattle.model_form.specs.Form.{Form, form, no_remainders, remainder, constant
 use Rattle.model_form.specs.Sums.{Part, started, number_form, field_form, add_form, add_parts, sign, product_form, remainder_form}
 use Rattle.model_form.specs.Sums as sums
 use Rattle.model_guard.specs.Forms.{is_constant, times, divisor_of, form_of, added, step, multiplied, has_whole, have_whole}
-
-either_false : (a b : Bool) → (a || b) ≡ false → (a ≡ false) × (b ≡ false)
-either_false true b e = cc
-either_false false b e = (refl, e)
 
 product_constant : (by : ℤ) (f : Form) → is_constant f ≡ true → is_constant (product_form by f) ≡ true
 product_constant by (form c [] no_remainders) h = cases (int_eq by (pos 0))
@@ -79,10 +76,10 @@ module _ (fields : List PlainField) where
 
     parts_constant : (parts : Parts) → have_whole fields parts ≡ false → AreConstant (added fields parts)
     parts_constant no_parts h = tt
-    parts_constant (part marked e parts) h = let both = either_false (has_whole fields e) (have_whole fields parts) h in (no_field_constant e both.0, parts_constant parts both.1)
+    parts_constant (part marked e parts) h = let both = or_parts (has_whole fields e) (have_whole fields parts) h in (no_field_constant e both.0, parts_constant parts both.1)
 
     product_is_constant : (before : Form) (parts : Parts) → is_constant before ≡ true → have_whole fields parts ≡ false → is_constant (multiplied fields before parts) ≡ true
     product_is_constant before no_parts c h = c
     product_is_constant before (part divides e parts) c h =
-        let both = either_false (has_whole fields e) (have_whole fields parts) h in
+        let both = or_parts (has_whole fields e) (have_whole fields parts) h in
         product_is_constant (step before divides e (form_of fields e)) parts (step_constant before divides e (form_of fields e) c (no_field_constant e both.0)) both.1

@@ -1,7 +1,7 @@
 -- Comparisons, label lists, forms and chains go up.
-use Rattle.std.proofs.Common.{◌≡◌, ◌⊎◌, inl, inr, ◌<◌, ℕ, zero, suc, List, [], ◌∷◌, ◌++◌, get_or, length, Contains, All, Some, true, refl, ap, sym, subst, ◌∙◌, arith}
+use Rattle.std.proofs.Common.{◌≡◌, ◌⊎◌, inl, inr, ◌<◌, ℕ, zero, suc, List, [], ◌∷◌, ◌++◌, get_or, length, Contains, Some, true, refl, ap, sym, subst, ◌∙◌, arith}
 use Rattle.std.proofs.Math.IntN.{ℤ, pos}
-use Rattle.std.proofs.lemmas.List.Elements.{All-weaker}
+use Rattle.std.proofs.lemmas.List.Elements.{All-weaker, All-contains}
 use Rattle.fast_fault.specs.declared.place.Pos.{Pos}
 use Rattle.model_form.specs.Form.{Form, form, Remainders, no_remainders, remainder}
 use Rattle.model_form.specs.Same.{Item as Member, IsIn, members, ordered, same_form}
@@ -112,19 +112,15 @@ outside_as_well f g gs hs n e same after =
 
 -- ---- expressions
 
--- what all elements of a list have has one of them
-each_at : {A : Type 0} (P : A → Type 0) (xs : List A) (x : A) → All P xs → Contains xs x → P x
-each_at P xs x all at = subst P at.2 (all at.0 x at.1)
-
 module _ (items : List Item) where
   compared_by : (e x : X) (type : List ℕ) (firsts : List Compare) (c : Compare) → ((d : Compare) → IsCompare items x type d → IsCompare items e type d) → AreCompared items x type firsts → IsOneOf firsts c → (d : Compare) × IsCompare items e type d × IsSameCompare d c
   compared_by e x type firsts c to are (b, at, same) =
-      let (d, is, also) = each_at (λ c. (d : Compare) × IsCompare items x type d × IsSameCompare d c) firsts b are at in
+      let (d, is, also) = All-contains (λ c. (d : Compare) × IsCompare items x type d × IsSameCompare d c) firsts b are at in
       (d, to d is, compare_further d b c also same)
 
   -- the label list of a map of the transducer
   list_of : (x : X) (from into : List ℕ) (f : TransducerForms) → AreComparedTrans items x from into f → (ms : List Form) → Contains f.maps ms → (m : LabelList) × IsLabelList items x from into m × AreSameForms (list_forms m) ms
-  list_of x from into f are ms at = each_at (λ ms. (m : LabelList) × IsLabelList items x from into m × AreSameForms (list_forms m) ms) f.maps ms are.maps at
+  list_of x from into f are ms at = All-contains (λ ms. (m : LabelList) × IsLabelList items x from into m × AreSameForms (list_forms m) ms) f.maps ms are.maps at
 
   module _ (e x y : X) (from into : List ℕ) (f : TransducerForms) (firsts : List Compare) (back : LooksBack e x y) (onto : output_of items x ≡ Some into) (are : AreComparedTrans items x from into f) (asked : AreCompared items y into firsts) where
     put_list : (m : LabelList) → IsLabelList items x from into m → IsPutList items e y from into m
@@ -134,7 +130,7 @@ module _ (items : List Item) where
     put_one c at other (inl own) = compared_by e x from f.compares c (λ d is. compare_of_operand e x from d at is) are.compares own
     put_one c at other (inr (inl (ms, there, b, in_as, same))) =
         let (m, listed, forms) = list_of x from into f are ms there in
-        let (d, is, also) = each_at (λ c. (d : Compare) × IsCompare items y into d × IsSameCompare d c) firsts b asked in_as in
+        let (d, is, also) = All-contains (λ c. (d : Compare) × IsCompare items y into d × IsSameCompare d c) firsts b asked in_as in
         let all = all_same (list_forms m) ms forms in (
           put_compare m d,
           compare_put e y from into m d (put_list m listed) is,
@@ -145,7 +141,7 @@ module _ (items : List Item) where
     put_number : (ms : List Form) → Contains f.maps ms → (c : Compare) → Contains firsts c → (n : ℤ) → IsOutsideAfter c.left ms n ⊎ IsOutsideAfter c.right ms n → HasOutside items e n
     put_number ms there c in_as n outside =
         let (m, listed, forms) = list_of x from into f are ms there in
-        let (d, is, also) = each_at (λ c. (d : Compare) × IsCompare items y into d × IsSameCompare d c) firsts c asked in_as in
+        let (d, is, also) = All-contains (λ c. (d : Compare) × IsCompare items y into d × IsSameCompare d c) firsts c asked in_as in
         let back_to = all_turned (list_forms m) ms forms in
         elim outside [
           | inl left ↦ (let (k, inside, out) = outside_as_well c.left d.left ms (list_forms m) n (same_turned d.left c.left also.1) back_to left in (subst_form k (list_forms m), put_in_compare e y from into m d k (put_list m listed) is (inl inside), out))

@@ -143,6 +143,3 @@ module _ {V : Type 0} (s t : Pending V) where
       back : (i : ℕ) (c : Class V) → IsPending t i c → IsPending s i c
       back i c p = subst (λ b. (i < length b.items) × (get_or b.items i None ≡ Some c)) best p
 
-pub none_long : {X : Type 0} (xs : List X) → length xs ≡ 0 → xs ≡ []
-none_long [] e = refl
-none_long (x ∷ xs) e = absurd (omega (arith, e))

@@ -39,17 +39,14 @@ one_kind_is rules c j ds are p q = (
 
 -- ---- facts in the words of code
 
-all_in : {X : Type 0} (P : X → Type 0) (xs : List X) (x : X) → All P xs → Contains xs x → P x
-all_in P xs x h at = All-contains P xs x h at
-
 -- rules whose demands are all below the number of states
 pub own_from_all : {L : Type 0} (rules : List (List (Rule L))) → All (λ rs. All (λ r. All (λ d. All (λ s. s < length rules) d) r.demands) rs) rules → AreOwn rules
 own_from_all rules h t r at j s asked = elim (cases_lt t (length rules)) [
   | inl low ↦ (
       let those : All (λ r. All (λ d. All (λ s. s < length rules) d) r.demands) (rules_of rules t) = All-get_or (λ rs. All (λ r. All (λ d. All (λ s. s < length rules) d) r.demands) rs) rules t [] low h in
-      let ds : All (λ d. All (λ s. s < length rules) d) r.demands = all_in (λ r. All (λ d. All (λ s. s < length rules) d) r.demands) (rules_of rules t) r those at in
+      let ds : All (λ d. All (λ s. s < length rules) d) r.demands = All-contains (λ r. All (λ d. All (λ s. s < length rules) d) r.demands) (rules_of rules t) r those at in
       elim (cases_lt j (length r.demands)) [
-        | inl within ↦ all_in (λ s. s < length rules) (get_or r.demands j []) s (All-get_or (λ d. All (λ s. s < length rules) d) r.demands j [] within ds) asked
+        | inl within ↦ All-contains (λ s. s < length rules) (get_or r.demands j []) s (All-get_or (λ d. All (λ s. s < length rules) d) r.demands j [] within ds) asked
         | inr past ↦ absurd (none_in s (subst (λ d. Contains d s) (get_or_past r.demands j [] past) asked))
       ])
   | inr high ↦ absurd (none_in r (subst (λ rs. Contains rs r) (get_or_past rules t [] high) at))
@@ -59,7 +56,7 @@ own_from_all rules h t r at j s asked = elim (cases_lt t (length rules)) [
 pub kind_table : {L : Type 0} (has keeps : L → Type 0) (table : KindTable L) → ((l : L) → keeps l → has l) → IsTable table.ranks has keeps table.rules table.known → Covers table.ranks has table.rules table.values
     → ((c : ℕ) (v : L) → Contains (table.values c) v → has v) → Represents table.rules table.known table.of_kinds → ((c j : ℕ) (q : Row) → Contains (table.of_kinds c j) q → Contains table.known q) → IsKindTable has table
 kind_table has keeps table more is covers labels represents known = record {
-  reached = λ q at. (let (t, fits, is_set) = all_in (IsReached table.ranks keeps table.rules) table.known q is.sets.reached at in (t, fits_more table.ranks keeps has more t fits, is_set));
+  reached = λ q at. (let (t, fits, is_set) = All-contains (IsReached table.ranks keeps table.rules) table.known q is.sets.reached at in (t, fits_more table.ranks keeps has more t fits, is_set));
   complete = is.complete;
   covers = covers;
   labels = labels;

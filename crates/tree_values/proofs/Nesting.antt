@@ -1,6 +1,6 @@
 -- Literals within one another, from which the value of the outermost comes.
 use Rattle.std.proofs.Common.{Bor, ◌≡◌, ◌≤◌, inl, inr, ℕ, suc, true, List, [], ◌∷◌, ◌++◌, length, reverse, Option, Some, None, refl, sym, ap, subst, ◌∙◌, arith}
-use Rattle.std.proofs.lemmas.List.{reverse-append}
+use Rattle.std.proofs.lemmas.List.{reverse-append, nil_from_length}
 use Rattle.std.specs.Prelude.{IfSome, is_some, map}
 use Rattle.model_tree.specs.Limits.{most_nodes, greatest_depth}
 use Rattle.model_program.specs.Syntax.{Name}
@@ -52,10 +52,6 @@ at_end P later rest (and_x x xs) (inr end) holds = at_end P later rest xs end (l
 
 pub turned : (old new : List OpenNode) (n : OpenNode) → new ≡ old ++ n ∷ [] → reverse new ≡ n ∷ reverse old
 turned old new n is = ap reverse is ∙ reverse-append old (n ∷ [])
-
-none_left : {A : Type 0} (l : List A) → length l ≡ 0 → l ≡ []
-none_left [] e = refl
-none_left (a ∷ l) e = absurd (omega (arith, e))
 
 -- a literal whose next child is evaluated, behind which these stand
 abbrev pub after_next : OpenNode → Bor (List code.X) → OpenNode
@@ -144,7 +140,7 @@ module _ (g : Given) (of : List ℕ) (x : X) (room : ℕ) where
     literal_on = inside_on ns (literal_of n reached.0) n.room reached.2 on
 
     have_all : (printed : List Printed) → Tells g.trees.now printed → HaveValues (items_in g) printed (type_in g of) reached.0 n.room n.below
-    have_all printed told = so_far_all (items_in g) printed (type_in g of) reached.0 n.room n.below (subst (λ xs. SoFar (items_in g) printed (type_in g of) (plain_children xs) reached.0 n.room n.below) (none_left n.rest.now none) (reached.1.values printed told))
+    have_all printed told = so_far_all (items_in g) printed (type_in g of) reached.0 n.room n.below (subst (λ xs. SoFar (items_in g) printed (type_in g of) (plain_children xs) reached.0 n.room n.below) (nil_from_length n.rest.now none) (reached.1.values printed told))
 
     pub closed_declared : is_some (find_type (items_in g) of) ≡ true
     closed_declared = literal_on.0

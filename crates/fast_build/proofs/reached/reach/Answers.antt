@@ -1,13 +1,12 @@
 use Rattle.std.proofs.Common.{◌≡◌, ◌<◌, ◌+◌, length, get_or, map, take, sym, ap, subst, ◌∙◌, arith, Some, refl, length-append, [], ◌∷◌, None, take_all}
 use Rattle.std.specs.Cmp.Lexicographic.{nat_list_eq_equiv}
-use Rattle.std.proofs.lemmas.List.Elements.{All-nil}
+use Rattle.std.proofs.lemmas.List.Elements.{All-nil, All-contains}
 use Rattle.fast_syntax.specs.Plain.{plain_lang, plain_rule}
 use Rattle.model_meaning.specs.Reached.{Reaches}
 use Rattle.fast_build.specs.Items.{items_of, find_lang}
 use Rattle.fast_build.specs.Reached.{IsGrown, AreClosed, demanded_in}
 use Rattle.fast_build.proofs.Standing.{rules_are}
 use Rattle.fast_build.proofs.Rounds.{first_reached, more_reached, more_closed, more_langs, declared, not_more}
-use Rattle.fast_build.proofs.Elements.{all_of_contained}
 use Rattle.fast_build.proofs.WellFormed.{all_stand}
 use Rattle.fast_build.proofs.reached.reach.Goals as goal
 
@@ -30,7 +29,7 @@ unreachable-requires c =
     let k : c.len-in-reach-2.result ≡ length c.reach.langs.items = omega (arith, c.len-in-reach-2.ensures, c.reach.langs.ok.0) in
     let n = c.index-as_slice-len.result in
     let at : n ≡ get_or c.reach.names.keys (length c.reach.langs.items) n = c.index-as_slice-len.is ∙ (λ i. get_or (c.as_slice.ensures.keys i) (k i) n) in
-    let found = declared items c.args.name.now n (all_stand items c.args.checked.now.well_formed) c.requires.there (all_of_contained (Reaches items c.args.name.now) c.reach.names.keys n c.reach.invariant.reached.reached (length c.reach.langs.items, low, sym at)) in
+    let found = declared items c.args.name.now n (all_stand items c.args.checked.now.well_formed) c.requires.there (All-contains (Reaches items c.args.name.now) c.reach.names.keys n c.reach.invariant.reached.reached (length c.reach.langs.items, low, sym at)) in
     let no : None ≡ Some found.0 = sym c.in_default.ensures ∙ found.1 in absurd (cc)
 
 pub reach-smaller : goal.reach-smaller

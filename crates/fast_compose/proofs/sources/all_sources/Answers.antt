@@ -2,13 +2,12 @@ use Rattle.std.proofs.Common.{◌≡◌, ◌<◌, true, [], length, get_or, take
 use Rattle.std.specs.Prelude.{is_some}
 use Rattle.std.specs.Cmp.Lexicographic.{nat_list_eq_equiv}
 use Rattle.std.proofs.lemmas.List.{get_or_default}
-use Rattle.std.proofs.lemmas.List.Elements.{All-nil, Contains-get_or}
+use Rattle.std.proofs.lemmas.List.Elements.{All-nil, Contains-get_or, All-contains}
 use Rattle.fast_syntax.specs.Plain.{plain_x}
 use Rattle.model_names.specs.Declared.{find_item}
 use Rattle.fast_build.specs.Items.{items_of}
 use Rattle.fast_build.specs.Reached.{IsGrown}
 use Rattle.fast_build.proofs.Closing.{IsClosedBy, closed_more, all_grown, still_there, not_more_than_items}
-use Rattle.fast_build.proofs.Elements.{all_of_contained}
 use Rattle.fast_compose.specs.Sources.{sources_in, opened_by, IsSource, stands, opened}
 use Rattle.fast_compose.proofs.Named.{opened_declared}
 use Rattle.fast_compose.proofs.sources.all_sources.Goals as goal
@@ -20,7 +19,7 @@ open-init c =
     let keys = c.add_sources.new.names.keys in
     let grown : IsGrown [] keys (sources_in x) = subst (λ ks. IsGrown ks keys (sources_in x)) c.new-names.ensures.empty c.in_ok-add_sources.ensures in
     record {
-      declared = all_grown (λ n. is_some (find_item items n) ≡ true) [] keys (sources_in x) grown (All-nil _) (λ n at. all_of_contained (λ m. is_some (find_item items m) ≡ true) (sources_in x) n c.requires.declared at);
+      declared = all_grown (λ n. is_some (find_item items n) ≡ true) [] keys (sources_in x) grown (All-nil _) (λ n at. All-contains (λ m. is_some (find_item items m) ≡ true) (sources_in x) n c.requires.declared at);
       all = grown.all;
       closed = All-nil _;
       only = all_grown (IsSource items x) [] keys (sources_in x) grown (All-nil _) (λ n at. stands n at);
@@ -49,7 +48,7 @@ open-preserved c =
       declared = all_grown (λ m. is_some (find_item items m) ≡ true) old new more grown c.open.invariant.declared (λ m by. opened_declared items c.args.checked.now.well_formed n m by);
       all = still_there old new more (sources_in x) grown c.open.invariant.all;
       closed = closed_more (opened_by items) old new k n low (get_or_default old k [] n low) c.open.invariant.closed grown;
-      only = all_grown (IsSource items x) old new more grown c.open.invariant.only (λ m by. opened n m (all_of_contained (IsSource items x) old n c.open.invariant.only at) by);
+      only = all_grown (IsSource items x) old new more grown c.open.invariant.only (λ m by. opened n m (All-contains (IsSource items x) old n c.open.invariant.only at) by);
       count = let longer = ap length grown.is ∙ length-append old grown.added in omega (arith, low, longer);
     }
 

@@ -5,7 +5,7 @@ use Rattle.std.proofs.lemmas.Int.{to_z-of_z}
 use Rattle.model_form.specs.Form.{heights}
 use Rattle.model_tree.specs.Range.{IsLabelNumber}
 use Rattle.model_form.specs.Ranges.{AreApart}
-use Rattle.lin_form.proofs.Gathering.{without_zeros_apart}
+use Rattle.form_laws.proofs.Coefficients.{without_zeros_apart}
 use Rattle.lin_form.proofs.Wholes.{without_zeros_inner}
 use Rattle.lin_form.specs.Terms.{plain_remainders}
 use Rattle.lin_form.specs.Gathered.{plain_likes}

@@ -5,7 +5,8 @@ use Rattle.std.specs.BinaryHeap.{heap_items}
 use Rattle.model_sta.proofs.Reached.{same_default}
 use Rattle.sta_classes.specs.Pending.{IsDone, IsTaken}
 use Rattle.sta_classes.proofs.Offers.{leaving}
-use Rattle.sta_classes.proofs.Offered.{taken_from, done_from, same_order, none_long}
+use Rattle.std.proofs.lemmas.List.{nil_from_length}
+use Rattle.sta_classes.proofs.Offered.{taken_from, done_from, same_order}
 use Rattle.sta_classes.proofs.Takes.{number_low, kept_stale, kept_taken, taken}
 use Rattle.sta_classes.proofs.pending.Pending.take.Goals as goal
 
@@ -41,5 +42,5 @@ returns-clause-kept g c = same_order c.order.self (record { sets = c.order.self.
 
 pub returns-clause-taken : goal.returns-clause-taken
 returns-clause-taken g c =
-    let empty : heap_items c.order.self.order ≡ [] = none_long (heap_items c.order.self.order) (omega (arith, c.in_default.ensures.none, c.order.self.order.data.ok.0)) in
+    let empty : heap_items c.order.self.order ≡ [] = nil_from_length (heap_items c.order.self.order) (omega (arith, c.in_default.ensures.none, c.order.self.order.data.ok.0)) in
     done_from c.args.self.now c.order.self c.order.invariant.sets c.order.invariant.best (record { sets = c.order.self.sets; best = c.order.self.best; order = c.pop.new.self }) c.order.invariant.kept empty refl refl
