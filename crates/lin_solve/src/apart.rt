@@ -35,9 +35,9 @@ fn fields_of_each(alloc: Global, literals: &[Lit<Compare>]) -> Result<Vec<u32>, 
     Ok(fields)
 }
 
-// The field, and those that it is tied to by literals.
-fn tied_to(field: u32, fields: &[u32]) -> u32 {
-    let mut tied = field;
+// These fields, and those that literals tie to them, by the fields of each.
+fn tied_to(first: u32, fields: &[u32]) -> u32 {
+    let mut tied = first;
     for _ in 0..8 {
         for own in fields {
             if own & tied != 0 {
@@ -48,18 +48,36 @@ fn tied_to(field: u32, fields: &[u32]) -> u32 {
     tied
 }
 
-// The literals that have no other fields than these.
+// Whether all literals that have fields are tied to one another, by the fields of each.
+fn are_tied(fields: &[u32]) -> bool {
+    let mut all = 0u32;
+    for own in fields {
+        all |= own;
+    }
+    tied_to(all & all.wrapping_neg(), fields) == all
+}
+
+// Whether the literal at this place has no other fields than these, by the fields of each.
+fn are_among(fields: &[u32], place: usize, tied: u32) -> bool {
+    match fields.get(place) {
+        Some(own) => own & !tied == 0,
+        None => false,
+    }
+}
+
+// The literals that have no other fields than these, by the fields of each.
 fn only_of(
     alloc: Global,
     literals: &[Lit<Compare>],
-    fields: u32,
+    fields: &[u32],
+    tied: u32,
 ) -> Result<Vec<Lit<Compare>>, Memory>
     ensures { IfOk result (λ r. HoldAlso literals.now r.items) }
 {
     let mut out = Vec::new(alloc);
-    for literal in literals {
-        if fields_in(literal) & !fields == 0 {
-            out.push(copy_literal(alloc, literal)?)?;
+    for place in 0..literals.len() {
+        if are_among(fields, place, tied) {
+            out.push(copy_literal(alloc, &literals[place])?)?;
         }
     }
     Ok(out)
@@ -76,6 +94,7 @@ fn take_found(values: &mut [LabelInt], found: &[LabelInt], fields: u32)
     }
 }
 
+// Seeks them as literals that are tied to one another.
 fn seek_together(alloc: Global, literals: &[Lit<Compare>]) -> Result<Sought, Memory>
     ensures { IfOk result (TellsSought (plain_literals literals.now)) }
 {
@@ -90,13 +109,16 @@ pub(crate) fn seek_apart(alloc: Global, literals: &[Lit<Compare>]) -> Result<Sou
     ensures { IfOk result (TellsSought (plain_literals literals.now)) }
 {
     let fields = fields_of_each(alloc, literals)?;
+    if are_tied(&fields) {
+        return seek_together(alloc, literals);
+    }
     let mut values = vec![in alloc; 0; 8]?;
     let mut done = 0;
     for field in 0..8u32 {
         let tied = tied_to(1 << field, &fields);
         if tied & done == 0 {
             done |= tied;
-            let own = only_of(alloc, literals, tied)?;
+            let own = only_of(alloc, literals, &fields, tied)?;
             match seek_together(alloc, &own)? {
                 Sought::Never => return Ok(Sought::Never),
                 Sought::Values(found) => take_found(&mut values, &found, tied),

@@ -16,7 +16,7 @@ ghost use Rattle.lin_solve.specs.Plain.{plain_compare, plain_literal, plain_lite
 ghost use Rattle.lin_solve.specs.Sought.{IsSidedAt, TellsExplored, TellsSought};
 ghost use Rattle.lin_solve.specs.Branches.{IsHeld, SomeHeld};
 
-use crate::cases::{Case, Turn, divisor_in_common};
+use crate::cases::{Case, Turn};
 use crate::compare::{Compare, Relation};
 use crate::equations::equated;
 use crate::found::{Sought, sided, sideless};
@@ -24,7 +24,7 @@ use crate::guess::all_hold;
 use crate::numbering::remainders_of;
 use crate::over::are_over;
 use crate::puts::{forms_with, put_each};
-use crate::ranges::{Range, ranges_of};
+use crate::splits::{Split, best_split, split_of};
 use crate::system::{first_system, needs_side};
 use cooper_solve::{Constraint, Relation as Kind};
 use fast_fault::{LabelInt, Memory};
@@ -41,13 +41,6 @@ const MOST: usize = 400;
 pub(crate) struct Branch {
     case: Case,
     literals: Vec<Lit<Compare>>,
-}
-
-// A field that is to be so many times another one, and a number below.
-#[derive(Clone, Copy)]
-pub(crate) struct Split {
-    field: u32,
-    times: u32,
 }
 
 // So many times the field, and a number.
@@ -105,82 +98,6 @@ fn explore_loosely(alloc: Global, literals: &[Lit<Compare>]) -> Result<Explored,
     let system = first_system(alloc, &own, &known, false, &[])?;
     let conditions = without_multiples(alloc, system.conditions)?;
     explore(alloc, &conditions, system.count)
-}
-
-// How a field within a remainder of the form is split, the innermost first.
-fn split_in(form: &Form) -> Option<Split> {
-    for term in form.remainders() {
-        if let Some(split) = split_in(&term.inner) {
-            return Some(split);
-        }
-        if let Some(own) = term.inner.fields().first() {
-            let shared = divisor_in_common(term.divisor as u64, own.coefficient.unsigned_abs());
-            let times = (term.divisor as u64).checked_div(shared)?;
-            return Some(Split {
-                field: own.field,
-                times: u32::try_from(times).ok()?,
-            });
-        }
-    }
-    None
-}
-
-fn split_of(literal: &Lit<Compare>) -> Option<Split> {
-    match split_in(&literal.atom.left) {
-        Some(split) => Some(split),
-        None => split_in(&literal.atom.right),
-    }
-}
-
-// How many parts a field is split into, and by which values, if they are few.
-#[derive(Clone, Copy)]
-struct Best {
-    split: Split,
-    parts: u32,
-    first: Option<LabelInt>,
-}
-
-impl Best {
-    // By the field's values, if there are fewer than remainders.
-    fn of(split: Split, ranges: &[Range]) -> Best {
-        let by_rest = Best {
-            split,
-            parts: split.times,
-            first: None,
-        };
-        let Some(range) = ranges.get(split.field as usize) else {
-            return by_rest;
-        };
-        match (range.count(split.times), LabelInt::try_from(range.low)) {
-            (Some(parts), Ok(low)) => Best {
-                split,
-                parts,
-                first: Some(low),
-            },
-            _ => by_rest,
-        }
-    }
-}
-
-// Of the literals that these values break, how one is split that leaves the fewest branches.
-fn best_split(literals: &[Lit<Compare>], values: &[LabelInt]) -> Option<Best> {
-    let ranges = ranges_of(literals);
-    let mut best: Option<Best> = None;
-    for literal in literals {
-        if literal.atom.holds(values) != literal.sign {
-            if let Some(split) = split_of(literal) {
-                let own = Best::of(split, &ranges);
-                let is_first = match best {
-                    None => true,
-                    Some(other) => own.parts < other.parts,
-                };
-                if is_first {
-                    best = Some(own);
-                }
-            }
-        }
-    }
-    best
 }
 
 // How a field stands to a number.

@@ -23,6 +23,7 @@ mod ranges;
 mod repeats;
 mod rows;
 mod said;
+mod splits;
 mod system;
 mod tried;
 

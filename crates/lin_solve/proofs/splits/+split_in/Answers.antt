@@ -1,6 +1,6 @@
 use Rattle.std.proofs.Common.{arith}
 use Rattle.lin_solve.proofs.Numbered.{item_lower}
-use Rattle.lin_solve.proofs.branches.+split_in.Goals as goal
+use Rattle.lin_solve.proofs.splits.+split_in.Goals as goal
 
 pub split_in-requires : goal.split_in-requires
 split_in-requires t c =
