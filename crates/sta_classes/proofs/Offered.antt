@@ -142,4 +142,3 @@ module _ {V : Type 0} (s t : Pending V) where
     where
       back : (i : ℕ) (c : Class V) → IsPending t i c → IsPending s i c
       back i c p = subst (λ b. (i < length b.items) × (get_or b.items i None ≡ Some c)) best p
-
