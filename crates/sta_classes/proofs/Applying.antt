@@ -88,8 +88,8 @@ module _ {A G : Type 0} (holds : A → Label → Bool) (rules : List (Vec (StaRu
   length_here =
       length-map (meaning_of holds (plain_rules rules)) (list_any (fires c l qs)) ∙ length-map (plain_rules rules) (map (rule_meaning holds)) ∙ length-map rules (λ z. map plain_rule z.items)
 
-  and_parts : (a b d : Bool) → (a && (b && d)) ≡ true → (a ≡ true) × ((b ≡ true) × (d ≡ true))
-  and_parts a b d h = let (x, y) = and_parts a (b && d) h in (x, and_parts b d y)
+  three_parts : (a b d : Bool) → (a && (b && d)) ≡ true → (a ≡ true) × ((b ≡ true) × (d ≡ true))
+  three_parts a b d h = let (x, y) = and_parts a (b && d) h in (x, and_parts b d y)
 
   -- a state of the set has a rule that fires
   fired_of : (s : ℕ) → has here s ≡ true → IsFired list (map fires_here list) s
@@ -101,7 +101,7 @@ module _ {A G : Type 0} (holds : A → Label → Bool) (rules : List (Vec (StaRu
         let (plain, plain_in, is) = map_member (rule_meaning holds) (map plain_rule v.items) rule inside in
         let (r, r_in, r_is) = map_member plain_rule v.items plain plain_in in
         let meant : fires c l qs (rule_meaning holds (plain_rule r)) ≡ true = ap (λ z. fires c l qs (rule_meaning holds z)) r_is ∙ ap (fires c l qs) is ∙ fire in
-        let (same, (guard, meets)) = and_parts (r.constructor == c) (formula_holds (λ a. holds a l) (plain_rule r).guard) (rows_meet qs (plain_rule r).demands) meant in
+        let (same, (guard, meets)) = three_parts (r.constructor == c) (formula_holds (λ a. holds a l) (plain_rule r).guard) (rows_meet qs (plain_rule r).demands) meant in
         let there = (own (s, plain_rule r)).1 (s, low, v, at, r, r_in, (eqb-true r.constructor c same, refl)) in
         let (x, (i, i_low, i_at), x_is) = map_member plain_owned list (s, plain_rule r) there in
         let fire_x : fires_here x ≡ true = ap (λ p. rows_meet qs p.1.demands && formula_holds (λ a. holds a l) p.1.guard) x_is ∙ and_from (rows_meet qs (plain_rule r).demands) (formula_holds (λ a. holds a l) (plain_rule r).guard) meets guard in
