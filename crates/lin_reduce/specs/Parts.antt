@@ -1,5 +1,5 @@
 -- A variable as so many times a new one and a rest, and systems of which one has a solution.
-use Rattle.std.specs.Prelude.{◌≡◌, ◌<◌, ◌≤ℤ◌, ◌+ℤ◌, ◌*ℤ◌, pos, ℕ, ℤ, List, length, slice_index_or}
+use Rattle.std.specs.Prelude.{◌≡◌, ◌<◌, ◌≤ℤ◌, ◌+ℤ◌, ◌*ℤ◌, pos, ℕ, ℤ, Bool, IsTrue, List, length, slice_index_or}
 use Rattle.std.specs.List.{Contains}
 use Rattle.math_cooper.specs.System.{Condition, IsSolvable, Solves}
 use Rattle.lin_reduce.specs.declared.cut.Bound.{Bound}
@@ -42,6 +42,10 @@ abbrev pub TellsNever : ℕ → List Condition → Explored → Type 0
 TellsNever n S Never = IsSolvable n S → ⊥
 TellsNever n S (Maybe values) = Unit {0}
 TellsNever n S Open = Unit {0}
+
+-- where conditions clash no values meet them
+abbrev pub TellsClash : ℕ → List Condition → Bool → Type 0
+TellsClash n S clash = IsTrue clash → IsSolvable n S → ⊥
 
 -- what is lost is met by no values
 abbrev pub TellsLook : List Condition → Look → Type 0

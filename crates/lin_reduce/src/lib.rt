@@ -14,6 +14,7 @@
 #![tactic(auto)]
 
 mod certificate;
+mod clash;
 mod class;
 mod cut;
 mod dive;
@@ -32,4 +33,5 @@ mod shears;
 mod space;
 mod tableau;
 
+pub use clash::clashes;
 pub use nodes::{Explored, explore};

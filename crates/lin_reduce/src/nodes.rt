@@ -45,10 +45,10 @@ pub enum Explored {
     Open,
 }
 
-// What is found of a node: that no values meet its system, values that may, which variable is to be split or to be small or
-// great, the place of the condition that is to be brought to one variable, or nothing.
+/// What is found of a node: that no values meet its system, values that may, which variable is to be split or to be small or
+/// great, the place of the condition that is to be brought to one variable, or nothing.
 #[derive(Drop)]
-enum Look {
+pub(crate) enum Look {
     Lost,
     Maybe(Vec<LabelInt>),
     Split(Split),
@@ -57,10 +57,10 @@ enum Look {
     Open,
 }
 
-// A system, what the first eight variables at the beginning are by its own, and how often one was said to be small or great.
+/// A system, what the first eight variables at the beginning are by its own, and how often one was said to be small or great.
 #[derive(Drop)]
-struct Node {
-    system: Vec<Constraint>,
+pub(crate) struct Node {
+    pub(crate) system: Vec<Constraint>,
     parts: Vec<Line>,
     cuts: usize,
 }
@@ -78,7 +78,8 @@ fn values(alloc: Global, parts: &[Line], given: &[i128]) -> Result<Vec<LabelInt>
 }
 
 impl Node {
-    fn first(alloc: Global, system: &[Constraint], count: usize) -> Result<Node, Stop>
+    /// The system, over its own variables.
+    pub(crate) fn first(alloc: Global, system: &[Constraint], count: usize) -> Result<Node, Stop>
         ensures { MatchResult result (λ n. n.system.items ≡ system.now) (λ _. Unit {0}) }
     {
         let own = copy_each(alloc, system)?;
@@ -148,8 +149,8 @@ impl Node {
         }
     }
 
-    // That, at the end.
-    fn push_solved(
+    /// The node where the condition at the place is brought to one variable, at the end; it is put where it has one value.
+    pub(crate) fn push_solved(
         &self,
         alloc: Global,
         place: usize,
@@ -196,8 +197,8 @@ impl Node {
         Ok(())
     }
 
-    // The system with each rest of the variable, at the end.
-    fn push_parts(
+    /// The system with each rest of the variable that isn't lost at once, at the end.
+    pub(crate) fn push_parts(
         &self,
         alloc: Global,
         split: Split,

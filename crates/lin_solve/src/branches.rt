@@ -14,6 +14,7 @@ ghost use Rattle.model_chain.specs.Literals.{HoldsAll, compare_holds, needs_side
 ghost use Rattle.lin_solve.specs.declared.compare.Compare.{Compare as OneCompare};
 ghost use Rattle.lin_solve.specs.Plain.{plain_compare, plain_literal, plain_literals, plain_relation};
 ghost use Rattle.lin_solve.specs.Sought.{IsSidedAt, TellsExplored, TellsSought};
+ghost use Rattle.lin_reduce.specs.Parts.{TellsNever};
 ghost use Rattle.lin_solve.specs.Branches.{IsHeld, SomeHeld};
 
 use crate::cases::{Case, Turn};
@@ -30,7 +31,7 @@ use cooper_solve::{Constraint, Relation as Kind};
 use fast_fault::{LabelInt, Memory};
 use label_core::Lit;
 use lin_form::{Form, FormStop, Signed};
-use lin_reduce::{Explored, explore};
+use lin_reduce::{Explored, clashes, explore};
 use std::alloc::Global;
 
 // How many branches are looked at.
@@ -88,6 +89,21 @@ fn without_multiples(alloc: Global, mut system: Vec<Constraint>) -> Result<Vec<C
     Ok(kept)
 }
 
+// What is found of conditions: that they clash, or what is found where multiples are left out.
+fn explore_sums(
+    alloc: Global,
+    conditions: Vec<Constraint>,
+    count: usize,
+) -> Result<Explored, Memory>
+    ensures { IfOk result (TellsNever count conditions.items) }
+{
+    if clashes(alloc, &conditions, count)? {
+        return Ok(Explored::Never);
+    }
+    let sums = without_multiples(alloc, conditions)?;
+    explore(alloc, &sums, count)
+}
+
 // What is found of literals where negated equalities are left out, and remainders may be any of their divisor's.
 fn explore_loosely(alloc: Global, literals: &[Lit<Compare>]) -> Result<Explored, Memory>
     ensures { IfOk result (TellsExplored (plain_literals literals.now)) }
@@ -96,8 +112,7 @@ fn explore_loosely(alloc: Global, literals: &[Lit<Compare>]) -> Result<Explored,
     are_over(&own);
     let known = remainders_of(alloc, &own)?;
     let system = first_system(alloc, &own, &known, false, &[])?;
-    let conditions = without_multiples(alloc, system.conditions)?;
-    explore(alloc, &conditions, system.count)
+    explore_sums(alloc, system.conditions, system.count)
 }
 
 // How a field stands to a number.

@@ -7,6 +7,9 @@ use fast_fault::LabelInt;
 use label_core::Lit;
 use lin_form::Form;
 
+// How many values are better than one remainder.
+const VALUES: u32 = 4;
+
 /// A field that is to be so many times another one, and a number below.
 #[derive(Clone, Copy)]
 pub(crate) struct Split {
@@ -49,7 +52,8 @@ pub(crate) struct Best {
 }
 
 impl Best {
-    // By the field's values, if there are no more of them than remainders.
+    // By the field's values, if there are no more than so many times its remainders: where its value is known nothing of it is
+    // left to be split.
     fn of(split: Split, ranges: &[Range]) -> Best {
         let by_rest = Best {
             split,
@@ -59,13 +63,24 @@ impl Best {
         let Some(range) = ranges.get(split.field as usize) else {
             return by_rest;
         };
-        match (range.count(split.times), LabelInt::try_from(range.low)) {
+        match (
+            range.count(split.times.saturating_mul(VALUES)),
+            LabelInt::try_from(range.low),
+        ) {
             (Some(parts), Ok(low)) => Best {
                 split,
                 parts,
                 first: Some(low),
             },
             _ => by_rest,
+        }
+    }
+
+    // How much the parts cost, in parts by remainders.
+    fn weight(&self) -> u32 {
+        match self.first {
+            Some(_) => self.parts / VALUES,
+            None => self.parts,
         }
     }
 }
@@ -80,7 +95,7 @@ pub(crate) fn best_split(literals: &[Lit<Compare>], values: &[LabelInt]) -> Opti
                 let own = Best::of(split, &ranges);
                 let is_first = match best {
                     None => true,
-                    Some(other) => own.parts < other.parts,
+                    Some(other) => own.weight() < other.weight(),
                 };
                 if is_first {
                     best = Some(own);

@@ -1,9 +1,7 @@
 use Rattle.std.proofs.Common.{[], false, ap, sym, ◌∙◌, subst}
-use Rattle.math_cooper.specs.System.{Solves}
 use Rattle.model_chain.specs.Literals.{AreLiteralsOver, remainders_in}
 use Rattle.model_chain.specs.Chains.{first_system, count_variables}
 use Rattle.lin_solve.specs.Plain.{plain_literals}
-use Rattle.lin_solve.proofs.Branched.{never_loosened}
 use Rattle.lin_solve.proofs.Pushed.{positives}
 use Rattle.lin_solve.proofs.Seeking.{explored_told}
 use Rattle.lin_solve.proofs.branches.explore_loosely.Goals as goal
@@ -15,6 +13,5 @@ returns c =
     let made = c.in_ok-system.ensures {u = tt} in
     let some = positives c.in_ok-known.known.items (remainders_in own) (known.0 ∙ ap (λ ls. remainders_in (plain_literals ls)) c.deref-2.ensures.value) known.1 in
     let all = c.in_ok-system.system.conditions.items in
-    let loose = never_loosened _ all c.deref-5.result.now c.explore.result (λ vs h. subst (Solves vs) (sym c.deref-5.ensures.value) (c.in_ok-conditions.ensures {u = tt} vs h)) c.explore.ensures in
-    explored_told (plain_literals c.args.literals.now) own all _ c.explore.result (subst (λ ls. AreLiteralsOver 8 (plain_literals ls)) c.deref.ensures.value c.are_over.ensures) some (c.in_ok-own.ensures {u = tt}).none (c.in_ok-own.ensures {u = tt}).hold
-    (made.0 ∙ ap (λ ls. first_system (plain_literals ls) false []) c.deref-3.ensures.value) (made.1 ∙ ap (λ ls. count_variables (plain_literals ls)) c.deref-3.ensures.value) loose
+    explored_told (plain_literals c.args.literals.now) own all _ c.explore_sums.result (subst (λ ls. AreLiteralsOver 8 (plain_literals ls)) c.deref.ensures.value c.are_over.ensures) some (c.in_ok-own.ensures {u = tt}).none (c.in_ok-own.ensures {u = tt}).hold
+    (made.0 ∙ ap (λ ls. first_system (plain_literals ls) false []) c.deref-3.ensures.value) (made.1 ∙ ap (λ ls. count_variables (plain_literals ls)) c.deref-3.ensures.value) c.explore_sums.ensures
