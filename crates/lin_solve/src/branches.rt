@@ -37,6 +37,9 @@ use std::alloc::Global;
 // How many branches are looked at.
 const MOST: usize = 400;
 
+// The values by which a branch is split of which nothing is found.
+const NOUGHTS: [LabelInt; 8] = [0; 8];
+
 // Literals over what is left of the fields, and what the fields are by it.
 #[derive(Drop)]
 pub(crate) struct Branch {
@@ -351,7 +354,11 @@ fn run(alloc: Global, literals: &[Lit<Compare>]) -> Result<Sought, FormStop>
         };
         match explore_loosely(alloc, &own.literals)? {
             Explored::Never => {}
-            Explored::Open => return Ok(Sought::Open),
+            Explored::Open => {
+                if !own.push_next(alloc, &NOUGHTS, &mut pending)? {
+                    return Ok(Sought::Open);
+                }
+            }
             Explored::Maybe(left) => {
                 let values = own.case.at(alloc, &left)?;
                 if values.len() == 8 && all_hold(literals, &values) {

@@ -5,7 +5,7 @@ use Rattle.lin_solve.specs.Plain.{plain_literals}
 use Rattle.lin_solve.specs.Branches.{IsHeld, SomeHeld}
 use Rattle.lin_solve.specs.Sought.{TellsExplored}
 use Rattle.lin_solve.proofs.Among.{some_added, some_popped}
-use Rattle.lin_solve.proofs.branches.run.Goals.{in-Never, in-Maybe+in_ok-values-in-Maybe+else-len-eq8+in_ok-push_next-in-Maybe+else-not-branch}
+use Rattle.lin_solve.proofs.branches.run.Goals.{in-Never, in-Open+in_ok-push_next-in-Open+else-not-branch, in-Maybe+in_ok-values-in-Maybe+else-len-eq8+in_ok-push_next-in-Maybe+else-not-branch-2}
 use Rattle.lin_solve.proofs.branches.run.Goals as goal
 
 pub loop-init : goal.loop-init
@@ -19,8 +19,12 @@ loop-preserved c = λ h.
           let gone = subst (TellsExplored (plain_literals c.deref.result.now)) w.in-Never.is (c.in_ok-explore_loosely.ensures {u = tt}) in
           let after = λ (s : SomeHeld c.pop.new.self.items). subst (λ (v : Vec Branch Global). SomeHeld v.items) (sym w.pending-is) s in
           ⊎_elim (λ (t : IsHeld c.in-Some.own). absurd (gone t.values t.eight (subst (λ ls. HoldsAll (plain_literals ls) t.values) (sym c.deref.ensures.value) t.hold))) after popped
-      | in-Maybe+in_ok-values-in-Maybe+else-len-eq8+in_ok-push_next-in-Maybe+else-not-branch w ↦
-          let told = w.in_ok-push_next-in-Maybe.ensures {u = tt} in
+      | in-Open+in_ok-push_next-in-Open+else-not-branch w ↦
+          let told = w.in_ok-push_next-in-Open.ensures {u = tt} in
           let after = λ (s : SomeHeld w.push_next.new.pending.items). subst (λ (v : Vec Branch Global). SomeHeld v.items) (sym w.pending-is) s in
           ⊎_elim (λ (t : IsHeld c.in-Some.own). after (told.parts w.if-not-branch.false t)) (λ s. after (told.kept s)) popped
+      | in-Maybe+in_ok-values-in-Maybe+else-len-eq8+in_ok-push_next-in-Maybe+else-not-branch-2 w ↦
+          let told = w.in_ok-push_next-in-Maybe.ensures {u = tt} in
+          let after = λ (s : SomeHeld w.push_next-in-Maybe.new.pending.items). subst (λ (v : Vec Branch Global). SomeHeld v.items) (sym w.pending-is) s in
+          ⊎_elim (λ (t : IsHeld c.in-Some.own). after (told.parts w.if-not-branch-2.false t)) (λ s. after (told.kept s)) popped
     ]
