@@ -1,8 +1,7 @@
 -- The trees that sound trees of a file stand for.
-use Rattle.std.proofs.Common.{◌≡◌, ℕ, zero, suc, ◌+◌, ◌<◌, ◌≤◌, Bool, true, false, cond, ◌&&◌, List, [], ◌∷◌, ◌++◌, length, map, take, get_or, Option, Some, None, refl, sym, ap, ap₂, subst, ◌∙◌, arith}
+use Rattle.std.proofs.Common.{◌≡◌, ℕ, zero, suc, ◌+◌, ◌<◌, ◌≤◌, Bool, true, false, ◌&&◌, List, [], ◌∷◌, ◌++◌, length, map, take, get_or, Option, Some, None, refl, sym, ap, ap₂, subst, ◌∙◌, arith}
 use Rattle.std.proofs.lemmas.Bool.{and_parts}
 use Rattle.std.specs.Prelude.{◌==◌, not}
-use Rattle.std.specs.Option.{option_map}
 use Rattle.std.specs.List.{list_all}
 use Rattle.std.proofs.lemmas.Bool.Decides.{nat_tests}
 use Rattle.std.proofs.lemmas.List.{take_all, take_more, map-append}
@@ -58,10 +57,6 @@ list_all_map p f [] = refl
 list_all_map p f (x ∷ xs) = ap (λ b. p (f x) && b) (list_all_map p f xs)
 
 -- ---- nodes
-
-    by : (b : Bool) (o : Option ℕ) → cond b (Some 0) (option_map (λ k. suc k) o) ≡ Some c → ((k : ℕ) → o ≡ Some k → k < length names) → c < suc (length names)
-    by true o e later = let same : 0 ≡ c = cc in omega (arith, same)
-    by false o e later = one_more o e later
 
 as_many : (cs : List PlainConstructor) → length (map (λ (c : PlainConstructor). c.name) cs) ≡ length (map (λ (c : PlainConstructor). c.rank) cs)
 as_many [] = refl
