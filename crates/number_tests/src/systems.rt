@@ -1,8 +1,8 @@
-//! Systems of inequalities that are drawn, with answers from another solver.
+//! Systems of inequalities that are drawn, with answers from another solver, and small systems that clash or do not.
 
 use cooper_solve::{Constraint, Relation};
 use fast_fault::Memory;
-use lin_reduce::{Explored, explore};
+use lin_reduce::{Explored, clashes, explore};
 use std::alloc::Global;
 use std::test::Fail;
 
@@ -121,6 +121,43 @@ fn many_inequalities_are_decided(rt: HostRuntime) -> Result<(), Fail> {
         let system = half_spaces(rt.alloc(), *seed, *count, *slack)?;
         let found = told(rt.alloc(), &system, *count)?;
         assert!(rt; found == *want, "{count} {slack} {seed}: {found}");
+    }
+    Ok(())
+}
+
+/// A condition: what divides the sum, or 0 where it is at least 0, the constant, and the coefficients.
+type Row = (i128, i128, [i128; 2]);
+
+fn system_of(alloc: Global, rows: &[Row]) -> Result<Vec<Constraint>, Memory> {
+    let mut out = Vec::new(alloc);
+    for (divisor, constant, coefficients) in rows {
+        let relation = if *divisor > 0 {
+            Relation::Divided(*divisor)
+        } else {
+            Relation::AtLeast
+        };
+        out.push(Constraint {
+            relation,
+            constant: *constant,
+            coefficients: Vec::from_slice(alloc, coefficients)?,
+        })?;
+    }
+    Ok(out)
+}
+
+/// Where x - 3 is the remainder of x by 26, 26 divides 3. Where 26 divides y - 2 x + 58, y is even.
+#[test]
+fn equations_and_multiples_clash(rt: HostRuntime) -> Result<(), Fail> {
+    let cases: &[(&[Row], bool)] = &[
+        (&[(0, -3, [1, -1]), (0, 3, [-1, 1]), (26, 0, [1, -1])], true),
+        (&[(0, -3, [1, -1]), (0, 3, [-1, 1]), (26, 0, [1, 1])], true),
+        (&[(0, -2, [1, -1]), (0, 2, [-1, 1]), (26, 0, [1, 1])], false),
+        (&[(2, -1, [0, 1]), (26, 58, [-2, 1])], true),
+        (&[(2, 0, [0, 1]), (26, 58, [-2, 1])], false),
+    ];
+    for (rows, want) in cases {
+        let system = system_of(rt.alloc(), rows)?;
+        assert_eq!(rt; clashes(rt.alloc(), &system, 2)?, *want);
     }
     Ok(())
 }
