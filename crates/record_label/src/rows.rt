@@ -37,6 +37,7 @@ pub struct RowLabels {
 impl Model for RowLabels {
     ghost use Rattle.std.specs.Prelude.{◌≤◌, List, length, map};
     ghost use Rattle.std.specs.Coded.{coded_list};
+    ghost use Rattle.model_tree.specs.Limits.{most_fields};
     ghost use Rattle.model_tree.specs.Signature as model;
     ghost use Rattle.fast_tree.specs.Signatures.{plain_sort};
     ghost use Rattle.record_label.specs.SortCode.{coded_sort};
