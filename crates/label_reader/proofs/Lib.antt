@@ -1,4 +1,5 @@
 pub mod Exits
+pub mod Keeping
 pub mod Wholes
 pub mod Names
 pub mod Digits

@@ -1,6 +1,7 @@
 //! Label expressions, from the loosest level to the tightest.
 
-ghost use Rattle.std.specs.Prelude.{◌≡◌, ◌∷◌, [], MatchResult};
+ghost use Rattle.std.specs.Prelude.{◌≡◌, ◌∷◌, [], IfOk, MatchResult};
+ghost use Rattle.fast_fault.specs.declared.place.Pos.{Pos};
 ghost use Rattle.model_program.specs.declared.Word.TheVariants.{RoundOpen, Minus};
 ghost use Rattle.model_program.specs.Joined.{IsOther};
 ghost use Rattle.read_forms.specs.Reads.{closed};
@@ -8,22 +9,25 @@ ghost use Rattle.model_grammar.specs.declared.Chain.TheVariants as kinds;
 ghost use Rattle.model_grammar.specs.declared.Level.TheVariants.{Neg, Cmp, Unary, Prim};
 ghost use Rattle.model_grammar.specs.Operators.{IsMany};
 ghost use Rattle.model_grammar.specs.Expressions.{IsExpr};
+ghost use Rattle.model_grammar.specs.Syntax.{compare};
 ghost use Rattle.model_grammar.specs.Printed.{chain_level};
 ghost use Rattle.fast_lex.specs.Tokens.{lexeme};
-ghost use Rattle.fast_syntax.specs.Plain.{plain_expr};
+ghost use Rattle.fast_syntax.specs.Plain.{plain_expr, plain_node};
 ghost use Rattle.label_reader.specs.Results.{lexemes, Reads};
 ghost use Rattle.label_reader.specs.Levels.{GoesOn};
 ghost use Rattle.label_reader.specs.Inside.{IsInside, IsBehindFirst, AreTwo, IsBare, IsUnsigned, IsWhole};
 
 use crate::constants::{numeral_at, read_numeral, read_string};
+use crate::keep::kept;
 use crate::operands::Operands;
 use crate::operators::{is_marking, many_at, operand, rel_at, sign_at, starts_primary};
 use crate::stop::Stop;
 use crate::words::{is_next, next_if, read_sign};
+use fast_fault::Memory;
 use fast_lex::{Token, Word};
 use fast_syntax::Text;
 use fast_syntax::expressions::{Expr, Node};
-use model_grammar::{Chain, Level};
+use model_grammar::{Chain, Level, Rel};
 use std::alloc::Global;
 
 /// A label expression of a level.
@@ -62,8 +66,8 @@ fn read_chain<'t>(
     };
     let mut parts = Operands::new(alloc, kind).with(false, first)?;
     'parts: while let Some((next, after)) = sign_at(kind, rest) {
-        let (part, behind) = read_level(alloc, operand(kind), after)?;
-        parts = parts.with(is_marking(next.word), part)?;
+        let (so_far, (part, behind)) = kept(parts, read_level(alloc, operand(kind), after))?;
+        parts = so_far.with(is_marking(next.word), part)?;
         rest = behind;
     }
     let place = sign.place;
@@ -98,10 +102,18 @@ fn read_comparison<'t>(
     let Some((sign, rel, behind)) = rel_at(rest) else {
         return Ok((left, rest));
     };
-    let (right, end) = read_level(alloc, Level::Sum, behind)?;
+    let (left, (right, end)) = kept(left, read_level(alloc, Level::Sum, behind))?;
     let place = sign.place;
-    let node = Node::Compare(rel, Box::new(alloc, left)?, Box::new(alloc, right)?);
+    let node = compared(alloc, rel, left, right)?;
     Ok((Expr { place, node }, end))
+}
+
+fn compared(alloc: Global, rel: Rel, left: Expr, right: Expr) -> Result<Node, Memory>
+    ensures { IfOk result (λ node. (place : Pos) → plain_node node place ≡ compare place rel (plain_expr left) (plain_expr right)) }
+{
+    let (right, left) = kept(right, Box::new(alloc, left))?;
+    let right = Box::new(alloc, right)?;
+    Ok(Node::Compare(rel, left, right))
 }
 
 /// A number with `-` before it is a constant.
@@ -136,8 +148,7 @@ fn read_primary<'t>(
     let Some((_left, behind)) = next_if(tokens, Word::RoundOpen) else {
         return read_leaf(alloc, tokens);
     };
-    let (inside, rest) = read_inside(alloc, behind)?;
-    Ok((inside, rest))
+    read_inside(alloc, behind)
 }
 
 /// A name or a constant.
@@ -188,25 +199,22 @@ fn read_inside<'t>(
     }
     if let Some((op, kind, behind)) = many_at(tokens) {
         let (first, rest) = read_primary(alloc, behind)?;
-        let (all, end) = read_further(alloc, kind, op, first, rest)?;
-        return Ok((all, end));
+        return read_further(alloc, kind, op, first, rest);
     }
     if let Some((op, behind)) = next_if(tokens, Word::Percent) {
         let ((left, right), end) = read_two(alloc, behind)?;
-        let parts = Operands::new(alloc, Chain::Product).with(false, left)?;
         let place = op.place;
-        let node = parts.with(true, right)?.into_node();
+        let node = Operands::two(alloc, Chain::Product, true, left, right)?.into_node();
         return Ok((Expr { place, node }, end));
     }
     if let Some((op, rel, behind)) = rel_at(tokens) {
         let ((left, right), end) = read_two(alloc, behind)?;
         let place = op.place;
-        let node = Node::Compare(rel, Box::new(alloc, left)?, Box::new(alloc, right)?);
+        let node = compared(alloc, rel, left, right)?;
         return Ok((Expr { place, node }, end));
     }
     let (inside, rest) = read_level(alloc, Level::E, tokens)?;
-    let end = read_sign(rest, Word::RoundClose)?;
-    Ok((inside, end))
+    kept(inside, read_sign(rest, Word::RoundClose))
 }
 
 /// Behind `(` and `-` either an expression goes on, or the operands follow that are subtracted.
@@ -223,14 +231,8 @@ fn read_behind_minus<'t>(
 {
     let (whole, rest) = read_level(alloc, Level::E, tokens)?;
     match unsigned(whole, behind, rest) {
-        Ok(first) => {
-            let (all, end) = read_further(alloc, Chain::Sum, sign, first, rest)?;
-            Ok((all, end))
-        }
-        Err(inside) => {
-            let end = read_sign(rest, Word::RoundClose)?;
-            Ok((inside, end))
-        }
+        Ok(first) => read_further(alloc, Chain::Sum, sign, first, rest),
+        Err(inside) => kept(inside, read_sign(rest, Word::RoundClose)),
     }
 }
 
@@ -270,19 +272,17 @@ fn read_further<'t>(
     requires { IsMany kind op.word }
     ensures { Reads (IsBehindFirst kind (lexeme op.entry) (plain_expr first)) closed tokens.now (λ x. (plain_expr x.0, lexemes x.1.now)) result }
 {
-    let (second, mut rest) = read_primary(alloc, tokens)?;
+    let (first, (second, mut rest)) = kept(first, read_primary(alloc, tokens))?;
     let mark = is_marking(op.word);
-    let mut parts = Operands::new(alloc, kind)
-        .with(false, first)?
-        .with(mark, second)?;
+    let mut parts = Operands::two(alloc, kind, mark, first, second)?;
     'parts: while !is_next(rest, Word::RoundClose) {
-        let (next, after) = read_primary(alloc, rest)?;
-        parts = parts.with(mark, next)?;
+        let (so_far, (next, after)) = kept(parts, read_primary(alloc, rest))?;
+        parts = so_far.with(mark, next)?;
         rest = after;
     }
-    let end = read_sign(rest, Word::RoundClose)?;
+    let (all, end) = kept(parts, read_sign(rest, Word::RoundClose))?;
     let place = op.place;
-    let node = parts.into_node();
+    let node = all.into_node();
     Ok((Expr { place, node }, end))
 }
 
@@ -295,7 +295,6 @@ fn read_two<'t>(
     ensures { Reads AreTwo closed tokens.now (λ x. ((plain_expr x.0.0, plain_expr x.0.1), lexemes x.1.now)) result }
 {
     let (left, rest) = read_primary(alloc, tokens)?;
-    let (right, rest) = read_primary(alloc, rest)?;
-    let end = read_sign(rest, Word::RoundClose)?;
-    Ok(((left, right), end))
+    let (left, (right, rest)) = kept(left, read_primary(alloc, rest))?;
+    kept((left, right), read_sign(rest, Word::RoundClose))
 }

@@ -5,6 +5,7 @@
 #![tactic(auto)]
 
 mod constants;
+mod keep;
 mod levels;
 mod lists;
 mod operands;
@@ -13,6 +14,7 @@ mod stop;
 mod words;
 
 pub use constants::{read_numeral, read_string};
+pub use keep::kept;
 pub use levels::read_level;
 pub use lists::{Between, read_any, read_some};
 pub use stop::{ReadTokensStop, Stop};

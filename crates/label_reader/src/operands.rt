@@ -1,11 +1,12 @@
 //! The operands of a chain, gathered one by one.
 
-ghost use Rattle.std.specs.Prelude.{◌≡◌, ◌∷◌, ◌++◌, [], IfOk};
+ghost use Rattle.std.specs.Prelude.{◌≡◌, ◌∷◌, ◌++◌, [], IfOk, false};
 ghost use Rattle.fast_fault.specs.declared.place.Pos.{Pos};
 ghost use Rattle.fast_syntax.specs.Plain.{plain_expr, plain_node};
 ghost use Rattle.model_grammar.specs.Syntax.{chain};
 ghost use Rattle.label_reader.specs.Operands.{kind_of, marked, mark_in, parts_from};
 
+use crate::keep::kept;
 use fast_fault::Memory;
 use fast_syntax::expressions::{Expr, Node, ProdPart, SumPart};
 use model_grammar::Chain;
@@ -56,6 +57,22 @@ impl Operands {
                 Ok(Operands::Prod(all))
             }
         }
+    }
+
+    /// Two operands, of which the second is marked or not.
+    pub(crate) fn two(
+        alloc: Global,
+        kind: Chain,
+        mark: bool,
+        first: Expr,
+        second: Expr,
+    ) -> Result<Operands, Memory>
+        ensures kind { IfOk result (λ all. kind_of all ≡ kind) }
+        ensures are { IfOk result (λ all. marked all ≡ (mark_in kind false, plain_expr first) ∷ (mark_in kind mark, plain_expr second) ∷ []) }
+    {
+        let (second, one) = kept(second, Operands::new(alloc, kind).with(false, first))?;
+        let both = one.with(mark, second)?;
+        Ok(both)
     }
 
     pub(crate) fn into_node(self) -> Node

@@ -1,15 +1,17 @@
-use Rattle.std.proofs.Common.{sym, ap, ◌∙◌, arith, refl, inr}
+use Rattle.std.proofs.Common.{sym, ap, ◌∙◌, arith, refl, inr, false, ◌++◌, ◌∷◌, []}
 use Rattle.model_program.specs.declared.Word.TheVariants.{Not, Minus, Percent, RoundOpen, RoundClose}
 use Rattle.read_forms.proofs.Forms.{as_read, as_fails, then_read, then_fails, first_fails, ends_closed, closed_read, closed_fails, sample_pair, read_at, chained_read, chained_fails, chained_first_fails}
 use Rattle.read_forms.proofs.Words.{word_read, next_of, sample_sign}
 use Rattle.model_grammar.specs.declared.Level.TheVariants.{Unary, Prim}
-use Rattle.model_grammar.specs.Syntax.{negation, compare, minus, number, chain}
+use Rattle.model_grammar.specs.declared.Chain.TheVariants.{Product}
+use Rattle.model_grammar.specs.Syntax.{negation, minus, number, chain}
 use Rattle.fast_lex.specs.Tokens.{lexeme}
 use Rattle.fast_syntax.specs.Plain.{plain_expr}
 use Rattle.label_reader.specs.Levels.{GoesOn, BeginsAt}
-use Rattle.label_reader.specs.Operands.{marked, parts_from}
+use Rattle.label_reader.specs.Operands.{marked, mark_in, kind_of, parts_from}
 use Rattle.label_reader.proofs.Digits.{negated_number_is}
 use Rattle.label_reader.proofs.Exits.{exit, reads_as, reads_wider, shorter, not_longer, taken}
+use Rattle.label_reader.proofs.Keeping.{told_read, told_fails, reads_whole, reads_kept}
 use Rattle.label_reader.proofs.Joins.{without_read, without_fails}
 use Rattle.label_reader.proofs.LevelForms.{level_begins, sample_prim, wider_read, wider_fails, first_operand_fails, one_operand, chain_fails, negated_makes, not_negated_makes, cmp_in_neg, left_fails, left_alone, right_fails, both_read, rel_read}
 use Rattle.label_reader.proofs.Gathered.{chaining_starts, chaining_more, chaining_ends, operand_fails, operand_read}
@@ -32,14 +34,18 @@ read_chain-parts-init t c = let e = c.in-Some.ensures in (
   c.in_ok-parts.ensures.kind ∙ c.new.ensures.kind,
 )
 
-pub read_chain-returns-in_err-part : goal.read_chain-returns-in_err-part
-read_chain-returns-in_err-part t c = let e = c.in-Some-sign_at.ensures in
-    exit _ _ _ c.from_residual-in_err-part.result c.from_residual-in_err-part.ensures.1 (chain_fails _ _ _ _ _ _ _ c.parts.invariant.0.part_way e.0 e.1 (operand_fails _ _ _ _ c.operand-in-Some-sign_at.ensures c.in_err-part.ensures))
+pub read_chain-returns-in_err-so_far : goal.read_chain-returns-in_err-so_far
+read_chain-returns-in_err-so_far t c = let e = c.in-Some-sign_at.ensures in
+    exit _ _ _ c.from_residual-in_err-so_far.result c.from_residual-in_err-so_far.ensures.1 (chain_fails _ _ _ _ _ _ _ c.parts.invariant.0.part_way e.0 e.1 (operand_fails _ _ _ _ c.operand-in-Some-sign_at.ensures (told_fails _ _ c.in_err-so_far.ensures c.read_level-in-Some-sign_at.ensures)))
+
+pub read_chain-parts-smaller : goal.read_chain-parts-smaller
+read_chain-parts-smaller t c = let a = taken _ _ _ c.in-Some-sign_at.ensures.0 in let b = not_longer _ _ (told_read _ _ c.in_ok-so_far.ensures.1 c.read_level-in-Some-sign_at.ensures) in omega (arith, a, b)
 
 pub read_chain-parts-preserved : goal.read_chain-parts-preserved
-read_chain-parts-preserved t c = let e = c.in-Some-sign_at.ensures in (
-  chaining_more _ _ _ _ _ _ _ _ _ _ c.parts.invariant.0 e.0 e.1 (operand_read _ _ c.operand-in-Some-sign_at.ensures c.in_ok-part.ensures) _ c.parts.invariant.1 _ c.is_marking.ensures c.in_ok-parts-2.ensures.more,
-  c.in_ok-parts-2.ensures.kind ∙ c.parts.invariant.1,
+read_chain-parts-preserved t c = let e = c.in-Some-sign_at.ensures in let k = c.in_ok-so_far.ensures in let kind = ap kind_of k.0 ∙ c.parts.invariant.1 in (
+  chaining_more _ _ _ _ _ _ _ _ _ _ c.parts.invariant.0 e.0 e.1 (operand_read _ _ c.operand-in-Some-sign_at.ensures (told_read _ _ k.1 c.read_level-in-Some-sign_at.ensures)) _ kind _ c.is_marking.ensures
+      (c.in_ok-parts-2.ensures.more ∙ ap (λ s. marked s ++ (mark_in (kind_of c.in_ok-so_far.so_far) c.is_marking.result, plain_expr c.in_ok-so_far.part) ∷ []) k.0),
+  c.in_ok-parts-2.ensures.kind ∙ kind,
 )
 
 pub read_chain-returns : goal.read_chain-returns
@@ -68,14 +74,13 @@ read_comparison-returns-in_err-left t c = exit _ _ _ c.from_residual.result c.fr
 pub read_comparison-returns-in_default : goal.read_comparison-returns-in_default
 read_comparison-returns-in_default t c = left_alone _ _ _ c.in_ok-left.ensures c.in_default.ensures
 
-pub read_comparison-returns-in_err-right : goal.read_comparison-returns-in_err-right
-read_comparison-returns-in_err-right t c = let e = c.in-Some.ensures in
-    exit _ _ _ c.from_residual-in_err-right.result c.from_residual-in_err-right.ensures.1 (right_fails _ _ _ _ _ _ _ c.in_ok-left.ensures e.0 e.1 c.in_err-right.ensures)
+pub read_comparison-returns-in_err-left-2 : goal.read_comparison-returns-in_err-left-2
+read_comparison-returns-in_err-left-2 t c = let e = c.in-Some.ensures in
+    exit _ _ _ c.from_residual-in_err-left-2.result c.from_residual-in_err-left-2.ensures.1 (right_fails _ _ _ _ _ _ _ c.in_ok-left.ensures e.0 e.1 (told_fails _ _ c.in_err-left-2.ensures c.read_level-2.ensures))
 
 pub read_comparison-returns : goal.read_comparison-returns
-read_comparison-returns t c = let e = c.in-Some.ensures in
-    let a = c.in_ok-new.ensures.ok in let b = c.in_ok-new-2.ensures.ok in
-    read_at (λ i. compare c.in-Some.sign.place c.in-Some.rel (plain_expr (sym a i)) (plain_expr (sym b i))) (both_read _ _ _ _ _ _ _ _ c.in_ok-left.ensures e.0 e.1 c.in_ok-right.ensures)
+read_comparison-returns t c = let e = c.in-Some.ensures in let k = c.in_ok-left-2.ensures in
+    read_at (sym (c.in_ok-node.ensures c.in-Some.sign.place)) (both_read _ _ _ _ _ _ _ _ (read_at (ap plain_expr (sym k.0)) c.in_ok-left.ensures) e.0 e.1 (told_read _ _ k.1 c.read_level-2.ensures))
 
 -- Minus.
 
@@ -101,13 +106,10 @@ read_unary-returns t c = let e = c.in-Some.ensures in let other = c.is_next.ensu
 
 -- Parentheses.
 
-pub read_primary-returns-in_err-inside : goal.read_primary-returns-in_err-inside
-read_primary-returns-in_err-inside t c = let e = c.in-Some.ensures in
-    exit _ _ _ c.from_residual.result c.from_residual.ensures.1 (as_fails _ (open_makes _ (next_of RoundOpen _ _ _ e.0 e.1)) (then_fails _ (ends_closed _ _) (word_read RoundOpen _ _ _ e.0 e.1) c.in_err-inside.ensures))
-
 pub read_primary-returns : goal.read_primary-returns
-read_primary-returns t c = let e = c.in-Some.ensures in
-    as_read (open_makes _ (next_of RoundOpen _ _ _ e.0 e.1)) (then_read (ends_closed _ _) (word_read RoundOpen _ _ _ e.0 e.1) c.in_ok-inside.ensures)
+read_primary-returns t c = let e = c.in-Some.ensures in reads_whole _ _ _ _ _ c.read_inside.ensures
+    (λ x read. as_read (open_makes _ (next_of RoundOpen _ _ _ e.0 e.1)) (then_read (ends_closed _ _) (word_read RoundOpen _ _ _ e.0 e.1) read))
+    (λ bad fails. as_fails _ (open_makes _ (next_of RoundOpen _ _ _ e.0 e.1)) (then_fails _ (ends_closed _ _) (word_read RoundOpen _ _ _ e.0 e.1) fails))
 
 pub read_two-returns-in_err-left : goal.read_two-returns-in_err-left
 read_two-returns-in_err-left t c = exit _ _ _ c.from_residual.result c.from_residual.ensures.1 (as_fails _ (two_makes _) (first_fails _ (ends_closed _ _) (sample_pair sample_prim (sample_sign RoundClose)) c.in_err-left.ensures))
@@ -115,45 +117,46 @@ read_two-returns-in_err-left t c = exit _ _ _ c.from_residual.result c.from_resi
 pub read_two-read_primary-requires-2 : goal.read_two-read_primary-requires-2
 read_two-read_primary-requires-2 t c = let a = not_longer _ _ c.in_ok-left.ensures in (omega (arith, a, c.decreases), tt)
 
-pub read_two-returns-in_err-right : goal.read_two-returns-in_err-right
-read_two-returns-in_err-right t c = exit _ _ _ c.from_residual-in_err-right.result c.from_residual-in_err-right.ensures.1 (as_fails _ (two_makes _) (then_fails _ (ends_closed _ _) c.in_ok-left.ensures (first_fails _ (ends_closed _ _) (sample_sign RoundClose) c.in_err-right.ensures)))
-
-pub read_two-returns-in_err-end : goal.read_two-returns-in_err-end
-read_two-returns-in_err-end t c = exit _ _ _ c.from_residual-in_err-end.result c.from_residual-in_err-end.ensures.1 (as_fails _ (two_makes _) (then_fails _ (ends_closed _ _) c.in_ok-left.ensures (then_fails _ (ends_closed _ _) c.in_ok-right.ensures c.in_err-end.ensures)))
+pub read_two-returns-in_err-left-2 : goal.read_two-returns-in_err-left-2
+read_two-returns-in_err-left-2 t c = exit _ _ _ c.from_residual-in_err-left-2.result c.from_residual-in_err-left-2.ensures.1 (as_fails _ (two_makes _) (then_fails _ (ends_closed _ _) c.in_ok-left.ensures (first_fails _ (ends_closed _ _) (sample_sign RoundClose) (told_fails _ _ c.in_err-left-2.ensures c.read_primary-2.ensures))))
 
 pub read_two-returns : goal.read_two-returns
-read_two-returns t c = as_read (two_makes _) (then_read (ends_closed _ _) c.in_ok-left.ensures (then_read (ends_closed _ _) c.in_ok-right.ensures c.in_ok-end.ensures))
+read_two-returns t c = let e = c.in_ok-left-2.ensures in reads_kept _ _ _ _ _ _ c.kept-2.ensures c.read_sign.ensures
+    (λ end read. as_read (two_makes _) (then_read (ends_closed _ _) (read_at (ap plain_expr (sym e.0)) c.in_ok-left.ensures) (then_read (ends_closed _ _) (told_read _ _ e.1 c.read_primary-2.ensures) read)))
+    (λ bad fails. as_fails _ (two_makes _) (then_fails _ (ends_closed _ _) c.in_ok-left.ensures (then_fails _ (ends_closed _ _) (told_read _ _ e.1 c.read_primary-2.ensures) fails)))
 
-pub read_further-returns-in_err-second : goal.read_further-returns-in_err-second
-read_further-returns-in_err-second t c = exit _ _ _ c.from_residual.result c.from_residual.ensures.1 (further_fails _ _ _ _ _ c.in_err-second.ensures)
+pub read_further-returns-in_err-first : goal.read_further-returns-in_err-first
+read_further-returns-in_err-first t c = exit _ _ _ c.from_residual.result c.from_residual.ensures.1 (further_fails _ _ _ _ _ (told_fails _ _ c.in_err-first.ensures c.read_primary.ensures))
 
 pub read_further-parts-init : goal.read_further-parts-init
-read_further-parts-init t c = (
-  further_begins _ _ _ _ _ _ _ _ _ _ _ _ c.requires c.in_ok-second.ensures c.new.ensures.none c.in_ok-with.ensures.more c.is_marking-mark.ensures (c.in_ok-with.ensures.kind ∙ c.new.ensures.kind) c.in_ok-parts.ensures.more,
-  c.in_ok-parts.ensures.kind ∙ c.in_ok-with.ensures.kind ∙ c.new.ensures.kind,
+read_further-parts-init t c = let e = c.in_ok-first.ensures in (
+  further_begins _ _ _ _ _ _ [] _ _ _ _ _ c.requires (told_read _ _ e.1 c.read_primary.ensures) refl refl c.is_marking-mark.ensures refl (c.in_ok-parts.ensures.are ∙ ap (λ x. (mark_in c.args.kind false, plain_expr x) ∷ (mark_in c.args.kind c.is_marking-mark.result, plain_expr c.in_ok-first.second) ∷ []) e.0),
+  c.in_ok-parts.ensures.kind,
   c.is_marking-mark.ensures,
 )
 
-pub read_further-returns-in_err-next : goal.read_further-returns-in_err-next
-read_further-returns-in_err-next t c = exit _ _ _ c.from_residual-in_err-next.result c.from_residual-in_err-next.ensures.1 (further_next_fails _ _ _ _ _ _ _ c.parts.invariant.0 (c.is_next.ensures.no c.parts-test.true) c.in_err-next.ensures)
+pub read_further-returns-in_err-so_far : goal.read_further-returns-in_err-so_far
+read_further-returns-in_err-so_far t c = exit _ _ _ c.from_residual-in_err-so_far.result c.from_residual-in_err-so_far.ensures.1 (further_next_fails _ _ _ _ _ _ _ c.parts.invariant.0 (c.is_next.ensures.no c.parts-test.true) (told_fails _ _ c.in_err-so_far.ensures c.read_primary-in-parts.ensures))
 
 pub read_further-parts-smaller : goal.read_further-parts-smaller
-read_further-parts-smaller t c = shorter (BeginsAt Prim) _ _ (level_begins Prim) c.in_ok-next.ensures
+read_further-parts-smaller t c = shorter (BeginsAt Prim) _ _ (level_begins Prim) (told_read _ _ c.in_ok-so_far.ensures.1 c.read_primary-in-parts.ensures)
 
 pub read_further-parts-preserved : goal.read_further-parts-preserved
-read_further-parts-preserved t c = (
-  further_goes_on _ _ _ _ _ _ _ _ _ _ _ c.requires c.parts.invariant.0 (c.is_next.ensures.no c.parts-test.true) c.in_ok-next.ensures c.parts.invariant.2 c.parts.invariant.1 c.in_ok-parts-2.ensures.more,
-  c.in_ok-parts-2.ensures.kind ∙ c.parts.invariant.1,
+read_further-parts-preserved t c = let k = c.in_ok-so_far.ensures in let kind = ap kind_of k.0 ∙ c.parts.invariant.1 in (
+  further_goes_on _ _ _ _ _ _ _ _ _ _ _ c.requires c.parts.invariant.0 (c.is_next.ensures.no c.parts-test.true) (told_read _ _ k.1 c.read_primary-in-parts.ensures) c.parts.invariant.2 kind
+      (c.in_ok-parts-2.ensures.more ∙ ap (λ s. marked s ++ (mark_in (kind_of c.in_ok-so_far.so_far) c.is_marking-mark.result, plain_expr c.in_ok-so_far.next) ∷ []) k.0),
+  c.in_ok-parts-2.ensures.kind ∙ kind,
   c.parts.invariant.2,
 )
 
-pub read_further-returns-in_err-end : goal.read_further-returns-in_err-end
-read_further-returns-in_err-end t c = exit _ _ _ c.from_residual-in_err-end.result c.from_residual-in_err-end.ensures.1 (further_end_fails _ _ _ _ _ _ _ c.parts.invariant.0 (c.is_next.ensures.yes c.parts-test.false) c.in_err-end.ensures)
+pub read_further-returns-in_err-all : goal.read_further-returns-in_err-all
+read_further-returns-in_err-all t c = exit _ _ _ c.from_residual-in_err-all.result c.from_residual-in_err-all.ensures.1 (further_end_fails _ _ _ _ _ _ _ c.parts.invariant.0 (c.is_next.ensures.yes c.parts-test.false) (told_fails _ _ c.in_err-all.ensures c.read_sign.ensures))
 
 pub read_further-returns : goal.read_further-returns
 read_further-returns t c =
-    let place = c.args.op.place in
-    further_ends _ _ _ _ _ _ _ _ c.parts.invariant.0 (c.is_next.ensures.yes c.parts-test.false) c.in_ok-end.ensures (c.into_node-node.ensures place ∙ ap (λ k. chain k place (parts_from (marked c.parts.parts))) c.parts.invariant.1)
+    let place = c.args.op.place in let k = c.in_ok-all.ensures in
+    further_ends _ _ _ _ _ _ _ _ c.parts.invariant.0 (c.is_next.ensures.yes c.parts-test.false) (told_read _ _ k.1 c.read_sign.ensures)
+    (c.into_node-node.ensures place ∙ ap (λ s. chain (kind_of s) place (parts_from (marked s))) k.0 ∙ ap (λ k. chain k place (parts_from (marked c.parts.parts))) c.parts.invariant.1)
 
 pub read_inside-returns-in_err-first : goal.read_inside-returns-in_err-first
 read_inside-returns-in_err-first t c = let e = c.in-Some-many_at.ensures in
@@ -162,13 +165,10 @@ read_inside-returns-in_err-first t c = let e = c.in-Some-many_at.ensures in
 pub read_inside-read_further-requires : goal.read_inside-read_further-requires
 read_inside-read_further-requires t c = let e = c.in-Some-many_at.ensures in let a = not_longer _ _ c.in_ok-first.ensures in let b = taken _ _ _ e.0 in (omega (arith, a, b, c.decreases), e.1)
 
-pub read_inside-returns-in_err-all : goal.read_inside-returns-in_err-all
-read_inside-returns-in_err-all t c = let e = c.in-Some-many_at.ensures in
-    exit _ _ _ c.from_residual-in_err-all.result c.from_residual-in_err-all.ensures.1 (as_fails _ (many_makes _ _ _ _ e.0 e.1 c.in_default.ensures) (chained_fails _ (λ x. ends_closed _ _) (many_read _ _ _ _ e.0 e.1) (chained_fails _ (λ x. ends_closed _ _) c.in_ok-first.ensures c.in_err-all.ensures)))
-
 pub read_inside-returns-in-Some-many_at : goal.read_inside-returns-in-Some-many_at
-read_inside-returns-in-Some-many_at t c = let e = c.in-Some-many_at.ensures in
-    as_read (many_makes _ _ _ _ e.0 e.1 c.in_default.ensures) (chained_read (λ x. ends_closed _ _) (many_read _ _ _ _ e.0 e.1) (chained_read (λ x. ends_closed _ _) c.in_ok-first.ensures c.in_ok-all.ensures))
+read_inside-returns-in-Some-many_at t c = let e = c.in-Some-many_at.ensures in reads_whole _ _ _ _ _ c.read_further.ensures
+    (λ x read. as_read (many_makes _ _ _ _ e.0 e.1 c.in_default.ensures) (chained_read (λ x. ends_closed _ _) (many_read _ _ _ _ e.0 e.1) (chained_read (λ x. ends_closed _ _) c.in_ok-first.ensures read)))
+    (λ bad fails. as_fails _ (many_makes _ _ _ _ e.0 e.1 c.in_default.ensures) (chained_fails _ (λ x. ends_closed _ _) (many_read _ _ _ _ e.0 e.1) (chained_fails _ (λ x. ends_closed _ _) c.in_ok-first.ensures fails)))
 
 pub read_inside-returns-in_err-left : goal.read_inside-returns-in_err-left
 read_inside-returns-in_err-left t c = let e = c.in-Some-next_if.ensures in
@@ -177,7 +177,7 @@ read_inside-returns-in_err-left t c = let e = c.in-Some-next_if.ensures in
 pub read_inside-returns-in-Some-next_if : goal.read_inside-returns-in-Some-next_if
 read_inside-returns-in-Some-next_if t c = let e = c.in-Some-next_if.ensures in
     let place = c.in-Some-next_if.op.place in
-    read_at (percent_is place (lexeme c.in-Some-next_if.op) _ _ _ _ _ _ _ _ _ e.1 refl c.new.ensures.kind c.new.ensures.none c.in_ok-parts.ensures.kind c.in_ok-parts.ensures.more c.in_ok-with.ensures.kind c.in_ok-with.ensures.more (c.into_node-node.ensures place))
+    read_at (percent_is place (lexeme c.in-Some-next_if.op) _ _ _ Product Product _ [] _ _ e.1 refl refl refl refl refl c.in_ok-two.ensures.kind c.in_ok-two.ensures.are (c.into_node-node.ensures place))
     (as_read (percent_makes _ (next_of Percent _ _ _ e.0 e.1)) (then_read (ends_closed _ _) (word_read Percent _ _ _ e.0 e.1) c.in_ok-left.ensures))
 
 pub read_inside-returns-in_err-left-2 : goal.read_inside-returns-in_err-left-2
@@ -186,19 +186,16 @@ read_inside-returns-in_err-left-2 t c = let e = c.in-Some-rel_at.ensures in
 
 pub read_inside-returns-in-Some-rel_at : goal.read_inside-returns-in-Some-rel_at
 read_inside-returns-in-Some-rel_at t c = let e = c.in-Some-rel_at.ensures in
-    let a = c.in_ok-new.ensures.ok in let b = c.in_ok-new-2.ensures.ok in
-    read_at (λ i. compare c.in-Some-rel_at.op.place c.in-Some-rel_at.rel (plain_expr (sym a i)) (plain_expr (sym b i))) (as_read (rel_makes _ _ _ _ e.0 e.1) (then_read (ends_closed _ _) (rel_read _ _ _ _ e.0 e.1) c.in_ok-left-2.ensures))
+    read_at (sym (c.in_ok-node.ensures c.in-Some-rel_at.op.place)) (as_read (rel_makes _ _ _ _ e.0 e.1) (then_read (ends_closed _ _) (rel_read _ _ _ _ e.0 e.1) c.in_ok-left-2.ensures))
 
 pub read_inside-returns-in_err-inside : goal.read_inside-returns-in_err-inside
 read_inside-returns-in_err-inside t c = exit _ _ _ c.from_residual-in_err-inside.result c.from_residual-in_err-inside.ensures.1
     (as_fails _ (nested_makes _ c.in_default.ensures c.in_default-many_at.ensures c.in_default-next_if.ensures c.in_default-rel_at.ensures) (first_fails _ ends_e (sample_sign RoundClose) c.in_err-inside.ensures))
 
-pub read_inside-returns-in_err-end : goal.read_inside-returns-in_err-end
-read_inside-returns-in_err-end t c = exit _ _ _ c.from_residual-in_err-end.result c.from_residual-in_err-end.ensures.1
-    (as_fails _ (nested_makes _ c.in_default.ensures c.in_default-many_at.ensures c.in_default-next_if.ensures c.in_default-rel_at.ensures) (then_fails _ ends_e c.in_ok-inside.ensures c.in_err-end.ensures))
-
 pub read_inside-returns : goal.read_inside-returns
-read_inside-returns t c = as_read (nested_makes _ c.in_default.ensures c.in_default-many_at.ensures c.in_default-next_if.ensures c.in_default-rel_at.ensures) (then_read ends_e c.in_ok-inside.ensures c.in_ok-end.ensures)
+read_inside-returns t c = reads_kept _ _ _ _ _ _ c.kept.ensures c.read_sign.ensures
+    (λ end read. as_read (nested_makes _ c.in_default.ensures c.in_default-many_at.ensures c.in_default-next_if.ensures c.in_default-rel_at.ensures) (then_read ends_e c.in_ok-inside.ensures read))
+    (λ bad fails. as_fails _ (nested_makes _ c.in_default.ensures c.in_default-many_at.ensures c.in_default-next_if.ensures c.in_default-rel_at.ensures) (then_fails _ ends_e c.in_ok-inside.ensures fails))
 
 -- Parentheses that begin with `-`.
 
@@ -208,16 +205,12 @@ read_behind_minus-returns-in_err-whole t c = exit _ _ _ c.from_residual.result c
 pub read_behind_minus-read_further-requires : goal.read_behind_minus-read_further-requires
 read_behind_minus-read_further-requires t c = let a = not_longer _ _ c.in_ok-whole.ensures in (omega (arith, a, c.decreases), inr c.requires.minus)
 
-pub read_behind_minus-returns-in_err-all-in-Ok : goal.read_behind_minus-returns-in_err-all-in-Ok
-read_behind_minus-returns-in_err-all-in-Ok t c = exit _ _ _ c.from_residual-in_err-all-in-Ok.result c.from_residual-in_err-all-in-Ok.ensures.1
-    (minus_further_fails _ (record { read = c.in_ok-whole.ensures; here = c.requires.here; word = c.requires.minus }) c.in-Ok.ensures c.in_err-all-in-Ok.ensures)
+pub read_behind_minus-returns-in-Ok : goal.read_behind_minus-returns-in-Ok
+read_behind_minus-returns-in-Ok t c = reads_whole _ _ _ _ _ c.read_further.ensures
+    (λ x read. minus_further_read (record { read = c.in_ok-whole.ensures; here = c.requires.here; word = c.requires.minus }) c.in-Ok.ensures read)
+    (λ bad fails. minus_further_fails _ (record { read = c.in_ok-whole.ensures; here = c.requires.here; word = c.requires.minus }) c.in-Ok.ensures fails)
 
-pub read_behind_minus-returns-in_err-end-in-Err : goal.read_behind_minus-returns-in_err-end-in-Err
-read_behind_minus-returns-in_err-end-in-Err t c = exit _ _ _ c.from_residual-in_err-end-in-Err.result c.from_residual-in_err-end-in-Err.ensures.1
-    (minus_close_fails _ (record { read = c.in_ok-whole.ensures; here = c.requires.here; word = c.requires.minus }) c.in-Err.ensures c.in_err-end-in-Err.ensures)
-
-pub read_behind_minus-returns-in_ok-all-in-Ok : goal.read_behind_minus-returns-in_ok-all-in-Ok
-read_behind_minus-returns-in_ok-all-in-Ok t c = minus_further_read (record { read = c.in_ok-whole.ensures; here = c.requires.here; word = c.requires.minus }) c.in-Ok.ensures c.in_ok-all-in-Ok.ensures
-
-pub read_behind_minus-returns-in_ok-end-in-Err : goal.read_behind_minus-returns-in_ok-end-in-Err
-read_behind_minus-returns-in_ok-end-in-Err t c = minus_close_read (record { read = c.in_ok-whole.ensures; here = c.requires.here; word = c.requires.minus }) c.in-Err.ensures c.in_ok-end-in-Err.ensures
+pub read_behind_minus-returns-in-Err : goal.read_behind_minus-returns-in-Err
+read_behind_minus-returns-in-Err t c = reads_kept _ _ _ _ _ _ c.kept.ensures c.read_sign.ensures
+    (λ end read. minus_close_read (record { read = c.in_ok-whole.ensures; here = c.requires.here; word = c.requires.minus }) c.in-Err.ensures read)
+    (λ bad fails. minus_close_fails _ (record { read = c.in_ok-whole.ensures; here = c.requires.here; word = c.requires.minus }) c.in-Err.ensures fails)

@@ -1,4 +1,3 @@
-use Rattle.label_reader.proofs.Listed.{IsItem}
 use Rattle.label_reader.specs.Lists.{is_empty, not_empty}
 use Rattle.label_reader.proofs.lists.read_any.Goals as goal
 
