@@ -1,7 +1,7 @@
 -- Of what expressions are made, node by node.
-use Rattle.std.proofs.Common.{◌≡◌, ◌≤◌, List, [], ◌∷◌, ◌++◌, ◌∙◌, ◌+◌, length, reverse, refl, ap, sym, subst, arith, Option, Result}
+use Rattle.std.proofs.Common.{◌≡◌, ◌≤◌, ◌<◌, List, [], ◌∷◌, ◌++◌, ◌∙◌, ◌+◌, length, reverse, refl, ap, sym, subst, arith, Option, Result, Ok, Err}
 use Rattle.std.proofs.lemmas.List.{length-append, length-map, reverse-append}
-use Rattle.std.specs.Prelude.{IsErrAnd}
+use Rattle.std.specs.Prelude.{IsErrAnd, IfOk}
 use Rattle.std.proofs.lemmas.Result.{err_from_is_err_and}
 use Rattle.fast_lex.specs.declared.Token.{Token}
 use Rattle.label_reader.specs.declared.stop.Stop.{Stop}
@@ -80,6 +80,11 @@ opened_begins {tokens} is_other end = left_leaves (left_made (open_makes tokens 
 pub begins_exit : {T : Type 0} {form : X → List Lexeme → Type 0} (tokens : List Token) (view : T → Begun × List Lexeme) (e : Stop) (r : Result T Stop) → IsErrAnd r (λ y. y ≡ e) → Fails form closed (lexemes tokens) (bad_of e) → Begins form tokens view r
 begins_exit tokens view e r is fails = let p = err_from_is_err_and r is in rw (p.1, p.2) fails
 
+-- what a reader returned that goes on behind the first part of a form
+pub begins_behind : {T : Type 0} {p q : X → List Lexeme → Type 0} (tokens rest : List Token) (view : T → Begun × List Lexeme) (r : Result T Stop) → Leaves q p closed (lexemes tokens) (lexemes rest) → ((bad : Option (List Lexeme)) → Fails p closed (lexemes rest) bad → Fails q closed (lexemes tokens) bad) → Begins p rest view r → Begins q tokens view r
+begins_behind tokens rest view (Ok x) leaves failed begun = left_leaves leaves begun
+begins_behind tokens rest view (Err e) leaves failed fails = failed _ fails
+
 -- the same of a node that is known
 pub grown_exit : {T : Type 0} {node given : Open} (x : X) (tokens : List Token) (view : T → Begun × List Lexeme) (e : Stop) (r : Result T Stop) → node ≡ given → IsErrAnd r (λ y. y ≡ e) → Fails (IsGrown given x) closed (lexemes tokens) (bad_of e) → Begins (IsGrown node x) tokens view r
 grown_exit {T} {node} {given} x tokens view e r is_node is fails = subst (λ (n : Open). Begins (IsGrown n x) tokens view r) (sym is_node) (begins_exit tokens view e r is fails)
@@ -93,6 +98,10 @@ done_as {form} {tokens} {rest} same leaves = subst (λ (x : X). Leaves form (Don
 -- what is left is not longer
 pub leaves_fewer : {form left : X → List Lexeme → Type 0} (tokens rest : List Token) → Leaves form left closed (lexemes tokens) (lexemes rest) → length rest ≤ length tokens
 leaves_fewer tokens rest leaves = omega (arith, simp (length-append, length-map) at (ap length leaves.split))
+
+pub begins_shorter : {T : Type 0} (form : X → List Lexeme → Type 0) (tokens rest : List Token) (value : T → Begun) (behind : T → List Token) (r : Result T Stop) → length rest < length tokens → Begins form rest (λ x. (value x, lexemes (behind x))) r → IfOk r (λ x. length (behind x) < length tokens)
+begins_shorter form tokens rest value behind (Ok x) less begun = let a = leaves_fewer rest (behind x) begun in omega (arith, a)
+begins_shorter form tokens rest value behind (Err e) less fails = tt
 
 -- The open nodes, as they stand in the list, the innermost last.
 

@@ -6,7 +6,7 @@ use Rattle.model_program.specs.Lexeme.{Lexeme}
 use Rattle.model_program.specs.Syntax.{Name, Demand}
 use Rattle.model_program.specs.Joined.{IsNext, IsOther, ◌⊗◌}
 use Rattle.read_forms.specs.Reads.{IsRead, StartsIn, closed}
-use Rattle.model_program.specs.Grammar.{IsSign, sign, IsName, IsComma, Many, IsDemand, AreVars, IsGiven}
+use Rattle.model_program.specs.Grammar.{IsSign, IsName, IsComma, Many, IsDemand, AreVars, IsGiven}
 use Rattle.read_forms.proofs.Forms.{Ends, Makes, HasSample, AllStartIn, as_read, as_fails, then_read, then_fails, sample_pair, sample_as, remade, stands, left_out, ends_left_out, ends_starting, ends_closed, starts_joined, starts_next, stops_other}
 use Rattle.read_forms.proofs.Words.{sample_sign, sign_starts}
 use Rattle.read_forms.proofs.Lists.{IsPartWay, sample_any}

@@ -14,7 +14,7 @@ use crate::labels::read_labels;
 use crate::terms::{read_x, read_x_inside, read_xs};
 use fast_lex::{Token, Word};
 use fast_syntax::items::{Claim, X};
-use label_reader::{Stop, is_next, next_if, read_name, read_sign};
+use label_reader::{Stop, is_next, kept, next_if, read_name, read_sign};
 use std::alloc::Global;
 
 /// `==`, for which it answers true, or `in`.
@@ -62,19 +62,19 @@ fn read_b_inside<'t>(
     if is_next(tokens, Word::IsEmpty) {
         let rest = read_sign(tokens, Word::IsEmpty)?;
         let (x, rest) = read_x(alloc, rest)?;
-        let rest = read_sign(rest, Word::RoundClose)?;
+        let (x, rest) = kept(x, read_sign(rest, Word::RoundClose))?;
         return Ok((Claim::Empty(x), rest));
     }
     if is_next(tokens, Word::TypeCheck) {
         let rest = read_sign(tokens, Word::TypeCheck)?;
         let (x, rest) = read_x(alloc, rest)?;
-        let (y, rest) = read_x(alloc, rest)?;
-        let (z, rest) = read_x(alloc, rest)?;
-        let rest = read_sign(rest, Word::RoundClose)?;
+        let (x, (y, rest)) = kept(x, read_x(alloc, rest))?;
+        let ((x, y), (z, rest)) = kept((x, y), read_x(alloc, rest))?;
+        let ((x, y, z), rest) = kept((x, y, z), read_sign(rest, Word::RoundClose))?;
         return Ok((Claim::TypeCheck(x, y, z), rest));
     }
     let (left, rest) = read_x_inside(alloc, tokens)?;
-    let ((equal, right), rest) = read_right(alloc, rest)?;
+    let (left, ((equal, right), rest)) = kept(left, read_right(alloc, rest))?;
     Ok((claim_of(left, equal, right), rest))
 }
 
@@ -83,11 +83,10 @@ fn read_b<'t>(alloc: Global, tokens: &'t [Token<'t>]) -> Result<(Claim, &'t [Tok
 {
     if is_next(tokens, Word::RoundOpen) {
         let rest = read_sign(tokens, Word::RoundOpen)?;
-        let (claim, rest) = read_b_inside(alloc, rest)?;
-        return Ok((claim, rest));
+        return read_b_inside(alloc, rest);
     }
     let (left, rest) = read_x(alloc, tokens)?;
-    let ((equal, right), rest) = read_right(alloc, rest)?;
+    let (left, ((equal, right), rest)) = kept(left, read_right(alloc, rest))?;
     Ok((claim_of(left, equal, right), rest))
 }
 
@@ -101,15 +100,15 @@ fn read_named<'t>(
 {
     let (name, rest) = read_name(alloc, tokens)?;
     if is_next(rest, Word::SquareOpen) {
-        let (labels, rest) = read_labels(alloc, rest)?;
-        let (children, rest) = read_xs(alloc, rest)?;
-        let ((equal, right), rest) = read_right(alloc, rest)?;
+        let (name, (labels, rest)) = kept(name, read_labels(alloc, rest))?;
+        let ((name, labels), (children, rest)) = kept((name, labels), read_xs(alloc, rest))?;
         let left = X::Literal(name, labels, children);
+        let (left, ((equal, right), rest)) = kept(left, read_right(alloc, rest))?;
         return Ok((claim_of(left, equal, right), rest));
     }
-    let ((equal, right), rest) = read_right(alloc, rest)?;
-    let rest = read_sign(rest, Word::RoundClose)?;
-    Ok((claim_of(X::Named(name), equal, right), rest))
+    let (name, ((equal, right), rest)) = kept(name, read_right(alloc, rest))?;
+    let claim = claim_of(X::Named(name), equal, right);
+    kept(claim, read_sign(rest, Word::RoundClose))
 }
 
 /// What stands behind the first parenthesis of an assertion.
@@ -121,8 +120,7 @@ fn read_a_inside<'t>(
 {
     if is_next(tokens, Word::RoundOpen) {
         let (claim, rest) = read_b(alloc, tokens)?;
-        let rest = read_sign(rest, Word::RoundClose)?;
-        return Ok((claim, rest));
+        return kept(claim, read_sign(rest, Word::RoundClose));
     }
     if is_next(tokens, Word::Id) {
         return read_named(alloc, tokens);
@@ -138,8 +136,7 @@ pub(crate) fn read_a<'t>(
 {
     if is_next(tokens, Word::RoundOpen) {
         let rest = read_sign(tokens, Word::RoundOpen)?;
-        let (claim, rest) = read_a_inside(alloc, rest)?;
-        return Ok((claim, rest));
+        return read_a_inside(alloc, rest);
     }
     read_b(alloc, tokens)
 }

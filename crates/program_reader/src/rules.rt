@@ -14,7 +14,9 @@ use fast_lex::{Token, Word};
 use fast_syntax::expressions::Expr;
 use fast_syntax::items::{OutRule, Rule};
 use fast_syntax::{Demand, Name};
-use label_reader::{Between, Stop, is_next, read_any, read_level, read_name, read_sign, read_some};
+use label_reader::{
+    Between, Stop, is_next, kept, read_any, read_level, read_name, read_sign, read_some,
+};
 use model_grammar::Level;
 use std::alloc::Global;
 
@@ -91,7 +93,7 @@ fn read_rule<'t>(
     let (ctor, rest) = read_name(alloc, tokens)?;
     let (vars, rest) = read_vars(alloc, rest)?;
     let (guard, rest) = read_guard(alloc, rest)?;
-    let (given, rest) = read_given(alloc, rest)?;
+    let ((ctor, vars, guard), (given, rest)) = kept((ctor, vars, guard), read_given(alloc, rest))?;
     Ok((
         Rule {
             ctor,
@@ -110,8 +112,8 @@ fn read_out_rule<'t>(
     ensures { Reads IsOutRule closed tokens.now (λ x. (plain_out_rule x.0, lexemes x.1.now)) result }
 {
     let (rule, rest) = read_rule(alloc, tokens)?;
-    let rest = read_sign(rest, Word::To)?;
-    let (out, rest) = read_out(alloc, rest)?;
+    let (rule, rest) = kept(rule, read_sign(rest, Word::To))?;
+    let (rule, (out, rest)) = kept(rule, read_out(alloc, rest))?;
     Ok((OutRule { rule, out }, rest))
 }
 

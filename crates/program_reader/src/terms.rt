@@ -18,7 +18,7 @@ use fast_lex::{Token, Word};
 use fast_syntax::expressions::Expr;
 use fast_syntax::items::X;
 use fast_syntax::{Name, Op1, Op2, Pos};
-use label_reader::{Between, Stop, is_next, next_if, read_any, read_name, read_sign};
+use label_reader::{Between, Stop, is_next, kept, next_if, read_any, read_name, read_sign};
 use std::alloc::Global;
 
 /// A node whose next child is to be read, and what stands before that child.
@@ -49,8 +49,7 @@ pub(crate) fn read_x<'t>(
         return Ok((X::Named(name), rest));
     }
     let rest = read_sign(tokens, Word::RoundOpen)?;
-    let (inside, rest) = read_x_inside(alloc, rest)?;
-    Ok((inside, rest))
+    read_x_inside(alloc, rest)
 }
 
 /// What stands behind an opening parenthesis. The open nodes stand in a list, so a deep expression takes no stack.
@@ -91,8 +90,7 @@ fn begin_x<'t>(alloc: Global, tokens: &'t [Token<'t>]) -> Result<(Begun, &'t [To
         return Ok((Begun::Whole(X::Named(name)), rest));
     }
     let rest = read_sign(tokens, Word::RoundOpen)?;
-    let (inside, rest) = begin_x_inside(alloc, rest)?;
-    Ok((inside, rest))
+    begin_x_inside(alloc, rest)
 }
 
 fn begin_x_inside<'t>(
@@ -140,15 +138,16 @@ fn resume_x<'t>(
 {
     match node {
         Open::One(op, place) => {
-            let rest = read_sign(tokens, Word::RoundClose)?;
+            let (x, rest) = kept(x, read_sign(tokens, Word::RoundClose))?;
             let x = Box::new(alloc, x)?;
             Ok((Begun::Whole(X::One(op, place, x)), rest))
         }
         Open::First(op, place) => Ok((Begun::Part(Open::Second(op, place, x)), tokens)),
         Open::Second(op, place, first) => {
-            let rest = read_sign(tokens, Word::RoundClose)?;
-            let (x, y) = (Box::new(alloc, first)?, Box::new(alloc, x)?);
-            Ok((Begun::Whole(X::Two(op, place, x, y)), rest))
+            let ((first, x), rest) = kept((first, x), read_sign(tokens, Word::RoundClose))?;
+            let (x, first) = kept(x, Box::new(alloc, first))?;
+            let second = Box::new(alloc, x)?;
+            Ok((Begun::Whole(X::Two(op, place, first, second)), rest))
         }
         Open::Inner(name, labels, children) => {
             let mut all = children;

@@ -1,7 +1,11 @@
 use Rattle.read_forms.proofs.Forms.{as_read, as_fails, then_fails, first_fails, ends_closed}
-use Rattle.read_forms.proofs.Fronts.{none_left, left_leaves}
+use Rattle.read_forms.proofs.Fronts.{none_left}
+use Rattle.read_forms.proofs.Words.{sign_starts}
+use Rattle.model_program.specs.declared.Word.TheVariants.{RoundOpen}
+use Rattle.label_reader.proofs.Exits.{shorter}
 use Rattle.program_reader.proofs.XForms.{named_makes, open_makes, sample_x_inside}
-use Rattle.program_reader.proofs.Growing.{opened_begins, begins_exit}
+use Rattle.program_reader.proofs.Growing.{opened_begins, begins_exit, begins_behind, begins_shorter}
+use Rattle.program_reader.specs.Nodes.{IsXInside}
 use Rattle.program_reader.proofs.terms.begin_x.Goals as goal
 
 pub returns-in_err-name-clause-begins : goal.returns-in_err-name-clause-begins
@@ -13,8 +17,8 @@ returns-then-is_next-clause-begins c = none_left (as_read (named_makes _ (c.is_n
 pub returns-in_err-rest-clause-begins : goal.returns-in_err-rest-clause-begins
 returns-in_err-rest-clause-begins c = begins_exit _ _ _ c.from_residual-in_err-rest.result c.from_residual-in_err-rest.ensures.1 (as_fails _ (open_makes _ (c.is_next.ensures.no c.if-is_next.false)) (first_fails _ (ends_closed _ _) sample_x_inside c.in_err-rest.ensures))
 
-pub returns-in_err-inside-clause-begins : goal.returns-in_err-inside-clause-begins
-returns-in_err-inside-clause-begins c = begins_exit _ _ _ c.from_residual-in_err-inside.result c.from_residual-in_err-inside.ensures.1 (as_fails _ (open_makes _ (c.is_next.ensures.no c.if-is_next.false)) (then_fails _ (ends_closed _ _) c.in_ok-rest.ensures c.in_err-inside.ensures))
-
 pub returns-clause-begins : goal.returns-clause-begins
-returns-clause-begins c = left_leaves (opened_begins (c.is_next.ensures.no c.if-is_next.false) c.in_ok-rest.ensures) c.in_ok-inside.ensures
+returns-clause-begins c = begins_behind _ _ _ _ (opened_begins (c.is_next.ensures.no c.if-is_next.false) c.in_ok-rest.ensures) (λ bad fails. as_fails _ (open_makes _ (c.is_next.ensures.no c.if-is_next.false)) (then_fails _ (ends_closed _ _) c.in_ok-rest.ensures fails)) c.begin_x_inside.ensures
+
+pub returns-clause-shorter : goal.returns-clause-shorter
+returns-clause-shorter c = begins_shorter IsXInside _ _ (λ x. x.0) (λ x. x.1.now) c.begin_x_inside.result (shorter _ _ _ (sign_starts RoundOpen) c.in_ok-rest.ensures) c.begin_x_inside.ensures

@@ -1,5 +1,6 @@
 use Rattle.read_forms.proofs.Forms.{as_read, as_fails, then_read, then_fails, first_fails, ends_closed}
 use Rattle.label_reader.proofs.Exits.{exit}
+use Rattle.label_reader.proofs.Keeping.{reads_whole}
 use Rattle.program_reader.proofs.XForms.{named_makes, open_makes, sample_x_inside}
 use Rattle.program_reader.proofs.terms.read_x.Goals as goal
 
@@ -12,8 +13,7 @@ returns-then-is_next c = as_read (named_makes _ (c.is_next.ensures.yes c.if-is_n
 pub returns-in_err-rest : goal.returns-in_err-rest
 returns-in_err-rest c = exit _ _ _ c.from_residual-in_err-rest.result c.from_residual-in_err-rest.ensures.1 (as_fails _ (open_makes _ (c.is_next.ensures.no c.if-is_next.false)) (first_fails _ (ends_closed _ _) sample_x_inside c.in_err-rest.ensures))
 
-pub returns-in_err-inside : goal.returns-in_err-inside
-returns-in_err-inside c = exit _ _ _ c.from_residual-in_err-inside.result c.from_residual-in_err-inside.ensures.1 (as_fails _ (open_makes _ (c.is_next.ensures.no c.if-is_next.false)) (then_fails _ (ends_closed _ _) c.in_ok-rest.ensures c.in_err-inside.ensures))
-
 pub returns : goal.returns
-returns c = as_read (open_makes _ (c.is_next.ensures.no c.if-is_next.false)) (then_read (ends_closed _ _) c.in_ok-rest.ensures c.in_ok-inside.ensures)
+returns c = reads_whole _ _ _ _ _ c.read_x_inside.ensures
+    (λ x read. as_read (open_makes _ (c.is_next.ensures.no c.if-is_next.false)) (then_read (ends_closed _ _) c.in_ok-rest.ensures read))
+    (λ bad fails. as_fails _ (open_makes _ (c.is_next.ensures.no c.if-is_next.false)) (then_fails _ (ends_closed _ _) c.in_ok-rest.ensures fails))
