@@ -1,5 +1,5 @@
 -- Facts on lists of rows of signs.
-use Rattle.std.proofs.Common.{◌≡◌, ◌⊎◌, inl, inr, Bool, true, false, not, List, [], ◌∷◌, ◌++◌, map, length, get_or, All, Contains, ℕ, zero, suc, ◌<◌, ◌≤◌, ◌+◌, ◌-◌, take, refl, sym, ap, ◌∙◌, subst, append_assoc, arith}
+use Rattle.std.proofs.Common.{◌≡◌, ◌⊎◌, inl, inr, Bool, true, false, not, List, [], ◌∷◌, ◌++◌, map, length, get_or, All, Contains, ℕ, zero, suc, ◌<◌, ◌≤◌, ◌+◌, ◌-◌, take, refl, sym, ap, ◌∙◌, subst, append_assoc, Option, Some, None, MatchOption, arith}
 use Rattle.std.specs.List.{AllPairs}
 use Rattle.std.proofs.lemmas.List.{length-map, length-take, map-append}
 use Rattle.std.proofs.lemmas.List.Elements.{All-nil, All-cons, All-append, All-map, Contains-append_left, Contains-append_right, Contains-append_cases}
@@ -99,6 +99,16 @@ module _ {A V W : Type 0} {label_of : V → Label} {holds : A → Label → Bool
 
     pub extends_both : (other : SignRow V) → mid ≡ old ++ other ∷ [] → IsRow M after other → other.signs.items ≡ row.signs.items ++ not b ∷ [] → Extends M before after row old new
     extends_both other is holds signs = (other ∷ kept ∷ [], pushed ∙ ap (λ rs. rs ++ kept ∷ []) is ∙ append_assoc old (other ∷ []) (kept ∷ []), longer_both row kept b sound value_is b_is signs_are other holds signs)
+
+  module _ (row kept : SignRow V) (b : Bool) (sound : IsRow M before row) (value_is : label_of kept.value ≡ label_of row.value) (b_is : b ≡ last (label_of row.value)) (signs_are : kept.signs.items ≡ row.signs.items ++ b ∷ []) (old mid new : List (Noted V)) (n : Noted V) (n_is : n.row ≡ kept) (pushed : new ≡ mid ++ n ∷ []) where
+    pushed_row : rows_of new ≡ rows_of mid ++ kept ∷ []
+    pushed_row = ap rows_of pushed ∙ map-append (λ n. n.row) mid (n ∷ []) ∙ ap (λ r. rows_of mid ++ r ∷ []) n_is
+
+    -- the row, and one of the other sign, if there is one
+    pub extends_found : (found : Option (Noted V)) → MatchOption found (mid ≡ old) (λ other. mid ≡ old ++ other ∷ [])
+        → MatchOption found ((l : Label) → M.has l → ¬ (after l ≡ row.signs.items ++ not b ∷ [])) (λ other. IsRow M after other.row × (other.row.signs.items ≡ row.signs.items ++ not b ∷ [])) → Extends M before after row (rows_of old) (rows_of new)
+    extends_found None is none = extends_alone row kept b sound value_is b_is signs_are (rows_of old) (rows_of mid) (rows_of new) pushed_row (ap rows_of is) none
+    extends_found (Some other) is found = extends_both row kept b sound value_is b_is signs_are (rows_of old) (rows_of mid) (rows_of new) pushed_row other.row (ap rows_of is ∙ map-append (λ n. n.row) old (other ∷ [])) found.0 found.1
 
 module _ {X : Type 0} (R : X → X → Type 0) where
   pairs_head : (x : X) (xs : List X) → AllPairs R (x ∷ xs) → All (R x) xs
@@ -219,6 +229,9 @@ module _ {A V W : Type 0} {label_of : V → Label} {holds : A → Label → Bool
     complete = λ l h. (row, first_of row [], e);
     apart = λ i j d less low. absurd (omega arith);
   }
+
+  pub start_alone : (value : V) → M.keeps (label_of value) → (rows : List (SignRow V)) → ((r : SignRow V) × (r.value ≡ value) × (r.signs.items ≡ []) × (rows ≡ r ∷ [])) → SplitsInto M (λ _. []) rows
+  start_alone value k rows (r, is, none, e) = subst (SplitsInto M (λ _. [])) (sym e) (start_row r (subst M.keeps (ap label_of (sym is)) k) none)
 
 module _ {A V W : Type 0} {label_of : V → Label} {holds : A → Label → Bool} (M : Meaning label_of holds W) (before signs : Label → List Bool) (part : List Bool → List Bool) (is_part : (l : Label) → before l ≡ part (signs l)) (some more : List A) (grows : (w : W) → IsChainOver M some w → IsChainOver M more w) (many : Type 0) where
   -- what stops the list of parts stops the list

@@ -1,6 +1,6 @@
 -- Facts on rows of signs.
-use Rattle.std.proofs.Common.{map, drop, length-append, ◌≤◌, ◌≡◌, Bool, true, false, IsTrue, All, replicate, List, [], ◌∷◌, ◌++◌, take, length, get_or, ℕ, zero, suc, ◌+◌, ◌-◌, ◌<◌, refl, sym, ap, ap₂, ◌∙◌, arith}
-use Rattle.std.proofs.lemmas.List.{take_more, map-append, take_all, length-map, length-drop, drop-map, drop_at}
+use Rattle.std.proofs.Common.{map, drop, length-append, ◌≡◌, Bool, true, false, IsTrue, All, replicate, List, [], ◌∷◌, ◌++◌, take, length, get_or, ℕ, zero, suc, ◌+◌, ◌-◌, ◌<◌, refl, sym, ap, ap₂, ◌∙◌, arith}
+use Rattle.std.proofs.lemmas.List.{take_more, map-append, take_all, length-map, drop-map, drop_at}
 use Rattle.std.proofs.lemmas.List.Elements.{All-nil, All-cons}
 use Rattle.model_tree.specs.Label.{Label}
 use Rattle.model_tree.specs.Formula.{formula_holds}
@@ -58,9 +58,3 @@ pub last_signs : (truths : List Bool) (fs : List (Formula ℕ)) (before : List B
 last_signs truths fs before s e =
     let long : length before ≡ length fs - 1 = omega (arith, length-map fs (holds_at truths), ap length e, length-append before (s ∷ [])) in
     sym (drop-map (holds_at truths) (length fs - 1) fs) ∙ ap (drop (length fs - 1)) e ∙ drop_at before (s ∷ []) (length fs - 1) long
-
--- the same of the range from the last on
-pub last_of_range : (truths : List Bool) (fs : List (Formula ℕ)) (before : List Bool) (s : Bool) → map (holds_at truths) fs ≡ before ++ s ∷ [] → map (holds_at truths) (take (length fs - (length fs - 1)) (drop (length fs - 1) fs)) ≡ s ∷ []
-last_of_range truths fs before s e =
-    let high : length (drop (length fs - 1) fs) ≤ length fs - (length fs - 1) = omega (arith, length-drop (length fs - 1) fs) in
-    ap (map (holds_at truths)) (take_all (length fs - (length fs - 1)) (drop (length fs - 1) fs) high) ∙ last_signs truths fs before s e

@@ -17,3 +17,9 @@ module _ {A V W : Type 0} {label_of : V → Label} {holds : A → Label → Bool
   IsSample signs sign Nowhere = (l : Label) → M.has l → (before : List Bool) → ¬ (signs l ≡ before ++ sign ∷ [])
   IsSample signs sign (At noted) = IsRow M signs noted.row
   IsSample signs sign Unknown = Unit {0}
+
+-- of the signs a sample shows that no label has them, or a row that it has itself
+abbrev pub ShowsSigns : {V : Type 0} → (V → Label) → Sample V → List Bool → Sample V → Type 0
+ShowsSigns label_of sample signs Nowhere = sample ≡ Nowhere
+ShowsSigns {V} label_of sample signs (At noted) = (found : Noted V) × (sample ≡ At found) × (found.row.signs.items ≡ signs) × (noted.row.signs.items ≡ signs) × (label_of noted.row.value ≡ label_of found.row.value)
+ShowsSigns label_of sample signs Unknown = Unit {0}

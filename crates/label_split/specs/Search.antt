@@ -32,6 +32,10 @@ module _ {A V W : Type 0} {label_of : V → Label} {holds : A → Label → Bool
     abbrev pub DecidesSigns : List (Formula ℕ) → List Bool → Verdict V W → Type 0
     DecidesSigns formulas signs = Decides M (λ l. HaveSigns formulas signs (truths_at holds atoms l)) (IsChainOver M atoms)
 
+    -- the verdict on whether the truth values of the atoms follow what is known
+    abbrev pub DecidesKnown : List (Option Bool) → Verdict V W → Type 0
+    DecidesKnown known = Decides M (λ l. Follows known (truths_at holds atoms l)) (IsChainOver M atoms)
+
     module _ (asked : Label → Type 0) where
       -- each label that is as asked is among those that are left; or there is a chain, and where it is far, each kept one is
       abbrev pub IsLeft : Option W → (Label → Type 0) → Type 0

@@ -1,8 +1,9 @@
 //! The different atoms of formulas, in the order in which they are first seen.
 
-ghost use Rattle.std.specs.Prelude.{◌≡◌, ◌||◌, OnOk};
+ghost use Rattle.std.specs.Prelude.{◌≡◌, ◌||◌, IfOk, OnOk};
 ghost use Rattle.label_core.specs.Atoms.{has_equal};
 ghost use Rattle.label_core.specs.Formula.{plain_formula, atoms_in};
+ghost use Rattle.label_split.specs.Signs.{atoms_in_each};
 
 use fast_fault::Memory;
 use indexmap::IndexSet;
@@ -27,7 +28,7 @@ fn add_atom<A: Eq + Hash + Duplicate + Drop>(
 
 /// Adds copies of the formula's atoms that are not there yet.
 #[tactic(auto, using(crate::proofs::SameAtoms::on_atoms))]
-pub fn add_atoms<A: Eq + Hash + Duplicate + Drop>(
+fn add_atoms<A: Eq + Hash + Duplicate + Drop>(
     alloc: Global,
     formula: &Formula<A>,
     atoms: &mut IndexSet<A>,
@@ -52,4 +53,19 @@ pub fn add_atoms<A: Eq + Hash + Duplicate + Drop>(
             Ok(())
         }
     }
+}
+
+/// Copies of the different atoms of the formulas.
+#[tactic(auto, using(crate::proofs::SameAtoms::on_atoms))]
+pub fn atoms_of_each<A: Eq + Hash + Duplicate + Drop>(
+    alloc: Global,
+    formulas: &[Formula<A>],
+) -> Result<IndexSet<A>, Memory>
+    ensures { IfOk result (λ atoms. (a : A) → has_equal A.eq atoms.keys a ≡ has_equal A.eq (atoms_in_each formulas.now) a) }
+{
+    let mut atoms = IndexSet::new(alloc);
+    for formula in formulas {
+        add_atoms(alloc, formula, &mut atoms)?;
+    }
+    Ok(atoms)
 }

@@ -1,32 +1,43 @@
 //! The conjunction of formulas.
 
-ghost use Rattle.std.specs.Prelude.{◌≡◌, IfOk};
-ghost use Rattle.label_core.specs.Atoms.{has_equal};
-ghost use Rattle.label_split.specs.Search.{DecidesEach};
-ghost use Rattle.label_split.specs.Signs.{atoms_in_each, FormulasFit};
+ghost use Rattle.std.specs.Prelude.{true, IfOk, All, length, replicate};
+ghost use Rattle.label_split.specs.Known.{IsWithin};
+ghost use Rattle.label_split.specs.Search.{DecidesEach, DecidesSigns};
+ghost use Rattle.label_split.specs.Signs.{FormulasFit};
 
-use crate::atoms::add_atoms;
-use crate::numbers::number_each;
+use crate::numbers::number_all;
 use crate::search::{Asked, search};
 use fast_fault::Memory;
-use indexmap::IndexSet;
-use label_core::{Duplicate, Formula, Theory, Verdict};
+use label_core::{Formula, Theory, Verdict};
 use std::alloc::Global;
-use std::hash::Hash;
 
-/// Copies of the different atoms of the formulas.
-#[tactic(auto, using(crate::proofs::SameAtoms::on_atoms))]
-pub fn atoms_of_each<A: Eq + Hash + Duplicate + Drop>(
-    alloc: Global,
-    formulas: &[Formula<A>],
-) -> Result<IndexSet<A>, Memory>
-    ensures { IfOk result (λ atoms. (a : A) → has_equal A.eq atoms.keys a ≡ has_equal A.eq (atoms_in_each formulas.now) a) }
-{
-    let mut atoms = IndexSet::new(alloc);
-    for formula in formulas {
-        add_atoms(alloc, formula, &mut atoms)?;
+/// The first so many numbers.
+fn first_numbers(alloc: Global, many: usize) -> Result<Vec<usize>, Memory> {
+    let mut numbers = Vec::new(alloc);
+    for number in 0..many {
+        numbers.push(number)?;
     }
-    Ok(atoms)
+    Ok(numbers)
+}
+
+/// Decides the conjunction of formulas over the numbers of the atoms.
+fn find_numbered<T: Theory>(
+    theory: &T,
+    alloc: Global,
+    atoms: &[T::Atom],
+    formulas: &[Formula<usize>],
+) -> Result<Verdict<T::Value, T::Chain>, Memory>
+    requires within { All (IsWithin (length atoms.now)) formulas.now }
+    requires fit { All (T.atom_fits theory.now) atoms.now }
+    ensures { IfOk result (DecidesSigns (T.meaning theory.now) atoms.now formulas.now (replicate (length formulas.now) true)) }
+{
+    let mut active = first_numbers(alloc, formulas.len())?;
+    let signs = vec![in alloc; true; formulas.len()]?;
+    let asked = Asked {
+        formulas,
+        signs: &signs,
+    };
+    search(theory, alloc, atoms, &asked, &mut active)
 }
 
 /// Decides the conjunction of the formulas.
@@ -38,16 +49,6 @@ pub fn find<T: Theory>(
     requires fit { FormulasFit (T.atom_fits theory.now) formulas.now }
     ensures { IfOk result (DecidesEach (T.meaning theory.now) formulas.now) }
 {
-    let atoms = atoms_of_each(alloc, formulas)?;
-    let numbered = number_each(alloc, &atoms, formulas)?;
-    let signs = vec![in alloc; true; formulas.len()]?;
-    let asked = Asked {
-        formulas: &numbered,
-        signs: &signs,
-    };
-    let mut active = Vec::new(alloc);
-    for number in 0..formulas.len() {
-        active.push(number)?;
-    }
-    search(theory, alloc, atoms.as_slice(), &asked, &mut active)
+    let numbered = number_all(alloc, formulas)?;
+    find_numbered(theory, alloc, numbered.atoms.as_slice(), &numbered.formulas)
 }

@@ -1,14 +1,24 @@
 //! Formulas over the numbers of their atoms.
 
 ghost use Rattle.std.specs.Prelude.{◌≡◌, map, IfOk};
+ghost use Rattle.label_core.specs.Atoms.{has_equal};
 ghost use Rattle.label_core.specs.Formula.{plain_formula};
 ghost use Rattle.label_split.specs.Numbers.{place, numbered};
+ghost use Rattle.label_split.specs.Signs.{atoms_in_each};
 
+use crate::atoms::atoms_of_each;
 use fast_fault::Memory;
 use indexmap::IndexSet;
-use label_core::{Formula, conjunction, disjunction, negation};
+use label_core::{Duplicate, Formula, conjunction, disjunction, negation};
 use std::alloc::Global;
 use std::hash::Hash;
+
+/// The different atoms of some formulas, and these with numbers in place of the atoms.
+#[derive(Drop)]
+pub struct Numbered<A: Eq + Hash> {
+    pub atoms: IndexSet<A>,
+    pub formulas: Vec<Formula<usize>>,
+}
 
 /// The number of the atom.
 fn number_of<A: Eq + Hash>(atoms: &IndexSet<A>, atom: &A) -> usize
@@ -22,7 +32,7 @@ fn number_of<A: Eq + Hash>(atoms: &IndexSet<A>, atom: &A) -> usize
 
 /// The formula with numbers in place of its atoms.
 #[cycle(numbers)]
-pub fn number_atoms<A: Eq + Hash>(
+fn number_atoms<A: Eq + Hash>(
     alloc: Global,
     atoms: &IndexSet<A>,
     formula: &Formula<A>,
@@ -41,7 +51,7 @@ pub fn number_atoms<A: Eq + Hash>(
 
 /// The same of each formula, in order.
 #[cycle(numbers)]
-pub fn number_each<A: Eq + Hash>(
+fn number_each<A: Eq + Hash>(
     alloc: Global,
     atoms: &IndexSet<A>,
     formulas: &[Formula<A>],
@@ -53,4 +63,17 @@ pub fn number_each<A: Eq + Hash>(
         made.push(number_atoms(alloc, atoms, formula)?)?;
     }
     Ok(made)
+}
+
+/// The formulas over the numbers of their atoms.
+pub fn number_all<A: Eq + Hash + Duplicate + Drop>(
+    alloc: Global,
+    formulas: &[Formula<A>],
+) -> Result<Numbered<A>, Memory>
+    ensures atoms { IfOk result (λ made. (a : A) → has_equal A.eq made.atoms.keys a ≡ has_equal A.eq (atoms_in_each formulas.now) a) }
+    ensures formulas { IfOk result (λ made. map plain_formula made.formulas.items ≡ map (λ f. numbered A.eq made.atoms.keys (plain_formula f)) formulas.now) }
+{
+    let atoms = atoms_of_each(alloc, formulas)?;
+    let formulas = number_each(alloc, &atoms, formulas)?;
+    Ok(Numbered { atoms, formulas })
 }

@@ -1,16 +1,17 @@
 //! The rows of signs that labels have.
 
-ghost use Rattle.std.specs.Prelude.{◌≡◌, ◌<◌, ◌≤◌, ◌-◌, ◌+◌, ◌++◌, [], ◌∷◌, true, false, All, IsTrue, IfSome, length, map, take, IfOk, OnOk, IfErr, MatchOption};
+ghost use Rattle.std.specs.Prelude.{◌≡◌, ◌<◌, ◌≤◌, ◌-◌, ◌+◌, ◌++◌, [], ◌∷◌, true, false, All, IsTrue, IfSome, length, map, take, IfOk, OnOk, IfErr, MatchOption, Bool, cond, drop};
 ghost use Rattle.model_tree.specs.Label.{Label};
 ghost use Rattle.label_core.specs.Meaning.{KeepsValue};
+ghost use Rattle.label_core.specs.Verdict.{DecidesAll};
 ghost use Rattle.label_split.specs.Known.{IsWithin};
-ghost use Rattle.label_split.specs.Numbers.{number_holds};
+ghost use Rattle.label_split.specs.Numbers.{number_holds, AreAsked};
+ghost use Rattle.label_split.specs.Search.{DecidesSigns};
 ghost use Rattle.label_split.specs.Signs.{FormulasFit, signs_at};
 ghost use Rattle.label_split.specs.Split.{SplitsInto, IsRow, Stops, StopsFor, HasMoreRows, Extends};
-ghost use Rattle.label_split.specs.Noted.{rows_of, IsSample};
+ghost use Rattle.label_split.specs.Noted.{rows_of, IsSample, ShowsSigns};
 
-use crate::conjunction::atoms_of_each;
-use crate::numbers::number_each;
+use crate::numbers::number_all;
 use crate::search::{Asked, holds_of, note, search};
 use fast_fault::Memory;
 use label_core::{Formula, Theory, Verdict};
@@ -108,6 +109,38 @@ struct Sampled<'q, V> {
     off: Sample<V>,
 }
 
+impl<V> Sampled<'_, V> {
+    /// The sample for the sign.
+    fn of(&self, sign: bool) -> &Sample<V>
+        ensures { result.now ≡ cond sign self.now.on self.now.off }
+    {
+        if sign { &self.on } else { &self.off }
+    }
+}
+
+/// The row of no signs with this value, alone.
+fn alone<V: Drop>(alloc: Global, value: V) -> Result<Vec<Noted<V>>, Memory>
+    ensures { IfOk result (λ rows. (r : SignRow V) × (r.value ≡ value) × (r.signs.items ≡ []) × (rows_of rows.items ≡ r ∷ [])) }
+{
+    let mut rows = Vec::new(alloc);
+    rows.push(Noted {
+        row: SignRow {
+            signs: Vec::new(alloc),
+            value,
+        },
+        active: Vec::new(alloc),
+    })?;
+    Ok(rows)
+}
+
+/// The verdict on whether there is a label.
+fn decide_any<T: Theory>(theory: &T, alloc: Global) -> Result<Verdict<T::Value, T::Chain>, Memory>
+    ensures { IfOk result (DecidesAll (T.meaning theory.now) []) }
+{
+    let literals = Vec::new(alloc);
+    theory.decide(alloc, &literals)
+}
+
 /// The one row of no signs, if there is a label.
 fn start<T: Theory>(
     theory: &T,
@@ -117,20 +150,10 @@ fn start<T: Theory>(
     ensures rows { IfOk result (λ rows. SplitsInto (T.meaning theory.now) (λ _. []) (rows_of rows.items)) }
     ensures stop { IfErr result (Stops (T.meaning theory.now) ⊥ (λ _. []) atoms.now) }
 {
-    let literals = Vec::new(alloc);
-    let mut rows = Vec::new(alloc);
-    match theory.decide(alloc, &literals)? {
-        Verdict::Unsat => Ok(rows),
+    match decide_any(theory, alloc)? {
+        Verdict::Unsat => Ok(Vec::new(alloc)),
         Verdict::Wide(chain) => Err(SplitStop::Wide(chain)),
-        Verdict::Sat(value) => {
-            let signs = Vec::new(alloc);
-            let active = Vec::new(alloc);
-            rows.push(Noted {
-                row: SignRow { signs, value },
-                active,
-            })?;
-            Ok(rows)
-        }
+        Verdict::Sat(value) => Ok(alone(alloc, value)?),
     }
 }
 
@@ -154,6 +177,46 @@ fn signs_of<T: Theory>(
     Ok(signs)
 }
 
+/// The verdict on whether some label gives the last formula the sign.
+fn search_last<T: Theory>(
+    theory: &T,
+    alloc: Global,
+    atoms: &[T::Atom],
+    formulas: &[Formula<usize>],
+    sign: bool,
+) -> Result<Verdict<T::Value, T::Chain>, Memory>
+    requires within { All (IsWithin (length atoms.now)) formulas.now }
+    requires fit { All (T.atom_fits theory.now) atoms.now }
+    requires some { 0 < length formulas.now }
+    ensures { IfOk result (DecidesSigns (T.meaning theory.now) atoms.now (drop (length formulas.now - 1) formulas.now) (sign ∷ [])) }
+{
+    let last = formulas.len() - 1;
+    let signs = [sign];
+    let asked = Asked {
+        formulas: &formulas[last..],
+        signs: &signs,
+    };
+    let mut active = vec![in alloc; 0; 1]?;
+    search(theory, alloc, atoms, &asked, &mut active)
+}
+
+/// The row of the value's label.
+fn row_at<T: Theory>(
+    theory: &T,
+    alloc: Global,
+    atoms: &[T::Atom],
+    formulas: &[Formula<usize>],
+    value: T::Value,
+) -> Result<SignRow<T::Value>, Memory>
+    requires within { All (IsWithin (length atoms.now)) formulas.now }
+    requires fit { All (T.atom_fits theory.now) atoms.now }
+    requires kept { KeepsValue (T.meaning theory.now) value }
+    ensures { IfOk result (IsRow (T.meaning theory.now) (signs_at (number_holds T.atom_holds atoms.now) formulas.now)) }
+{
+    let signs = signs_of(theory, alloc, atoms, formulas, &value)?;
+    Ok(SignRow { signs, value })
+}
+
 /// A sample for the sign of the last formula.
 fn find_sample<T: Theory>(
     theory: &T,
@@ -167,23 +230,13 @@ fn find_sample<T: Theory>(
     requires some { 0 < length formulas.now }
     ensures { IfOk result (IsSample (T.meaning theory.now) (signs_at (number_holds T.atom_holds atoms.now) formulas.now) sign) }
 {
-    let last = formulas.len() - 1;
-    let signs = vec![in alloc; sign; 1]?;
-    let asked = Asked {
-        formulas: &formulas[last..],
-        signs: &signs,
-    };
-    let mut active = vec![in alloc; 0; 1]?;
-    match search(theory, alloc, atoms, &asked, &mut active)? {
+    match search_last(theory, alloc, atoms, formulas, sign)? {
         Verdict::Unsat => Ok(Sample::Nowhere),
         Verdict::Wide(_) => Ok(Sample::Unknown),
         Verdict::Sat(value) => {
-            let signs = signs_of(theory, alloc, atoms, formulas, &value)?;
-            let active = vec![in alloc; last; 1]?;
-            Ok(Sample::At(Noted {
-                row: SignRow { signs, value },
-                active,
-            }))
+            let row = row_at(theory, alloc, atoms, formulas, value)?;
+            let active = vec![in alloc; formulas.len() - 1; 1]?;
+            Ok(Sample::At(Noted { row, active }))
         }
     }
 }
@@ -203,25 +256,41 @@ fn are_same(signs: &[bool], others: &[bool]) -> bool
     true
 }
 
-/// A copy of the sample, if it has these signs.
-fn matching_copy<T: Theory>(
+/// A copy of the row.
+fn copy_of<T: Theory>(
     theory: &T,
     alloc: Global,
-    found: &Noted<T::Value>,
-    signs: &[bool],
-) -> Result<Option<Noted<T::Value>>, Memory>
-    ensures { IfOk result (λ found_copy. IfSome found_copy (λ copy. (copy.row.signs.items ≡ signs.now) × (found.now.row.signs.items ≡ signs.now) × (T.label_of copy.row.value ≡ T.label_of found.now.row.value))) }
+    found: &SignRow<T::Value>,
+) -> Result<SignRow<T::Value>, Memory>
+    ensures signs { IfOk result (λ copy. copy.signs.items ≡ found.now.signs.items) }
+    ensures value { IfOk result (λ copy. T.label_of copy.value ≡ T.label_of found.now.value) }
 {
-    if !are_same(&found.row.signs, signs) {
-        return Ok(None);
+    let signs = Vec::from_slice(alloc, &found.signs)?;
+    let value = theory.copy_value(alloc, &found.value)?;
+    Ok(SignRow { signs, value })
+}
+
+/// What the sample shows of these signs: a copy of it, if it has them.
+fn shown<T: Theory>(
+    theory: &T,
+    alloc: Global,
+    sample: &Sample<T::Value>,
+    signs: &[bool],
+) -> Result<Sample<T::Value>, Memory>
+    ensures { IfOk result (ShowsSigns T.label_of sample.now signs.now) }
+{
+    match sample {
+        Sample::Nowhere => Ok(Sample::Nowhere),
+        Sample::Unknown => Ok(Sample::Unknown),
+        Sample::At(found) => {
+            if !are_same(&found.row.signs, signs) {
+                return Ok(Sample::Unknown);
+            }
+            let row = copy_of(theory, alloc, &found.row)?;
+            let active = found.active.clone()?;
+            Ok(Sample::At(Noted { row, active }))
+        }
     }
-    let value = theory.copy_value(alloc, &found.row.value)?;
-    let signs = Vec::from_slice(alloc, signs)?;
-    let active = found.active.clone()?;
-    Ok(Some(Noted {
-        row: SignRow { signs, value },
-        active,
-    }))
 }
 
 /// Adds the numbers, but for that of the last formula.
@@ -232,6 +301,47 @@ fn learn(active: &mut Vec<usize>, tried: &[usize], last: usize) -> Result<(), Me
         }
     }
     Ok(())
+}
+
+/// The active numbers, and that of the last formula.
+fn tried_with(alloc: Global, active: &[usize], last: usize) -> Result<Vec<usize>, Memory> {
+    let mut tried = Vec::from_slice(alloc, active)?;
+    tried.push(last)?;
+    Ok(tried)
+}
+
+/// Notes the formulas that tell a row from its neighbours: those that were tried where there is no row, and else the last.
+fn note_tried<V, W>(
+    verdict: &Verdict<V, W>,
+    active: &mut Vec<usize>,
+    tried: &[usize],
+    last: usize,
+) -> Result<(), Memory> {
+    match verdict {
+        Verdict::Unsat => learn(active, tried, last),
+        Verdict::Sat(_) => note(active, last),
+        Verdict::Wide(_) => Ok(()),
+    }
+}
+
+/// The verdict on whether some label has the signs. The search begins with the formulas that are tried, and adds to them;
+/// those that tell the row from its neighbours come to the active ones.
+fn search_row<T: Theory>(
+    theory: &T,
+    alloc: Global,
+    atoms: &[T::Atom],
+    asked: &Asked,
+    active: &mut Vec<usize>,
+    tried: &mut Vec<usize>,
+) -> Result<Verdict<T::Value, T::Chain>, Memory>
+    requires asked { AreAsked (length atoms.now) asked.now.formulas.now asked.now.signs.now }
+    requires fit { All (T.atom_fits theory.now) atoms.now }
+    requires some { 0 < length asked.now.formulas.now }
+    ensures { IfOk result (DecidesSigns (T.meaning theory.now) atoms.now asked.now.formulas.now asked.now.signs.now) }
+{
+    let verdict = search(theory, alloc, atoms, asked, tried)?;
+    note_tried(&verdict, active, tried, asked.formulas.len() - 1)?;
+    Ok(verdict)
 }
 
 /// A row with these signs, if some label has it. The active formulas are those that the search begins with; those that
@@ -251,26 +361,18 @@ fn row_with<T: Theory>(
     ensures row { IfOk result (λ found. MatchOption found ((l : Label) → (T.meaning theory.now).has l → ¬ ((signs_at (number_holds T.atom_holds atoms.now) formulas.now) l ≡ signs.items)) (λ noted. IsRow (T.meaning theory.now) (signs_at (number_holds T.atom_holds atoms.now) formulas.now) noted.row × (noted.row.signs.items ≡ signs.items))) }
     ensures stop { IfErr result (Stops (T.meaning theory.now) ⊥ (signs_at (number_holds T.atom_holds atoms.now) formulas.now) atoms.now) }
 {
-    let last = formulas.len() - 1;
-    let mut tried = Vec::from_slice(alloc, active)?;
-    tried.push(last)?;
+    let mut tried = tried_with(alloc, active, formulas.len() - 1)?;
     let asked = Asked {
         formulas,
         signs: &signs,
     };
-    match search(theory, alloc, atoms, &asked, &mut tried)? {
+    match search_row(theory, alloc, atoms, &asked, active, &mut tried)? {
         Verdict::Wide(chain) => Err(SplitStop::Wide(chain)),
-        Verdict::Unsat => {
-            learn(active, &tried, last)?;
-            Ok(None)
-        }
-        Verdict::Sat(value) => {
-            note(active, last)?;
-            Ok(Some(Noted {
-                row: SignRow { signs, value },
-                active: tried,
-            }))
-        }
+        Verdict::Unsat => Ok(None),
+        Verdict::Sat(value) => Ok(Some(Noted {
+            row: SignRow { signs, value },
+            active: tried,
+        })),
     }
 }
 
@@ -286,34 +388,26 @@ fn longer_row<T: Theory>(
     requires within { All (IsWithin (length atoms.now)) last.now.formulas.now }
     requires fit { All (T.atom_fits theory.now) atoms.now }
     requires lengths { length row.old.row.signs.items + 1 ≡ length last.now.formulas.now }
-    requires on { IsSample (T.meaning theory.now) (signs_at (number_holds T.atom_holds atoms.now) last.now.formulas.now) true last.now.on }
-    requires off { IsSample (T.meaning theory.now) (signs_at (number_holds T.atom_holds atoms.now) last.now.formulas.now) false last.now.off }
+    requires samples { (s : Bool) → IsSample (T.meaning theory.now) (signs_at (number_holds T.atom_holds atoms.now) last.now.formulas.now) s (cond s last.now.on last.now.off) }
     ensures row { IfOk result (λ found. MatchOption found ((l : Label) → (T.meaning theory.now).has l → ¬ ((signs_at (number_holds T.atom_holds atoms.now) last.now.formulas.now) l ≡ row.old.row.signs.items ++ sign ∷ [])) (λ noted. IsRow (T.meaning theory.now) (signs_at (number_holds T.atom_holds atoms.now) last.now.formulas.now) noted.row × (noted.row.signs.items ≡ row.old.row.signs.items ++ sign ∷ []))) }
     ensures stop { IfErr result (Stops (T.meaning theory.now) ⊥ (signs_at (number_holds T.atom_holds atoms.now) last.now.formulas.now) atoms.now) }
     ensures kept { OnOk result (row.new.row ≡ row.old.row) }
 {
     let signs = with_last(alloc, &row.row.signs, sign)?;
-    match if sign { &last.on } else { &last.off } {
-        Sample::Nowhere => return Ok(None),
-        Sample::Unknown => {}
-        Sample::At(found) => {
-            if let Some(copy) = matching_copy(theory, alloc, found, &signs)? {
-                return Ok(Some(copy));
-            }
-        }
+    match shown(theory, alloc, last.of(sign), &signs)? {
+        Sample::Nowhere => Ok(None),
+        Sample::At(found) => Ok(Some(found)),
+        Sample::Unknown => row_with(theory, alloc, atoms, last.formulas, signs, &mut row.active),
     }
-    row_with(theory, alloc, atoms, last.formulas, signs, &mut row.active)
 }
 
-/// Of the numbers that tell a row from others the fewest: its own, or those of the sample that has its signs.
+/// Of the numbers that tell a row from others the fewest: its own, or those of the sample, if that has its signs.
 fn fewest<V: Drop>(
-    alloc: Global,
-    last: &Sampled<V>,
-    sign: bool,
+    sample: &Sample<V>,
     signs: &[bool],
     own: Vec<usize>,
 ) -> Result<Vec<usize>, Memory> {
-    match if sign { &last.on } else { &last.off } {
+    match sample {
         Sample::Nowhere | Sample::Unknown => Ok(own),
         Sample::At(found) => {
             if found.active.len() < own.len() && are_same(&found.row.signs, signs) {
@@ -322,6 +416,31 @@ fn fewest<V: Drop>(
             Ok(own)
         }
     }
+}
+
+/// The row with one more sign, and the fewest numbers that tell it from others.
+fn noted_with_sign<V: Drop>(
+    sample: &Sample<V>,
+    row: Noted<V>,
+    sign: bool,
+) -> Result<Noted<V>, Memory>
+    ensures value { IfOk result (λ made. made.row.value ≡ row.row.value) }
+    ensures signs { IfOk result (λ made. made.row.signs.items ≡ row.row.signs.items ++ sign ∷ []) }
+{
+    let own = row.active;
+    let row = with_sign(row.row, sign)?;
+    let active = fewest(sample, &row.signs, own)?;
+    Ok(Noted { row, active })
+}
+
+/// Adds the row, if there is one.
+fn add_found<V: Drop>(rows: &mut Vec<Noted<V>>, found: Option<Noted<V>>) -> Result<(), Memory>
+    ensures { OnOk result (MatchOption found (rows.new.items ≡ rows.old.items) (λ noted. rows.new.items ≡ rows.old.items ++ noted ∷ [])) }
+{
+    if let Some(noted) = found {
+        rows.push(noted)?;
+    }
+    Ok(())
 }
 
 /// Adds the rows of the formulas that begin with this row of all but the last formula.
@@ -336,22 +455,40 @@ fn extend<T: Theory>(
     requires within { All (IsWithin (length atoms.now)) last.now.formulas.now }
     requires fit { All (T.atom_fits theory.now) atoms.now }
     requires some { 0 < length last.now.formulas.now }
-    requires on { IsSample (T.meaning theory.now) (signs_at (number_holds T.atom_holds atoms.now) last.now.formulas.now) true last.now.on }
-    requires off { IsSample (T.meaning theory.now) (signs_at (number_holds T.atom_holds atoms.now) last.now.formulas.now) false last.now.off }
+    requires samples { (s : Bool) → IsSample (T.meaning theory.now) (signs_at (number_holds T.atom_holds atoms.now) last.now.formulas.now) s (cond s last.now.on last.now.off) }
     requires row { IsRow (T.meaning theory.now) (signs_at (number_holds T.atom_holds atoms.now) (take (length last.now.formulas.now - 1) last.now.formulas.now)) row.row }
     ensures added { OnOk result (Extends (T.meaning theory.now) (signs_at (number_holds T.atom_holds atoms.now) (take (length last.now.formulas.now - 1) last.now.formulas.now)) (signs_at (number_holds T.atom_holds atoms.now) last.now.formulas.now) row.row (rows_of rows.old.items) (rows_of rows.new.items)) }
     ensures stop { IfErr result (Stops (T.meaning theory.now) ⊥ (signs_at (number_holds T.atom_holds atoms.now) last.now.formulas.now) atoms.now) }
 {
     let number = last.formulas.len() - 1;
     let holds = holds_of(theory, atoms, &last.formulas[number], &row.row.value);
-    if let Some(other) = longer_row(theory, alloc, atoms, last, &mut row, !holds)? {
-        rows.push(other)?;
-    }
-    let own = row.active;
-    let kept = with_sign(row.row, holds)?;
-    let active = fewest(alloc, last, holds, &kept.signs, own)?;
-    rows.push(Noted { row: kept, active })?;
+    let other = longer_row(theory, alloc, atoms, last, &mut row, !holds)?;
+    add_found(rows, other)?;
+    rows.push(noted_with_sign(last.of(holds), row, holds)?)?;
     Ok(())
+}
+
+/// The rows of the formulas, from those of all but the last.
+fn extend_each<T: Theory>(
+    theory: &T,
+    alloc: Global,
+    atoms: &[T::Atom],
+    last: &Sampled<T::Value>,
+    mut rows: Vec<Noted<T::Value>>,
+) -> Result<Vec<Noted<T::Value>>, SplitStop<T::Chain>>
+    requires within { All (IsWithin (length atoms.now)) last.now.formulas.now }
+    requires fit { All (T.atom_fits theory.now) atoms.now }
+    requires some { 0 < length last.now.formulas.now }
+    requires samples { (s : Bool) → IsSample (T.meaning theory.now) (signs_at (number_holds T.atom_holds atoms.now) last.now.formulas.now) s (cond s last.now.on last.now.off) }
+    requires rows { SplitsInto (T.meaning theory.now) (signs_at (number_holds T.atom_holds atoms.now) (take (length last.now.formulas.now - 1) last.now.formulas.now)) (rows_of rows.items) }
+    ensures rows { IfOk result (λ refined. SplitsInto (T.meaning theory.now) (signs_at (number_holds T.atom_holds atoms.now) last.now.formulas.now) (rows_of refined.items)) }
+    ensures stop { IfErr result (Stops (T.meaning theory.now) ⊥ (signs_at (number_holds T.atom_holds atoms.now) last.now.formulas.now) atoms.now) }
+{
+    let mut refined = Vec::new(alloc);
+    'rest: while let Some(row) = rows.pop() {
+        extend(theory, alloc, atoms, last, row, &mut refined)?;
+    }
+    Ok(refined)
 }
 
 /// The rows of the formulas, from those of all but the last.
@@ -360,7 +497,7 @@ fn refine<T: Theory>(
     alloc: Global,
     atoms: &[T::Atom],
     formulas: &[Formula<usize>],
-    mut rows: Vec<Noted<T::Value>>,
+    rows: Vec<Noted<T::Value>>,
 ) -> Result<Vec<Noted<T::Value>>, SplitStop<T::Chain>>
     requires within { All (IsWithin (length atoms.now)) formulas.now }
     requires fit { All (T.atom_fits theory.now) atoms.now }
@@ -372,11 +509,7 @@ fn refine<T: Theory>(
     let on = find_sample(theory, alloc, atoms, formulas, true)?;
     let off = find_sample(theory, alloc, atoms, formulas, false)?;
     let last = Sampled { formulas, on, off };
-    let mut refined = Vec::new(alloc);
-    'rest: while let Some(row) = rows.pop() {
-        extend(theory, alloc, atoms, &last, row, &mut refined)?;
-    }
-    Ok(refined)
+    extend_each(theory, alloc, atoms, &last, rows)
 }
 
 /// The rows of formulas over the numbers of the atoms.
@@ -430,8 +563,13 @@ pub fn split<T: Theory>(
     ensures few { IfOk result (λ rows. length rows.items ≤ most) }
     ensures stop { IfErr result (StopsFor (T.meaning theory.now) (HasMoreRows (T.meaning theory.now) (signs_at T.atom_holds formulas.now) most) formulas.now) }
 {
-    let atoms = atoms_of_each(alloc, formulas)?;
-    let numbered = number_each(alloc, &atoms, formulas)?;
-    let rows = split_numbered(theory, alloc, atoms.as_slice(), &numbered, most)?;
+    let numbered = number_all(alloc, formulas)?;
+    let rows = split_numbered(
+        theory,
+        alloc,
+        numbered.atoms.as_slice(),
+        &numbered.formulas,
+        most,
+    )?;
     Ok(without_notes(alloc, rows)?)
 }

@@ -2,11 +2,12 @@
 //! asks the theory only for what is known there. A label that it shows is looked at: the next atom is one of a formula
 //! that has another sign.
 
-ghost use Rattle.std.specs.Prelude.{◌≡◌, ◌<◌, ◌+◌, ◌⊎◌, Bool, false, List, None, Some, length, IfOk, OnOk, IfSome, IfNone, All, slice_set};
+ghost use Rattle.std.specs.Prelude.{◌≡◌, ◌<◌, ◌+◌, ◌⊎◌, Bool, false, List, None, Some, length, IfOk, OnOk, IfSome, IfNone, All, slice_set, replicate, [], ◌∷◌};
 ghost use Rattle.label_core.specs.Meaning.{KeepsValue};
 ghost use Rattle.label_split.specs.Known.{Forces, Follows, known_at, holds_at, settled};
 ghost use Rattle.label_split.specs.Numbers.{truths_at, AreAsked, HaveSigns, IsUnsettled, IsWrong, AreLiterals};
-ghost use Rattle.label_split.specs.Search.{branch_lists, Covers, DecidesSigns, IsNearer, IsNext, Looks};
+ghost use Rattle.label_core.specs.declared.theory.Verdict.TheVariants.{Sat, Wide};
+ghost use Rattle.label_split.specs.Search.{branch_lists, Covers, DecidesKnown, DecidesSigns, IsNearer, IsNext, Looks};
 ghost use Rattle.label_split.specs.Weights.{weight, open_weight};
 
 use crate::force::force;
@@ -180,6 +181,72 @@ fn go_on<V, W>(number: usize, atom: usize, sign: bool, known: &Known) -> Look<V,
     }
 }
 
+/// The verdict on whether a label has what is known.
+fn decide_known<T: Theory>(
+    theory: &T,
+    alloc: Global,
+    atoms: &[T::Atom],
+    known: &Known,
+) -> Result<Verdict<T::Value, T::Chain>, Memory>
+    requires many { length known.now.signs.items ≡ length atoms.now }
+    requires fit { All (T.atom_fits theory.now) atoms.now }
+    ensures { IfOk result (DecidesKnown (T.meaning theory.now) atoms.now known.now.signs.items) }
+{
+    let literals = literals_of(theory, alloc, atoms, known)?;
+    theory.decide(alloc, &literals)
+}
+
+/// What is found where a value's label has what is known.
+fn look_at_value<T: Theory>(
+    theory: &T,
+    atoms: &[T::Atom],
+    asked: &Asked,
+    value: T::Value,
+    known: &mut Known,
+) -> Look<T::Value, T::Chain>
+    requires asked { AreAsked (length known.old.signs.items) asked.now.formulas.now asked.now.signs.now }
+    requires many { length known.old.signs.items ≡ length atoms.now }
+    requires fit { All (T.atom_fits theory.now) atoms.now }
+    requires value { DecidesKnown (T.meaning theory.now) atoms.now known.old.signs.items (Sat value) }
+    ensures forces { Forces (HaveSigns asked.now.formulas.now asked.now.signs.now) known.old.signs.items known.new.signs.items }
+    ensures looks { Looks (T.meaning theory.now) atoms.now (λ l. HaveSigns asked.now.formulas.now asked.now.signs.now (truths_at T.atom_holds atoms.now l)) known.old.signs.items known.new.signs.items result }
+{
+    let number = match wrong(theory, atoms, asked, &value) {
+        None => return Look::Found(value),
+        Some(number) => number,
+    };
+    match open_after(asked, number, known) {
+        None => Look::Closed,
+        Some(atom) => {
+            let sign = !theory.holds(&atoms[atom], &value);
+            go_on(number, atom, sign, known)
+        }
+    }
+}
+
+/// What is found where what is known is too wide to decide.
+fn look_at_chain<T: Theory>(
+    _theory: &T,
+    _atoms: &[T::Atom],
+    asked: &Asked,
+    chain: T::Chain,
+    known: &mut Known,
+) -> Look<T::Value, T::Chain>
+    requires asked { AreAsked (length known.old.signs.items) asked.now.formulas.now asked.now.signs.now }
+    requires chain { DecidesKnown (T.meaning _theory.now) _atoms.now known.old.signs.items (Wide chain) }
+    ensures forces { Forces (HaveSigns asked.now.formulas.now asked.now.signs.now) known.old.signs.items known.new.signs.items }
+    ensures looks { Looks (T.meaning _theory.now) _atoms.now (λ l. HaveSigns asked.now.formulas.now asked.now.signs.now (truths_at T.atom_holds _atoms.now l)) known.old.signs.items known.new.signs.items result }
+{
+    let number = match unsettled(asked, known) {
+        None => return Look::TooWide(chain),
+        Some(number) => number,
+    };
+    match open_after(asked, number, known) {
+        None => Look::Closed,
+        Some(atom) => go_on(number, atom, true, known),
+    }
+}
+
 /// What is found in a branch.
 fn look_at<T: Theory>(
     theory: &T,
@@ -198,26 +265,10 @@ fn look_at<T: Theory>(
     if !take_signs(asked, active, known) {
         return Ok(Look::Closed);
     }
-    let literals = literals_of(theory, alloc, atoms, known)?;
-    match theory.decide(alloc, &literals)? {
+    match decide_known(theory, alloc, atoms, known)? {
         Verdict::Unsat => Ok(Look::Closed),
-        Verdict::Sat(value) => match wrong(theory, atoms, asked, &value) {
-            None => Ok(Look::Found(value)),
-            Some(number) => match open_after(asked, number, known) {
-                None => Ok(Look::Closed),
-                Some(atom) => {
-                    let sign = !theory.holds(&atoms[atom], &value);
-                    Ok(go_on(number, atom, sign, known))
-                }
-            },
-        },
-        Verdict::Wide(chain) => match unsettled(asked, known) {
-            None => Ok(Look::TooWide(chain)),
-            Some(number) => match open_after(asked, number, known) {
-                None => Ok(Look::Closed),
-                Some(atom) => Ok(go_on(number, atom, true, known)),
-            },
-        },
+        Verdict::Sat(value) => Ok(look_at_value(theory, atoms, asked, value, known)),
+        Verdict::Wide(chain) => Ok(look_at_chain(theory, atoms, asked, chain, known)),
     }
 }
 
@@ -247,6 +298,44 @@ pub fn note(active: &mut Vec<usize>, number: usize) -> Result<(), Memory> {
     Ok(())
 }
 
+/// Notes the formula that says more of an atom, or of which an atom is to be looked at.
+fn note_look<V, W>(look: &Look<V, W>, active: &mut Vec<usize>) -> Result<(), Memory> {
+    match look {
+        Look::Again(number, _) => note(active, *number),
+        Look::Turn(number, _, _) => note(active, *number),
+        _ => Ok(()),
+    }
+}
+
+/// The same as `look_at`. The formula that is to be looked at comes to the active ones.
+fn look_on<T: Theory>(
+    theory: &T,
+    alloc: Global,
+    atoms: &[T::Atom],
+    asked: &Asked,
+    active: &mut Vec<usize>,
+    known: &mut Known,
+) -> Result<Look<T::Value, T::Chain>, Memory>
+    requires asked { AreAsked (length known.old.signs.items) asked.now.formulas.now asked.now.signs.now }
+    requires many { length known.old.signs.items ≡ length atoms.now }
+    requires fit { All (T.atom_fits theory.now) atoms.now }
+    ensures forces { OnOk result (Forces (HaveSigns asked.now.formulas.now asked.now.signs.now) known.old.signs.items known.new.signs.items) }
+    ensures looks { IfOk result (Looks (T.meaning theory.now) atoms.now (λ l. HaveSigns asked.now.formulas.now asked.now.signs.now (truths_at T.atom_holds atoms.now l)) known.old.signs.items known.new.signs.items) }
+{
+    let look = look_at(theory, alloc, atoms, asked, active, known)?;
+    note_look(&look, active)?;
+    Ok(look)
+}
+
+/// The branch in which nothing is known of so many atoms, alone.
+fn one_branch(alloc: Global, atoms: usize) -> Result<Vec<Known>, Memory>
+    ensures { IfOk result (λ branches. branch_lists branches.items ≡ replicate atoms None ∷ []) }
+{
+    let mut branches = Vec::new(alloc);
+    branches.push(Known::nothing(alloc, atoms)?)?;
+    Ok(branches)
+}
+
 /// Of two chains, where there are two, one that isn't far, if there is one.
 fn nearer<T: Theory>(theory: &T, first: Option<T::Chain>, second: T::Chain) -> T::Chain
     requires { IfSome first (T.meaning theory.now).passes }
@@ -271,20 +360,17 @@ pub fn search<T: Theory>(
     requires fit { All (T.atom_fits theory.now) atoms.now }
     ensures { IfOk result (DecidesSigns (T.meaning theory.now) atoms.now asked.now.formulas.now asked.now.signs.now) }
 {
+    let mut branches = one_branch(alloc, atoms.len())?;
     let mut wide = None;
-    let mut branches = Vec::new(alloc);
-    branches.push(Known::nothing(alloc, atoms.len())?)?;
     'branches: while let Some(mut known) = branches.pop() {
-        match look_at(theory, alloc, atoms, asked, active, &mut known)? {
+        match look_on(theory, alloc, atoms, asked, active, &mut known)? {
             Look::Found(value) => return Ok(Verdict::Sat(value)),
             Look::Closed => {}
             Look::TooWide(chain) => wide = Some(nearer(theory, wide, chain)),
-            Look::Again(number, _atom) => {
-                note(active, number)?;
+            Look::Again(_, _atom) => {
                 branches.push(known)?;
             }
-            Look::Turn(number, atom, sign) => {
-                note(active, number)?;
+            Look::Turn(_, atom, sign) => {
                 add_branches(alloc, &known, atom, sign, &mut branches)?;
             }
         }

@@ -1,5 +1,4 @@
-use Rattle.std.proofs.Common.{◌≡◌, ◌∙◌, true, length, replicate, sym, ap, IsTrue, All}
-use Rattle.std.proofs.lemmas.List.{length-replicate}
+use Rattle.std.proofs.Common.{◌∙◌, true, length, replicate, refl, sym, subst, IfOk, IsTrue, All}
 use Rattle.model_tree.specs.Formula.{formula_holds}
 use Rattle.label_core.specs.Formula.{plain_formula}
 use Rattle.label_core.specs.Meaning.{IsChainOver}
@@ -12,30 +11,24 @@ use Rattle.label_split.proofs.Numbering.{gathered, atoms_fit, atoms_among, all_w
 use Rattle.label_split.proofs.Verdicts.{decides_as, ok_as}
 use Rattle.label_split.proofs.conjunction.find.Goals as goal
 
-pub search-requires-clause-asked : goal.search-requires-clause-asked
-search-requires-clause-asked g c =
-    let atoms = c.in_ok-atoms.atoms.keys in
-    let numbered = c.in_ok-numbered.numbered.items in
-    rw (c.as_slice.ensures.keys, c.deref.ensures.value, c.deref-2.ensures.value) (record {
-      within = all_within g.T.Atom.PartialEq.eq atoms c.args.formulas.now numbered c.in_ok-numbered.ensures (gathered g.T.Atom.PartialEq.eq g.met.T.Atom.Eq.laws c.args.formulas.now atoms c.in_ok-atoms.ensures);
-      lengths = ap length (c.in_ok-signs.ensures.items_if_clones_equal (λ y e. e)) ∙ length-replicate (length c.args.formulas.now) true ∙ sym (same_length g.T.Atom.PartialEq.eq atoms c.args.formulas.now numbered c.in_ok-numbered.ensures);
-    })
+pub find_numbered-requires-clause-within : goal.find_numbered-requires-clause-within
+find_numbered-requires-clause-within g c = rw (c.as_slice.ensures.keys, c.deref.ensures.value) (all_within g.T.Atom.PartialEq.eq c.in_ok-numbered.numbered.atoms.keys c.args.formulas.now c.in_ok-numbered.numbered.formulas.items c.in_ok-numbered.ensures.formulas (gathered g.T.Atom.PartialEq.eq g.met.T.Atom.Eq.laws c.args.formulas.now c.in_ok-numbered.numbered.atoms.keys c.in_ok-numbered.ensures.atoms))
 
-pub search-requires-clause-fit : goal.search-requires-clause-fit
-search-requires-clause-fit g c = rw c.as_slice.ensures.keys (atoms_fit g.T.Atom.PartialEq.eq g.met.T.Atom.Eq.laws (g.T.Theory.atom_fits c.args.theory.now) (g.met.T.Theory.equal_atoms_fit c.args.theory.now) c.args.formulas.now c.in_ok-atoms.atoms.keys c.in_ok-atoms.ensures c.requires.fit)
+pub find_numbered-requires-clause-fit : goal.find_numbered-requires-clause-fit
+find_numbered-requires-clause-fit g c = rw c.as_slice.ensures.keys (atoms_fit g.T.Atom.PartialEq.eq g.met.T.Atom.Eq.laws (g.T.Theory.atom_fits c.args.theory.now) (g.met.T.Theory.equal_atoms_fit c.args.theory.now) c.args.formulas.now c.in_ok-numbered.numbered.atoms.keys c.in_ok-numbered.ensures.atoms c.requires.fit)
 
 pub returns : goal.returns
 returns g c =
     let M = (g.T.Theory.meaning c.args.theory.now) in
-    let atoms = c.in_ok-atoms.atoms.keys in
-    let numbered = c.in_ok-numbered.numbered.items in
-    let signs = c.in_ok-signs.signs.items in
-    let all : signs ≡ replicate (length c.args.formulas.now) true = c.in_ok-signs.ensures.items_if_clones_equal (λ y e. e) in
-    let are = gathered g.T.Atom.PartialEq.eq g.met.T.Atom.Eq.laws c.args.formulas.now atoms c.in_ok-atoms.ensures in
-    let found = rw (c.as_slice.ensures.keys, c.deref.ensures.value, c.deref-2.ensures.value) at c.search.ensures in
+    let atoms = c.in_ok-numbered.numbered.atoms.keys in
+    let numbered = c.in_ok-numbered.numbered.formulas.items in
+    let signs = replicate (length c.args.formulas.now) true in
+    let many = same_length g.T.Atom.PartialEq.eq atoms c.args.formulas.now numbered c.in_ok-numbered.ensures.formulas in
+    let are = gathered g.T.Atom.PartialEq.eq g.met.T.Atom.Eq.laws c.args.formulas.now atoms c.in_ok-numbered.ensures.atoms in
+    let found = rw (c.as_slice.ensures.keys, c.deref.ensures.value) at c.find_numbered.ensures in
     ok_as (DecidesSigns M atoms numbered signs) (DecidesEach M c.args.formulas.now)
     (decides_as M (g.met.T.Theory.keeps_labels c.args.theory.now) (λ l. HaveSigns numbered signs (truths_at g.T.Theory.atom_holds atoms l)) (λ l. All (λ f. IsTrue (formula_holds (λ a. g.T.Theory.atom_holds a l) (plain_formula f))) c.args.formulas.now) (IsChainOver M atoms) (IsChainOver M (atoms_in_each c.args.formulas.now))
-    (λ l m. all_from_signs g.T.Theory.atom_holds c.args.formulas.now l signs all (sym (same_signs g.T.Atom.PartialEq.eq atoms g.T.Theory.atom_holds g.met.T.Theory.equal_atoms c.args.formulas.now numbered l c.in_ok-numbered.ensures are) ∙ m))
-    (λ l h each. same_signs g.T.Atom.PartialEq.eq atoms g.T.Theory.atom_holds g.met.T.Theory.equal_atoms c.args.formulas.now numbered l c.in_ok-numbered.ensures are ∙ signs_from_all g.T.Theory.atom_holds c.args.formulas.now l signs all each)
-    (λ w over. chain_grows M g.T.Atom.PartialEq.eq (g.met.T.Theory.equal_is_own c.args.theory.now) g.met.T.Atom.Eq.laws atoms (atoms_in_each c.args.formulas.now) w (atoms_among g.T.Atom.PartialEq.eq g.met.T.Atom.Eq.laws c.args.formulas.now atoms c.in_ok-atoms.ensures) over))
-    c.search.result found
+    (λ l m. all_from_signs g.T.Theory.atom_holds c.args.formulas.now l signs refl (sym (same_signs g.T.Atom.PartialEq.eq atoms g.T.Theory.atom_holds g.met.T.Theory.equal_atoms c.args.formulas.now numbered l c.in_ok-numbered.ensures.formulas are) ∙ m))
+    (λ l h each. same_signs g.T.Atom.PartialEq.eq atoms g.T.Theory.atom_holds g.met.T.Theory.equal_atoms c.args.formulas.now numbered l c.in_ok-numbered.ensures.formulas are ∙ signs_from_all g.T.Theory.atom_holds c.args.formulas.now l signs refl each)
+    (λ w over. chain_grows M g.T.Atom.PartialEq.eq (g.met.T.Theory.equal_is_own c.args.theory.now) g.met.T.Atom.Eq.laws atoms (atoms_in_each c.args.formulas.now) w (atoms_among g.T.Atom.PartialEq.eq g.met.T.Atom.Eq.laws c.args.formulas.now atoms c.in_ok-numbered.ensures.atoms) over))
+    c.find_numbered.result (subst (λ n. IfOk c.find_numbered.result (DecidesSigns M atoms numbered (replicate n true))) many found)

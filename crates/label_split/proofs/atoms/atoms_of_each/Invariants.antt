@@ -1,7 +1,7 @@
 use Rattle.std.proofs.Common.{◌≡◌, ◌||◌, drop}
 use Rattle.label_core.specs.Atoms.{has_equal}
 use Rattle.label_split.specs.Signs.{atoms_in_each}
-use Rattle.label_split.proofs.conjunction.atoms_of_each.Given as goal
+use Rattle.label_split.proofs.atoms.atoms_of_each.Given as goal
 
 abbrev pub invariant-loop-formula : goal.invariant-loop-formula
 invariant-loop-formula g l =

@@ -1,0 +1,17 @@
+use Rattle.std.proofs.Common.{◌-◌, ◌∙◌, ap, take, length, arith}
+use Rattle.std.proofs.lemmas.List.{map-append}
+use Rattle.label_split.specs.Numbers.{number_holds}
+use Rattle.label_split.specs.Signs.{signs_at}
+use Rattle.label_split.specs.Noted.{rows_of}
+use Rattle.label_split.specs.Split.{IsRow}
+use Rattle.label_split.proofs.RowLists.{no_rows, row_of_rest, partly_more, partly_done}
+use Rattle.label_split.proofs.rows.extend_each.Goals as goal
+
+pub rest-preserved : goal.rest-preserved
+rest-preserved g c = partly_more (g.T.Theory.meaning c.args.theory.now) (signs_at (number_holds g.T.Theory.atom_holds c.args.atoms.now) (take (length c.args.last.now.formulas.now - 1) c.args.last.now.formulas.now)) (signs_at (number_holds g.T.Theory.atom_holds c.args.atoms.now) c.args.last.now.formulas.now) (rows_of c.rest.rows.items) (rows_of c.pop.new.self.items) c.in-Some.row.row (rows_of c.rest.refined.items) (rows_of c.extend.new.rows.items) (ap rows_of c.in-Some.ensures.items ∙ map-append (λ n. n.row) c.pop.new.self.items _) c.rest.invariant c.in_ok-extend.ensures.added
+
+pub returns-clause-rows : goal.returns-clause-rows
+returns-clause-rows g c = partly_done (g.T.Theory.meaning c.args.theory.now) (signs_at (number_holds g.T.Theory.atom_holds c.args.atoms.now) (take (length c.args.last.now.formulas.now - 1) c.args.last.now.formulas.now)) (signs_at (number_holds g.T.Theory.atom_holds c.args.atoms.now) c.args.last.now.formulas.now) (rows_of c.rest.rows.items) (rows_of c.rest.refined.items) (no_rows c.rest.rows.items (omega (arith, c.in_default.ensures.cases, c.rest.rows.ok.0))) c.rest.invariant
+
+pub extend-requires-clause-row : goal.extend-requires-clause-row
+extend-requires-clause-row g c = row_of_rest (IsRow (g.T.Theory.meaning c.args.theory.now) (signs_at (number_holds g.T.Theory.atom_holds c.args.atoms.now) (take (length c.args.last.now.formulas.now - 1) c.args.last.now.formulas.now))) c.rest.rows.items c.pop.new.self.items c.in-Some.row c.in-Some.ensures.items c.rest.invariant.rest_sound
