@@ -10,13 +10,14 @@ use Rattle.sta_core.specs.declared.StaRule.{StaRule}
 use Rattle.sta_classes.specs.Applying.{IsRules}
 use Rattle.sta_classes.specs.Bits.{both}
 use Rattle.sta_classes.specs.Guards.{GuardsFit}
-use Rattle.sta_classes.specs.Rules.{plain_rules}
+use Rattle.sta_classes.specs.Rules.{plain_rules, meaning_of}
 use Rattle.sta_classes.specs.Splits.{AreMet, AreTold, AreAllTold}
 use Rattle.sta_classes.specs.Rows.{found_of, founds, class_rows, lists_of}
 use Rattle.sta_classes.specs.Places.{AreAsked, IsNumbered, IsNext}
 use Rattle.sta_classes.specs.Pending.{IsPending, IsSettled, IsMet, AreKept, count_none}
 use Rattle.sta_classes.specs.declared.class.Class.{Class}
 use Rattle.sta_classes.specs.declared.class.TheConstants.{CAP}
+use Rattle.sta_classes.specs.declared.known.Known.{Known}
 use Rattle.sta_classes.specs.declared.place.Place.{Place}
 use Rattle.sta_classes.specs.declared.pending.Pending.{Pending}
 use Rattle.sta_classes.specs.declared.rules.Rules.{Rules}
@@ -83,3 +84,13 @@ module _ {V : Type 0} (ranks : List ℕ) (has keeps : Label → Type 0) (rules :
   -- the same for all lists of kinds that are wanted
   abbrev pub AreOpened : {H : Type 0} → List (Class V) → List (Vec Place H) → Pending V → (ℕ → List ℕ → Type 0) → Type 0
   AreOpened found places s W = (c : ℕ) → c < length ranks → (ks : List ℕ) → length ks ≡ get_or ranks c 0 → ((j : ℕ) → j < length ks → Contains (listed_at places c j) (get_or ks j 0)) → W c ks → IsOpened found s c ks
+
+-- a search between its turns: what is found, what is pending and what is known of the rules, and all trees over lists of
+-- kinds are offered
+module _ {A V W G : Type 0} {label_of : V → Label} {holds : A → Label → Bool} (M : Meaning label_of holds W) (ranks : List ℕ) (rules : List (Vec (StaRule A) G)) (own : List (Rules A)) (most : ℕ) where
+  pub record IsGoing (known : Known V) (pending : Pending V) (split : List (Splits V)) : Type 0 where
+    pub sound : IsSound ranks M.has M.keeps (meaning_of holds (plain_rules rules)) label_of known.classes.items pending
+    pub kinds : AreKinds ranks rules known.classes.items known.places.items
+    pub splits : AreSplit M ranks own (class_rows known.classes.items) split
+    pub few : length pending.sets.keys ≤ most
+    pub opened : AreOpened ranks M.has M.keeps (meaning_of holds (plain_rules rules)) label_of known.classes.items known.places.items pending (λ c ks. (k : ℕ) → k ≡ k)

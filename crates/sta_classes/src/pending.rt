@@ -122,9 +122,9 @@ impl<V: Drop> Pending<V> {
         if !new && !is_dearer(&self.best[number], over.nodes) {
             return Ok(());
         }
+        self.order.push((CAP - over.nodes, number))?;
         let row = self.sets.as_slice()[number].copy(alloc)?;
         let class = over.class(theory, alloc, row, value)?;
-        self.order.push((CAP - over.nodes, number))?;
         keep(&mut self.best, number, class)?;
         Ok(())
     }

@@ -3,20 +3,21 @@
 //! Each turn takes a candidate with the fewest nodes. It is a least tree of its class, since each other tree with a new
 //! set is over trees of classes that come later. Then come the candidates over lists of kinds of which one is new.
 
-ghost use Rattle.std.specs.Prelude.{ℕ, ◌≡◌, ◌≤◌, ◌<◌, ◌-◌, ◌++◌, ◌∷◌, [], Bool, List, length, get_or, map, Contains, All, IfOk, IfErr, OnOk};
+ghost use Rattle.std.specs.Prelude.{ℕ, ◌≡◌, ◌≤◌, ◌<◌, ◌-◌, ◌+◌, ◌++◌, ◌∷◌, [], Bool, List, length, get_or, map, Contains, All, IfOk, IfErr, OnOk};
 ghost use Rattle.model_sta.specs.Least.{counts_of, nodes_at, cost};
 ghost use Rattle.sta_classes.specs.Rules.{plain_rules, meaning_of};
 ghost use Rattle.sta_classes.specs.Guards.{all_guards};
 ghost use Rattle.sta_classes.specs.Rows.{founds, lists_of, class_rows, class_rows_at};
 ghost use Rattle.sta_classes.specs.Lists.{IsListWith};
 ghost use Rattle.sta_classes.specs.Meant.{AreFound, AreAllFound, HasMoreClasses};
-ghost use Rattle.sta_classes.specs.Pending.{IsBetter};
-ghost use Rattle.sta_classes.specs.Searched.{IsReady, IsTold, AreSplit, AreKinds, IsSound, IsOpened, AreOpened, firsts_of};
+ghost use Rattle.sta_classes.specs.Pending.{AreKept, IsBetter, IsTaken};
+ghost use Rattle.sta_classes.specs.Searched.{IsReady, IsGoing, IsTold, AreSplit, AreKinds, IsSound, IsOpened, AreOpened, firsts_of};
 ghost use Rattle.sta_classes.specs.Stop.{ClassStopsFor};
+ghost use Rattle.sta_classes.specs.declared.pending.Pending.{Pending};
 ghost use Rattle.sta_classes.specs.declared.rules.Rules.{Rules};
 ghost use Rattle.sta_classes.specs.declared.splits.Splits.{Splits};
 
-use crate::class::{CAP, cost_over};
+use crate::class::{CAP, Class, cost_over};
 use crate::known::Known;
 use crate::lists::lists_with;
 use crate::pending::{Over, Pending};
@@ -39,6 +40,14 @@ pub struct Search<'a, T: Theory> {
     /// The rules of each constructor.
     pub own: &'a [Rules<'a, T::Atom>],
     pub most: u32,
+}
+
+/// How far a search is.
+#[derive(Drop)]
+struct Course<V> {
+    known: Known<V>,
+    pending: Pending<V>,
+    splits: Vec<Splits<V>>,
 }
 
 impl<T: Theory> Search<'_, T> {
@@ -299,6 +308,43 @@ impl<T: Theory> Search<'_, T> {
         Ok(())
     }
 
+    /// No class is found yet, and the trees of no children are offered.
+    fn begin(&self) -> Result<Course<T::Value>, ClassStop<T::Chain>>
+        requires ready { IsReady (T.atom_fits self.now.theory.now) self.now.ranks.now self.now.rules.now self.now.own.now }
+        ensures going { IfOk result (λ course. IsGoing (T.meaning self.now.theory.now) self.now.ranks.now self.now.rules.now self.now.own.now self.now.most course.known course.pending course.splits.items) }
+        ensures stop { IfErr result (ClassStopsFor (T.meaning self.now.theory.now) (HasMoreClasses (T.meaning self.now.theory.now) (record { ranks = self.now.ranks.now; rules = plain_rules self.now.rules.now }) self.now.most) (all_guards (plain_rules self.now.rules.now))) }
+    {
+        let known = Known::new(self.alloc, self.ranks, self.rules)?;
+        let splits = self.no_splits()?;
+        let pending = Pending::new(self.alloc);
+        let mut course = Course {
+            known,
+            pending,
+            splits,
+        };
+        self.open_leaves(&course.known, &mut course.pending, &mut course.splits)?;
+        Ok(course)
+    }
+
+    /// One turn: the candidate that was taken is one more class.
+    fn turn(
+        &self,
+        course: &mut Course<T::Value>,
+        class: Class<T::Value>,
+    ) -> Result<(), ClassStop<T::Chain>>
+        requires ready { IsReady (T.atom_fits self.now.theory.now) self.now.ranks.now self.now.rules.now self.now.own.now }
+        requires kept { AreKept course.old.pending }
+        requires taken { (before : Pending T.Value) × IsGoing (T.meaning self.now.theory.now) self.now.ranks.now self.now.rules.now self.now.own.now self.now.most course.old.known before course.old.splits.items × IsTaken before course.old.pending class }
+        ensures going { OnOk result (IsGoing (T.meaning self.now.theory.now) self.now.ranks.now self.now.rules.now self.now.own.now self.now.most course.new.known course.new.pending course.new.splits.items) }
+        ensures grown { OnOk result (length course.new.known.classes.items ≡ length course.old.known.classes.items + 1) }
+        ensures stop { IfErr result (ClassStopsFor (T.meaning self.now.theory.now) (HasMoreClasses (T.meaning self.now.theory.now) (record { ranks = self.now.ranks.now; rules = plain_rules self.now.rules.now }) self.now.most) (all_guards (plain_rules self.now.rules.now))) }
+    {
+        self.add_to_splits(&mut course.splits, &class.row)?;
+        course.known.add(self.alloc, class)?;
+        self.open_new(&course.known, &mut course.pending, &mut course.splits)?;
+        Ok(())
+    }
+
     /// All classes, where there are not more than `most`.
     pub fn run(&self) -> Result<Known<T::Value>, ClassStop<T::Chain>>
         requires ready { IsReady (T.atom_fits self.now.theory.now) self.now.ranks.now self.now.rules.now self.now.own.now }
@@ -308,15 +354,10 @@ impl<T: Theory> Search<'_, T> {
         ensures few { IfOk result (λ known. length known.classes.items ≤ self.now.most) }
         ensures stop { IfErr result (ClassStopsFor (T.meaning self.now.theory.now) (HasMoreClasses (T.meaning self.now.theory.now) (record { ranks = self.now.ranks.now; rules = plain_rules self.now.rules.now }) self.now.most) (all_guards (plain_rules self.now.rules.now))) }
     {
-        let mut known = Known::new(self.alloc, self.ranks, self.rules)?;
-        let mut pending = Pending::new(self.alloc);
-        let mut splits = self.no_splits()?;
-        self.open_leaves(&known, &mut pending, &mut splits)?;
-        'turns: while let Some(class) = pending.take() {
-            self.add_to_splits(&mut splits, &class.row)?;
-            known.add(self.alloc, class)?;
-            self.open_new(&known, &mut pending, &mut splits)?;
+        let mut course = self.begin()?;
+        'turns: while let Some(class) = course.pending.take() {
+            self.turn(&mut course, class)?;
         }
-        Ok(known)
+        Ok(course.known)
     }
 }

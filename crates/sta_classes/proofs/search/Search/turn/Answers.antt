@@ -1,0 +1,46 @@
+use Rattle.std.proofs.Common.{◌≤◌, ◌∙◌, ◌∷◌, [], length, sym, ap, subst}
+use Rattle.std.proofs.lemmas.List.{length_push, map-append}
+use Rattle.sta_classes.specs.Rows.{class_rows}
+use Rattle.sta_classes.specs.Searched.{AreSplit}
+use Rattle.sta_classes.proofs.Runs.{run_sound, run_kinds, run_some, run_opened}
+use Rattle.sta_classes.proofs.search.Search.turn.Goals as goal
+
+pub open_new-requires-clause-splits : goal.open_new-requires-clause-splits
+open_new-requires-clause-splits g c =
+    let (before, going, taken) = c.requires.taken in
+    subst (λ z. AreSplit (g.T.Theory.meaning c.args.self.now.theory.now) c.args.self.now.ranks.now c.args.self.now.own.now z c.add_to_splits.new.splits.items) (sym (ap class_rows c.in_ok-add.ensures.classes ∙ map-append (λ z. z.row) c.args.course.now.known.classes.items (c.args.class ∷ [])))
+    (c.in_ok-add_to_splits.ensures (class_rows c.args.course.now.known.classes.items) going.splits)
+
+pub open_new-requires-clause-kinds : goal.open_new-requires-clause-kinds
+open_new-requires-clause-kinds g c =
+    let (before, going, taken) = c.requires.taken in
+    run_kinds (g.T.Theory.meaning c.args.self.now.theory.now) c.args.self.now.ranks.now c.args.self.now.rules.now c.args.course.now.known.classes.items c.args.course.now.known.places.items before c.args.course.now.pending going.sound going.kinds going.opened c.args.class taken c.requires.kept c.add.new.self.classes.items c.add.new.self.places.items c.in_ok-add.ensures.classes c.in_ok-add.ensures.many c.in_ok-add.ensures.each
+
+pub open_new-requires-clause-some : goal.open_new-requires-clause-some
+open_new-requires-clause-some g c =
+    let (before, going, taken) = c.requires.taken in
+    run_some (g.T.Theory.meaning c.args.self.now.theory.now) c.args.self.now.ranks.now c.args.self.now.rules.now c.args.course.now.known.classes.items c.args.course.now.known.places.items before c.args.course.now.pending going.sound going.kinds going.opened c.args.class taken c.requires.kept c.add.new.self.classes.items c.add.new.self.places.items c.in_ok-add.ensures.classes c.in_ok-add.ensures.many c.in_ok-add.ensures.each
+
+pub open_new-requires-clause-sound : goal.open_new-requires-clause-sound
+open_new-requires-clause-sound g c =
+    let (before, going, taken) = c.requires.taken in
+    run_sound (g.T.Theory.meaning c.args.self.now.theory.now) c.args.self.now.ranks.now c.args.self.now.rules.now c.args.course.now.known.classes.items c.args.course.now.known.places.items before c.args.course.now.pending going.sound going.kinds going.opened c.args.class taken c.requires.kept c.add.new.self.classes.items c.add.new.self.places.items c.in_ok-add.ensures.classes c.in_ok-add.ensures.many c.in_ok-add.ensures.each
+
+pub open_new-requires-clause-few : goal.open_new-requires-clause-few
+open_new-requires-clause-few g c =
+    let (before, going, taken) = c.requires.taken in
+    subst (λ z. length z.keys ≤ c.args.self.now.most) (sym taken.sets_are) going.few
+
+pub returns-clause-going : goal.returns-clause-going
+returns-clause-going g c =
+    let (before, going, taken) = c.requires.taken in
+    record {
+      sound = c.in_ok-open_new.ensures.sound;
+      kinds = run_kinds (g.T.Theory.meaning c.args.self.now.theory.now) c.args.self.now.ranks.now c.args.self.now.rules.now c.args.course.now.known.classes.items c.args.course.now.known.places.items before c.args.course.now.pending going.sound going.kinds going.opened c.args.class taken c.requires.kept c.add.new.self.classes.items c.add.new.self.places.items c.in_ok-add.ensures.classes c.in_ok-add.ensures.many c.in_ok-add.ensures.each;
+      splits = c.in_ok-open_new.ensures.splits;
+      few = c.in_ok-open_new.ensures.few;
+      opened = run_opened (g.T.Theory.meaning c.args.self.now.theory.now) c.args.self.now.ranks.now c.args.self.now.rules.now c.args.course.now.known.classes.items c.args.course.now.known.places.items before c.args.course.now.pending going.sound going.kinds going.opened c.args.class taken c.requires.kept c.add.new.self.classes.items c.add.new.self.places.items c.in_ok-add.ensures.classes c.in_ok-add.ensures.many c.in_ok-add.ensures.each c.open_new.new.pending c.in_ok-open_new.ensures.better c.in_ok-open_new.ensures.opened;
+    }
+
+pub returns-clause-grown : goal.returns-clause-grown
+returns-clause-grown g c = ap length c.in_ok-add.ensures.classes ∙ length_push c.args.course.now.known.classes.items c.args.class
