@@ -3,7 +3,7 @@ use Rattle.std.proofs.Common.{◌≡◌, ◌⊎◌, inl, inr, ℕ, zero, suc, �
 use Rattle.std.proofs.Math.IntN.{ℤ}
 use Rattle.std.specs.List.{list_all, list_any}
 use Rattle.std.proofs.lemmas.List.{take_more, map-append}
-use Rattle.std.proofs.lemmas.List.Elements.{All-nil, All-cons, All-head, All-tail, All-append, All-weaker, Contains-append_left, Contains-append_right, Contains-append_cases}
+use Rattle.std.proofs.lemmas.List.Elements.{All-nil, All-cons, All-head, All-tail, All-append, Contains-append_left, Contains-append_right, Contains-append_cases}
 use Rattle.model_tree.specs.Label.{Label}
 use Rattle.model_tree.specs.Formula as plain
 use Rattle.model_tree.specs.Formula.{yes, no, atom, negation, all_of, some_of, formulas_of, no_formulas, formula, formula_holds, all_hold, some_hold, EveryAtom, EveryAtomOfAll}

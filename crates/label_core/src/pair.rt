@@ -1,8 +1,11 @@
 //! Two theories side by side: a label has a part of each.
 
-ghost use Rattle.std.specs.Prelude.{◌≡◌, IfOk};
+ghost use Rattle.std.specs.Prelude.{◌≡◌, Bool, List, IfOk};
 ghost use Rattle.label_core.specs.Lit.{LitsFit};
-ghost use Rattle.label_core.specs.Pair.{OfAtom, left_lits, right_lits};
+ghost use Rattle.label_core.specs.Pair.{left_lits, right_lits, pair_meaning};
+ghost use Rattle.label_core.specs.Verdict.{DecidesAll};
+ghost use Rattle.label_core.specs.declared.pair.PairAtom.{PairAtom};
+ghost use Rattle.label_core.specs.declared.theory.Lit.{Lit};
 
 use crate::copies::Duplicate;
 use crate::theory::{Lit, Theory, Verdict};
@@ -100,6 +103,61 @@ fn right_literals<P, Q: Duplicate + Drop>(
     Ok(rights)
 }
 
+/// The verdict on what the literals say of the left part.
+fn decide_left<A: Theory, Q>(
+    theory: &A,
+    alloc: Global,
+    literals: &[Lit<PairAtom<A::Atom, Q>>],
+) -> Result<Verdict<A::Value, A::Chain>, Memory>
+    requires { LitsFit (A.atom_fits theory.now) (left_lits literals.now) }
+    ensures { IfOk result (DecidesAll (A.meaning theory.now) (left_lits literals.now)) }
+{
+    let lefts = left_literals(alloc, literals)?;
+    theory.decide(alloc, &lefts)
+}
+
+/// The verdict on what the literals say of the right part.
+fn decide_right<P, B: Theory>(
+    theory: &B,
+    alloc: Global,
+    literals: &[Lit<PairAtom<P, B::Atom>>],
+) -> Result<Verdict<B::Value, B::Chain>, Memory>
+    requires { LitsFit (B.atom_fits theory.now) (right_lits literals.now) }
+    ensures { IfOk result (DecidesAll (B.meaning theory.now) (right_lits literals.now)) }
+{
+    let rights = right_literals(alloc, literals)?;
+    theory.decide(alloc, &rights)
+}
+
+/// The verdict on literals, from those on what they say of the two parts.
+fn joined<A: Theory, B: Theory>(
+    theory: &A,
+    _other: &B,
+    left: Verdict<A::Value, A::Chain>,
+    right: Verdict<B::Value, B::Chain>,
+) -> Verdict<PairValue<A::Value, B::Value>, PairChain<A::Chain, B::Chain>>
+    ensures { (equal : PairAtom A.Atom B.Atom → PairAtom A.Atom B.Atom → Bool) (literals : List (Lit (PairAtom A.Atom B.Atom))) → DecidesAll (A.meaning theory.now) (left_lits literals) left → DecidesAll (B.meaning _other.now) (right_lits literals) right → DecidesAll (pair_meaning (A.meaning theory.now) (B.meaning _other.now) equal) literals result }
+{
+    match left {
+        Verdict::Unsat => Verdict::Unsat,
+        Verdict::Sat(left) => match right {
+            Verdict::Unsat => Verdict::Unsat,
+            Verdict::Sat(right) => Verdict::Sat(PairValue { left, right }),
+            Verdict::Wide(chain) => Verdict::Wide(PairChain::Right(chain)),
+        },
+        Verdict::Wide(left) => match right {
+            Verdict::Unsat => Verdict::Unsat,
+            Verdict::Sat(_) => Verdict::Wide(PairChain::Left(left)),
+            Verdict::Wide(right) => {
+                if theory.far(&left) {
+                    return Verdict::Wide(PairChain::Right(right));
+                }
+                Verdict::Wide(PairChain::Left(left))
+            }
+        },
+    }
+}
+
 impl<A: Theory, B: Theory> Theory for Pair<A, B> {
     type Atom = PairAtom<A::Atom, B::Atom>;
 
@@ -145,28 +203,9 @@ impl<A: Theory, B: Theory> Theory for Pair<A, B> {
         alloc: Global,
         literals: &[Lit<PairAtom<A::Atom, B::Atom>>],
     ) -> Result<Verdict<PairValue<A::Value, B::Value>, PairChain<A::Chain, B::Chain>>, Memory> {
-        let lefts = left_literals(alloc, literals)?;
-        let rights = right_literals(alloc, literals)?;
-        let left = self.left.decide(alloc, &lefts)?;
-        let right = self.right.decide(alloc, &rights)?;
-        match left {
-            Verdict::Unsat => Ok(Verdict::Unsat),
-            Verdict::Sat(left) => match right {
-                Verdict::Unsat => Ok(Verdict::Unsat),
-                Verdict::Sat(right) => Ok(Verdict::Sat(PairValue { left, right })),
-                Verdict::Wide(chain) => Ok(Verdict::Wide(PairChain::Right(chain))),
-            },
-            Verdict::Wide(left) => match right {
-                Verdict::Unsat => Ok(Verdict::Unsat),
-                Verdict::Sat(_) => Ok(Verdict::Wide(PairChain::Left(left))),
-                Verdict::Wide(right) => {
-                    if self.left.far(&left) {
-                        return Ok(Verdict::Wide(PairChain::Right(right)));
-                    }
-                    Ok(Verdict::Wide(PairChain::Left(left)))
-                }
-            },
-        }
+        let left = decide_left(&self.left, alloc, literals)?;
+        let right = decide_right(&self.right, alloc, literals)?;
+        Ok(joined(&self.left, &self.right, left, right))
     }
 
     fn copy_value(

@@ -1,4 +1,4 @@
-use Rattle.std.proofs.Common.{◌≡◌, ◌∙◌, ◌<◌, rules, arith, [], take, take_all, map, sym, ap, subst, Ok, Err}
+use Rattle.std.proofs.Common.{◌∙◌, ◌<◌, rules, arith, [], take_all, map, sym, ap, subst}
 use Rattle.std.specs.Prelude.{FitsSigned}
 use Rattle.std.specs.Int.{w128}
 use Rattle.std.proofs.lemmas.Int.{to_z-of_z}
@@ -6,7 +6,7 @@ use Rattle.std.proofs.lemmas.Result.{IfOk-weaker}
 use Rattle.model_tree.specs.Formula.{atom, negation, all_of, some_of, formulas_of}
 use Rattle.label_core.specs.Formula.{plain_formula}
 use Rattle.label_core.specs.Maps.{IsPut}
-use Rattle.label_core.specs.Puts.{IsOverMade, OfSome, OfSomePart, AreEachPut}
+use Rattle.label_core.specs.Puts.{IsOverMade, OfSome, AreEachPut}
 use Rattle.label_core.specs.declared.labels.Put.TheVariants as put
 use Rattle.label_core.proofs.Formulas.{plain_and, plain_or}
 use Rattle.label_core.proofs.Joined.{weight, lighter_and, lighter_or, over_and, over_or, none_put, more_put, outside_part, put_all, put_some, put_not, put_atom, put_as, IsPutFor}

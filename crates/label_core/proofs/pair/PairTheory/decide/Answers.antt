@@ -1,57 +1,12 @@
-use Rattle.std.proofs.Common.{◌≡◌, true, false, ◌∙◌, sym, subst}
-use Rattle.label_core.proofs.Joins.{none_left, none_right, far_left, far_right}
-use Rattle.label_core.proofs.Pairs.{whole, left_fit, right_fit, left_atoms, right_atoms}
+use Rattle.std.proofs.Common.{true}
+use Rattle.label_core.proofs.Pairs.{left_fit, right_fit}
 use Rattle.label_core.proofs.pair.PairTheory.decide.Goals as goal
 
-pub decide-requires : goal.decide-requires
-decide-requires g c = rw (c.deref.ensures.value, c.in_ok-lefts.ensures) (left_fit (g.A.Theory.atom_fits c.args.self.now.left) (g.B.Theory.atom_fits c.args.self.now.right) c.args.literals.now c.requires)
+pub decide_left-requires : goal.decide_left-requires
+decide_left-requires g c = left_fit (g.A.Theory.atom_fits c.args.self.now.left) (g.B.Theory.atom_fits c.args.self.now.right) c.args.literals.now c.requires
 
-pub decide-requires-2 : goal.decide-requires-2
-decide-requires-2 g c = rw (c.deref-2.ensures.value, c.in_ok-rights.ensures) (right_fit (g.A.Theory.atom_fits c.args.self.now.left) (g.B.Theory.atom_fits c.args.self.now.right) c.args.literals.now c.requires)
-
-pub returns-in-Unsat : goal.returns-in-Unsat
-returns-in-Unsat g c = none_left g.A.Theory.atom_holds g.B.Theory.atom_holds c.args.literals.now (g.A.Theory.meaning c.args.self.now.left).has (g.B.Theory.meaning c.args.self.now.right).has (rw (c.in-Unsat.is, c.deref.ensures.value, c.in_ok-lefts.ensures) at c.in_ok-left.ensures)
-
-pub returns-in-Unsat-right : goal.returns-in-Unsat-right
-returns-in-Unsat-right g c = none_right g.A.Theory.atom_holds g.B.Theory.atom_holds c.args.literals.now (g.A.Theory.meaning c.args.self.now.left).has (g.B.Theory.meaning c.args.self.now.right).has (rw (c.in-Unsat-right.is, c.deref-2.ensures.value, c.in_ok-rights.ensures) at c.in_ok-right.ensures)
-
-pub returns-in-Unsat-right-2 : goal.returns-in-Unsat-right-2
-returns-in-Unsat-right-2 g c = none_right g.A.Theory.atom_holds g.B.Theory.atom_holds c.args.literals.now (g.A.Theory.meaning c.args.self.now.left).has (g.B.Theory.meaning c.args.self.now.right).has (rw (c.in-Unsat-right-2.is, c.deref-2.ensures.value, c.in_ok-rights.ensures) at c.in_ok-right.ensures)
-
-pub returns-in-Sat-right : goal.returns-in-Sat-right
-returns-in-Sat-right g c =
-    let left = rw (c.in-Sat.is, c.deref.ensures.value, c.in_ok-lefts.ensures) at c.in_ok-left.ensures in
-    let right = rw (c.in-Sat-right.is, c.deref-2.ensures.value, c.in_ok-rights.ensures) at c.in_ok-right.ensures in
-    ((left.0, right.0), whole g.A.Theory.atom_holds g.B.Theory.atom_holds (g.A.Theory.label_of c.in-Sat.left) (g.B.Theory.label_of c.in-Sat-right.right) c.args.literals.now left.1 right.1)
-
-pub returns-in-Sat : goal.returns-in-Sat
-returns-in-Sat g c =
-    let left = rw (c.in-Sat.is, c.deref.ensures.value, c.in_ok-lefts.ensures) at c.in_ok-left.ensures in
-    let right = rw (c.in-Wide-right.is, c.deref-2.ensures.value, c.in_ok-rights.ensures) at c.in_ok-right.ensures in (
-      right.0,
-      (λ far. far_right g.A.Theory.atom_holds g.B.Theory.atom_holds c.args.literals.now (g.A.Theory.meaning c.args.self.now.left).has (g.B.Theory.meaning c.args.self.now.right).has (g.A.Theory.meaning c.args.self.now.left).keeps (g.B.Theory.meaning c.args.self.now.right).keeps (right.1 far) (g.A.Theory.label_of c.in-Sat.left) (g.met.A.Theory.keeps_labels c.args.self.now.left _ left.0) left.1),
-    )
-
-pub returns-in-Sat-right-2 : goal.returns-in-Sat-right-2
-returns-in-Sat-right-2 g c =
-    let left = rw (c.in-Wide.is, c.deref.ensures.value, c.in_ok-lefts.ensures) at c.in_ok-left.ensures in
-    let right = rw (c.in-Sat-right-2.is, c.deref-2.ensures.value, c.in_ok-rights.ensures) at c.in_ok-right.ensures in (
-      left.0,
-      (λ far. far_left g.A.Theory.atom_holds g.B.Theory.atom_holds c.args.literals.now (g.A.Theory.meaning c.args.self.now.left).has (g.B.Theory.meaning c.args.self.now.right).has (g.A.Theory.meaning c.args.self.now.left).keeps (g.B.Theory.meaning c.args.self.now.right).keeps (left.1 far) (g.B.Theory.label_of c.in-Sat-right-2.field-0) (g.met.B.Theory.keeps_labels c.args.self.now.right _ right.0) right.1),
-    )
-
-pub returns-then-far : goal.returns-then-far
-returns-then-far g c =
-    let left = rw (c.in-Wide.is, c.deref.ensures.value, c.in_ok-lefts.ensures) at c.in_ok-left.ensures in
-    let right = rw (c.in-Wide-right-2.is, c.deref-2.ensures.value, c.in_ok-rights.ensures) at c.in_ok-right.ensures in
-    let some = (left.1 ((c.far.ensures left.0.1).0 c.if-far.true)).0 in (
-      right.0,
-      (λ far. far_right g.A.Theory.atom_holds g.B.Theory.atom_holds c.args.literals.now (g.A.Theory.meaning c.args.self.now.left).has (g.B.Theory.meaning c.args.self.now.right).has (g.A.Theory.meaning c.args.self.now.left).keeps (g.B.Theory.meaning c.args.self.now.right).keeps (right.1 far) some.0 (some.1) some.2),
-    )
+pub decide_right-requires : goal.decide_right-requires
+decide_right-requires g c = right_fit (g.A.Theory.atom_fits c.args.self.now.left) (g.B.Theory.atom_fits c.args.self.now.right) c.args.literals.now c.requires
 
 pub returns : goal.returns
-returns g c =
-    let left = rw (c.in-Wide.is, c.deref.ensures.value, c.in_ok-lefts.ensures) at c.in_ok-left.ensures in (
-      left.0,
-      (λ far. let no : false ≡ true = sym c.if-far.false ∙ (c.far.ensures left.0.1).1 far in absurd cc),
-    )
+returns g c = c.joined.ensures (λ _ _. true) c.args.literals.now c.in_ok-left.ensures c.in_ok-right.ensures
