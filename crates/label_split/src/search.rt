@@ -4,9 +4,9 @@
 
 ghost use Rattle.std.specs.Prelude.{◌≡◌, ◌<◌, ◌+◌, ◌⊎◌, Bool, false, List, None, Some, length, IfOk, OnOk, IfSome, IfNone, All, slice_set, replicate, [], ◌∷◌};
 ghost use Rattle.label_core.specs.Meaning.{KeepsValue};
+ghost use Rattle.label_core.specs.declared.theory.Verdict.TheVariants.{Sat, Wide};
 ghost use Rattle.label_split.specs.Known.{Forces, Follows, known_at, holds_at, settled};
 ghost use Rattle.label_split.specs.Numbers.{truths_at, AreAsked, HaveSigns, IsUnsettled, IsWrong, AreLiterals};
-ghost use Rattle.label_core.specs.declared.theory.Verdict.TheVariants.{Sat, Wide};
 ghost use Rattle.label_split.specs.Search.{branch_lists, Covers, DecidesKnown, DecidesSigns, IsNearer, IsNext, Looks};
 ghost use Rattle.label_split.specs.Weights.{weight, open_weight};
 
