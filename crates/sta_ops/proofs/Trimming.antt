@@ -32,7 +32,7 @@ use Rattle.sta_theory.proofs.Lists.{none_in, first_in, later_in, append_member, 
 use Rattle.sta_theory.proofs.Parts.{part_is_made, part_keeps}
 use Rattle.sta_ops.specs.Rules.{rules_at}
 use Rattle.sta_ops.specs.Languages.{auto_of, IsMadeOfBoth}
-use Rattle.sta_ops.specs.Trimmed.{state_named, states_named, Meets, AreNamed, AreNamesOfAll, DemandedBy, DemandedByAny, renamed, IsNamedRule, AreNamedRules, IsReachedFromAny, among, demanded, AreAllNamed, IsTrimmed}
+use Rattle.sta_ops.specs.Trimmed.{state_named, states_named, Meets, AreNamed, AreNamesOfAll, DemandedBy, DemandedByAny, renamed, IsNamedRule, AreNamedRules, IsReachedFromAny, among, demanded, AreAllNamed, IsTrimmed, ReachesAll}
 use Rattle.sta_ops.proofs.Growing.{mapped}
 use Rattle.sta_ops.proofs.EachRule.{only, all_in, EachRule, each_at}
 use Rattle.sta_ops.proofs.Fitting.{PlainFits, fits_plain, rules_fit, machine_fits}
@@ -279,3 +279,29 @@ module _ {A V W : Type 0} {label_of : V → Label} {holds : A → Label → Bool
 -- the rules of a part fit
 pub part_fits : {A G H : Type 0} (m : Machine A) (first met : List ℕ) (xs : List (Vec (StaRule A) G)) (rules : List (Vec (StaRule A) H)) → plain_rules xs ≡ m.rules → All (λ those. All (RuleFits m.ranks (length m.rules)) those.items) xs → AreAllNamed m.rules first met (plain_rules rules) → RulesFit m.ranks rules
 part_fits m first met xs rules are fit all = rules_fit m.ranks m.ranks (length (plain_rules rules)) rules (plain_rules rules) refl refl refl (named_fits m.rules first met (plain_rules rules) all m.ranks (machine_fits m xs are fit))
+
+-- of a part of what one state reaches no state is out of its reach
+module _ {A : Type 0} (whole : List (List (PlainRule A))) (start : ℕ) (met : List ℕ) (rules : List (List (PlainRule A))) (all : AreAllNamed whole (start ∷ []) met rules) where
+  -- the state has a number that is reached
+  abbrev Stands : ℕ → Type 0
+  Stands s = (q : ℕ) × (q < length met) × (state_named met q ≡ s) × IsReachedFromAny rules (0 ∷ []) q
+
+  stands : (s : ℕ) → IsReachedFromAny whole (start ∷ []) s → Stands s
+  stands _ (among s at) = (0, omega (arith, ap length all.behind, length-append (start ∷ []) all.more), ap (λ l. state_named l 0) all.behind ∙ only start s at, among 0 (first_in 0 []))
+  stands _ (demanded s t from by) =
+      let (q, low, is, reached) = stands s from in
+      let (r, at_r, (d, at_d, at_t)) = by in
+      let named = all.rules_are q low in
+      let (p, at_p, p_is) = map_member (renamed met) (rules_at rules q) r (subst (λ l. Contains l r) (ap (rules_at whole) (sym is) ∙ sym named.named) at_r) in
+      let (e, at_e, e_is) = map_member (states_named met) p.demands d (subst (λ z. Contains z.demands d) (sym p_is) at_d) in
+      let (k, at_k, k_is) = map_member (state_named met) e t (subst (λ l. Contains l t) (sym e_is) at_t) in
+      (k, named.low p at_p k (e, at_e, at_k), k_is, demanded q k reached (p, at_p, (e, at_e, at_k)))
+
+  all_reached : (q : ℕ) → q < length rules → IsReachedFromAny rules (0 ∷ []) q
+  all_reached q within =
+      let low : q < length met = omega (arith, within, all.many) in
+      let (k, k_low, k_is, reached) = stands (state_named met q) (all.reached (state_named met q) (q, low, same_default met q (state_named met q) 0 low)) in
+      subst (IsReachedFromAny rules (0 ∷ [])) (met_once met all.once k q k_low low k_is) reached
+
+pub trimmed_reaches : {A : Type 0} (a c : Lang A) → IsTrimmed a c → ReachesAll c
+trimmed_reaches a c is s low = subst (λ z. IsReachedFromAny c.sta.rules (z ∷ []) s) (sym is.state_is) (all_reached a.sta.rules a.state is.met c.sta.rules is.all s low)

@@ -70,3 +70,7 @@ module _ {A : Type 0} where
     pub all : AreAllNamed a.sta.rules (a.state ∷ []) met c.sta.rules
     pub ranks_are : c.sta.ranks ≡ a.sta.ranks
     pub state_is : c.state ≡ 0
+
+-- no state is out of reach of the language's
+abbrev pub ReachesAll : {A : Type 0} → Lang A → Type 0
+ReachesAll c = (s : ℕ) → s < length c.sta.rules → IsReachedFromAny c.sta.rules (c.state ∷ []) s

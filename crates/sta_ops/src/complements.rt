@@ -8,6 +8,7 @@ ghost use Rattle.sta_classes.specs.Rules.{plain_rules};
 ghost use Rattle.sta_classes.specs.Meant.{StopsClasses};
 ghost use Rattle.sta_ops.specs.Doubled.{IsDoubledBy};
 ghost use Rattle.sta_ops.specs.Languages.{HasComplement, HasDifference, IsMadeOfBoth};
+ghost use Rattle.sta_ops.specs.Trimmed.{ReachesAll};
 
 use crate::doubled::doubled;
 use crate::joins::intersect;
@@ -72,6 +73,7 @@ pub fn complement<T: Theory>(
     requires fit { AtomsFit (T.atom_fits theory.now) a.now.sta }
     ensures language { IfOk result (HasComplement (T.meaning theory.now) a.now) }
     ensures made { IfOk result (IsMadeOfBoth (T.meaning theory.now) (T.atom_fits theory.now) a.now a.now) }
+    ensures reached { IfOk result ReachesAll }
     ensures stop { IfErr result (StopsClasses (T.meaning theory.now) a.now.sta most) }
 {
     let made = negated(theory, alloc, a, most)?;
@@ -94,6 +96,7 @@ pub fn difference<T: Theory>(
     requires second_fit { AtomsFit (T.atom_fits theory.now) b.now.sta }
     ensures language { IfOk result (HasDifference (T.meaning theory.now) a.now b.now) }
     ensures made { IfOk result (IsMadeOfBoth (T.meaning theory.now) (T.atom_fits theory.now) a.now b.now) }
+    ensures reached { IfOk result ReachesAll }
     ensures stop { IfErr result (StopsClasses (T.meaning theory.now) b.now.sta most) }
 {
     let others = complement(theory, alloc, b, most)?;

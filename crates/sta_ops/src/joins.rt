@@ -5,6 +5,7 @@ ghost use Rattle.sta_core.specs.Fits.{RulesFit};
 ghost use Rattle.sta_core.specs.Sta.{AtomsFit};
 ghost use Rattle.sta_classes.specs.Rules.{plain_rules};
 ghost use Rattle.sta_ops.specs.Languages.{HasUnion, HasIntersection, IsMadeOfBoth};
+ghost use Rattle.sta_ops.specs.Trimmed.{ReachesAll};
 
 use crate::copies::{beside, either};
 use crate::pairs::both;
@@ -74,6 +75,7 @@ pub fn union<T: Theory>(
     requires second_fit { AtomsFit (T.atom_fits theory.now) b.now.sta }
     ensures language { IfOk result (HasUnion (T.meaning theory.now) a.now b.now) }
     ensures made { IfOk result (IsMadeOfBoth (T.meaning theory.now) (T.atom_fits theory.now) a.now b.now) }
+    ensures reached { IfOk result ReachesAll }
 {
     let made = united(theory, alloc, a, b)?;
     let part = trimmed(alloc, &made)?;
@@ -122,6 +124,7 @@ pub fn intersect<T: Theory>(
     requires second_fit { AtomsFit (T.atom_fits theory.now) b.now.sta }
     ensures language { IfOk result (HasIntersection (T.meaning theory.now) a.now b.now) }
     ensures made { IfOk result (IsMadeOfBoth (T.meaning theory.now) (T.atom_fits theory.now) a.now b.now) }
+    ensures reached { IfOk result ReachesAll }
 {
     let made = intersected(theory, alloc, a, b)?;
     let part = trimmed(alloc, &made)?;
