@@ -11,7 +11,7 @@ pub mod TableFacts
 pub mod Splitting
 pub mod Ending
 pub mod Finals
-pub mod Counting
+pub mod Stopping
 pub mod Demanding
 pub mod Spaces
 pub mod Targeting

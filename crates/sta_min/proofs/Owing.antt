@@ -1,7 +1,7 @@
 -- What the least automaton owes besides.
 use Rattle.std.proofs.Common.{ℕ, suc, ◌≡◌, ◌<◌, ◌==◌, inl, inr, Bool, true, IsTrue, Vec, List, [], ◌∷◌, ◌++◌, map, nat_lt, get_or, length, All, Contains, refl, sym, ap, subst, ◌∙◌, arith, eq-eqb}
 use Rattle.std.specs.Cmp.{IsEquivalence}
-use Rattle.std.specs.List.{flat_map, list_any}
+use Rattle.std.specs.List.{flat_map, list_any, AllPairs}
 use Rattle.std.proofs.lemmas.Bool.{cases_lt, and_from}
 use Rattle.std.proofs.lemmas.Bool.Decides.{nat_tests}
 use Rattle.std.proofs.lemmas.List.{length-map, get_or_past}
@@ -155,7 +155,7 @@ module _ {A V W : Type 0} {label_of : V → Label} {holds : A → Label → Bool
         guarded (IsAmong eq laws twice) (λ a b e h. subst IsTrue (sym (same_there a b e)) h)
         (atoms_have (IsAmong eq laws twice) (among eq laws twice t.machine.rules (in_left (all_guards t.machine.rules) (all_guards t.machine.rules))))
 
-    module _ (m : Minimal A) (ranks : m.lang.sta.ranks ≡ t.machine.ranks) (are : m.lang.sta.rules ≡ rules) (state : m.lang.state ≡ length firsts) (count : m.count ≡ length firsts) (those : m.finals.items ≡ finals) where
+    module _ (m : Minimal A) (ranks : m.lang.sta.ranks ≡ t.machine.ranks) (are : m.lang.sta.rules ≡ rules) (state : m.lang.state ≡ length firsts) (count : m.count ≡ length firsts) (those : m.finals.items ≡ finals) (ascending : AllPairs (λ i j. i < j) finals) where
       least : HasLeast M own m
       least =
           subst (λ k. IsLeast t.machine.ranks M.has (auto_of holds own) (auto_of holds m.lang) k m.finals.items) (sym count)
@@ -180,4 +180,5 @@ module _ {A V W : Type 0} {label_of : V → Label} {holds : A → Label → Bool
           guards = least.guards;
           atoms = subst (λ e. EachHasEqual e (atoms_of_all (all_guards m.lang.sta.rules)) (atoms_of_all twice)) (sym own_equal) (each_equal eq laws twice m.lang.sta.rules (subst (EachRule (Guarded (IsAmong eq laws twice))) (sym are) known_rules));
         };
+        finals = subst (λ l. All (λ i. i < m.count) l × AllPairs (λ i j. i < j) l) (sym those) (subst (λ n. All (λ i. i < n) finals) (sym count) finals_low, ascending);
       }

@@ -1,20 +1,15 @@
 -- What is read of a table is all that rounds need.
-use Rattle.std.proofs.Common.{ℕ, ◌≡◌, Vec, Bool, List, length, sym, ap, subst, ◌∙◌}
+use Rattle.std.proofs.Common.{ℕ, ◌≡◌, Vec, Bool, List, length, sym, subst}
 use Rattle.model_tree.specs.Label.{Label}
-use Rattle.model_sta.specs.Automaton.{is_accepted}
 use Rattle.label_core.specs.Meaning.{Meaning}
 use Rattle.sta_core.specs.Machine.{Machine}
-use Rattle.sta_core.specs.Sta.{automaton_of}
 use Rattle.sta_classes.specs.Meant.{IsTableOf}
 use Rattle.sta_classes.specs.Plain.{PlainTable, HasKinds}
-use Rattle.sta_theory.specs.Contexts.{IsCount}
 use Rattle.sta_min.specs.Kinds.{nested, AreOfAllPlaces}
-use Rattle.sta_min.specs.Tables.{kind_table, IsSpace, IsPartition}
+use Rattle.sta_min.specs.Tables.{IsSpace}
 use Rattle.sta_min.specs.Values.{TellAllApart}
-use Rattle.sta_min.proofs.Counting.{is_counted}
-use Rattle.sta_min.proofs.Ending.{are_facts}
 
-module _ {A V W : Type 0} {label_of : V → Label} {holds : A → Label → Bool} (M : Meaning label_of holds W) (keeps_labels : (l : Label) → M.keeps l → M.has l) (sta : Machine A) (t u : PlainTable A V) (same : u ≡ t) (machine : t.machine ≡ sta)
+module _ {A V W : Type 0} {label_of : V → Label} {holds : A → Label → Bool} (M : Meaning label_of holds W) (sta : Machine A) (t u : PlainTable A V) (same : u ≡ t) (machine : t.machine ≡ sta)
     (values : List (List V)) (tell : TellAllApart M u.machine.rules (length u.machine.ranks) values) where
   pub space_from : IsTableOf M sta t → HasKinds holds t → {G H : Type 0} (ranks : List ℕ) → ranks ≡ t.machine.ranks → (kinds given : List (Vec (Vec ℕ G) H)) → AreOfAllPlaces t ranks (length ranks) kinds → given ≡ kinds → IsSpace label_of holds u values (nested given) M
   space_from table has_kinds ranks is kinds given are deref =
@@ -26,10 +21,3 @@ module _ {A V W : Type 0} {label_of : V → Label} {holds : A → Label → Bool
         many = here.many;
         of_kinds = here.each;
       })
-
-  -- as many blocks as trees can be told apart
-  pub counted_from : (kinds : List (List (List ℕ))) → IsSpace label_of holds u values kinds M → (start : ℕ) (firsts dense : List ℕ) → IsPartition M.has (kind_table label_of holds u values kinds) start firsts dense
-      → IsCount sta.ranks M.has (λ x. is_accepted (automaton_of holds sta) x start) (length firsts)
-  counted_from kinds space start firsts dense is =
-      subst (λ m. IsCount m.ranks M.has (λ x. is_accepted (automaton_of holds m) x start) (length firsts)) (ap (λ z. z.machine) same ∙ machine)
-      (is_counted M.has (kind_table label_of holds u values kinds) (are_facts M u keeps_labels values kinds space) space.table.sets.apart start firsts dense is)

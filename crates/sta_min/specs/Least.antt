@@ -1,5 +1,6 @@
 -- What the least automaton of a language is.
-use Rattle.std.specs.Prelude.{ℕ, ◌≡◌, Bool, List, [], get_or, Contains}
+use Rattle.std.specs.Prelude.{ℕ, ◌≡◌, ◌<◌, Bool, List, [], get_or, All, Contains}
+use Rattle.std.specs.List.{AllPairs}
 use Rattle.model_tree.specs.Label.{Label}
 use Rattle.model_tree.specs.Tree.{Tree}
 use Rattle.model_sta.specs.Automaton.{Rule, rules_of}
@@ -21,6 +22,10 @@ module _ {L : Type 0} (ranks : List ℕ) (D : L → Type 0) where
   abbrev pub DemandsLittle : Auto L → Auto L → Type 0
   DemandsLittle a c = (i : ℕ) (r : Rule L) → Contains (rules_of c.rules i) r → (j : ℕ) → HasOneKind a.rules r.constructor j → get_or r.demands j [] ≡ []
 
+-- the final ones of the first states, in ascending order, so each once
+abbrev pub ListsFinals : {A : Type 0} → Minimal A → Type 0
+ListsFinals m = All (λ i. i < m.count) m.finals.items × AllPairs (λ i j. i < j) m.finals.items
+
 module _ {A V W : Type 0} {label_of : V → Label} {holds : A → Label → Bool} (M : Meaning label_of holds W) where
   -- the least automaton of the language, as many states before the last one, and which of these are final
   abbrev pub HasLeast : Lang A → Minimal A → Type 0
@@ -33,3 +38,4 @@ module _ {A V W : Type 0} {label_of : V → Label} {holds : A → Label → Bool
     pub least : HasLeast a m
     pub little : HasLittle a m
     pub made : IsMadeOfBoth M fits a a m.lang
+    pub finals : ListsFinals m

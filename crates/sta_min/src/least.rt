@@ -10,7 +10,7 @@ ghost use Rattle.sta_classes.specs.Plain.{HasKinds};
 ghost use Rattle.sta_classes.specs.Rows.{lists_of};
 ghost use Rattle.sta_classes.specs.Rules.{plain_rules};
 ghost use Rattle.sta_ops.specs.Languages.{IsMadeOfBoth};
-ghost use Rattle.sta_min.specs.Least.{HasLeast, HasLittle, IsMinimalOf};
+ghost use Rattle.sta_min.specs.Least.{HasLeast, HasLittle, ListsFinals, IsMinimalOf};
 ghost use Rattle.sta_min.specs.Steps.{IsRead};
 ghost use Rattle.sta_min.specs.Written.{AreBlocksOf, AreAllRules};
 
@@ -29,7 +29,7 @@ use sta_core::{Lang, Sta, StaRule};
 use std::alloc::Global;
 
 /// A language as the last state of an automaton. The states before it are those of the least deterministic and complete
-/// automaton, and the language is that of the final ones among them.
+/// automaton, and the language is that of the final ones among them, which are listed in ascending order.
 #[derive(Drop)]
 pub struct Minimal<A> {
     pub lang: Lang<A>,
@@ -127,6 +127,7 @@ pub fn minimize<T: Theory>(
     requires fit { AtomsFit (T.atom_fits theory.now) a.now.sta }
     ensures least { IfOk result (HasLeast (T.meaning theory.now) a.now) }
     ensures little { IfOk result (HasLittle (T.meaning theory.now) a.now) }
+    ensures finals { IfOk result ListsFinals }
     ensures made { IfOk result (λ m. IsMadeOfBoth (T.meaning theory.now) (T.atom_fits theory.now) a.now a.now m.lang) }
     ensures stop { IfErr result (StopsClasses (T.meaning theory.now) a.now.sta most) }
 {

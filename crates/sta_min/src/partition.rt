@@ -1,6 +1,7 @@
 //! Blocks of classes that no context tells apart.
 
 ghost use Rattle.std.specs.Prelude.{ℕ, ◌≡◌, ◌<◌, ◌^◌, [], length, get_or, All, IfOk};
+ghost use Rattle.std.specs.List.{AllPairs};
 ghost use Rattle.model_sta.specs.Sets.{has};
 ghost use Rattle.sta_classes.specs.Plain.{class_row};
 ghost use Rattle.sta_classes.specs.Rows.{lists_of};
@@ -34,7 +35,7 @@ fn start_blocks<A, V>(alloc: Global, table: &Table<A, V>, state: u64) -> Result<
     Ok(blocks)
 }
 
-/// The numbers of the blocks whose first classes have the state.
+/// The numbers of the blocks whose first classes have the state, in ascending order.
 pub fn finals_of<A, V>(
     alloc: Global,
     table: &Table<A, V>,
@@ -44,6 +45,7 @@ pub fn finals_of<A, V>(
     requires few { length firsts.now < 2 ^ 32 }
     requires known { All (λ k. k < length table.now.found) firsts.now }
     ensures low { IfOk result (λ finals. All (λ i. i < length firsts.now) finals.items) }
+    ensures ascending { IfOk result (λ finals. AllPairs (λ i j. i < j) finals.items) }
     ensures finals { IfOk result (λ finals. (i : ℕ) → i < length firsts.now → is_among finals.items i ≡ has (class_row table.now (get_or firsts.now i 0)) state) }
 {
     let mut finals = Vec::new(alloc);

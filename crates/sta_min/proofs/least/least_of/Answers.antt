@@ -15,7 +15,7 @@ use Rattle.sta_min.proofs.least.least_of.Goals as goal
 pub partition-requires-clause-space : goal.partition-requires-clause-space
 partition-requires-clause-space g c =
     let t = c.args.steps.now.table.now in
-    space_from (g.T.Theory.meaning c.args.theory.now) (g.met.T.Theory.keeps_labels c.args.theory.now) t.machine t t refl refl (lists_of c.args.steps.now.values.items) c.requires.read.values c.requires.read.table c.requires.kinds c.args.ranks.now c.requires.ranks
+    space_from (g.T.Theory.meaning c.args.theory.now) t.machine t t refl refl (lists_of c.args.steps.now.values.items) c.requires.read.values c.requires.read.table c.requires.kinds c.args.ranks.now c.requires.ranks
     c.in_ok-kinds.kinds.items c.deref.result.now c.in_ok-kinds.ensures c.deref.ensures.value
 
 pub finals_of-requires-clause-known : goal.finals_of-requires-clause-known
@@ -26,7 +26,7 @@ finals_of-requires-clause-known g c =
     let values = lists_of c.args.steps.now.values.items in
     let blocks = c.in_ok-blocks.blocks in
     let space : IsSpace g.T.Theory.label_of g.T.Theory.atom_holds t values (nested c.deref.result.now) M =
-    space_from M keeps t.machine t t refl refl values c.requires.read.values c.requires.read.table c.requires.kinds c.args.ranks.now c.requires.ranks c.in_ok-kinds.kinds.items c.deref.result.now c.in_ok-kinds.ensures c.deref.ensures.value in
+    space_from M t.machine t t refl refl values c.requires.read.values c.requires.read.table c.requires.kinds c.args.ranks.now c.requires.ranks c.in_ok-kinds.kinds.items c.deref.result.now c.in_ok-kinds.ensures c.deref.ensures.value in
     subst (All (λ k. k < length t.found)) (sym c.deref-2.ensures.value)
     (are_blocks M keeps g.T.Atom.PartialEq.eq t values (nested c.deref.result.now) space c.args.state blocks.firsts.items blocks.dense.items c.in_ok-blocks.ensures.partition c.in_ok-blocks.ensures.few).known
 
@@ -38,7 +38,7 @@ block_rules-requires-clause-blocks g c =
     let values = lists_of c.args.steps.now.values.items in
     let blocks = c.in_ok-blocks.blocks in
     let space : IsSpace g.T.Theory.label_of g.T.Theory.atom_holds t values (nested c.deref.result.now) M =
-    space_from M keeps t.machine t t refl refl values c.requires.read.values c.requires.read.table c.requires.kinds c.args.ranks.now c.requires.ranks c.in_ok-kinds.kinds.items c.deref.result.now c.in_ok-kinds.ensures c.deref.ensures.value in
+    space_from M t.machine t t refl refl values c.requires.read.values c.requires.read.table c.requires.kinds c.args.ranks.now c.requires.ranks c.in_ok-kinds.kinds.items c.deref.result.now c.in_ok-kinds.ensures c.deref.ensures.value in
     are_blocks M keeps g.T.Atom.PartialEq.eq t values (nested c.deref.result.now) space c.args.state blocks.firsts.items blocks.dense.items c.in_ok-blocks.ensures.partition c.in_ok-blocks.ensures.few
 
 pub block_rules-requires-clause-finals : goal.block_rules-requires-clause-finals
@@ -55,7 +55,7 @@ lang_of-requires g c =
     let blocks = c.in_ok-blocks.blocks in
     let finals = c.in_ok-finals.finals.items in
     let space : IsSpace g.T.Theory.label_of g.T.Theory.atom_holds t values (nested c.deref.result.now) M =
-    space_from M keeps t.machine t t refl refl values c.requires.read.values c.requires.read.table c.requires.kinds c.args.ranks.now c.requires.ranks c.in_ok-kinds.kinds.items c.deref.result.now c.in_ok-kinds.ensures c.deref.ensures.value in
+    space_from M t.machine t t refl refl values c.requires.read.values c.requires.read.table c.requires.kinds c.args.ranks.now c.requires.ranks c.in_ok-kinds.kinds.items c.deref.result.now c.in_ok-kinds.ensures c.deref.ensures.value in
     let low : All (λ i. i < length blocks.firsts.items) finals = subst (λ l. All (λ i. i < length l) finals) c.deref-2.ensures.value c.in_ok-finals.ensures.low in
     let all : AreAllRules g.T.Atom.PartialEq.eq g.T.Theory.label_of g.T.Theory.atom_holds t values blocks.firsts.items blocks.dense.items finals (plain_rules c.in_ok-rules.rules.items) =
     subst (λ l. AreAllRules g.T.Atom.PartialEq.eq g.T.Theory.label_of g.T.Theory.atom_holds t values blocks.firsts.items blocks.dense.items l (plain_rules c.in_ok-rules.rules.items)) c.deref-3.ensures.value c.in_ok-rules.ensures in
@@ -70,7 +70,7 @@ returns g c =
     let blocks = c.in_ok-blocks.blocks in
     let finals = c.in_ok-finals.finals.items in
     let space : IsSpace g.T.Theory.label_of g.T.Theory.atom_holds t values (nested c.deref.result.now) M =
-    space_from M keeps t.machine t t refl refl values c.requires.read.values c.requires.read.table c.requires.kinds c.args.ranks.now c.requires.ranks c.in_ok-kinds.kinds.items c.deref.result.now c.in_ok-kinds.ensures c.deref.ensures.value in
+    space_from M t.machine t t refl refl values c.requires.read.values c.requires.read.table c.requires.kinds c.args.ranks.now c.requires.ranks c.in_ok-kinds.kinds.items c.deref.result.now c.in_ok-kinds.ensures c.deref.ensures.value in
     let low : All (λ i. i < length blocks.firsts.items) finals = subst (λ l. All (λ i. i < length l) finals) c.deref-2.ensures.value c.in_ok-finals.ensures.low in
     let all : AreAllRules g.T.Atom.PartialEq.eq g.T.Theory.label_of g.T.Theory.atom_holds t values blocks.firsts.items blocks.dense.items finals (plain_rules c.in_ok-rules.rules.items) =
     subst (λ l. AreAllRules g.T.Atom.PartialEq.eq g.T.Theory.label_of g.T.Theory.atom_holds t values blocks.firsts.items blocks.dense.items l (plain_rules c.in_ok-rules.rules.items)) c.deref-3.ensures.value c.in_ok-rules.ensures in
@@ -79,4 +79,4 @@ returns g c =
     let count : c.len-count.result ≡ length blocks.firsts.items = omega (arith, c.len-count.ensures, blocks.firsts.ok.0) in
     is_minimal M keeps g.T.Atom.PartialEq.eq t values (nested c.deref.result.now) space c.args.state blocks.firsts.items blocks.dense.items c.in_ok-blocks.ensures.partition finals low (plain_rules c.in_ok-rules.rules.items) all
     (g.met.T.Theory.equal_is_own c.args.theory.now) g.met.T.Atom.Eq.laws (g.T.Theory.atom_fits c.args.theory.now) (g.met.T.Theory.equal_atoms_fit c.args.theory.now) c.requires.atoms are_final
-    (record { lang = c.in_ok-lang.lang; finals = c.in_ok-finals.finals; count = c.len-count.result }) (c.in_ok-lang.ensures.ranks ∙ c.requires.ranks) c.in_ok-lang.ensures.rules (c.in_ok-lang.ensures.state ∙ count) count refl
+    (record { lang = c.in_ok-lang.lang; finals = c.in_ok-finals.finals; count = c.len-count.result }) (c.in_ok-lang.ensures.ranks ∙ c.requires.ranks) c.in_ok-lang.ensures.rules (c.in_ok-lang.ensures.state ∙ count) count refl c.in_ok-finals.ensures.ascending

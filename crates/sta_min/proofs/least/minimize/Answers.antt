@@ -8,7 +8,7 @@ use Rattle.sta_classes.specs.Plain.{HasKinds}
 use Rattle.sta_classes.specs.Rules.{plain_rules}
 use Rattle.sta_classes.specs.Stop.{ClassStopsFor}
 use Rattle.sta_min.specs.Least.{IsMinimalOf}
-use Rattle.sta_min.proofs.Counting.{any_stop}
+use Rattle.sta_min.proofs.Stopping.{any_stop}
 use Rattle.sta_min.proofs.least.minimize.Goals as goal
 
 pub returns-in_err-steps-clause-stop : goal.returns-in_err-steps-clause-stop
@@ -45,3 +45,6 @@ returns-clause-little g c =
 pub returns-clause-made : goal.returns-clause-made
 returns-clause-made g c =
     (subst (λ m. IsMinimalOf (g.T.Theory.meaning c.args.theory.now) (g.T.Theory.atom_fits c.args.theory.now) (record { sta = m; state = c.args.a.now.state }) c.in_ok-made.made) (ap (λ t. t.machine) c.in_ok-steps.ensures.table ∙ c.in_ok-table.ensures.machine) c.in_ok-made.ensures).made
+
+pub returns-clause-finals : goal.returns-clause-finals
+returns-clause-finals g c = c.in_ok-made.ensures.finals

@@ -21,6 +21,9 @@ returns-clause-low g c =
     finals_low (λ i. has (class_row c.args.table.now (get_or c.args.firsts.now i 0)) c.args.state) (length c.args.firsts.now) c.firsts.finals.items
     (subst (λ n. AreFinals (λ i. has (class_row c.args.table.now (get_or c.args.firsts.now i 0)) c.args.state) n c.firsts.finals.items) (let e : c.firsts.i ≡ length c.args.firsts.now = omega (arith, c.firsts-test.false, c.firsts.auto.i-end) in e) c.firsts.invariant)
 
+pub returns-clause-ascending : goal.returns-clause-ascending
+returns-clause-ascending g c = c.firsts.invariant.ascending
+
 pub returns-clause-finals : goal.returns-clause-finals
 returns-clause-finals g c =
     finals_are (λ i. has (class_row c.args.table.now (get_or c.args.firsts.now i 0)) c.args.state) (length c.args.firsts.now) c.firsts.finals.items
