@@ -4,7 +4,7 @@ use Rattle.std.proofs.Math.IntN.{ℤ, pos, negsuc, neg_ℤ, ◌+ℤ◌, ◌*ℤ�
 use Rattle.std.specs.Prelude.{◌≤ℤ◌}
 use Rattle.std.proofs.lemmas.Int.{ints}
 use Rattle.std.proofs.lemmas.List.{length-replicate}
-use Rattle.std.proofs.lemmas.List.Elements.{All-append, All-cons, All-nil}
+use Rattle.std.proofs.lemmas.List.Elements.{All-append, All-cons, All-head, All-nil, All-tail}
 use Rattle.math_cooper.specs.Line.{AtLeastZero, Meets}
 use Rattle.math_cooper.specs.System.{Condition, Holds, Solves, dot}
 use Rattle.math_int.proofs.Laws.{le-times, neg-times}
@@ -26,6 +26,12 @@ dot_single n i a f g vs e h l m = subst (λ x. dot x vs ≡ a *ℤ get_or vs i (
 
 pub one_more : (vs : List ℤ) (S T : List Condition) (x : Condition) → T ≡ S ++ x ∷ [] → Solves vs S → Holds vs x → Solves vs T
 one_more vs S T x e h g = subst (Solves vs) (sym e) (All-append (Holds vs) S (x ∷ []) h (All-cons (Holds vs) x [] g (All-nil (Holds vs))))
+
+pub one_less : (vs : List ℤ) (S : List Condition) (x : Condition) → Solves vs (S ++ x ∷ []) → Solves vs S × Holds vs x
+one_less vs [] x h = (All-nil (Holds vs), All-head (Holds vs) x [] h)
+one_less vs (y ∷ S) x h =
+    let rest = one_less vs S x (All-tail (Holds vs) y (S ++ x ∷ []) h) in
+    (All-cons (Holds vs) y S (All-head (Holds vs) y (S ++ x ∷ []) h) rest.0, rest.1)
 
 -- a condition with the row of one variable
 pub bound_of : (c : Condition) (vs : List ℤ) (t k x : ℤ) (row : List ℤ) → c.kind ≡ AtLeastZero → c.constant ≡ k → c.coefficients ≡ row → dot row vs ≡ t *ℤ x → Holds vs c → pos 0 ≤ℤ ((t *ℤ x) +ℤ k)

@@ -21,8 +21,8 @@ pub(crate) struct Scale {
 }
 
 impl Line {
-    fn sheared(&self, alloc: Global, shear: Shear) -> Result<Line, Stop> {
-        let mut coefficients = Vec::from_slice(alloc, &self.coefficients)?;
+    fn sheared(self, shear: Shear) -> Result<Line, Stop> {
+        let mut coefficients = self.coefficients;
         if shear.by >= coefficients.len() || shear.of >= coefficients.len() {
             return Err(Stop::TooWide);
         }
@@ -55,10 +55,10 @@ impl Line {
 }
 
 /// The lines after the change of one variable by another.
-pub(crate) fn shear_all(alloc: Global, lines: &[Line], shear: Shear) -> Result<Vec<Line>, Stop> {
+pub(crate) fn shear_all(alloc: Global, lines: Vec<Line>, shear: Shear) -> Result<Vec<Line>, Stop> {
     let mut out = Vec::new(alloc);
     for line in lines {
-        out.push(line.sheared(alloc, shear)?)?;
+        out.push(line.sheared(shear)?)?;
     }
     Ok(out)
 }

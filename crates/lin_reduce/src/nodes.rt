@@ -25,9 +25,6 @@ const MOST: usize = 6000;
 
 const MOST_ENDS: usize = 10;
 
-// How many conditions are summed before a linear program is tried.
-const MOST_SUMMED: usize = 12;
-
 // How many linear programs are solved to find values of one system.
 const MOST_TRIED: usize = 60;
 
@@ -103,16 +100,16 @@ impl Node {
     }
 
     // The system with a new variable, which is the old one less so many times another.
-    fn sheared(&self, alloc: Global, shear: Shear, count: usize) -> Result<Node, Stop>
-        ensures { MatchResult result (λ x. IsSolvable count self.now.system.items → IsSolvable count x.system.items) (λ _. Unit {0}) }
+    fn sheared(self, alloc: Global, shear: Shear, count: usize) -> Result<Node, Stop>
+        ensures { MatchResult result (λ x. IsSolvable count self.system.items → IsSolvable count x.system.items) (λ _. Unit {0}) }
     {
         if shear.of >= count || shear.by >= count {
             return Err(Stop::TooWide);
         }
-        let system = sheared_each(alloc, &self.system, shear)?;
+        let system = sheared_each(alloc, self.system, shear)?;
         Ok(Node {
             system,
-            parts: shear_all(alloc, &self.parts, shear)?,
+            parts: shear_all(alloc, self.parts, shear)?,
             cuts: self.cuts,
         })
     }
@@ -334,38 +331,35 @@ impl Node {
         }
     }
 
-    // What is found where no variable was cut: of many conditions first by the linear program.
+    // What is found of inequalities alone, of which no variable was cut.
     fn uncut(&self, alloc: Global, count: usize) -> Result<Look, Stop>
         ensures { MatchResult result (TellsLook self.now.system.items) (λ _. Unit {0}) }
     {
-        if self.system.len() > MOST_SUMMED {
-            match self.by_space(alloc, count, false)? {
-                Look::Open => {}
-                found => return Ok(found),
-            }
+        match self.by_space(alloc, count, false)? {
+            Look::Open => {}
+            found => return Ok(found),
         }
         match self.by_sums(alloc, count)? {
             Look::Open => {}
             found => return Ok(found),
         }
         match self.by_equations(alloc, count)? {
-            Look::Open => {}
-            found => return Ok(found),
-        }
-        match first_equation(&self.system) {
-            Some(place) => Ok(Look::Solve(place)),
-            None => self.by_space(alloc, count, true),
+            Look::Open => self.by_space(alloc, count, true),
+            found => Ok(found),
         }
     }
 
-    // What is found where no variable is split any more.
+    // What is found where no variable is split any more. Equations are solved before a linear program is made: with them it has
+    // no room, and rational values are hard to round.
     fn ended(&self, alloc: Global, count: usize) -> Result<Look, Stop>
         ensures { MatchResult result (TellsLook self.now.system.items) (λ _. Unit {0}) }
     {
-        if self.cuts == 0 {
-            self.uncut(alloc, count)
-        } else {
-            self.by_space(alloc, count, true)
+        if self.cuts > 0 {
+            return self.by_space(alloc, count, true);
+        }
+        match first_equation(&self.system) {
+            Some(place) => Ok(Look::Solve(place)),
+            None => self.uncut(alloc, count),
         }
     }
 

@@ -34,7 +34,9 @@ fn is_bound(alloc: Global, condition: &Constraint, bound: Bound, count: usize) -
     let Relation::AtLeast = condition.relation else {
         return Ok(false);
     };
-    if condition.constant != bound.constant {
+    if condition.constant != bound.constant
+        || condition.coefficients.get(bound.of).copied() != Some(bound.times)
+    {
         return Ok(false);
     }
     let row = single(alloc, count, bound.of, bound.times)?;
@@ -147,6 +149,9 @@ fn is_settled(condition: &Constraint) -> bool {
 }
 
 fn has_opposite(system: &[Constraint], condition: &Constraint) -> bool {
+    if let Relation::Divided(_) = condition.relation {
+        return false;
+    }
     for other in system {
         if are_opposite(condition, other) {
             return true;
@@ -159,7 +164,7 @@ fn has_opposite(system: &[Constraint], condition: &Constraint) -> bool {
 pub(crate) fn first_equation(system: &[Constraint]) -> Option<usize> {
     for place in 0..system.len() {
         let condition = &system[place];
-        if !is_settled(condition) && has_opposite(system, condition) {
+        if has_opposite(system, condition) && !is_settled(condition) {
             return Some(place);
         }
     }

@@ -84,6 +84,11 @@ pub(crate) fn scaled_each(
 
 /// By how many remainders a variable with this coefficient is to be split.
 pub(crate) fn times_for(coefficient: i128, divisor: i128) -> i128 {
+    match coefficient {
+        0 => return 1,
+        1 | -1 => return divisor,
+        _ => {}
+    }
     let common = gcd(coefficient, divisor).unwrap_or(1);
     divisor.checked_div(common).unwrap_or(1)
 }

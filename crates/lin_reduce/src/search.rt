@@ -70,7 +70,7 @@ fn narrowed(alloc: Global, given: Vec<Line>, place: usize) -> Result<Vec<Line>, 
         }
         match shear_for(&lines[place]) {
             None => return Ok(lines),
-            Some(shear) => lines = shear_all(alloc, &lines, shear)?,
+            Some(shear) => lines = shear_all(alloc, lines, shear)?,
         }
     }
     Err(Stop::TooWide)

@@ -11,10 +11,10 @@ use cooper_solve::{Constraint, Relation};
 use std::alloc::Global;
 
 // The condition with a new variable.
-fn sheared(alloc: Global, condition: &Constraint, shear: Shear) -> Result<Constraint, Stop>
-    ensures { MatchResult result (λ r. (vs : List ℤ) (w : ℤ) → IsSheared shear vs w → Holds vs condition.now → Holds (slice_set vs shear.of w) r) (λ _. Unit {0}) }
+fn sheared(condition: Constraint, shear: Shear) -> Result<Constraint, Stop>
+    ensures { MatchResult result (λ r. (vs : List ℤ) (w : ℤ) → IsSheared shear vs w → Holds vs condition → Holds (slice_set vs shear.of w) r) (λ _. Unit {0}) }
 {
-    let mut coefficients = Vec::from_slice(alloc, &condition.coefficients)?;
+    let mut coefficients = condition.coefficients;
     if shear.of >= coefficients.len() || shear.by >= coefficients.len() || shear.of == shear.by {
         return Err(Stop::TooWide);
     }
@@ -31,14 +31,14 @@ fn sheared(alloc: Global, condition: &Constraint, shear: Shear) -> Result<Constr
 /// The system with a new variable.
 pub(crate) fn sheared_each(
     alloc: Global,
-    system: &[Constraint],
+    system: Vec<Constraint>,
     shear: Shear,
 ) -> Result<Vec<Constraint>, Stop>
-    ensures { MatchResult result (λ r. (vs : List ℤ) (w : ℤ) → IsSheared shear vs w → Solves vs system.now → Solves (slice_set vs shear.of w) r.items) (λ _. Unit {0}) }
+    ensures { MatchResult result (λ r. (vs : List ℤ) (w : ℤ) → IsSheared shear vs w → Solves vs system.items → Solves (slice_set vs shear.of w) r.items) (λ _. Unit {0}) }
 {
     let mut out = Vec::new(alloc);
     for condition in system {
-        out.push(sheared(alloc, condition, shear)?)?;
+        out.push(sheared(condition, shear)?)?;
     }
     Ok(out)
 }

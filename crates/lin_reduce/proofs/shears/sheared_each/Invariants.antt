@@ -5,4 +5,4 @@ use Rattle.lin_reduce.specs.Parts.{IsSheared}
 use Rattle.lin_reduce.proofs.shears.sheared_each.Given as goal
 
 abbrev pub invariant-loop-condition : goal.invariant-loop-condition
-invariant-loop-condition l = (vs : List ℤ) (w : ℤ) → IsSheared l.shear vs w → Solves vs l.system → Solves (set vs l.shear.of w) l.out.items
+invariant-loop-condition l = (vs : List ℤ) (w : ℤ) → IsSheared l.shear vs w → Solves vs l.yielded → Solves (set vs l.shear.of w) l.out.items

@@ -1,5 +1,4 @@
-use Rattle.std.proofs.Common.{◌<◌, sym, subst, length, arith}
-use Rattle.math_cooper.specs.System.{Solves}
+use Rattle.std.proofs.Common.{◌<◌, arith}
 use Rattle.lin_reduce.proofs.Splitting.{shear_solvable}
 use Rattle.lin_reduce.proofs.nodes.Node.sheared.Goals as goal
 
@@ -8,4 +7,4 @@ returns c = λ s.
     let n = c.args.count in
     let low : c.args.shear.of < n = (let l = c.if-shear-count.false in omega arith) in
     let high : c.args.shear.by < n = (let l = c.if-shear-count-2.false in omega arith) in
-    shear_solvable n c.args.shear c.args.self.now.system.items _ low high (λ vs w part h. c.in_ok-system.ensures {u = tt} vs w part (subst (Solves vs) (sym c.deref.ensures.value) h)) s
+    shear_solvable n c.args.shear c.args.self.system.items _ low high (λ vs w part h. c.in_ok-system.ensures {u = tt} vs w part h) s
