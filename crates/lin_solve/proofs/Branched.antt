@@ -1,12 +1,12 @@
 -- Branches of values, and what is put for fields in them.
-use Rattle.std.proofs.Common.{◌≡◌, ◌⊎◌, inl, inr, ℕ, zero, suc, ◌<◌, ◌+◌, List, [], ◌∷◌, ◌++◌, length, take, get_or, Bool, true, false, refl, ap, sym, ◌∙◌, subst, arith}
+use Rattle.std.proofs.Common.{◌≡◌, ◌≢◌, ◌⊎◌, inl, inr, ℕ, zero, suc, ◌<◌, ◌+◌, List, [], ◌∷◌, ◌++◌, length, take, get_or, Bool, true, false, refl, ap, sym, ◌∙◌, subst, arith}
 use Rattle.std.proofs.Math.IntN.{ℤ, pos, ◌+ℤ◌, ◌*ℤ◌}
 use Rattle.std.specs.Prelude.{◌<ℤ◌, ◌≤ℤ◌, int_lt, FitsSigned}
 use Rattle.std.specs.Int.{w64}
 use Rattle.std.proofs.Math.ListN.{set}
 use Rattle.std.proofs.lemmas.Int.{ints}
 use Rattle.std.proofs.lemmas.List.{take_more}
-use Rattle.std.proofs.lemmas.List.Elements.{All-nil, All-cons, All-head, All-tail, All-append}
+use Rattle.std.proofs.lemmas.List.Elements.{All-nil, All-cons, All-append}
 use Rattle.model_form.specs.Form.{Form, form, Term, value, fields_of}
 use Rattle.model_form.specs.Sums.{field_form, number_form, product_form, sum_form}
 use Rattle.model_form.specs.Meaning.{AreLow, AreFormsLow, values_of}
@@ -89,12 +89,6 @@ back us k t n q low e =
 pub solves_pushed : (vs : List ℤ) (S : List Condition) (x : Condition) → Solves vs S → Holds vs x → Solves vs (S ++ x ∷ [])
 solves_pushed vs S x h own = All-append (Holds vs) S (x ∷ []) h (All-cons (Holds vs) x [] own (All-nil (Holds vs)))
 
-pub solves_parts : (vs : List ℤ) (S : List Condition) (x : Condition) → Solves vs (S ++ x ∷ []) → Solves vs S × Holds vs x
-solves_parts vs [] x h = (All-nil (Holds vs), All-head (Holds vs) x [] h)
-solves_parts vs (y ∷ S) x h =
-    let rest = solves_parts vs S x (All-tail (Holds vs) y (S ++ x ∷ []) h) in
-    (All-cons (Holds vs) y S (All-head (Holds vs) y (S ++ x ∷ []) h) rest.0, rest.1)
-
 pub never_loosened : (n : ℕ) (S K : List Condition) (r : Result Explored Memory) → ((vs : List ℤ) → Solves vs S → Solves vs K) → IfOk r (TellsNever n K) → IfOk r (TellsNever n S)
 never_loosened n S K (Ok explored.Never) f h = λ s. h (s.0, s.1, f s.0 s.2)
 never_loosened n S K (Ok (explored.Maybe values)) f h = tt
@@ -131,6 +125,14 @@ below_or_same x v l = by (int_lt x v) refl
     by : (b : Bool) → int_lt x v ≡ b → (x <ℤ v) ⊎ (x ≡ v)
     by true e = inl (omega (arith, ints))
     by false e = inr (omega (arith, ints))
+
+pub same_or_another : (x v : ℤ) → (x ≡ v) ⊎ (x ≢ v)
+same_or_another x v = by (int_lt x v) refl (int_lt v x) refl
+  where
+    by : (b : Bool) → int_lt x v ≡ b → (d : Bool) → int_lt v x ≡ d → (x ≡ v) ⊎ (x ≢ v)
+    by true e d f = inr (λ s. omega (arith, ints))
+    by false e true f = inr (λ s. omega (arith, ints))
+    by false e false f = inl (omega (arith, ints))
 
 pub before_or_from : (x t v : ℤ) → int_lt v t ≡ false → (x <ℤ v) ⊎ (t ≤ℤ x)
 before_or_from x t v past = by (int_lt x v) refl

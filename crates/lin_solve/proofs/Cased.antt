@@ -1,10 +1,12 @@
 -- Cases of values, told apart by remainders.
-use Rattle.std.proofs.Common.{◌≡◌, ◌⊎◌, inl, inr, ℕ, zero, suc, ◌<◌, ◌≤◌, ◌+◌, ◌*◌, ◌%◌, ◌/◌, ◌==◌, List, [], ◌∷◌, length, get_or, Bool, true, false, not, refl, ap, sym, ◌∙◌, subst, arith}
+use Rattle.std.proofs.Common.{◌≡◌, ◌≢◌, ◌⊎◌, inl, inr, ℕ, zero, suc, ◌<◌, ◌≤◌, ◌+◌, ◌*◌, ◌%◌, ◌/◌, ◌==◌, List, [], ◌∷◌, length, get_or, Bool, true, false, not, refl, ap, sym, ◌∙◌, subst, arith}
 use Rattle.std.proofs.Math.IntN.{ℤ, pos, ◌+ℤ◌, ◌*ℤ◌}
 use Rattle.std.proofs.Math.Nat.{div-add-mod'}
 use Rattle.std.proofs.Math.ListN.{set}
 use Rattle.std.proofs.lemmas.Int.{ints}
 use Rattle.std.proofs.lemmas.Bool.{eqb-true, eqb-false, not-false, or_parts, cases_lt}
+use Rattle.std.proofs.lemmas.Bool.Decides.{eqb_tells}
+use Rattle.std.proofs.Math.Dec.{eqb}
 use mathlib.Core.Bool.{beq}
 use Rattle.math_int.proofs.Laws.{times-add, times-assoc, times-comm, divide}
 use Rattle.model_form.specs.Form.{Form, form, Term, Remainders, no_remainders, remainder, value, remainders_value, terms_value, modulo}
@@ -165,6 +167,13 @@ below_or_last m n l = by (cases_lt m n)
     by : (m < n) ⊎ (n ≤ m) → (m < n) ⊎ (m ≡ n)
     by (inl k) = inl k
     by (inr k) = inr (omega arith)
+
+pub same_or_other : (m n : ℕ) → (m ≡ n) ⊎ (m ≢ n)
+same_or_other m n = by (eqb_tells m n)
+  where
+    by : ((eqb m n ≡ true) × (m ≡ n)) ⊎ ((eqb m n ≡ false) × (m ≢ n)) → (m ≡ n) ⊎ (m ≢ n)
+    by (inl h) = inl h.1
+    by (inr h) = inr h.1
 
 pub part_is : (c : Case) (t : Turn) (us : List ℤ) (m n : ℕ) → m ≡ n → IsPart c t m us → IsPart c t n us
 part_is c t us m n e h = subst (λ k. IsPart c t k us) e h

@@ -4,7 +4,7 @@
 //! which all holds but for remainders break a literal, and then what is put for the field makes the literals simpler. So
 //! remainders that don't matter are never told apart, however many there are.
 
-ghost use Rattle.std.specs.Prelude.{◌≡◌, ◌<◌, ◌≤◌, ◌<ℤ◌, ◌≤ℤ◌, ◌+ℤ◌, ◌*ℤ◌, ℕ, ℤ, List, IfOk, IfSome, OnOk, IsTrue, true, length, slice_index_or, slice_set, pos};
+ghost use Rattle.std.specs.Prelude.{◌≡◌, ◌≢◌, ◌<◌, ◌≤◌, ◌<ℤ◌, ◌≤ℤ◌, ◌+ℤ◌, ◌*ℤ◌, ℕ, ℤ, List, IfOk, IfSome, OnOk, IsTrue, true, length, slice_index_or, slice_set, pos};
 ghost use Rattle.label_core.specs.declared.theory.Lit.{Lit as OneLit};
 ghost use Rattle.math_cooper.specs.System.{Solves};
 ghost use Rattle.model_form.specs.Form.{value};
@@ -17,7 +17,7 @@ ghost use Rattle.lin_solve.specs.Sought.{IsSidedAt, TellsExplored, TellsSought};
 ghost use Rattle.lin_reduce.specs.Parts.{TellsNever};
 ghost use Rattle.lin_solve.specs.Branches.{IsHeld, SomeHeld};
 
-use crate::cases::{Case, Turn};
+use crate::cases::{Case, Turn, is_lost};
 use crate::compare::{Compare, Relation};
 use crate::equations::equated;
 use crate::found::{Sought, sided, sideless};
@@ -25,7 +25,7 @@ use crate::guess::all_hold;
 use crate::numbering::remainders_of;
 use crate::over::are_over;
 use crate::puts::{forms_with, put_each};
-use crate::splits::{Split, best_split, split_of};
+use crate::splits::{Split, Values, best_split, split_of};
 use crate::system::{first_system, needs_side};
 use cooper_solve::{Constraint, Relation as Kind};
 use fast_fault::{LabelInt, Memory};
@@ -164,6 +164,43 @@ fn first_plain_broken(literals: &[Lit<Compare>], values: &[LabelInt]) -> Option<
     None
 }
 
+// Whether a literal has no fields and doesn't hold.
+fn some_never_holds(literals: &[Lit<Compare>]) -> bool
+    ensures { IsTrue result → (us : List ℤ) → length us ≡ 8 → HoldsAll (plain_literals literals.now) us → ⊥ }
+{
+    let all = Case::all();
+    for i in 0..literals.len() {
+        if is_lost(&literals[i], &all) {
+            return true;
+        }
+    }
+    false
+}
+
+// The branch at the end, unless one of its literals never holds.
+fn push_branch(
+    alloc: Global,
+    case: Case,
+    literals: Vec<Lit<Compare>>,
+    pending: &mut Vec<Branch>,
+) -> Result<(), FormStop>
+    ensures held { OnOk result ((us : List ℤ) → length us ≡ 8 → HoldsAll (plain_literals literals.items) us → SomeHeld pending.new.items) }
+    ensures kept { OnOk result (SomeHeld pending.old.items → SomeHeld pending.new.items) }
+{
+    if some_never_holds(&literals) {
+        return Ok(());
+    }
+    let own = equated(alloc, literals)?;
+    if some_never_holds(&own) {
+        return Ok(());
+    }
+    pending.push(Branch {
+        case,
+        literals: own,
+    })?;
+    Ok(())
+}
+
 impl Branch {
     // The part of the branch in which the field is so many times another, and a number, at the end.
     fn push_part(
@@ -186,16 +223,37 @@ impl Branch {
         };
         let forms = forms_for(alloc, split, number)?;
         let put = put_each(alloc, &self.literals, &forms)?;
-        let literals = equated(alloc, put)?;
-        pending.push(Branch { case, literals })?;
+        push_branch(alloc, case, put, pending)?;
         Ok(true)
     }
 
-    // The parts of the branch, at the end; not all, if one has numbers that are too great.
+    // The same of another part than the first; of that nothing is pushed.
+    fn push_other(
+        &self,
+        alloc: Global,
+        split: Split,
+        number: u32,
+        first: u32,
+        pending: &mut Vec<Branch>,
+    ) -> Result<bool, FormStop>
+        requires { split.field < 8 }
+        ensures part { IfOk result (λ pushed. IsTrue pushed → number ≢ first → (us : List ℤ) (q : ℤ) → length us ≡ 8 → HoldsAll (plain_literals self.now.literals.items) us → slice_index_or us split.field (pos 0) ≡ (pos split.times *ℤ q) +ℤ pos number → SomeHeld pending.new.items) }
+        ensures kept { OnOk result (SomeHeld pending.old.items → SomeHeld pending.new.items) }
+    {
+        if number == first {
+            return Ok(true);
+        }
+        let pushed = self.push_part(alloc, split, number, pending)?;
+        Ok(pushed)
+    }
+
+    // The parts of the branch, at the end, with the first one to be looked at last; not all, if one has numbers that are too
+    // great.
     fn push_parts(
         &self,
         alloc: Global,
         split: Split,
+        first: u32,
         pending: &mut Vec<Branch>,
     ) -> Result<bool, FormStop>
         ensures parts { IfOk result (λ pushed. IsTrue pushed → IsHeld self.now → SomeHeld pending.new.items) }
@@ -205,9 +263,12 @@ impl Branch {
             return Ok(false);
         }
         for number in 0..split.times {
-            if !self.push_part(alloc, split, number, pending)? {
+            if !self.push_other(alloc, split, number, first, pending)? {
                 return Ok(false);
             }
+        }
+        if !self.push_part(alloc, split, first, pending)? {
+            return Ok(false);
         }
         Ok(split.times > 0)
     }
@@ -223,11 +284,7 @@ impl Branch {
         ensures kept { OnOk result (SomeHeld pending.old.items → SomeHeld pending.new.items) }
     {
         let own = with_literal(alloc, &self.literals, more)?;
-        let literals = equated(alloc, own)?;
-        pending.push(Branch {
-            case: self.case,
-            literals,
-        })?;
+        push_branch(alloc, self.case, own, pending)?;
         Ok(())
     }
 
@@ -252,30 +309,62 @@ impl Branch {
         Ok(())
     }
 
-    // The parts in which the field is less than a number, is each of so many from it on, or is more, at the end; not all, if
-    // one is too great.
+    // The part where the field has the value, at the end.
+    fn push_value(
+        &self,
+        alloc: Global,
+        field: u32,
+        value: LabelInt,
+        pending: &mut Vec<Branch>,
+    ) -> Result<(), FormStop>
+        requires { field < 8 }
+        ensures value { OnOk result ((us : List ℤ) → length us ≡ 8 → HoldsAll (plain_literals self.now.literals.items) us → slice_index_or us field (pos 0) ≡ value → SomeHeld pending.new.items) }
+        ensures kept { OnOk result (SomeHeld pending.old.items → SomeHeld pending.new.items) }
+    {
+        let own = beside(alloc, field, Relation::Equal, value, true)?;
+        self.push_with(alloc, own, pending)?;
+        Ok(())
+    }
+
+    // The same of another value than the first; of that nothing is pushed.
+    fn push_other_value(
+        &self,
+        alloc: Global,
+        field: u32,
+        value: LabelInt,
+        first: LabelInt,
+        pending: &mut Vec<Branch>,
+    ) -> Result<(), FormStop>
+        requires { field < 8 }
+        ensures value { OnOk result (value ≢ first → (us : List ℤ) → length us ≡ 8 → HoldsAll (plain_literals self.now.literals.items) us → slice_index_or us field (pos 0) ≡ value → SomeHeld pending.new.items) }
+        ensures kept { OnOk result (SomeHeld pending.old.items → SomeHeld pending.new.items) }
+    {
+        if value != first {
+            self.push_value(alloc, field, value, pending)?;
+        }
+        Ok(())
+    }
+
+    // The parts in which the field is less than a value, is each of them, or is more, at the end, with the first one to be
+    // looked at last.
     fn push_values(
         &self,
         alloc: Global,
         field: u32,
-        from: LabelInt,
-        count: u32,
+        values: Values,
         pending: &mut Vec<Branch>,
     ) -> Result<bool, FormStop>
         ensures parts { IfOk result (λ pushed. IsTrue pushed → IsHeld self.now → SomeHeld pending.new.items) }
         ensures kept { OnOk result (SomeHeld pending.old.items → SomeHeld pending.new.items) }
     {
-        let Some(to) = from.checked_add(count as LabelInt) else {
-            return Ok(false);
-        };
         if field >= 8 {
             return Ok(false);
         }
-        self.push_outside(alloc, field, from, to, pending)?;
-        for value in from..to {
-            let own = beside(alloc, field, Relation::Equal, value, true)?;
-            self.push_with(alloc, own, pending)?;
+        self.push_outside(alloc, field, values.from, values.to, pending)?;
+        for value in values.from..values.to {
+            self.push_other_value(alloc, field, value, values.first, pending)?;
         }
+        self.push_value(alloc, field, values.first, pending)?;
         Ok(true)
     }
 
@@ -332,9 +421,10 @@ impl Branch {
         let Some(best) = best_split(&self.literals, values) else {
             return Ok(false);
         };
-        match best.first {
-            Some(first) => self.push_values(alloc, best.split.field, first, best.parts, pending),
-            None => self.push_parts(alloc, best.split, pending),
+        let field = best.split.field;
+        match best.values {
+            Some(own) => self.push_values(alloc, field, own, pending),
+            None => self.push_parts(alloc, best.split, best.part, pending),
         }
     }
 }

@@ -70,8 +70,8 @@ fn is_open(form: &Form, by: u32, steps: &[u64]) -> bool
     false
 }
 
-// Whether the literal holds at no values of the case. None may hold although it isn't found.
-fn is_lost(literal: &Lit<Compare>, case: &Case) -> bool
+/// Whether the literal holds at no values of the case. None may hold although it isn't found.
+pub(crate) fn is_lost(literal: &Lit<Compare>, case: &Case) -> bool
     ensures { IsTrue result → (us : List ℤ) → IsIn case.now us → compare_holds (plain_compare literal.now.atom) us ≡ literal.now.sign → ⊥ }
 {
     if is_open(&literal.atom.left, 0, &case.steps) {

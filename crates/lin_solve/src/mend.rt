@@ -26,8 +26,8 @@ struct Change {
     broken: usize,
 }
 
-// How many literals don't hold, or this many if there are more.
-fn count_broken(literals: &[Lit<Compare>], values: &[LabelInt], most: usize) -> usize {
+/// How many literals don't hold, or this many if there are more.
+pub(crate) fn count_broken(literals: &[Lit<Compare>], values: &[LabelInt], most: usize) -> usize {
     let mut broken = 0;
     for literal in literals {
         if broken >= most {

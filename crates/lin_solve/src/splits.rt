@@ -1,13 +1,15 @@
-//! How a branch is split: which field, by how many of its remainders, or by which of its values. Nothing rests on the choice.
+//! How a branch is split: which field, by how many of its remainders, or by which of its values, and which part is looked at
+//! first. Nothing rests on the choice.
 
 use crate::cases::divisor_in_common;
 use crate::compare::Compare;
+use crate::mend::count_broken;
 use crate::ranges::{Range, ranges_of};
 use fast_fault::LabelInt;
 use label_core::Lit;
 use lin_form::Form;
 
-// How many values are better than one remainder.
+// How many values cost as much as one remainder.
 const VALUES: u32 = 4;
 
 /// A field that is to be so many times another one, and a number below.
@@ -43,65 +45,147 @@ pub(crate) fn split_of(literal: &Lit<Compare>) -> Option<Split> {
     }
 }
 
-/// Into how many parts a field is split, and from which value on, if they are its values.
+/// Values of a field from the one up to the other, which isn't among them, and which of them is to be looked at first.
+#[derive(Clone, Copy)]
+pub(crate) struct Values {
+    pub(crate) from: LabelInt,
+    pub(crate) to: LabelInt,
+    pub(crate) first: LabelInt,
+}
+
+/// How a branch is split: by these values of the field, if there are some, else by its remainders, of which one is to be looked
+/// at first.
 #[derive(Clone, Copy)]
 pub(crate) struct Best {
     pub(crate) split: Split,
-    pub(crate) parts: u32,
-    pub(crate) first: Option<LabelInt>,
+    pub(crate) values: Option<Values>,
+    pub(crate) part: u32,
 }
 
-impl Best {
-    // By the field's values, if there are no more than so many times its remainders: where its value is known nothing of it is
-    // left to be split.
-    fn of(split: Split, ranges: &[Range]) -> Best {
-        let by_rest = Best {
-            split,
-            parts: split.times,
-            first: None,
-        };
-        let Some(range) = ranges.get(split.field as usize) else {
-            return by_rest;
-        };
-        match (
-            range.count(split.times.saturating_mul(VALUES)),
-            LabelInt::try_from(range.low),
-        ) {
-            (Some(parts), Ok(low)) => Best {
-                split,
-                parts,
-                first: Some(low),
-            },
-            _ => by_rest,
-        }
-    }
+// The values of a field, if it is better split by them than by its remainders: there are no more than so many times these.
+// Where a value is known nothing of the field is left to be split.
+fn values_for(split: Split, ranges: &[Range]) -> Option<Values> {
+    let range = ranges.get(split.field as usize)?;
+    let count = range.count(split.times.saturating_mul(VALUES))?;
+    let from = LabelInt::try_from(range.low).ok()?;
+    Some(Values {
+        from,
+        to: from.checked_add(count as LabelInt)?,
+        first: from,
+    })
+}
 
-    // How much the parts cost, in parts by remainders.
-    fn weight(&self) -> u32 {
-        match self.first {
-            Some(_) => self.parts / VALUES,
-            None => self.parts,
+// How much the parts cost, in parts by remainders.
+fn weight(split: Split, values: Option<Values>) -> u32 {
+    match values {
+        Some(own) => {
+            let count = own
+                .to
+                .saturating_sub(own.from)
+                .checked_div(VALUES as LabelInt);
+            u32::try_from(count.unwrap_or(0)).unwrap_or(u32::MAX)
         }
+        None => split.times,
     }
 }
 
-/// Of the literals that these values break, how one is split that leaves the fewest branches.
+// Values of the fields, of which one is to be changed.
+#[derive(Clone, Copy)]
+struct Near {
+    values: [LabelInt; 8],
+    field: usize,
+}
+
+impl Near {
+    fn of(values: &[LabelInt], field: u32) -> Near {
+        let mut own = [0; 8];
+        for i in 0..8 {
+            own[i] = values.get(i).copied().unwrap_or(0);
+        }
+        Near {
+            values: own,
+            field: field as usize,
+        }
+    }
+
+    // How many literals don't hold where the field has this value, or this many if there are more.
+    fn count_broken(&self, literals: &[Lit<Compare>], value: LabelInt, most: usize) -> usize {
+        let mut own = self.values;
+        if let Some(place) = own.get_mut(self.field) {
+            *place = value;
+        }
+        count_broken(literals, &own, most)
+    }
+}
+
+// The value at which the fewest literals don't hold.
+fn first_value(literals: &[Lit<Compare>], near: &Near, values: Values) -> LabelInt {
+    let mut first = values.from;
+    let mut fewest = usize::MAX;
+    for value in values.from..values.to {
+        let broken = near.count_broken(literals, value, fewest);
+        if broken < fewest {
+            fewest = broken;
+            first = value;
+        }
+    }
+    first
+}
+
+// The remainder of the field for which, at one of the two values next to the field's own, the fewest literals don't hold.
+fn first_part(literals: &[Lit<Compare>], near: &Near, split: Split) -> u32 {
+    let old = near.values.get(near.field).copied().unwrap_or(0);
+    let times = split.times as LabelInt;
+    let mut first = 0;
+    let mut fewest = usize::MAX;
+    for part in 0..split.times {
+        let rest = old.wrapping_sub(part as LabelInt).checked_rem_euclid(times);
+        let below = old.saturating_sub(rest.unwrap_or(0));
+        for value in [below, below.saturating_add(times)] {
+            let broken = near.count_broken(literals, value, fewest);
+            if broken < fewest {
+                fewest = broken;
+                first = part;
+            }
+        }
+    }
+    first
+}
+
+/// Of the literals that these values break, how one is split that leaves the fewest branches, and which of them is to be looked
+/// at first: the one that leaves the fewest literals broken near these values.
 pub(crate) fn best_split(literals: &[Lit<Compare>], values: &[LabelInt]) -> Option<Best> {
     let ranges = ranges_of(literals);
-    let mut best: Option<Best> = None;
+    let mut best: Option<(Split, Option<Values>)> = None;
     for literal in literals {
         if literal.atom.holds(values) != literal.sign {
             if let Some(split) = split_of(literal) {
-                let own = Best::of(split, &ranges);
+                let own = values_for(split, &ranges);
                 let is_first = match best {
                     None => true,
-                    Some(other) => own.weight() < other.weight(),
+                    Some((other, of_other)) => weight(split, own) < weight(other, of_other),
                 };
                 if is_first {
-                    best = Some(own);
+                    best = Some((split, own));
                 }
             }
         }
     }
-    best
+    let (split, found) = best?;
+    let near = Near::of(values, split.field);
+    Some(match found {
+        Some(own) => Best {
+            split,
+            values: Some(Values {
+                first: first_value(literals, &near, own),
+                ..own
+            }),
+            part: 0,
+        },
+        None => Best {
+            split,
+            values: None,
+            part: first_part(literals, &near, split),
+        },
+    })
 }

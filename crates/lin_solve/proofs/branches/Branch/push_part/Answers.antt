@@ -3,7 +3,6 @@ use Rattle.std.proofs.Math.ListN.{set, length-set}
 use Rattle.model_chain.specs.Literals.{HoldsAll}
 use Rattle.model_form.specs.Meaning.{values_of}
 use Rattle.lin_solve.specs.Plain.{plain_literals}
-use Rattle.lin_solve.proofs.Among.{some_added, some_grown}
 use Rattle.lin_solve.proofs.Branched.{back}
 use Rattle.lin_solve.proofs.branches.Branch.push_part.Goals as goal
 
@@ -15,7 +14,4 @@ returns-clause-part c = λ _ us q eight h is.
     let low : k < length us = (let l = c.requires in omega arith) in
     let made = c.in_ok-forms.ensures {u = tt} in
     let e : values_of c.deref-2.result.now vs ≡ us = ap (λ gs. values_of gs vs) c.deref-2.ensures.value ∙ made.forms vs same ∙ back us k c.args.split.times c.args.number q low is in
-    some_added _ _ _ (c.in_ok-push.ensures {u = tt}).items (record { values = vs; eight = same; hold = c.in_ok-literals.ensures {u = tt} vs same (c.in_ok-put.ensures {u = tt} vs (subst (HoldsAll (plain_literals c.deref.result.now)) (sym e) (subst (λ ls. HoldsAll (plain_literals ls) us) (sym c.deref.ensures.value) h))) })
-
-pub returns-clause-kept : goal.returns-clause-kept
-returns-clause-kept c = λ s. some_grown _ _ _ (c.in_ok-push.ensures {u = tt}).items s
+    (c.in_ok-push_branch.ensures {u = tt}).held vs same (c.in_ok-put.ensures {u = tt} vs (subst (HoldsAll (plain_literals c.deref.result.now)) (sym e) (subst (λ ls. HoldsAll (plain_literals ls) us) (sym c.deref.ensures.value) h)))
