@@ -1,6 +1,6 @@
 //! The outside of the tool: texts by name, where a report goes, the codes and places of refusals, and how a run ends.
 //!
-//! Its promise: a fault is answered only where the count of faults of that very object rose in the call, and what was
+//! Its promise: a fault is answered exactly where the count of faults of that very object rose in the call, and what was
 //! appended before a fault is a front of what was to be written.
 #![tactic(auto)]
 

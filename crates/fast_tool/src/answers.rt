@@ -1,7 +1,7 @@
 //! Trees that are given to a language or a transformation, one after another, and the lines of each put.
 
-ghost use Rattle.std.specs.Prelude.{◌≡◌, ◌≢◌, ◌≤◌, ◌↔◌, ℕ, List, [], IfOk, IfErr, OnOk, Err, true, string_bytes, map};
-ghost use Rattle.fast_fault.specs.Written.{Appends, Rose};
+ghost use Rattle.std.specs.Prelude.{◌≡◌, ◌≢◌, ◌↔◌, ℕ, List, [], IfOk, IfErr, OnOk, Err, true, string_bytes, map};
+ghost use Rattle.fast_fault.specs.Written.{Appends, RoseExactlyWhere};
 ghost use Rattle.fast_fault.specs.declared.status.Status.TheVariants.{SinkFault, TextFault};
 ghost use Rattle.model_tree.specs.Limits.{usual_classes};
 ghost use Rattle.model_tree.specs.Kept.{is_kept};
@@ -85,8 +85,7 @@ fn put_answer<K: Sink>(
 ) -> Result<(), Status>
     ensures ok { OnOk result (Appends (K.written sink.old) (K.written sink.new) (answer_line number inside)) }
     ensures err { IfErr result (IsCutLine (answer_line number inside) (K.written sink.old) (K.written sink.new)) }
-    ensures later { K.faults sink.old ≤ K.faults sink.new }
-    ensures rose { result ≡ Err SinkFault → Rose (K.faults sink.old) (K.faults sink.new) }
+    ensures faults { RoseExactlyWhere (result ≡ Err SinkFault) (K.faults sink.old) (K.faults sink.new) }
 {
     match answer_text(alloc, number, inside) {
         Ok(line) => put_line(sink, line.as_bytes()),
@@ -107,8 +106,7 @@ fn prepare<K: Sink>(
     ensures program { IsSameProgram session.old session.new }
     ensures untouched { OnOk result (sink.new ≡ sink.old) }
     ensures stopped { IfErr result (IsUnprepared (items_in session.old) session.old.limit file.now name.now (K.written sink.old) (K.written sink.new)) }
-    ensures later { K.faults sink.old ≤ K.faults sink.new }
-    ensures rose { result ≡ Err SinkFault → Rose (K.faults sink.old) (K.faults sink.new) }
+    ensures faults { RoseExactlyWhere (result ≡ Err SinkFault) (K.faults sink.old) (K.faults sink.new) }
     ensures sure_text { result ≢ Err TextFault }
 {
     match prepared(alloc, session, name) {
@@ -137,8 +135,7 @@ fn tell_inside<K: Sink>(
     ensures program { IsSameProgram session.old session.new }
     ensures answered { OnOk result (IsAnswered (items_in session.old) language name.now number (plain_placed given.now) (K.written sink.old) (K.written sink.new)) }
     ensures stopped { (trees : List ℕ) → IfErr result (IsUnanswered (items_in session.old) language name.now trees number (plain_placed given.now) (K.written sink.old) (K.written sink.new)) }
-    ensures later { K.faults sink.old ≤ K.faults sink.new }
-    ensures rose { result ≡ Err SinkFault → Rose (K.faults sink.old) (K.faults sink.new) }
+    ensures faults { RoseExactlyWhere (result ≡ Err SinkFault) (K.faults sink.old) (K.faults sink.new) }
 {
     match is_inside(alloc, session, name, &given.tree) {
         Ok(inside) => put_answer(alloc, number, inside, sink),
@@ -161,8 +158,7 @@ fn answer<K: Sink>(
     ensures program { IsSameProgram session.old session.new }
     ensures answered { OnOk result (IsAnswered (items_in session.old) (kind_asked inquiry.now.question) inquiry.now.name.now number (plain_placed given.now) (K.written sink.old) (K.written sink.new)) }
     ensures stopped { IfErr result (IsUnanswered (items_in session.old) (kind_asked inquiry.now.question) inquiry.now.name.now inquiry.now.trees.now number (plain_placed given.now) (K.written sink.old) (K.written sink.new)) }
-    ensures later { K.faults sink.old ≤ K.faults sink.new }
-    ensures rose { result ≡ Err SinkFault → Rose (K.faults sink.old) (K.faults sink.new) }
+    ensures faults { RoseExactlyWhere (result ≡ Err SinkFault) (K.faults sink.old) (K.faults sink.new) }
 {
     match inquiry.question {
         Question::Inside => tell_inside(alloc, session, inquiry.name, number, given, sink),
@@ -181,8 +177,7 @@ fn answer_each<K: Sink>(
     requires prepared { IsPrepared (kind_asked inquiry.now.question) session.old inquiry.now.name.now }
     requires typed { AreOfType (input_type (items_in session.old) (named_x inquiry.now.name.now)) (map plain_placed placed.now) }
     ensures report { (file : List ℕ) → Reports (StatusReport (Writes (trees_script (items_in session.old) file inquiry.now.name.now inquiry.now.trees.now (kind_asked inquiry.now.question) (map plain_placed placed.now)))) result (K.written sink.old) (K.written sink.new) }
-    ensures later { K.faults sink.old ≤ K.faults sink.new }
-    ensures rose { result ≡ SinkFault → Rose (K.faults sink.old) (K.faults sink.new) }
+    ensures faults { RoseExactlyWhere (result ≡ SinkFault) (K.faults sink.old) (K.faults sink.new) }
     ensures sure_text { result ≢ TextFault }
 {
     'trees: for (before, given) in placed.iter().enumerate() {
@@ -208,8 +203,7 @@ pub fn answer_all<K: Sink>(
     requires named { IsNameOf (items_in session.old) (kind_asked inquiry.now.question) inquiry.now.name.now }
     requires typed { AreOfType (input_type (items_in session.old) (named_x inquiry.now.name.now)) (map plain_placed placed.now) }
     ensures report { Reports (StatusReport (Writes (trees_script (items_in session.old) file.now inquiry.now.name.now inquiry.now.trees.now (kind_asked inquiry.now.question) (map plain_placed placed.now)))) result (K.written sink.old) (K.written sink.new) }
-    ensures later { K.faults sink.old ≤ K.faults sink.new }
-    ensures rose { result ≡ SinkFault → Rose (K.faults sink.old) (K.faults sink.new) }
+    ensures faults { RoseExactlyWhere (result ≡ SinkFault) (K.faults sink.old) (K.faults sink.new) }
     ensures sure_text { result ≢ TextFault }
 {
     match prepare(alloc, file, session, inquiry.name, sink) {

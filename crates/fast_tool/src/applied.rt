@@ -1,8 +1,8 @@
 //! The outputs of transformations for trees that are given.
 
-ghost use Rattle.std.specs.Prelude.{◌≡◌, ◌≢◌, ◌≤◌, ◌++◌, IfOk, IfErr, OnOk, Err, true, codes, map};
+ghost use Rattle.std.specs.Prelude.{◌≡◌, ◌≢◌, ◌++◌, IfOk, IfErr, OnOk, Err, true, codes, map};
 ghost use Rattle.std.specs.List.{All};
-ghost use Rattle.fast_fault.specs.Written.{Rose};
+ghost use Rattle.fast_fault.specs.Written.{RoseExactlyWhere};
 ghost use Rattle.fast_fault.specs.declared.status.Status.TheVariants.{SinkFault, TextFault};
 ghost use Rattle.model_tree.specs.Kept.{is_kept};
 ghost use Rattle.model_tree.specs.Scalars.{has_scalars};
@@ -102,8 +102,7 @@ pub fn tell_outputs<K: Sink>(
     ensures program { IsSameProgram session.old session.new }
     ensures answered { OnOk result (IsAnswered (items_in session.old) transformation inquiry.now.name.now number (plain_placed given.now) (K.written sink.old) (K.written sink.new)) }
     ensures stopped { IfErr result (IsUnanswered (items_in session.old) transformation inquiry.now.name.now inquiry.now.trees.now number (plain_placed given.now) (K.written sink.old) (K.written sink.new)) }
-    ensures later { K.faults sink.old ≤ K.faults sink.new }
-    ensures rose { result ≡ Err SinkFault → Rose (K.faults sink.old) (K.faults sink.new) }
+    ensures faults { RoseExactlyWhere (result ≡ Err SinkFault) (K.faults sink.old) (K.faults sink.new) }
 {
     match listed(alloc, session, inquiry.name, number, &given.tree) {
         Ok(lines) => put_line(sink, &lines),

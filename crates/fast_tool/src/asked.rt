@@ -1,7 +1,7 @@
 //! The commands that answer for trees: whether they are in a language, and what a transformation gives for them.
 
-ghost use Rattle.std.specs.Prelude.{◌≡◌, ◌≢◌, ◌≤◌, map};
-ghost use Rattle.fast_fault.specs.Written.{Rose};
+ghost use Rattle.std.specs.Prelude.{◌≡◌, ◌≢◌, map};
+ghost use Rattle.fast_fault.specs.Written.{RoseExactlyWhere};
 ghost use Rattle.fast_fault.specs.declared.status.Status.TheVariants.{SinkFault, TextFault};
 ghost use Rattle.fast_syntax.specs.Plain.{plain_program};
 ghost use Rattle.fast_tool.specs.Commands.{kind_asked};
@@ -35,8 +35,7 @@ fn answer_trees<K: Sink>(
     requires named { IsNameOf (plain_program checked.program) (kind_asked asked.question) name.now }
     requires typed { AreOfType (input_type (plain_program checked.program) (named_x name.now)) (map plain_placed placed.now) }
     ensures report { Reports (StatusReport (Writes (trees_script (plain_program checked.program) asked.entry.file.now name.now asked.entry.trees.now (kind_asked asked.entry.question) (map plain_placed placed.now)))) result (K.written sink.old) (K.written sink.new) }
-    ensures later { K.faults sink.old ≤ K.faults sink.new }
-    ensures rose { result ≡ SinkFault → Rose (K.faults sink.old) (K.faults sink.new) }
+    ensures faults { RoseExactlyWhere (result ≡ SinkFault) (K.faults sink.old) (K.faults sink.new) }
     ensures sure_text { result ≢ TextFault }
 {
     match Session::new(alloc, checked, USUAL_CLASSES) {
@@ -61,10 +60,8 @@ fn answer_name<T: TextSource, K: Sink>(
     sink: &mut K,
 ) -> Status
     ensures report { Reports (StatusReport (NameReport asked.entry.file.now asked.entry.name.now asked.entry.trees.now (kind_asked asked.entry.question) (T.held texts.old asked.entry.trees.now) (plain_program checked.program))) result (K.written sink.old) (K.written sink.new) }
-    ensures later { K.faults sink.old ≤ K.faults sink.new }
-    ensures rose { result ≡ SinkFault → Rose (K.faults sink.old) (K.faults sink.new) }
-    ensures take_later { T.faults texts.old ≤ T.faults texts.new }
-    ensures take_rose { result ≡ TextFault → Rose (T.faults texts.old) (T.faults texts.new) }
+    ensures faults { RoseExactlyWhere (result ≡ SinkFault) (K.faults sink.old) (K.faults sink.new) }
+    ensures take_faults { RoseExactlyWhere (result ≡ TextFault) (T.faults texts.old) (T.faults texts.new) }
 {
     let name = match name_of(alloc, asked.name) {
         Ok(name) => name,
@@ -88,8 +85,8 @@ pub fn answer_file<T: TextSource, K: Sink>(
     sink: &mut K,
 ) -> Status
     ensures report { Reports (StatusReport (HeldReport asked.entry.file.now (T.held texts.old asked.entry.file.now) (NameReport asked.entry.file.now asked.entry.name.now asked.entry.trees.now (kind_asked asked.entry.question) (T.held texts.old asked.entry.trees.now)))) result (K.written sink.old) (K.written sink.new) }
-    ensures rose { result ≡ SinkFault → Rose (K.faults sink.old) (K.faults sink.new) }
-    ensures take_rose { result ≡ TextFault → Rose (T.faults texts.old) (T.faults texts.new) }
+    ensures faults { RoseExactlyWhere (result ≡ SinkFault) (K.faults sink.old) (K.faults sink.new) }
+    ensures take_faults { RoseExactlyWhere (result ≡ TextFault) (T.faults texts.old) (T.faults texts.new) }
 {
     match take_checked(alloc, asked.file, texts, sink) {
         Ok(checked) => answer_name(alloc, asked, checked, texts, sink),

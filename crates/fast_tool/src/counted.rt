@@ -2,7 +2,7 @@
 
 ghost use Rattle.std.specs.Prelude.{◌≡◌, ◌≢◌, ◌≤◌, ◌<◌, ◌-◌, ◌^◌, List, [], ◌∷◌, IfOk, IfErr, OnOk, Err, length, string_bytes};
 ghost use Rattle.model_tree.specs.Limits.{usual_classes};
-ghost use Rattle.fast_fault.specs.Written.{Rose};
+ghost use Rattle.fast_fault.specs.Written.{RoseExactlyWhere};
 ghost use Rattle.fast_fault.specs.declared.status.Status.TheVariants.{SinkFault, TextFault};
 ghost use Rattle.fast_fault.specs.declared.status.Status.TheVariants as ends;
 ghost use Rattle.fast_syntax.specs.Plain.{plain_program};
@@ -85,8 +85,7 @@ fn do_next<K: Sink>(
     ensures done { IfOk result (λ verdict. (done : List Outcome) → IsAt session.old done → IsCounted session.old session.new done verdict) }
     ensures untouched { OnOk result (sink.new ≡ sink.old) }
     ensures halted { IfErr result (λ status. (done : List Outcome) → IsAt session.old done → IsHalted session.old done (K.written sink.old) (K.written sink.new) status) }
-    ensures later { K.faults sink.old ≤ K.faults sink.new }
-    ensures rose { result ≡ Err SinkFault → Rose (K.faults sink.old) (K.faults sink.new) }
+    ensures faults { RoseExactlyWhere (result ≡ Err SinkFault) (K.faults sink.old) (K.faults sink.new) }
 {
     match session.step(alloc) {
         Ok(Step::Line(line)) => shown_verdict(alloc, session.checked(), &line),
@@ -127,8 +126,7 @@ fn tell_tally<K: Sink>(
     sink: &mut K,
 ) -> Status
     ensures told { IsTold number count tally (K.written sink.old) (K.written sink.new) result }
-    ensures later { K.faults sink.old ≤ K.faults sink.new }
-    ensures rose { result ≡ SinkFault → Rose (K.faults sink.old) (K.faults sink.new) }
+    ensures faults { RoseExactlyWhere (result ≡ SinkFault) (K.faults sink.old) (K.faults sink.new) }
     ensures sure_text { result ≢ TextFault }
 {
     match tally_text(alloc, number, count, tally) {
@@ -142,8 +140,7 @@ fn count_items<K: Sink>(alloc: Global, number: u32, session: &mut Session, sink:
     requires at { IsAt session.old [] }
     requires limit { session.old.limit ≡ usual_classes }
     ensures report { Reports (StatusReport (SelfReport number (items_in session.old))) result (K.written sink.old) (K.written sink.new) }
-    ensures later { K.faults sink.old ≤ K.faults sink.new }
-    ensures rose { result ≡ SinkFault → Rose (K.faults sink.old) (K.faults sink.new) }
+    ensures faults { RoseExactlyWhere (result ≡ SinkFault) (K.faults sink.old) (K.faults sink.new) }
     ensures sure_text { result ≢ TextFault }
 {
     let count = session.checked().program().items.len();
@@ -164,8 +161,7 @@ fn count_items<K: Sink>(alloc: Global, number: u32, session: &mut Session, sink:
 pub fn run_self<K: Sink>(alloc: Global, number: u32, sink: &mut K) -> Status
     requires { number ≤ 200 }
     ensures report { Reports (StatusReport (ProgramReport self_name (self_text number) (SelfReport number))) result (K.written sink.old) (K.written sink.new) }
-    ensures later { K.faults sink.old ≤ K.faults sink.new }
-    ensures rose { result ≡ SinkFault → Rose (K.faults sink.old) (K.faults sink.new) }
+    ensures faults { RoseExactlyWhere (result ≡ SinkFault) (K.faults sink.old) (K.faults sink.new) }
     ensures sure_text { result ≢ TextFault }
 {
     let text = match self_text(alloc, number) {

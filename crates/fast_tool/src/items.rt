@@ -2,7 +2,7 @@
 
 ghost use Rattle.std.specs.Prelude.{◌≡◌, ◌≢◌, ◌≤◌, ◌<◌, List, [], IfOk, IfErr, OnOk, Err, length};
 ghost use Rattle.model_tree.specs.Limits.{most_classes};
-ghost use Rattle.fast_fault.specs.Written.{Appends, Rose};
+ghost use Rattle.fast_fault.specs.Written.{Appends, RoseExactlyWhere};
 ghost use Rattle.fast_fault.specs.declared.status.Status.TheVariants.{SinkFault, TextFault};
 ghost use Rattle.fast_syntax.specs.Plain.{plain_program};
 ghost use Rattle.model_grammar.specs.Syntax as plain;
@@ -42,8 +42,7 @@ fn put_outcome<K: Sink>(
     ensures put { IfOk result (λ fails. Appends (K.written sink.old) (K.written sink.new) (line_of (line_outcome (items_of checked.now) line.now)) × (fails ≡ says_fail (line_outcome (items_of checked.now) line.now))) }
     ensures scalars { OnOk result (HaveScalars (line_outcome (items_of checked.now) line.now)) }
     ensures cut { IfErr result (IsCutShort (line_outcome (items_of checked.now) line.now) (K.written sink.old) (K.written sink.new)) }
-    ensures later { K.faults sink.old ≤ K.faults sink.new }
-    ensures rose { result ≡ Err SinkFault → Rose (K.faults sink.old) (K.faults sink.new) }
+    ensures faults { RoseExactlyWhere (result ≡ Err SinkFault) (K.faults sink.old) (K.faults sink.new) }
 {
     match line_text(alloc, checked, line) {
         Ok(text) => match put_line(sink, &text) {
@@ -65,8 +64,7 @@ fn do_next<K: Sink>(
     ensures program { IsSameProgram session.old session.new }
     ensures done { IfOk result (λ fails. (done : List Outcome) → IsAt session.old done → IsDone session.old session.new done (K.written sink.old) (K.written sink.new) fails) }
     ensures stopped { IfErr result (λ status. (done : List Outcome) → IsAt session.old done → IsStopped file.now session.old done (K.written sink.old) (K.written sink.new) status) }
-    ensures later { K.faults sink.old ≤ K.faults sink.new }
-    ensures rose { result ≡ Err SinkFault → Rose (K.faults sink.old) (K.faults sink.new) }
+    ensures faults { RoseExactlyWhere (result ≡ Err SinkFault) (K.faults sink.old) (K.faults sink.new) }
 {
     match session.step(alloc) {
         Ok(Step::Line(line)) => put_outcome(alloc, session.checked(), &line, sink),
@@ -85,8 +83,7 @@ fn do_next<K: Sink>(
 fn run_items<K: Sink>(alloc: Global, file: &str, session: &mut Session, sink: &mut K) -> Status
     requires { IsAt session.old [] }
     ensures report { Reports (ItemsReport file.now session.old) result (K.written sink.old) (K.written sink.new) }
-    ensures later { K.faults sink.old ≤ K.faults sink.new }
-    ensures rose { result ≡ SinkFault → Rose (K.faults sink.old) (K.faults sink.new) }
+    ensures faults { RoseExactlyWhere (result ≡ SinkFault) (K.faults sink.old) (K.faults sink.new) }
     ensures sure_text { result ≢ TextFault }
 {
     let count = session.checked().program().items.len();
@@ -110,8 +107,7 @@ pub fn run_program<K: Sink>(
 ) -> Status
     requires shallow { limit ≤ most_classes }
     ensures report { Reports (StatusReport (RunReport file.now limit (plain_program checked.program))) result (K.written sink.old) (K.written sink.new) }
-    ensures later { K.faults sink.old ≤ K.faults sink.new }
-    ensures rose { result ≡ SinkFault → Rose (K.faults sink.old) (K.faults sink.new) }
+    ensures faults { RoseExactlyWhere (result ≡ SinkFault) (K.faults sink.old) (K.faults sink.new) }
     ensures sure_text { result ≢ TextFault }
 {
     match Session::new(alloc, checked, limit) {

@@ -1,8 +1,8 @@
 //! Texts that are taken, read and checked.
 
-ghost use Rattle.std.specs.Prelude.{◌≡◌, ◌≢◌, ◌≤◌, ℕ, List, IfOk, IfErr, OnOk, Err, map};
+ghost use Rattle.std.specs.Prelude.{◌≡◌, ◌≢◌, ℕ, List, IfOk, IfErr, OnOk, Err, map};
 ghost use Rattle.fast_fault.specs.Taken.{IsGiven};
-ghost use Rattle.fast_fault.specs.Written.{Rose};
+ghost use Rattle.fast_fault.specs.Written.{RoseExactlyWhere};
 ghost use Rattle.fast_tree.specs.Signatures.{plain_signature};
 ghost use Rattle.fast_fault.specs.declared.status.Status.TheVariants.{SinkFault, TextFault};
 ghost use Rattle.fast_syntax.specs.Plain.{plain_program};
@@ -46,10 +46,8 @@ fn take_bytes<T: TextSource, K: Sink>(
     ensures untouched { OnOk result (sink.new ≡ sink.old) }
     ensures refused { IfErr result (IsNotTaken file.now (T.held texts.old file.now) (K.written sink.old) (K.written sink.new)) }
     ensures same { (name : List ℕ) → T.held texts.new name ≡ T.held texts.old name }
-    ensures later { K.faults sink.old ≤ K.faults sink.new }
-    ensures rose { result ≡ Err SinkFault → Rose (K.faults sink.old) (K.faults sink.new) }
-    ensures take_later { T.faults texts.old ≤ T.faults texts.new }
-    ensures take_rose { result ≡ Err TextFault → Rose (T.faults texts.old) (T.faults texts.new) }
+    ensures faults { RoseExactlyWhere (result ≡ Err SinkFault) (K.faults sink.old) (K.faults sink.new) }
+    ensures take_faults { RoseExactlyWhere (result ≡ Err TextFault) (T.faults texts.old) (T.faults texts.new) }
 {
     match texts.take(alloc, file, MOST) {
         Ok(bytes) => Ok(bytes),
@@ -68,8 +66,7 @@ fn take_bytes<T: TextSource, K: Sink>(
 /// Tells why a text isn't read.
 pub fn tell_unread<K: Sink>(alloc: Global, sink: &mut K, file: &str, stop: ReadStop) -> Status
     ensures told { IsToldOf file.now stop (K.written sink.old) (K.written sink.new) result }
-    ensures later { K.faults sink.old ≤ K.faults sink.new }
-    ensures rose { result ≡ SinkFault → Rose (K.faults sink.old) (K.faults sink.new) }
+    ensures faults { RoseExactlyWhere (result ≡ SinkFault) (K.faults sink.old) (K.faults sink.new) }
     ensures sure_text { result ≢ TextFault }
 {
     match stop {
@@ -89,10 +86,8 @@ pub fn take_checked<T: TextSource, K: Sink>(
     ensures untouched { OnOk result (sink.new ≡ sink.old) }
     ensures report { IfErr result (λ status. TextAnswer IsRefused file.now (T.held texts.old file.now) (K.written sink.old) (K.written sink.new) status) }
     ensures same { (name : List ℕ) → T.held texts.new name ≡ T.held texts.old name }
-    ensures later { K.faults sink.old ≤ K.faults sink.new }
-    ensures rose { result ≡ Err SinkFault → Rose (K.faults sink.old) (K.faults sink.new) }
-    ensures take_later { T.faults texts.old ≤ T.faults texts.new }
-    ensures take_rose { result ≡ Err TextFault → Rose (T.faults texts.old) (T.faults texts.new) }
+    ensures faults { RoseExactlyWhere (result ≡ Err SinkFault) (K.faults sink.old) (K.faults sink.new) }
+    ensures take_faults { RoseExactlyWhere (result ≡ Err TextFault) (T.faults texts.old) (T.faults texts.new) }
 {
     let bytes = match take_bytes(alloc, file, texts, sink) {
         Ok(bytes) => bytes,
@@ -116,10 +111,8 @@ pub fn take_trees<T: TextSource, K: Sink>(
     ensures typed { IfOk result (λ placed. AreOfType (plain_signature signature.now) (map plain_placed placed.items)) }
     ensures untouched { OnOk result (sink.new ≡ sink.old) }
     ensures report { IfErr result (λ status. TextAnswer (IsFileRefused (plain_signature signature.now)) file.now (T.held texts.old file.now) (K.written sink.old) (K.written sink.new) status) }
-    ensures later { K.faults sink.old ≤ K.faults sink.new }
-    ensures rose { result ≡ Err SinkFault → Rose (K.faults sink.old) (K.faults sink.new) }
-    ensures take_later { T.faults texts.old ≤ T.faults texts.new }
-    ensures take_rose { result ≡ Err TextFault → Rose (T.faults texts.old) (T.faults texts.new) }
+    ensures faults { RoseExactlyWhere (result ≡ Err SinkFault) (K.faults sink.old) (K.faults sink.new) }
+    ensures take_faults { RoseExactlyWhere (result ≡ Err TextFault) (T.faults texts.old) (T.faults texts.new) }
 {
     let bytes = match take_bytes(alloc, file, texts, sink) {
         Ok(bytes) => bytes,

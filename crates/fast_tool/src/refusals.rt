@@ -1,7 +1,7 @@
 //! Lines that are put, and the lines of refusals.
 
-ghost use Rattle.std.specs.Prelude.{◌≡◌, ◌≢◌, ◌≤◌, ◌⊎◌, IfOk, IfErr, OnOk, OnErr, Err, true, string_bytes, codes, ◌++◌, suc};
-ghost use Rattle.fast_fault.specs.Written.{Appends, AppendsPrefix, Rose};
+ghost use Rattle.std.specs.Prelude.{◌≡◌, ◌≢◌, IfOk, IfErr, OnOk, OnErr, Err, true, string_bytes, codes, ◌++◌, suc};
+ghost use Rattle.fast_fault.specs.Written.{Appends, AppendsPrefix, RoseExactlyWhere};
 ghost use Rattle.fast_fault.specs.declared.status.Status.TheVariants.{TextRefused, RunRefused, SinkFault, TextFault};
 ghost use Rattle.model_tree.specs.Scalars.{has_scalars};
 ghost use Rattle.model_tree.specs.Signature.{HasType};
@@ -32,8 +32,7 @@ pub fn put_line<K: Sink>(sink: &mut K, line: &[u8]) -> Result<(), Status>
     ensures ok { OnOk result (Appends (K.written sink.old) (K.written sink.new) line.now) }
     ensures err { OnErr result (AppendsPrefix (K.written sink.old) (K.written sink.new) line.now) }
     ensures fault { IfErr result (λ status. IsFault status) }
-    ensures later { K.faults sink.old ≤ K.faults sink.new }
-    ensures rose { result ≡ Err SinkFault → Rose (K.faults sink.old) (K.faults sink.new) }
+    ensures faults { RoseExactlyWhere (result ≡ Err SinkFault) (K.faults sink.old) (K.faults sink.new) }
 {
     match sink.put(line) {
         Ok(()) => Ok(()),
@@ -45,8 +44,7 @@ pub fn put_line<K: Sink>(sink: &mut K, line: &[u8]) -> Result<(), Status>
 /// Puts a line and ends with the status.
 pub fn put_last<K: Sink>(sink: &mut K, line: &[u8], status: Status) -> Status
     ensures ends { EndsWith (K.written sink.old) (K.written sink.new) line.now status result }
-    ensures later { K.faults sink.old ≤ K.faults sink.new }
-    ensures rose { result ≡ SinkFault → (status ≡ SinkFault) ⊎ Rose (K.faults sink.old) (K.faults sink.new) }
+    ensures faults { status ≢ SinkFault → RoseExactlyWhere (result ≡ SinkFault) (K.faults sink.old) (K.faults sink.new) }
 {
     match put_line(sink, line) {
         Ok(()) => status,
@@ -77,8 +75,7 @@ fn refusal_text(alloc: Global, file: &str, refusal: Refusal) -> Result<String, M
 /// Puts the line of a refusal of the text.
 pub fn refuse<K: Sink>(alloc: Global, sink: &mut K, file: &str, refusal: Refusal) -> Status
     ensures ends { EndsWith (K.written sink.old) (K.written sink.new) (refusal_line refusal.code file.now refusal.place) TextRefused result }
-    ensures later { K.faults sink.old ≤ K.faults sink.new }
-    ensures rose { result ≡ SinkFault → Rose (K.faults sink.old) (K.faults sink.new) }
+    ensures faults { RoseExactlyWhere (result ≡ SinkFault) (K.faults sink.old) (K.faults sink.new) }
 {
     match refusal_text(alloc, file, refusal) {
         Ok(line) => put_last(sink, line.as_bytes(), Status::TextRefused),
@@ -97,8 +94,7 @@ fn name_text(alloc: Global, code: Code) -> Result<String, Memory>
 /// Puts the line of a refusal of the name in the command line.
 pub fn refuse_name<K: Sink>(alloc: Global, sink: &mut K, code: Code) -> Status
     ensures ends { EndsWith (K.written sink.old) (K.written sink.new) (name_line code) TextRefused result }
-    ensures later { K.faults sink.old ≤ K.faults sink.new }
-    ensures rose { result ≡ SinkFault → Rose (K.faults sink.old) (K.faults sink.new) }
+    ensures faults { RoseExactlyWhere (result ≡ SinkFault) (K.faults sink.old) (K.faults sink.new) }
     ensures sure_text { result ≢ TextFault }
 {
     match name_text(alloc, code) {
@@ -246,8 +242,7 @@ pub fn refuse_item<K: Sink>(
 ) -> Status
     requires typed { IsCauseTyped (items_of checked.now) cause.now }
     ensures ends { IsRefusal (CanBeShown cause.now) (K.written sink.old) (K.written sink.new) (stop_line (plain_cause (items_of checked.now) cause.now) file.now place) result }
-    ensures later { K.faults sink.old ≤ K.faults sink.new }
-    ensures rose { result ≡ SinkFault → Rose (K.faults sink.old) (K.faults sink.new) }
+    ensures faults { RoseExactlyWhere (result ≡ SinkFault) (K.faults sink.old) (K.faults sink.new) }
 {
     match refused_text(alloc, checked, file, place, cause) {
         Ok(line) => put_last(sink, &line, Status::RunRefused),

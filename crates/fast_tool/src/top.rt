@@ -2,7 +2,7 @@
 
 ghost use Rattle.std.specs.Prelude.{◌≡◌, ◌≢◌, ◌≤◌, ℕ, List, Option, IfOk, IfSome, map, string_bytes, true};
 ghost use Rattle.model_tree.specs.Limits.{most_classes};
-ghost use Rattle.fast_fault.specs.Written.{Rose};
+ghost use Rattle.fast_fault.specs.Written.{RoseExactlyWhere};
 ghost use Rattle.fast_fault.specs.declared.status.Status.TheVariants.{SinkFault, TextFault};
 ghost use Rattle.fast_syntax.specs.Plain.{plain_program};
 ghost use Rattle.model_run.specs.Words.{CommandForm, check_form, run_form};
@@ -33,8 +33,7 @@ fn checked_text(alloc: Global, checked: &Checked) -> Result<String, Memory>
 /// Tells that the program passes.
 fn tell_checked<K: Sink>(alloc: Global, checked: &Checked, sink: &mut K) -> Status
     ensures report { Reports (StatusReport (CheckReport (plain_program checked.now.program))) result (K.written sink.old) (K.written sink.new) }
-    ensures later { K.faults sink.old ≤ K.faults sink.new }
-    ensures rose { result ≡ SinkFault → Rose (K.faults sink.old) (K.faults sink.new) }
+    ensures faults { RoseExactlyWhere (result ≡ SinkFault) (K.faults sink.old) (K.faults sink.new) }
     ensures sure_text { result ≢ TextFault }
 {
     match checked_text(alloc, checked) {
@@ -51,8 +50,8 @@ fn check_file<T: TextSource, K: Sink>(
     sink: &mut K,
 ) -> Status
     ensures report { Reports (StatusReport (CommandReport (check_form file.now) (T.held texts.old))) result (K.written sink.old) (K.written sink.new) }
-    ensures rose { result ≡ SinkFault → Rose (K.faults sink.old) (K.faults sink.new) }
-    ensures take_rose { result ≡ TextFault → Rose (T.faults texts.old) (T.faults texts.new) }
+    ensures faults { RoseExactlyWhere (result ≡ SinkFault) (K.faults sink.old) (K.faults sink.new) }
+    ensures take_faults { RoseExactlyWhere (result ≡ TextFault) (T.faults texts.old) (T.faults texts.new) }
 {
     match take_checked(alloc, file, texts, sink) {
         Ok(checked) => tell_checked(alloc, &checked, sink),
@@ -70,8 +69,8 @@ fn run_file<T: TextSource, K: Sink>(
 ) -> Status
     requires few { IfSome limit (λ n. n ≤ most_classes) }
     ensures report { Reports (StatusReport (CommandReport (run_form file.now limit) (T.held texts.old))) result (K.written sink.old) (K.written sink.new) }
-    ensures rose { result ≡ SinkFault → Rose (K.faults sink.old) (K.faults sink.new) }
-    ensures take_rose { result ≡ TextFault → Rose (T.faults texts.old) (T.faults texts.new) }
+    ensures faults { RoseExactlyWhere (result ≡ SinkFault) (K.faults sink.old) (K.faults sink.new) }
+    ensures take_faults { RoseExactlyWhere (result ≡ TextFault) (T.faults texts.old) (T.faults texts.new) }
 {
     match take_checked(alloc, file, texts, sink) {
         Ok(checked) => run_program(alloc, file, checked, limit.unwrap_or(USUAL_CLASSES), sink),
@@ -88,8 +87,8 @@ fn obey<T: TextSource, K: Sink>(
     sink: &mut K,
 ) -> Status
     ensures report { Reports (IsReport (map string_bytes words.now) (T.held texts.old)) result (K.written sink.old) (K.written sink.new) }
-    ensures sink_fault { result ≡ SinkFault → Rose (K.faults sink.old) (K.faults sink.new) }
-    ensures text_fault { result ≡ TextFault → Rose (T.faults texts.old) (T.faults texts.new) }
+    ensures sink_fault { RoseExactlyWhere (result ≡ SinkFault) (K.faults sink.old) (K.faults sink.new) }
+    ensures text_fault { RoseExactlyWhere (result ≡ TextFault) (T.faults texts.old) (T.faults texts.new) }
 {
     match read_words(words) {
         None => put_last(sink, USAGE.as_bytes(), Status::Words),
@@ -109,9 +108,9 @@ pub fn run<T: TextSource, K: Sink>(
 ) -> Status
     // What this call appended is, with the status, a legal report of these words over the texts that are held.
     ensures report { Reports (IsReport (map string_bytes words.now) (T.held texts.old)) result (K.written sink.old) (K.written sink.new) }
-    // A fault is answered only where the count of faults of that object rose in this call.
-    ensures sink_fault { result ≡ SinkFault → Rose (K.faults sink.old) (K.faults sink.new) }
-    ensures text_fault { result ≡ TextFault → Rose (T.faults texts.old) (T.faults texts.new) }
+    // A fault is answered exactly where the count of faults of that object rose in this call.
+    ensures sink_fault { RoseExactlyWhere (result ≡ SinkFault) (K.faults sink.old) (K.faults sink.new) }
+    ensures text_fault { RoseExactlyWhere (result ≡ TextFault) (T.faults texts.old) (T.faults texts.new) }
     // Where nothing in the words, the text or its items stands in the way, nothing but a fault or want of memory stops the
     // report.
     ensures complete { (form : CommandForm) → IsDoable (map string_bytes words.now) (T.held texts.old) form → IsDoneOrStopped result }

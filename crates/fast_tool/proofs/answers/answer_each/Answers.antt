@@ -16,7 +16,7 @@ trees-init g c =
       λ file. begin (items_in c.args.session.now) file asked.name.now asked.trees.now (kind_asked asked.question) c.requires.prepared.composable (map plain_placed c.args.placed.now) (g.K.Sink.written c.args.sink.now),
       c.requires.prepared,
       record { program = refl; limit = refl },
-      omega arith,
+      refl,
     )
 
 pub answer-requires : goal.answer-requires
@@ -47,7 +47,7 @@ trees-preserved g c =
       λ file. answered_more items file asked.name.now asked.trees.now kind c.requires.prepared.composable placed k start now (c.trees.invariant.0 file) (plain_placed given) after low is answered,
       done.prepared,
       record { program = c.answer.ensures.program.program ∙ c.trees.invariant.2.program; limit = c.answer.ensures.program.limit ∙ c.trees.invariant.2.limit },
-      omega (arith, c.trees.invariant.3, c.answer.ensures.later),
+      done.faults.same (λ e. cc) ∙ c.trees.invariant.3,
     )
 
 pub returns-in-Err-clause-report : goal.returns-in-Err-clause-report
