@@ -5,15 +5,13 @@ use Rattle.model_program.specs.Lexeme.{Lexeme}
 use Rattle.model_program.specs.Joined.{◌⌢◌, IsNext, IsOther, ◌⊗◌}
 use Rattle.read_forms.specs.Reads.{IsRead, Fails, StartsIn, closed}
 use Rattle.model_program.specs.Grammar.{IsSign, sign, Many}
-use Rattle.read_forms.proofs.Forms.{Ends, Makes, HasSample, AllStartIn, as_read, as_fails, then_read, then_fails, first_fails, starts_joined, stops_next, stops_other, other_than, alternative, remade}
+use Rattle.label_reader.specs.Lists.{closing_of}
+use Rattle.read_forms.specs.Parts.{Ends, HasSample, AllStartIn, other_than}
+use Rattle.read_forms.proofs.Forms.{Makes, as_read, as_fails, then_read, then_fails, first_fails, starts_joined, stops_next, stops_other, alternative, remade}
 use Rattle.read_forms.proofs.Words.{sign_starts, sample_sign}
 use Rattle.read_forms.specs.Fronts.{Leaves, Done, Made, Through}
 use Rattle.read_forms.proofs.Lists.{IsPartWay, to_left, to_right, skip_nothing, put_nothing}
 use Rattle.read_forms.proofs.Fronts.{left_leaves, left_as, left_made, none_left, made_makes, makes_of_made}
-
--- items and the sign that closes them
-abbrev pub closing_of : {A : Type 0} → (A → List Lexeme → Type 0) → Word → List A × Unit {0} → List Lexeme → Type 0
-closing_of item close = Many item ⊗ IsSign close
 
 -- The items are told apart from the closing sign by their first words, and what stands behind an item ends it.
 pub record IsClosable {A : Type 0} (item : A → List Lexeme → Type 0) (goes_on : Word → Type 0) (close : Word) : Type 0 where

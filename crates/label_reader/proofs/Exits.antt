@@ -6,7 +6,8 @@ use Rattle.std.proofs.lemmas.Result.{err_from_is_err_and}
 use Rattle.model_program.specs.declared.Word.{Word}
 use Rattle.model_program.specs.Lexeme.{Lexeme}
 use Rattle.read_forms.specs.Reads.{IsRead, Fails, StartsIn}
-use Rattle.read_forms.proofs.Forms.{Makes, AllStartIn, as_read, as_fails}
+use Rattle.read_forms.specs.Parts.{AllStartIn}
+use Rattle.read_forms.proofs.Forms.{Makes, as_read, as_fails}
 use Rattle.label_reader.proofs.LevelForms.{wider_read, wider_fails}
 use Rattle.fast_lex.specs.declared.Token.{Token}
 use Rattle.label_reader.specs.declared.stop.Stop.{Stop}

@@ -14,7 +14,8 @@ use Rattle.model_grammar.specs.Syntax.{Expr, chain}
 use Rattle.model_grammar.specs.Expressions.{IsExpr}
 use Rattle.label_reader.specs.Operands.{mark_in, parts_from}
 use Rattle.label_reader.specs.Inside.{IsBehindFirst}
-use Rattle.label_reader.proofs.Closings.{closing_of, closing_more, closing_more_fails, closing_read, closing_read_fails}
+use Rattle.label_reader.specs.Lists.{closing_of}
+use Rattle.label_reader.proofs.Closings.{closing_more, closing_more_fails, closing_read, closing_read_fails}
 use Rattle.label_reader.proofs.Gathered.{marks_of, signed, prefix_is, two_gathered, more_gathered}
 use Rattle.label_reader.proofs.Insides.{prims_closable, prefix_of, further_starts}
 

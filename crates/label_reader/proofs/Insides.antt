@@ -7,7 +7,8 @@ use Rattle.model_program.specs.Lexeme.{Lexeme}
 use Rattle.model_program.specs.Joined.{◌⌢◌, IsNext, IsOther, ◌⊗◌}
 use Rattle.read_forms.specs.Reads.{GoesOnAs, Stops, IsRead, Fails, StartsIn, closed}
 use Rattle.model_program.specs.Grammar.{IsWord, IsSign, sign, Many}
-use Rattle.read_forms.proofs.Forms.{Ends, Makes, HasSample, as_read, as_fails, then_read, then_fails, first_fails, ends_closed, ends_starting, sample_as, sample_pair, starts_append, starts_wider, starts_joined, starts_as, starts_stops, stops_of, stops_other_than, alternative, remade, other_than, Chained, chained_read, chained_fails, chained_first_fails}
+use Rattle.read_forms.specs.Parts.{Ends, HasSample, other_than}
+use Rattle.read_forms.proofs.Forms.{Makes, as_read, as_fails, then_read, then_fails, first_fails, ends_closed, ends_starting, sample_as, sample_pair, starts_append, starts_wider, starts_joined, starts_as, starts_stops, stops_of, stops_other_than, alternative, remade, Chained, chained_read, chained_fails, chained_first_fails}
 use Rattle.read_forms.proofs.Words.{sign_starts, next_of, sample_sign}
 use Rattle.read_forms.proofs.Lists.{IsPartWay}
 use Rattle.model_grammar.specs.declared.Chain.{Chain}
@@ -29,7 +30,8 @@ use Rattle.label_reader.specs.Inside.{IsInside, nested, many, remainder, AreTwo,
 use Rattle.label_reader.specs.Inside.{compared as inside_compared}
 use Rattle.label_reader.proofs.LevelForms.{level_begins, sample_prim, IsRelAt, rel_strength}
 use Rattle.label_reader.proofs.Joins.{Spelled, spelled_read, spelled_fails}
-use Rattle.label_reader.proofs.Closings.{closing_of, IsClosable, sample_closing}
+use Rattle.label_reader.specs.Lists.{closing_of}
+use Rattle.label_reader.proofs.Closings.{IsClosable, sample_closing}
 use Rattle.label_reader.proofs.Gathered.{signed}
 
 -- Operators before their operands.

@@ -5,7 +5,8 @@ use Rattle.model_program.specs.declared.Word.{Word}
 use Rattle.model_program.specs.Lexeme.{Lexeme}
 use Rattle.model_program.specs.Joined.{IsOther}
 use Rattle.read_forms.specs.Reads.{GoesOnAs, Stops, IsRead, IsRefused, Fails}
-use Rattle.read_forms.proofs.Forms.{HasSample}
+use Rattle.label_reader.specs.Lists.{Without}
+use Rattle.read_forms.specs.Parts.{HasSample}
 
 -- a value with the tokens that spell it
 abbrev pub Spelled : {A : Type 0} → (A → List Lexeme → Type 0) → A × List Lexeme → List Lexeme → Type 0
@@ -36,10 +37,6 @@ spelled_fails (Some bad) fails = let r = fails.why in record {
     none = λ more other after w as_bad same spelled stops. r.none more other after w.0 as_bad same spelled.0 stops;
   };
 }
-
--- a form that doesn't begin with a word
-abbrev pub Without : {A : Type 0} → Word → (A → List Lexeme → Type 0) → A → List Lexeme → Type 0
-Without w p a ts = p a ts × IsOther w ts
 
 other_front : (w : Word) (front back : List Lexeme) → IsOther w (front ++ back) → IsOther w front
 other_front w [] back is_other = tt

@@ -6,7 +6,8 @@ use Rattle.model_program.specs.Lexeme.{Lexeme}
 use Rattle.model_program.specs.Joined.{◌⌢◌, IsNext, IsOther, Nothing, ◌⊗◌}
 use Rattle.read_forms.specs.Reads.{Stops, IsRead, Fails, StartsIn}
 use Rattle.model_program.specs.Grammar.{IsWord}
-use Rattle.read_forms.proofs.Forms.{Ends, Makes, HasSample, AllStartIn, as_read, as_fails, then_read, then_fails, first_fails, ends_closed, starts_append, starts_wider, stops_of, stops_fewer, stops_next, stops_other, alternative, remade, left_out, stands}
+use Rattle.read_forms.specs.Parts.{Ends, HasSample, AllStartIn}
+use Rattle.read_forms.proofs.Forms.{Makes, as_read, as_fails, then_read, then_fails, first_fails, ends_closed, starts_append, starts_wider, stops_of, stops_fewer, stops_next, stops_other, alternative, remade, left_out, stands}
 use Rattle.read_forms.proofs.Words.{sample_token}
 use Rattle.read_forms.proofs.Lists.{IsPartWay}
 use Rattle.model_grammar.specs.declared.Chain.{Chain}

@@ -10,5 +10,4 @@ pub mod Gathered
 pub mod Primaries
 pub mod Insides
 pub mod Further
-pub mod ListSteps
 pub mod Listed

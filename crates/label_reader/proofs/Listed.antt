@@ -1,45 +1,31 @@
 -- What was read of lists of items: one lemma for each list, whatever stands between its items.
-use Rattle.std.proofs.Common.{◌≡◌, List, [], ◌∷◌, ◌++◌, map, refl, sym, ap, ◌∙◌, subst, append_assoc, append-nil, Result, Ok, Err, ◌⊎◌, inl, inr, Bor}
-use Rattle.std.proofs.lemmas.List.{map-append}
+use Rattle.std.proofs.Common.{◌≡◌, ◌≤◌, List, [], ◌∷◌, ◌++◌, length, refl, sym, ap, ◌∙◌, subst, arith, Option, Some, Result, Ok, Err, ◌⊎◌, inl, inr}
+use Rattle.std.proofs.lemmas.List.{length-map}
 use Rattle.model_program.specs.declared.Word.{Word}
 use Rattle.model_program.specs.declared.Word.TheVariants as word
 use Rattle.model_program.specs.Lexeme.{Lexeme}
 use Rattle.model_program.specs.Joined.{◌⌢◌, ◌⊗◌, IsNext, IsOther, Nothing}
-use Rattle.model_program.specs.Grammar.{IsSign, sign, IsComma, comma, Further, Items, Any, Many}
+use Rattle.model_program.specs.Grammar.{IsSign, sign, IsComma, comma, Further, Items, Many}
 use Rattle.model_grammar.specs.Terms.{IsLater, Row}
 use Rattle.read_forms.specs.Reads.{IsRead, IsRefused, Fails, StartsIn, closed}
-use Rattle.read_forms.proofs.Forms.{Ends, Makes, HasSample, AllStartIn, as_read, as_refused, as_fails, then_read, then_fails, first_fails, first_refused as refused_first, sample_as, sample_pair, remade, alternative, elsewhere, ends_closed, ends_starting, starts_joined, starts_append, starts_wider, stops_other, stops_other_than, other_than, read_at}
+use Rattle.read_forms.specs.Parts.{Ends, HasSample, AllStartIn, other_than}
+use Rattle.read_forms.proofs.Forms.{Makes, as_read, as_refused, as_fails, then_read, then_fails, first_fails, first_refused as refused_first, sample_as, sample_pair, remade, alternative, elsewhere, ends_closed, ends_starting, starts_joined, starts_append, starts_wider, stops_other, stops_other_than}
 use Rattle.read_forms.proofs.Words.{sign_starts, sample_sign, sign_makes, word_read, word_refused, next_of, word_other, comma_stands, comma_left_out}
 use Rattle.fast_lex.specs.declared.Token.{Token}
 use Rattle.label_reader.specs.declared.stop.Stop.{Stop}
 use Rattle.label_reader.specs.declared.lists.Between.{Between}
 use Rattle.label_reader.specs.declared.lists.Between.TheVariants as gap
 use Rattle.label_reader.specs.Results.{lexemes, bad_of, Reads}
-use Rattle.label_reader.specs.Lists.{IsTaken, SkipsTo, IsMissing, ReadsOn, ended, full, missing, refused, one_more, ReadsSome, first_full, first_refused, first_read, ReadsAny, is_empty, not_empty, seen_as}
-use Rattle.read_forms.proofs.Lists.{to_left, to_right, skip_nothing, put_nothing, opened, opened_read, opened_fails, items_to}
-use Rattle.label_reader.proofs.Joins.{Without, without_read, without_fails}
+use Rattle.label_reader.specs.Lists.{IsTaken, SkipsTo, IsMissing, Listed, NotEmpty, ListedSome, AnyTo, SomeTo, IsItem, later_of, Without, closing_of}
+use Rattle.read_forms.proofs.Lists.{IsPartWay, to_left, to_right, skip_nothing, put_nothing, opened, opened_read, opened_fails}
+use Rattle.label_reader.proofs.Joins.{without_read, without_fails}
 use Rattle.label_reader.proofs.Primaries.{missing as nothing_begins}
-use Rattle.label_reader.proofs.Closings.{closing_of, closing_ends, closing_goes_on, sample_closing, IsClosable, to_close}
+use Rattle.label_reader.proofs.Closings.{IsClosable, sample_closing, closing_more, closing_more_fails, closing_read}
 
 pub front_as : (p q r : List Lexeme → Type 0) (ts : List Lexeme) → ((l : List Lexeme) → p l → q l) → (p ⌢ r) ts → (q ⌢ r) ts
 front_as p q r ts wider joined = record { front = joined.front; back = joined.back; split = joined.split; at_front = wider joined.front joined.at_front; at_back = joined.at_back }
 
--- an item behind another one, with what stands between the two
-abbrev pub later_of : {A : Type 0} → Between → (A → List Lexeme → Type 0) → A → List Lexeme → Type 0
-later_of gap.Nothing form = form
-later_of gap.Comma form = λ a. IsComma tt ⌢ form a
-later_of gap.LabelComma form = IsLater form
-later_of gap.Bar form = λ a. sign word.Bar ⌢ form a
-
--- By their first words items are told apart from a comma and the closing sign, and what stands behind one ends it.
-pub record IsItem {A : Type 0} (between : Between) (close : Word) (form : A → List Lexeme → Type 0) (goes_on : Word → Type 0) : Type 0 where
-  pub alone : HasSample (Without word.Minus form)
-  pub no_comma : AllStartIn (other_than word.Comma) form
-  pub no_close : AllStartIn (other_than close) form
-  pub closes : (close ≡ word.Comma → ⊥) × (close ≡ word.Bar → ⊥)
-  pub ends : Ends goes_on (closing_of (later_of between form) close) closed
-
-sample_item : {A : Type 0} {form : A → List Lexeme → Type 0} → HasSample (Without word.Minus form) → HasSample form
+pub sample_item : {A : Type 0} {form : A → List Lexeme → Type 0} → HasSample (Without word.Minus form) → HasSample form
 sample_item alone = record { value = alone.value; tokens = alone.tokens; spelled = alone.spelled.0 }
 
 later_starts : {A : Type 0} {form : A → List Lexeme → Type 0} {goes_on : Word → Type 0} (between : Between) (close : Word) → IsItem between close form goes_on → (a : A) (ts : List Lexeme) → later_of between form a ts → StartsIn (other_than close) ts
@@ -115,123 +101,21 @@ later_missing {A} {form} {goes_on} gap.LabelComma close tokens item is_next = no
     begins a ts (inr spelled) = other_begins ts (item.no_comma.starts a ts spelled.0) spelled.1
 later_missing {form = form} {goes_on} gap.Bar close tokens item is_other = as_refused (behind (IsSign word.Bar) form) (refused_first (ends_closed form goes_on) (sample_item item.alone) (as_refused (sign_makes word.Bar closed tokens) (word_refused word.Bar tokens is_other)))
 
--- the tokens that a reader is given
-abbrev pub seen : Bor (List Token) → List Lexeme
-seen start = lexemes start.now
-
--- what a reader may return, it read of the form
-abbrev pub ReadsForm : {A T : Type 0} → (A → List Lexeme → Type 0) → (Word → Type 0) → (T → A) → (Bor (List Token) → Result (T × Bor (List Token)) Stop → Type 0) → Type 0
-ReadsForm {A} {T} form goes_on plain item = (start : Bor (List Token)) (r : Result (T × Bor (List Token)) Stop) → item start r → Reads form goes_on start.now (λ x. (plain x.0, lexemes x.1.now)) r
-
--- further items, put behind those of `all`
-record IsFurther {A T : Type 0} (left : List A × Unit {0} → List Lexeme → Type 0) (plain : T → A) (all : List T) (tokens : List Lexeme) (whole : List T) (rest : List Lexeme) : Type 0 where
-  more : List A
-  read : IsRead left closed tokens (more, tt) rest
-  is : map plain whole ≡ map plain all ++ more
-
-abbrev ReadsFurther : {A T : Type 0} → (List A × Unit {0} → List Lexeme → Type 0) → (T → A) → List T → List Lexeme → Result (List T × List Lexeme) Stop → Type 0
-ReadsFurther left plain all tokens (Ok x) = IsFurther left plain all tokens x.0 x.1
-ReadsFurther left plain all tokens (Err e) = Fails left closed tokens (bad_of e)
-
-further : {A T : Type 0} {form : A → List Lexeme → Type 0} {goes_on : Word → Type 0} (plain : T → A) (item : Bor (List Token) → Result (T × Bor (List Token)) Stop → Type 0) (between : Between) (close : Word) → IsItem between close form goes_on → ReadsForm form goes_on plain item
-    → (all : List T) (tokens : List Lexeme) (r : Result (List T × List Lexeme) Stop) → ReadsOn seen item between close all tokens r → ReadsFurther (closing_of (later_of between form) close) plain all tokens r
-further {form = form} plain item between close is_item reads all tokens r (ended all2 t rest is_close) = record {
-  more = [];
-  read = as_read (closing_ends (later_of between form) close (closable between close is_item) (t ∷ rest) is_close) (taken close (t ∷ rest) rest (t, refl, is_close));
-  is = sym (append-nil (map plain all));
-}
-further plain item between close is_item reads all tokens r (full all2 tokens2) = record { why = tt }
-further {form = form} {goes_on} plain item between close is_item reads all tokens r (missing all2 tokens2 e is_other was) = as_fails (bad_of e) (closing_goes_on (later_of between form) close tokens is_other) (first_fails (bad_of e) is_item.ends (sample_closing (later_of between form) close)
-    (subst (λ b. Fails (later_of between form) goes_on tokens b) (sym was.1) (record { why = later_missing between close tokens is_item was.0 })))
-further {form = form} plain item between close is_item reads all tokens r (refused all2 tokens2 start e is_other skips was) = as_fails (bad_of e) (closing_goes_on (later_of between form) close tokens is_other) (first_fails (bad_of e) is_item.ends (sample_closing (later_of between form) close)
-    (later_fails between close tokens (seen start) (bad_of e) is_item skips (reads start (Err e) was)))
-further {A} {T} {form} {goes_on} plain item between close is_item reads all tokens r (one_more all2 tokens2 start after x r2 is_other skips was more) = by r (further plain item between close is_item reads (all ++ x ∷ []) (seen after) r more)
-  where
-    first : IsRead (later_of between form) goes_on tokens (plain x) (seen after)
-    first = later_read between close tokens (seen start) (seen after) is_item skips (reads start (Ok (x, after)) was)
-
-    by : (r : Result (List T × List Lexeme) Stop) → ReadsFurther (closing_of (later_of between form) close) plain (all ++ x ∷ []) (seen after) r → ReadsFurther (closing_of (later_of between form) close) plain all tokens r
-    by (Ok v) read = record {
-      more = plain x ∷ read.more;
-      read = as_read (closing_goes_on (later_of between form) close tokens is_other) (then_read is_item.ends first read.read);
-      is = read.is ∙ ap (λ l. l ++ read.more) (map-append plain all (x ∷ [])) ∙ append_assoc (map plain all) (plain x ∷ []) read.more;
-    }
-    by (Err e) fails = as_fails (bad_of e) (closing_goes_on (later_of between form) close tokens is_other) (then_fails (bad_of e) is_item.ends first fails)
-
 -- a list of such items, and its closing sign, are the first item and the further ones
 abbrev pub MadeOfItems : {A : Type 0} → Between → Word → (A → List Lexeme → Type 0) → (List A → List Lexeme → Type 0) → List Lexeme → Type 0
 MadeOfItems between close form whole tokens = Makes (form ⊗ closing_of (later_of between form) close) whole (λ v. v.0 ∷ v.1.0) closed tokens
 
--- or the closing sign alone, where it comes
-pub record IsList {A : Type 0} (between : Between) (close : Word) (form : A → List Lexeme → Type 0) (whole : List A → List Lexeme → Type 0) : Type 0 where
-  pub some : (tokens : List Lexeme) → IsOther close tokens → MadeOfItems between close form whole tokens
-  pub none : (tokens : List Lexeme) → IsNext close tokens → Makes (IsSign close) whole (λ _. []) closed tokens
-
-abbrev ReadsList : {A T : Type 0} → (List A → List Lexeme → Type 0) → (T → A) → List Lexeme → Result (List T × List Lexeme) Stop → Type 0
-ReadsList whole plain tokens (Ok x) = IsRead whole closed tokens (map plain x.0) x.1
-ReadsList whole plain tokens (Err e) = Fails whole closed tokens (bad_of e)
-
-some_read : {A T : Type 0} {form : A → List Lexeme → Type 0} {goes_on : Word → Type 0} {whole : List A → List Lexeme → Type 0} (plain : T → A) (item : Bor (List Token) → Result (T × Bor (List Token)) Stop → Type 0) (between : Between) (close : Word) → IsItem between close form goes_on → ReadsForm form goes_on plain item
-    → (tokens : List Lexeme) (r : Result (List T × List Lexeme) Stop) → MadeOfItems between close form whole tokens → ReadsSome seen item between close tokens r → ReadsList whole plain tokens r
-some_read plain item between close is_item reads tokens r makes (first_full tokens2) = record { why = tt }
-some_read {form = form} plain item between close is_item reads tokens r makes (first_refused start e was) = as_fails (bad_of e) makes (first_fails (bad_of e) is_item.ends (sample_closing (later_of between form) close) (reads start (Err e) was))
-some_read {A} {T} {form} {goes_on} {whole} plain item between close is_item reads tokens r makes (first_read start after x r2 was more) = by r (further plain item between close is_item reads (x ∷ []) (seen after) r more)
+-- the same of a list that is a first item and the further ones behind it
+made_of : {A : Type 0} (between : Between) (form : A → List Lexeme → Type 0) (close : Word) (list : List A → List Lexeme → Type 0) {tokens : List Lexeme} → ((ts : List Lexeme) → list [] ts → ⊥)
+    → ((x : A) (xs : List A) (ts : List Lexeme) → (form x ⌢ Many (later_of between form) xs) ts → list (x ∷ xs) ts) → ((x : A) (xs : List A) (ts : List Lexeme) → list (x ∷ xs) ts → (form x ⌢ Many (later_of between form) xs) ts)
+    → MadeOfItems between close form (λ xs. list xs ⌢ sign close) tokens
+made_of {A} between form close list none into back = remade
+    (λ v ts spelled. front_as (form v.0 ⌢ Many (later_of between form) v.1.0) (list (v.0 ∷ v.1.0)) (sign close) ts (into v.0 v.1.0) (to_left (form v.0) (Many (later_of between form) v.1.0) (sign close) ts spelled))
+    (λ b ts spelled. parts b ts spelled)
   where
-    first : IsRead form goes_on tokens (plain x) (seen after)
-    first = reads start (Ok (x, after)) was
-
-    by : (r : Result (List T × List Lexeme) Stop) → ReadsFurther (closing_of (later_of between form) close) plain (x ∷ []) (seen after) r → ReadsList whole plain tokens r
-    by (Ok v) read = read_at (sym read.is) (as_read makes (then_read is_item.ends first read.read))
-    by (Err e) fails = as_fails (bad_of e) makes (then_fails (bad_of e) is_item.ends first fails)
-
-any_read : {A T : Type 0} {form : A → List Lexeme → Type 0} {goes_on : Word → Type 0} {whole : List A → List Lexeme → Type 0} (plain : T → A) (item : Bor (List Token) → Result (T × Bor (List Token)) Stop → Type 0) (between : Between) (close : Word) → IsItem between close form goes_on → ReadsForm form goes_on plain item
-    → (tokens : List Lexeme) (r : Result (List T × List Lexeme) Stop) → IsList between close form whole → ReadsAny seen item between close tokens r → ReadsList whole plain tokens r
-any_read plain item between close is_item reads tokens r list (is_empty tokens2 rest is) = as_read (list.none tokens (next_of close is.0 tokens rest is.1 is.2)) (taken close tokens rest is)
-any_read plain item between close is_item reads tokens r list (not_empty tokens2 r2 is_other items) = some_read plain item between close is_item reads tokens r (list.some tokens is_other) items
-
-list_reads : {A T X : Type 0} (whole : List A → List Lexeme → Type 0) (plain : T → A) (tokens : List Token) (view : X → List T × List Lexeme) (r : Result X Stop) → ReadsList whole plain (lexemes tokens) (seen_as view r) → Reads whole closed tokens (λ x. (map plain (view x).0, (view x).1)) r
-list_reads whole plain tokens view (Ok x) read = read
-list_reads whole plain tokens view (Err e) fails = fails
-
--- One item or more, as they were read.
-pub some_reads : {A T X : Type 0} {form : A → List Lexeme → Type 0} {goes_on : Word → Type 0} {whole : List A → List Lexeme → Type 0} {item : Bor (List Token) → Result (T × Bor (List Token)) Stop → Type 0} {between : Between} {close : Word} (plain : T → A) (tokens : List Token) (view : X → List T × List Lexeme) (r : Result X Stop)
-    → IsItem between close form goes_on → MadeOfItems between close form whole (lexemes tokens) → ReadsForm form goes_on plain item → ReadsSome seen item between close (lexemes tokens) (seen_as view r) → Reads whole closed tokens (λ x. (map plain (view x).0, (view x).1)) r
-some_reads {whole = whole} {item} {between} {close} plain tokens view r is_item makes reads was = list_reads whole plain tokens view r (some_read plain item between close is_item reads (lexemes tokens) (seen_as view r) makes was)
-
--- No item, or items, as they were read.
-pub any_reads : {A T X : Type 0} {form : A → List Lexeme → Type 0} {goes_on : Word → Type 0} {whole : List A → List Lexeme → Type 0} {item : Bor (List Token) → Result (T × Bor (List Token)) Stop → Type 0} {between : Between} {close : Word} (plain : T → A) (tokens : List Token) (view : X → List T × List Lexeme) (r : Result X Stop)
-    → IsItem between close form goes_on → IsList between close form whole → ReadsForm form goes_on plain item → ReadsAny seen item between close (lexemes tokens) (seen_as view r) → Reads whole closed tokens (λ x. (map plain (view x).0, (view x).1)) r
-any_reads {whole = whole} {item} {between} {close} plain tokens view r is_item list reads was = list_reads whole plain tokens view r (any_read plain item between close is_item reads (lexemes tokens) (seen_as view r) list was)
-
--- The lists of the grammar.
-
--- a list by its items, which ends with its closing sign
-list_of : {A : Type 0} {form : A → List Lexeme → Type 0} {goes_on : Word → Type 0} (between : Between) (close : Word) (items : List A → List Lexeme → Type 0) → IsItem between close form goes_on
-    → ((x : A) (xs : List A) (ts : List Lexeme) → (form x ⌢ Many (later_of between form) xs) ts → items (x ∷ xs) ts) → ((x : A) (xs : List A) (ts : List Lexeme) → items (x ∷ xs) ts → (form x ⌢ Many (later_of between form) xs) ts)
-    → ((ts : List Lexeme) → Nothing ts → items [] ts) → ((ts : List Lexeme) → items [] ts → Nothing ts) → IsList between close form (λ xs. items xs ⌢ sign close)
-list_of {A} {form} between close items item into back none_into none_back = record {
-  some = λ tokens is_other. alternative (λ w. w ≡ close) tokens (λ v ts spelled. put v ts spelled) (λ b ts spelled. some_back b ts spelled) (stops_other close tokens is_other);
-  none = λ tokens is_next. alternative (other_than close) tokens (λ _ ts is_sign. front_as Nothing (items []) (sign close) ts none_into (put_nothing (sign close) ts is_sign)) (λ b ts spelled. nothing_back b ts spelled) (stops_other_than close tokens is_next);
-}
-  where
-    put : (v : A × (List A × Unit {0})) (ts : List Lexeme) → (form ⊗ closing_of (later_of between form) close) v ts → (items (v.0 ∷ v.1.0) ⌢ sign close) ts
-    put v ts spelled = front_as (form v.0 ⌢ Many (later_of between form) v.1.0) (items (v.0 ∷ v.1.0)) (sign close) ts (into v.0 v.1.0) (to_left (form v.0) (Many (later_of between form) v.1.0) (sign close) ts spelled)
-
-    some_back : (b : List A) (ts : List Lexeme) → (items b ⌢ sign close) ts → StartsIn (λ w. w ≡ close) ts ⊎ ((v : A × (List A × Unit {0})) × (form ⊗ closing_of (later_of between form) close) v ts × (b ≡ v.0 ∷ v.1.0))
-    some_back [] ts spelled = inl ((sign_starts close).starts tt ts (skip_nothing (sign close) ts (front_as (items []) Nothing (sign close) ts none_back spelled)))
-    some_back (x ∷ xs) ts spelled = inr ((x, (xs, tt)), to_right (form x) (Many (later_of between form) xs) (sign close) ts (front_as (items (x ∷ xs)) (form x ⌢ Many (later_of between form) xs) (sign close) ts (back x xs) spelled), refl)
-
-    nothing_back : (b : List A) (ts : List Lexeme) → (items b ⌢ sign close) ts → StartsIn (other_than close) ts ⊎ ((u : Unit {0}) × IsSign close u ts × (b ≡ []))
-    nothing_back [] ts spelled = inr (tt, skip_nothing (sign close) ts (front_as (items []) Nothing (sign close) ts none_back spelled), refl)
-    nothing_back (x ∷ xs) ts spelled = inl (starts_joined (other_than close) _ _ ts (λ l is. starts_joined (other_than close) _ _ l (item.no_close.starts x) (back x xs l is)) spelled)
-
--- without separators
-pub plain_list : {A : Type 0} {form : A → List Lexeme → Type 0} {goes_on : Word → Type 0} {close : Word} → IsItem gap.Nothing close form goes_on → IsList gap.Nothing close form (to_close form close)
-plain_list {form = form} {close = close} item = list_of gap.Nothing close (Many form) item (λ x xs ts is. is) (λ x xs ts is. is) (λ ts is. is) (λ ts is. is)
-
--- labels
-pub label_list : {A : Type 0} {form : A → List Lexeme → Type 0} {goes_on : Word → Type 0} {close : Word} → IsItem gap.LabelComma close form goes_on → IsList gap.LabelComma close form (λ xs. Row form xs ⌢ sign close)
-label_list {form = form} {close = close} item = list_of gap.LabelComma close (Row form) item (λ x xs ts is. is) (λ x xs ts is. is) (λ ts is. is) (λ ts is. is)
+    parts : (b : List A) (ts : List Lexeme) → (list b ⌢ sign close) ts → (v : A × (List A × Unit {0})) × (form ⊗ closing_of (later_of between form) close) v ts × (b ≡ v.0 ∷ v.1.0)
+    parts [] ts spelled = absurd (none spelled.front spelled.at_front)
+    parts (x ∷ xs) ts spelled = ((x, (xs, tt)), to_right (form x) (Many (later_of between form) xs) (sign close) ts (front_as (list (x ∷ xs)) (form x ⌢ Many (later_of between form) xs) (sign close) ts (back x xs) spelled), refl)
 
 -- Separators stand before the further items.
 further_many : {A : Type 0} (p : Unit {0} → List Lexeme → Type 0) (form : A → List Lexeme → Type 0) (xs : List A) (ts : List Lexeme) → Further p form xs ts → Many (λ a. p tt ⌢ form a) xs ts
@@ -248,23 +132,106 @@ into_items p form x xs ts is = record { front = is.front; back = is.back; split 
 of_items : {A : Type 0} (p : Unit {0} → List Lexeme → Type 0) (form : A → List Lexeme → Type 0) (x : A) (xs : List A) (ts : List Lexeme) → (form x ⌢ Further p form xs) ts → (form x ⌢ Many (λ a. p tt ⌢ form a) xs) ts
 of_items p form x xs ts is = record { front = is.front; back = is.back; split = is.split; at_front = is.at_front; at_back = further_many p form xs is.back is.at_back }
 
--- with commas that may be left out
-pub comma_list : {A : Type 0} {form : A → List Lexeme → Type 0} {goes_on : Word → Type 0} {close : Word} → IsItem gap.Comma close form goes_on → IsList gap.Comma close form (λ xs. Any IsComma form xs ⌢ sign close)
-comma_list {form = form} {close = close} item = list_of gap.Comma close (Any IsComma form) item (into_items IsComma form) (of_items IsComma form) (λ ts is. is) (λ ts is. is)
+some_made : {A : Type 0} (between : Between) (form : A → List Lexeme → Type 0) (close : Word) {tokens : List Lexeme} → MadeOfItems between close form (SomeTo between form close) tokens
+some_made gap.Nothing form close = made_of gap.Nothing form close (NotEmpty (Many form)) (λ ts none. none) (λ x xs ts is. is) (λ x xs ts is. is)
+some_made gap.Comma form close = made_of gap.Comma form close (Items IsComma form) (λ ts none. none) (into_items IsComma form) (of_items IsComma form)
+some_made gap.LabelComma form close = made_of gap.LabelComma form close (NotEmpty (Row form)) (λ ts none. none) (λ x xs ts is. is) (λ x xs ts is. is)
+some_made gap.Bar form close = made_of gap.Bar form close (Items (IsSign word.Bar) form) (λ ts none. none) (into_items (IsSign word.Bar) form) (of_items (IsSign word.Bar) form)
 
--- with at least one item
-items_made : {A : Type 0} (p : Unit {0} → List Lexeme → Type 0) (form : A → List Lexeme → Type 0) (close : Word) (tokens : List Lexeme) → Makes (form ⊗ closing_of (λ a. p tt ⌢ form a) close) (λ xs. Items p form xs ⌢ sign close) (λ v. v.0 ∷ v.1.0) closed tokens
-items_made {A} p form close tokens = remade (λ v ts spelled. front_as (form v.0 ⌢ Many (λ a. p tt ⌢ form a) v.1.0) (form v.0 ⌢ Further p form v.1.0) (sign close) ts (into_items p form v.0 v.1.0) (to_left (form v.0) (Many (λ a. p tt ⌢ form a) v.1.0) (sign close) ts spelled)) (λ b ts spelled. back b ts spelled)
+-- Lists with an item, and others.
+
+none_listed : {A : Type 0} (between : Between) (form : A → List Lexeme → Type 0) (ts : List Lexeme) → Nothing ts → Listed between form [] ts
+none_listed gap.Nothing form ts is = is
+none_listed gap.Comma form ts is = is
+none_listed gap.LabelComma form ts is = is
+none_listed gap.Bar form ts is = is
+
+listed_none : {A : Type 0} (between : Between) (form : A → List Lexeme → Type 0) (ts : List Lexeme) → Listed between form [] ts → Nothing ts
+listed_none gap.Nothing form ts is = is
+listed_none gap.Comma form ts is = is
+listed_none gap.LabelComma form ts is = is
+listed_none gap.Bar form ts is = is
+
+some_listed : {A : Type 0} (between : Between) (form : A → List Lexeme → Type 0) (xs : List A) (ts : List Lexeme) → ListedSome between form xs ts → Listed between form xs ts
+some_listed gap.Nothing form [] ts is = absurd is
+some_listed gap.Nothing form (x ∷ xs) ts is = is
+some_listed gap.Comma form [] ts is = absurd is
+some_listed gap.Comma form (x ∷ xs) ts is = is
+some_listed gap.LabelComma form [] ts is = absurd is
+some_listed gap.LabelComma form (x ∷ xs) ts is = is
+some_listed gap.Bar form [] ts is = absurd is
+some_listed gap.Bar form (x ∷ xs) ts is = is
+
+listed_some : {A : Type 0} (between : Between) (form : A → List Lexeme → Type 0) (x : A) (xs : List A) (ts : List Lexeme) → Listed between form (x ∷ xs) ts → ListedSome between form (x ∷ xs) ts
+listed_some gap.Nothing form x xs ts is = is
+listed_some gap.Comma form x xs ts is = is
+listed_some gap.LabelComma form x xs ts is = is
+listed_some gap.Bar form x xs ts is = is
+
+listed_starts : {A : Type 0} {form : A → List Lexeme → Type 0} {words : Word → Type 0} (between : Between) → AllStartIn words form → (x : A) (xs : List A) (ts : List Lexeme) → Listed between form (x ∷ xs) ts → StartsIn words ts
+listed_starts gap.Nothing all x xs ts is = starts_joined _ _ _ ts (all.starts x) is
+listed_starts gap.Comma all x xs ts is = starts_joined _ _ _ ts (all.starts x) is
+listed_starts gap.LabelComma all x xs ts is = starts_joined _ _ _ ts (all.starts x) is
+listed_starts gap.Bar all x xs ts is = starts_joined _ _ _ ts (all.starts x) is
+
+-- where the closing sign comes, there is no item
+any_none : {A : Type 0} {form : A → List Lexeme → Type 0} {goes_on : Word → Type 0} (between : Between) (close : Word) (tokens : List Lexeme) → IsItem between close form goes_on → IsNext close tokens → Makes (IsSign close) (AnyTo between form close) (λ _. []) closed tokens
+any_none {A} {form} between close tokens item is_next = alternative (other_than close) tokens (λ _ ts is_sign. front_as Nothing (Listed between form []) (sign close) ts (none_listed between form) (put_nothing (sign close) ts is_sign)) (λ b ts spelled. back b ts spelled) (stops_other_than close tokens is_next)
   where
-    back : (b : List A) (ts : List Lexeme) → (Items p form b ⌢ sign close) ts → (v : A × (List A × Unit {0})) × (form ⊗ closing_of (λ a. p tt ⌢ form a) close) v ts × (b ≡ v.0 ∷ v.1.0)
-    back [] ts spelled = absurd spelled.at_front
-    back (x ∷ xs) ts spelled = ((x, (xs, tt)), to_right (form x) (Many (λ a. p tt ⌢ form a) xs) (sign close) ts (front_as (form x ⌢ Further p form xs) (form x ⌢ Many (λ a. p tt ⌢ form a) xs) (sign close) ts (of_items p form x xs) spelled), refl)
+    back : (b : List A) (ts : List Lexeme) → AnyTo between form close b ts → StartsIn (other_than close) ts ⊎ ((u : Unit {0}) × IsSign close u ts × (b ≡ []))
+    back [] ts spelled = inr (tt, skip_nothing (sign close) ts (front_as (Listed between form []) Nothing (sign close) ts (listed_none between form) spelled), refl)
+    back (x ∷ xs) ts spelled = inl (starts_joined (other_than close) _ _ ts (listed_starts between item.no_close x xs) spelled)
 
-pub comma_items : {A : Type 0} (form : A → List Lexeme → Type 0) (close : Word) (tokens : List Lexeme) → MadeOfItems gap.Comma close form (λ xs. Items IsComma form xs ⌢ sign close) tokens
-comma_items form close tokens = items_made IsComma form close tokens
+pub any_ends : {A : Type 0} {form : A → List Lexeme → Type 0} {goes_on : Word → Type 0} {tokens rest : List Lexeme} (between : Between) (close : Word) → IsItem between close form goes_on → IsTaken close tokens rest → IsRead (AnyTo between form close) closed tokens [] rest
+any_ends {tokens = tokens} {rest} between close item is = as_read (any_none between close tokens item (next_of close is.0 tokens rest is.1 is.2)) (taken close tokens rest is)
 
-pub bar_items : {A : Type 0} (form : A → List Lexeme → Type 0) (close : Word) (tokens : List Lexeme) → MadeOfItems gap.Bar close form (λ xs. Items (IsSign word.Bar) form xs ⌢ sign close) tokens
-bar_items form close tokens = items_made (IsSign word.Bar) form close tokens
+-- and where it doesn't, there is one
+pub any_some : {A : Type 0} (between : Between) (form : A → List Lexeme → Type 0) (close : Word) (tokens : List Lexeme) → IsOther close tokens → Makes (SomeTo between form close) (AnyTo between form close) (λ xs. xs) closed tokens
+any_some {A} between form close tokens is_other = alternative (λ w. w ≡ close) tokens (λ xs ts spelled. front_as (ListedSome between form xs) (Listed between form xs) (sign close) ts (some_listed between form xs) spelled) (λ b ts spelled. back b ts spelled) (stops_other close tokens is_other)
+  where
+    back : (b : List A) (ts : List Lexeme) → AnyTo between form close b ts → StartsIn (λ w. w ≡ close) ts ⊎ ((xs : List A) × SomeTo between form close xs ts × (b ≡ xs))
+    back [] ts spelled = inl ((sign_starts close).starts tt ts (skip_nothing (sign close) ts (front_as (Listed between form []) Nothing (sign close) ts (listed_none between form) spelled)))
+    back (x ∷ xs) ts spelled = inr (x ∷ xs, front_as (Listed between form (x ∷ xs)) (ListedSome between form (x ∷ xs)) (sign close) ts (listed_some between form x xs) spelled, refl)
+
+pub sample_any_to : {A : Type 0} (between : Between) (form : A → List Lexeme → Type 0) (close : Word) → HasSample (AnyTo between form close)
+sample_any_to between form close = let s = sample_sign close in record { value = []; tokens = s.tokens; spelled = front_as Nothing (Listed between form []) (sign close) s.tokens (none_listed between form) (put_nothing (sign close) s.tokens s.spelled) }
+
+pub sample_some_to : {A : Type 0} (between : Between) (form : A → List Lexeme → Type 0) (close : Word) → HasSample form → HasSample (SomeTo between form close)
+sample_some_to {A} between form close sample = sample_as (λ (v : A × (List A × Unit {0})). v.0 ∷ v.1.0) ((some_made between form close {tokens = []}).into) (sample_pair sample (sample_closing (later_of between form) close))
+
+-- Reading the items one by one.
+
+-- the first one
+pub items_begin : {A : Type 0} {form : A → List Lexeme → Type 0} {goes_on : Word → Type 0} {tokens rest : List Lexeme} {x : A} (between : Between) (close : Word) (all : List A) → IsItem between close form goes_on → IsRead form goes_on tokens x rest → all ≡ x ∷ []
+    → IsPartWay (SomeTo between form close) (closing_of (later_of between form) close) closed (λ v. all ++ v.0) tokens rest
+items_begin {A} {form} {tokens = tokens} {rest} between close all item read is = subst (λ (l : List A). IsPartWay (SomeTo between form close) (closing_of (later_of between form) close) closed (λ v. l ++ v.0) tokens rest) (sym is) (record {
+  read = λ b end more. as_read (some_made between form close) (then_read item.ends read more);
+  fails = λ bad more. as_fails bad (some_made between form close) (then_fails bad item.ends read more);
+})
+
+pub items_not_begun : {A : Type 0} {form : A → List Lexeme → Type 0} {goes_on : Word → Type 0} {tokens : List Lexeme} (between : Between) (close : Word) (bad : Option (List Lexeme)) → IsItem between close form goes_on → Fails form goes_on tokens bad → Fails (SomeTo between form close) closed tokens bad
+items_not_begun {form = form} between close bad item fails = as_fails bad (some_made between form close) (first_fails bad item.ends (sample_closing (later_of between form) close) fails)
+
+-- one more
+pub items_go_on : {A : Type 0} {form : A → List Lexeme → Type 0} {goes_on : Word → Type 0} {whole : List A → List Lexeme → Type 0} {tokens rest middle after : List Lexeme} {x : A} (between : Between) (close : Word) (all new : List A) → IsItem between close form goes_on
+    → IsPartWay whole (closing_of (later_of between form) close) closed (λ v. all ++ v.0) tokens rest → IsOther close rest → SkipsTo between rest middle → IsRead form goes_on middle x after → new ≡ all ++ x ∷ []
+    → IsPartWay whole (closing_of (later_of between form) close) closed (λ v. new ++ v.0) tokens after
+items_go_on {form = form} between close all new item so_far is_other skips read is = closing_more (later_of between form) close (λ xs. xs) all new (closable between close item) so_far is_other (later_read between close _ _ _ item skips read) is
+
+pub items_refused : {A B : Type 0} {form : A → List Lexeme → Type 0} {goes_on : Word → Type 0} {whole : B → List Lexeme → Type 0} {to : List A × Unit {0} → B} {tokens rest middle : List Lexeme} (between : Between) (close : Word) (bad : Option (List Lexeme)) → IsItem between close form goes_on
+    → IsPartWay whole (closing_of (later_of between form) close) closed to tokens rest → IsOther close rest → SkipsTo between rest middle → Fails form goes_on middle bad → Fails whole closed tokens bad
+items_refused {form = form} between close bad item so_far is_other skips fails = closing_more_fails (later_of between form) close bad (closable between close item) so_far is_other (later_fails between close _ _ bad item skips fails)
+
+-- or what must stand between two is missing
+pub items_parted : {A B : Type 0} {form : A → List Lexeme → Type 0} {goes_on : Word → Type 0} {whole : B → List Lexeme → Type 0} {to : List A × Unit {0} → B} {tokens rest : List Lexeme} (between : Between) (close : Word) (bad : Option (List Lexeme)) → IsItem between close form goes_on
+    → IsPartWay whole (closing_of (later_of between form) close) closed to tokens rest → IsOther close rest → IsMissing between rest → bad ≡ Some rest → Fails whole closed tokens bad
+items_parted {form = form} {goes_on} {rest = rest} between close bad item so_far is_other missing is = closing_more_fails (later_of between form) close bad (closable between close item) so_far is_other
+    (subst (λ b. Fails (later_of between form) goes_on rest b) (sym is) (record { why = later_missing between close rest item missing }))
+
+-- the closing sign
+pub items_end : {A : Type 0} {form : A → List Lexeme → Type 0} {goes_on : Word → Type 0} {whole : List A → List Lexeme → Type 0} {tokens rest after : List Lexeme} (between : Between) (close : Word) (all : List A) → IsItem between close form goes_on
+    → IsPartWay whole (closing_of (later_of between form) close) closed (λ v. all ++ v.0) tokens rest → IsTaken close rest after → IsRead whole closed tokens all after
+items_end {form = form} {rest = rest} {after} between close all item so_far is = closing_read (later_of between form) close (λ xs. xs) all (closable between close item) so_far (next_of close is.0 rest after is.1 is.2) (taken close rest after is)
 
 -- A list behind its opening sign.
 pub opened_reads : {A X : Type 0} (open_word : Word) (form : A → List Lexeme → Type 0) (tokens start : List Token) (view : X → A × List Lexeme) (r : Result X Stop) → IsRead (IsSign open_word) closed (lexemes tokens) tt (lexemes start) → Reads form closed start view r → Reads (opened open_word form) closed tokens view r
@@ -298,8 +265,17 @@ bar_tail {A} form close = record { starts = λ v ts spelled. each v.0 ts spelled
     each [] ts spelled = starts_wider (λ w. w ≡ close) (λ w. (w ≡ word.Bar) ⊎ (w ≡ close)) ts (λ w h. inr h) ((sign_starts close).starts tt ts (skip_nothing (sign close) ts spelled))
     each (x ∷ xs) ts spelled = starts_joined _ _ _ ts (λ l many. starts_joined _ _ _ l (λ k later. starts_joined _ _ _ k (λ m is. starts_wider (λ w. w ≡ word.Bar) (λ w. (w ≡ word.Bar) ⊎ (w ≡ close)) m (λ w h. inl h) ((sign_starts word.Bar).starts tt m is)) later) many) spelled
 
-pub sample_row : {A : Type 0} (form : A → List Lexeme → Type 0) (close : Word) → HasSample (λ xs. Row form xs ⌢ sign close)
-sample_row form close = let s = sample_sign close in record { value = []; tokens = s.tokens; spelled = put_nothing (sign close) s.tokens s.spelled }
+-- what stands between two items isn't put back
+taken_fewer : (w : Word) (tokens rest : List Token) → IsTaken w (lexemes tokens) (lexemes rest) → length rest ≤ length tokens
+taken_fewer w tokens rest is = omega (arith, simp length-map at (ap length is.1))
 
-pub sample_some : {A : Type 0} (between : Unit {0} → List Lexeme → Type 0) (form : A → List Lexeme → Type 0) (close : Word) → HasSample form → HasSample (items_to between form close)
-sample_some {A} between form close sample = sample_as (λ (v : A × (List A × Unit {0})). v.0 ∷ v.1.0) ((items_made between form close []).into) (sample_pair sample (sample_closing (λ a. between tt ⌢ form a) close))
+same_many : (tokens rest : List Token) → lexemes rest ≡ lexemes tokens → length rest ≤ length tokens
+same_many tokens rest is = omega (arith, simp length-map at (ap length is))
+
+pub skips_fewer : (between : Between) (tokens rest : List Token) → SkipsTo between (lexemes tokens) (lexemes rest) → length rest ≤ length tokens
+skips_fewer gap.Nothing tokens rest is = same_many tokens rest is
+skips_fewer gap.Comma tokens rest (inl is) = taken_fewer _ tokens rest is
+skips_fewer gap.Comma tokens rest (inr is) = same_many tokens rest is.0
+skips_fewer gap.LabelComma tokens rest (inl is) = taken_fewer _ tokens rest is
+skips_fewer gap.LabelComma tokens rest (inr is) = same_many tokens rest is.0
+skips_fewer gap.Bar tokens rest is = taken_fewer _ tokens rest is

@@ -4,7 +4,8 @@ use Rattle.model_program.specs.declared.Word.{Word}
 use Rattle.model_program.specs.declared.Word.TheVariants.{Id}
 use Rattle.model_program.specs.Lexeme.{Lexeme}
 use Rattle.model_program.specs.Grammar.{IsWord, name_of, IsName}
-use Rattle.read_forms.proofs.Forms.{Makes, HasSample, AllStartIn, remade, sample_as}
+use Rattle.read_forms.specs.Parts.{HasSample, AllStartIn}
+use Rattle.read_forms.proofs.Forms.{Makes, remade, sample_as}
 use Rattle.read_forms.proofs.Words.{sample_word, word_starts}
 
 pub name_makes : (goes_on : Word → Type 0) (tokens : List Lexeme) → Makes (IsWord Id) IsName name_of goes_on tokens

@@ -8,7 +8,8 @@ use Rattle.model_program.specs.Joined.{◌⌢◌, IsNext, IsOther, ◌⊗◌}
 use Rattle.read_forms.specs.Reads.{GoesOnAs, Stops, IsRead, IsRefused, StartsIn, closed}
 use Rattle.model_program.specs.Grammar.{IsWord, IsDigits}
 use Rattle.model_program.specs.Quotes.{IsQuoted, no_units}
-use Rattle.read_forms.proofs.Forms.{Makes, HasSample, AllStartIn, stops_next, stops_other, stops_other_than, alternative, other_than}
+use Rattle.read_forms.specs.Parts.{HasSample, AllStartIn, other_than}
+use Rattle.read_forms.proofs.Forms.{Makes, stops_next, stops_other, stops_other_than, alternative}
 use Rattle.read_forms.proofs.Words.{sample_token, word_starts}
 use Rattle.model_grammar.specs.declared.Chain.TheVariants.{Product}
 use Rattle.model_grammar.specs.declared.Level.TheVariants.{Unary, Prim}
@@ -19,7 +20,7 @@ use Rattle.label_reader.specs.Inside.{IsInside, nested, many, remainder}
 use Rattle.label_reader.specs.Inside.{compared as inside_compared}
 use Rattle.label_reader.specs.Constants.{IsNumeral, NoNumeral, IsString, NoString}
 use Rattle.label_reader.proofs.LevelForms.{level_begins}
-use Rattle.label_reader.proofs.Joins.{Without}
+use Rattle.label_reader.specs.Lists.{Without}
 
 -- NUMBER and STRING tokens.
 

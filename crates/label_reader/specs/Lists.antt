@@ -1,19 +1,17 @@
--- Lists of items: what stands between two of them, and what reading them up to the closing sign returns.
-use Rattle.std.specs.Prelude.{◌≡◌, List, [], ◌∷◌, ◌++◌, Some, Result, Ok, Err, ◌⊎◌}
+-- Lists of items: what stands between two of them, and which tokens spell a list up to its closing sign.
+use Rattle.std.specs.Prelude.{◌≡◌, List, [], ◌∷◌, Some, Result, Ok, Err, ◌⊎◌}
 use Rattle.model_program.specs.declared.Word.{Word}
 use Rattle.model_program.specs.declared.Word.TheVariants as word
 use Rattle.model_program.specs.Lexeme.{Lexeme}
-use Rattle.model_program.specs.Joined.{IsNext, IsOther}
+use Rattle.model_program.specs.Joined.{◌⌢◌, ◌⊗◌, IsNext, IsOther}
+use Rattle.model_program.specs.Grammar.{IsSign, sign, IsComma, Items, Any, Many}
+use Rattle.model_grammar.specs.Terms.{IsLater, Row}
+use Rattle.read_forms.specs.Reads.{closed}
+use Rattle.read_forms.specs.Parts.{Ends, HasSample, AllStartIn, other_than}
 use Rattle.label_reader.specs.declared.stop.Stop.{Stop}
-use Rattle.label_reader.specs.declared.stop.Stop.TheVariants.{Memory}
 use Rattle.label_reader.specs.declared.lists.Between.{Between}
 use Rattle.label_reader.specs.declared.lists.Between.TheVariants.{Nothing, Comma, LabelComma, Bar}
 use Rattle.label_reader.specs.Results.{bad_of}
-
--- what was returned, as lists
-abbrev pub seen_as : {X Y : Type 0} → (X → Y) → Result X Stop → Result Y Stop
-seen_as view (Ok x) = Ok (view x)
-seen_as view (Err e) = Err e
 
 -- the next token is the word, and these stand behind it
 abbrev pub IsTaken : Word → List Lexeme → List Lexeme → Type 0
@@ -32,26 +30,54 @@ IsMissing LabelComma tokens = IsNext word.Minus tokens
 IsMissing Bar tokens = IsOther word.Bar tokens
 IsMissing _ tokens = ⊥
 
-abbrev pub Skips : Between → List Lexeme → Result (List Lexeme) Stop → Type 0
-Skips between tokens (Ok rest) = SkipsTo between tokens rest
-Skips between tokens (Err e) = IsMissing between tokens × (bad_of e ≡ Some tokens)
+abbrev pub Skips : {X : Type 0} → Between → List Lexeme → (X → List Lexeme) → Result X Stop → Type 0
+Skips between tokens view (Ok rest) = SkipsTo between tokens (view rest)
+Skips between tokens view (Err e) = IsMissing between tokens × (bad_of e ≡ Some tokens)
 
--- Behind the items of `all` the list goes on at these tokens. A reader is told by what it may return; `seen` are the tokens
--- that it is given.
-pub data ReadsOn {T R : Type 0} (seen : R → List Lexeme) (item : R → Result (T × R) Stop → Type 0) (between : Between) (close : Word) : List T → List Lexeme → Result (List T × List Lexeme) Stop → Type 0 where
-  ended : (all : List T) (t : Lexeme) (rest : List Lexeme) → t.word ≡ close → ReadsOn seen item between close all (t ∷ rest) (Ok (all, rest))
-  full : (all : List T) (tokens : List Lexeme) → ReadsOn seen item between close all tokens (Err Memory)
-  missing : (all : List T) (tokens : List Lexeme) (e : Stop) → IsOther close tokens → Skips between tokens (Err e) → ReadsOn seen item between close all tokens (Err e)
-  refused : (all : List T) (tokens : List Lexeme) (start : R) (e : Stop) → IsOther close tokens → SkipsTo between tokens (seen start) → item start (Err e) → ReadsOn seen item between close all tokens (Err e)
-  one_more : (all : List T) (tokens : List Lexeme) (start after : R) (x : T) (r : Result (List T × List Lexeme) Stop) → IsOther close tokens → SkipsTo between tokens (seen start) → item start (Ok (x, after)) → ReadsOn seen item between close (all ++ x ∷ []) (seen after) r → ReadsOn seen item between close all tokens r
+-- items, or none, with what stands between two
+abbrev pub Listed : {A : Type 0} → Between → (A → List Lexeme → Type 0) → List A → List Lexeme → Type 0
+Listed Nothing form = Many form
+Listed Comma form = Any IsComma form
+Listed LabelComma form = Row form
+Listed Bar form = Any (IsSign word.Bar) form
+
+abbrev pub NotEmpty : {A : Type 0} → (List A → List Lexeme → Type 0) → List A → List Lexeme → Type 0
+NotEmpty list [] = λ _. ⊥
+NotEmpty list (x ∷ xs) = list (x ∷ xs)
 
 -- one item or more
-pub data ReadsSome {T R : Type 0} (seen : R → List Lexeme) (item : R → Result (T × R) Stop → Type 0) (between : Between) (close : Word) : List Lexeme → Result (List T × List Lexeme) Stop → Type 0 where
-  first_full : (tokens : List Lexeme) → ReadsSome seen item between close tokens (Err Memory)
-  first_refused : (start : R) (e : Stop) → item start (Err e) → ReadsSome seen item between close (seen start) (Err e)
-  first_read : (start after : R) (x : T) (r : Result (List T × List Lexeme) Stop) → item start (Ok (x, after)) → ReadsOn seen item between close (x ∷ []) (seen after) r → ReadsSome seen item between close (seen start) r
+abbrev pub ListedSome : {A : Type 0} → Between → (A → List Lexeme → Type 0) → List A → List Lexeme → Type 0
+ListedSome Nothing form = NotEmpty (Many form)
+ListedSome Comma form = Items IsComma form
+ListedSome LabelComma form = NotEmpty (Row form)
+ListedSome Bar form = Items (IsSign word.Bar) form
 
--- no item, or items
-pub data ReadsAny {T R : Type 0} (seen : R → List Lexeme) (item : R → Result (T × R) Stop → Type 0) (between : Between) (close : Word) : List Lexeme → Result (List T × List Lexeme) Stop → Type 0 where
-  is_empty : (tokens rest : List Lexeme) → IsTaken close tokens rest → ReadsAny seen item between close tokens (Ok ([], rest))
-  not_empty : (tokens : List Lexeme) (r : Result (List T × List Lexeme) Stop) → IsOther close tokens → ReadsSome seen item between close tokens r → ReadsAny seen item between close tokens r
+-- up to the closing sign
+abbrev pub AnyTo : {A : Type 0} → Between → (A → List Lexeme → Type 0) → Word → List A → List Lexeme → Type 0
+AnyTo between form close xs = Listed between form xs ⌢ sign close
+
+abbrev pub SomeTo : {A : Type 0} → Between → (A → List Lexeme → Type 0) → Word → List A → List Lexeme → Type 0
+SomeTo between form close xs = ListedSome between form xs ⌢ sign close
+
+-- an item behind another one, with what stands between the two
+abbrev pub later_of : {A : Type 0} → Between → (A → List Lexeme → Type 0) → A → List Lexeme → Type 0
+later_of Nothing form = form
+later_of Comma form = λ a. IsComma tt ⌢ form a
+later_of LabelComma form = IsLater form
+later_of Bar form = λ a. sign word.Bar ⌢ form a
+
+-- items and the sign that closes them
+abbrev pub closing_of : {A : Type 0} → (A → List Lexeme → Type 0) → Word → List A × Unit {0} → List Lexeme → Type 0
+closing_of item close = Many item ⊗ IsSign close
+
+-- a form that doesn't begin with a word
+abbrev pub Without : {A : Type 0} → Word → (A → List Lexeme → Type 0) → A → List Lexeme → Type 0
+Without w p a ts = p a ts × IsOther w ts
+
+-- By their first words items are told apart from a comma and the closing sign, and what stands behind one ends it.
+pub record IsItem {A : Type 0} (between : Between) (close : Word) (form : A → List Lexeme → Type 0) (goes_on : Word → Type 0) : Type 0 where
+  pub alone : HasSample (Without word.Minus form)
+  pub no_comma : AllStartIn (other_than word.Comma) form
+  pub no_close : AllStartIn (other_than close) form
+  pub closes : (close ≡ word.Comma → ⊥) × (close ≡ word.Bar → ⊥)
+  pub ends : Ends goes_on (closing_of (later_of between form) close) closed

@@ -16,6 +16,6 @@ mod words;
 pub use constants::{read_numeral, read_string};
 pub use keep::kept;
 pub use levels::read_level;
-pub use lists::{Between, read_any, read_some};
+pub use lists::{Between, Items, read_any, read_some, read_to};
 pub use stop::{ReadTokensStop, Stop};
 pub use words::{is_next, is_same, next_if, read_name, read_sign, read_word};

@@ -1,11 +1,14 @@
 //! Lists of items, up to the sign that closes them.
 
-ghost use Rattle.std.specs.Prelude.{◌<◌, length, IfOk};
-ghost use Rattle.label_reader.specs.Results.{lexemes};
-ghost use Rattle.label_reader.specs.Lists.{Skips, ReadsSome, ReadsAny, seen_as};
+ghost use Rattle.std.specs.Prelude.{map};
+ghost use Rattle.model_program.specs.Joined.{◌⌢◌};
+ghost use Rattle.model_program.specs.Grammar.{sign};
+ghost use Rattle.read_forms.specs.Reads.{closed};
+ghost use Rattle.label_reader.specs.Results.{lexemes, Reads};
+ghost use Rattle.label_reader.specs.Lists.{Skips, AnyTo, SomeTo, IsItem};
 
 use crate::Stop;
-use crate::words::{is_next, next_if};
+use crate::words::{is_next, next_if, read_sign};
 use fast_lex::{Token, Word};
 use std::alloc::Global;
 
@@ -20,9 +23,35 @@ pub enum Between {
     Bar,
 }
 
+/// What the items of a list are, and how one of them is read.
+pub trait Items {
+    ghost use Rattle.std.specs.Prelude.{List};
+    ghost use Rattle.model_program.specs.declared.Word.{Word};
+    ghost use Rattle.model_program.specs.Lexeme.{Lexeme};
+
+    type Item: Drop;
+
+    // What the grammar has for an item.
+    ghost Plain: { Type 0 };
+
+    ghost plain: { Self.Item → Plain };
+
+    // Which tokens spell it.
+    ghost spelled: { Plain → List Lexeme → Type 0 };
+
+    // The words by which it goes on.
+    ghost goes_on: { Word → Type 0 };
+
+    fn read_item<'t>(
+        alloc: Global,
+        tokens: &'t [Token<'t>],
+    ) -> Result<(Self::Item, &'t [Token<'t>]), Stop<'t>>
+        ensures { Reads spelled goes_on tokens.now (λ x. (plain x.0, lexemes x.1.now)) result };
+}
+
 /// The tokens behind what stands between two items.
 fn skip_between<'t>(between: Between, tokens: &'t [Token<'t>]) -> Result<&'t [Token<'t>], Stop<'t>>
-    ensures { Skips between (lexemes tokens.now) (seen_as (λ rest. lexemes rest.now) result) }
+    ensures { Skips between (lexemes tokens.now) (λ rest. lexemes rest.now) result }
 {
     let word = match between {
         Between::Nothing => return Ok(tokens),
@@ -40,49 +69,71 @@ fn skip_between<'t>(between: Between, tokens: &'t [Token<'t>]) -> Result<&'t [To
 }
 
 /// One item or more, up to the closing sign.
-pub fn read_some<'t, T: Drop, F>(
+fn read_some_to<'t, L: Items>(
     alloc: Global,
     between: Between,
     close: Word,
     tokens: &'t [Token<'t>],
-    read_item: F,
-) -> Result<(Vec<T>, &'t [Token<'t>]), Stop<'t>>
-where
-    F: Fn(Global, &'t [Token<'t>]) -> Result<(T, &'t [Token<'t>]), Stop<'t>> + Drop,
-    requires calls { F.IsAlwaysCallable read_item }
-    requires shorter { (start : _) (r : _) → F.post read_item alloc start r → IfOk r (λ x. length x.1.now < length start.now) }
-    ensures { ReadsSome (λ start. lexemes start.now) (F.post read_item alloc) between close (lexemes tokens.now) (seen_as (λ x. (x.0.items, lexemes x.1.now)) result) }
+) -> Result<(Vec<L::Item>, &'t [Token<'t>]), Stop<'t>>
+    requires { IsItem between close L.spelled L.goes_on }
+    ensures { Reads (SomeTo between L.spelled close) closed tokens.now (λ x. (map L.plain x.0.items, lexemes x.1.now)) result }
 {
+    let (first, mut rest) = L::read_item(alloc, tokens)?;
     let mut all = Vec::new(alloc);
-    let (first, mut rest) = read_item(alloc, tokens)?;
     all.push(first)?;
     'items: loop {
         if let Some((_close, end)) = next_if(rest, close) {
             return Ok((all, end));
         }
         let start = skip_between(between, rest)?;
-        let (item, after) = read_item(alloc, start)?;
+        let (item, after) = L::read_item(alloc, start)?;
         all.push(item)?;
         rest = after;
     }
 }
 
 /// Items, or none, up to the closing sign.
-pub fn read_any<'t, T: Drop, F>(
+pub fn read_to<'t, L: Items>(
     alloc: Global,
     between: Between,
     close: Word,
     tokens: &'t [Token<'t>],
-    read_item: F,
-) -> Result<(Vec<T>, &'t [Token<'t>]), Stop<'t>>
-where
-    F: Fn(Global, &'t [Token<'t>]) -> Result<(T, &'t [Token<'t>]), Stop<'t>> + Drop,
-    requires calls { F.IsAlwaysCallable read_item }
-    requires shorter { (start : _) (r : _) → F.post read_item alloc start r → IfOk r (λ x. length x.1.now < length start.now) }
-    ensures { ReadsAny (λ start. lexemes start.now) (F.post read_item alloc) between close (lexemes tokens.now) (seen_as (λ x. (x.0.items, lexemes x.1.now)) result) }
+) -> Result<(Vec<L::Item>, &'t [Token<'t>]), Stop<'t>>
+    requires { IsItem between close L.spelled L.goes_on }
+    ensures { Reads (AnyTo between L.spelled close) closed tokens.now (λ x. (map L.plain x.0.items, lexemes x.1.now)) result }
 {
     if let Some((_close, rest)) = next_if(tokens, close) {
         return Ok((Vec::new(alloc), rest));
     }
-    read_some(alloc, between, close, tokens, read_item)
+    read_some_to::<L>(alloc, between, close, tokens)
+}
+
+/// Items, or none, from the opening sign to the closing one.
+pub fn read_any<'t, L: Items>(
+    alloc: Global,
+    opening: Word,
+    between: Between,
+    close: Word,
+    tokens: &'t [Token<'t>],
+) -> Result<(Vec<L::Item>, &'t [Token<'t>]), Stop<'t>>
+    requires { IsItem between close L.spelled L.goes_on }
+    ensures { Reads (λ xs. sign opening ⌢ AnyTo between L.spelled close xs) closed tokens.now (λ x. (map L.plain x.0.items, lexemes x.1.now)) result }
+{
+    let inside = read_sign(tokens, opening)?;
+    read_to::<L>(alloc, between, close, inside)
+}
+
+/// One item or more, from the opening sign to the closing one.
+pub fn read_some<'t, L: Items>(
+    alloc: Global,
+    opening: Word,
+    between: Between,
+    close: Word,
+    tokens: &'t [Token<'t>],
+) -> Result<(Vec<L::Item>, &'t [Token<'t>]), Stop<'t>>
+    requires { IsItem between close L.spelled L.goes_on }
+    ensures { Reads (λ xs. sign opening ⌢ SomeTo between L.spelled close xs) closed tokens.now (λ x. (map L.plain x.0.items, lexemes x.1.now)) result }
+{
+    let inside = read_sign(tokens, opening)?;
+    read_some_to::<L>(alloc, between, close, inside)
 }

@@ -6,7 +6,8 @@ use Rattle.model_program.specs.Syntax.{Name}
 use Rattle.model_program.specs.Joined.{◌⌢◌, IsNext, IsOther, ◌⊗◌}
 use Rattle.read_forms.specs.Reads.{StartsIn, closed}
 use Rattle.model_program.specs.Grammar.{IsSign, sign, IsName}
-use Rattle.read_forms.proofs.Forms.{Makes, HasSample, sample_as, sample_pair, remade, alternative, starts_joined, starts_append, starts_wider, stops_other, stops_other_than, stops_both, other_than}
+use Rattle.read_forms.specs.Parts.{HasSample, other_than}
+use Rattle.read_forms.proofs.Forms.{Makes, sample_as, sample_pair, remade, alternative, starts_joined, starts_append, starts_wider, stops_other, stops_other_than, stops_both}
 use Rattle.read_forms.proofs.Words.{sign_starts, sample_sign, word_other}
 use Rattle.model_grammar.specs.Syntax.{Expr, X, named, literal, xs_of, Claim, equal, member, empty, type_check}
 use Rattle.model_grammar.specs.Terms.{IsX, name, AreLabels}

@@ -13,7 +13,8 @@ use Rattle.model_program.specs.Joined.{◌⊗◌, IsOther}
 use Rattle.model_program.specs.Grammar.{IsSign}
 use Rattle.read_forms.specs.Reads.{IsRead, Fails, closed}
 use Rattle.read_forms.specs.Fronts.{Leaves, Done, Made, Through}
-use Rattle.read_forms.proofs.Forms.{HasSample, as_read, as_fails, ends_closed}
+use Rattle.read_forms.specs.Parts.{HasSample}
+use Rattle.read_forms.proofs.Forms.{as_read, as_fails, ends_closed}
 use Rattle.read_forms.proofs.Words.{sample_sign, next_of, word_read, sign_makes}
 use Rattle.read_forms.proofs.Fronts.{left_leaves, left_as, left_made, first_left, before_none, Around, around_begins, around_begins_fails, around_resumes, around_resumes_fails, around_ends, made_through, made_makes, none_left}
 use Rattle.model_grammar.specs.declared.Op1.{Op1}

@@ -1,37 +1,71 @@
 -- Of what items are made.
-use Rattle.std.proofs.Common.{◌≡◌, Bool, true, false, List, [], ◌∷◌, ◌++◌, refl, sym, ◌∙◌, subst, Option, Some, None, ◌⊎◌, inl, inr}
+use Rattle.std.proofs.Common.{◌≡◌, Bool, true, false, List, [], ◌∷◌, ◌++◌, refl, sym, ap, ◌∙◌, subst, Option, Some, None, Result, Ok, Err, ◌⊎◌, inl, inr}
 use Rattle.fast_fault.specs.declared.place.Pos.{Pos}
 use Rattle.model_program.specs.declared.Word.{Word}
 use Rattle.model_program.specs.declared.Word.TheVariants.{TypeWord, Tree, Lang, Trans, Def, AssertTrue, AssertFalse, Arrow, Assign, Colon}
 use Rattle.model_program.specs.Lexeme.{Lexeme}
-use Rattle.model_program.specs.Syntax.{Name, TypeItem}
+use Rattle.model_program.specs.Syntax.{Name}
 use Rattle.model_program.specs.Joined.{◌⌢◌, IsNext, IsOther, ◌⊗◌}
 use Rattle.read_forms.specs.Reads.{Stops, IsRead, Fails, StartsIn, closed, anything}
-use Rattle.model_program.specs.Grammar.{IsSign, IsAt, IsName, Many, IsTypeItem, assert_word}
-use Rattle.read_forms.proofs.Forms.{Ends, Makes, HasSample, AllStartIn, as_read, as_fails, then_read, then_fails, first_fails, remade, alternative, stands, left_out, ends_closed, ends_starting, starts_joined, starts_append, starts_wider, starts_next, stops_other, stops_other_than, other_than}
-use Rattle.read_forms.proofs.Words.{word_starts, sign_starts, word_other}
-use Rattle.read_forms.proofs.Lists.{IsPartWay, sample_many, many_make, many_ends, many_end}
-use Rattle.model_grammar.specs.Syntax.{TreeItem, LangItem, TransItem, DefItem, Claim, Body, sorts, tree, lang, trans, def, assertion, Item}
-use Rattle.model_grammar.specs.Terms.{IsX}
+use Rattle.model_program.specs.Grammar.{IsAt, IsName, Many, IsTypeItem, assert_word, sign}
+use Rattle.read_forms.specs.Parts.{Ends, HasSample, AllStartIn}
+use Rattle.read_forms.specs.Fronts.{Made}
+use Rattle.read_forms.proofs.Forms.{Chained, Makes, as_read, as_fails, chained_read, chained_fails, sample_as, sample_pair, remade, stands, left_out, elsewhere, ends_closed, ends_starting, starts_joined, starts_append, starts_wider, starts_next, stops_other}
+use Rattle.read_forms.proofs.Words.{sign_starts, sample_sign, sample_at}
+use Rattle.read_forms.proofs.Lists.{IsPartWay, to_left, to_right, many_more, many_more_fails, many_ends, many_end}
+use Rattle.read_forms.proofs.Fronts.{made_makes, makes_of_made}
+use Rattle.fast_lex.specs.declared.Token.{Token}
+use Rattle.model_grammar.specs.Syntax.{X, OutRule, TransItem, Claim, Body, sorts, tree, lang, trans, def, assertion, Item}
 use Rattle.model_grammar.specs.Grammar.{IsRule, IsOutRule, InBraces, IsTreeItem, IsLangItem, IsTransItem, IsInto, IsDefItem, IsA, IsBody, IsItem, IsProgram}
+use Rattle.label_reader.specs.declared.stop.Stop.{Stop}
+use Rattle.label_reader.specs.Results.{lexemes, bad_of, Reads}
+use Rattle.label_reader.proofs.Names.{sample_name}
+use Rattle.label_reader.proofs.Primaries.{missing}
 use Rattle.program_reader.specs.Goings.{arrow_word}
-use Rattle.program_reader.specs.Items.{IsAssertionBody, IsAssertion}
+use Rattle.program_reader.specs.Items.{IsNameBehind, IsTyped, IsAssigned, item_at, asserted, IsBehind}
+use Rattle.program_reader.proofs.XForms.{sample_x}
+use Rattle.program_reader.proofs.AssertForms.{sample_a}
 
-pub tree_makes : (goes_on : Word → Type 0) (tokens : List Lexeme) → Makes (IsName ⊗ (IsSign Colon ⊗ (IsName ⊗ (IsSign Assign ⊗ IsX)))) IsTreeItem (λ v. record { name = v.0; of = v.1.1.0; value = v.1.1.1.1 }) goes_on tokens
-tree_makes goes_on tokens = remade (λ v ts spelled. spelled) (λ t ts spelled. ((t.name, (tt, (t.of, (tt, t.value)))), spelled, refl))
+back_as : (p q r : List Lexeme → Type 0) (ts : List Lexeme) → ((l : List Lexeme) → q l → r l) → (p ⌢ q) ts → (p ⌢ r) ts
+back_as p q r ts wider joined = record { front = joined.front; back = joined.back; split = joined.split; at_front = joined.at_front; at_back = wider joined.back joined.at_back }
 
-pub lang_makes : (goes_on : Word → Type 0) (tokens : List Lexeme) → Makes (IsName ⊗ (IsSign Colon ⊗ (IsName ⊗ InBraces IsRule))) IsLangItem (λ v. record { name = v.0; of = v.1.1.0; rules = v.1.1.1 }) goes_on tokens
-lang_makes goes_on tokens = remade (λ v ts spelled. spelled) (λ l ts spelled. ((l.name, (tt, (l.of, l.rules))), spelled, refl))
+pub sample_behind : (w : Word) → HasSample (IsNameBehind w)
+sample_behind w = sample_as (λ (v : Unit {0} × Name). v.1) (λ v ts spelled. spelled) (sample_pair (sample_sign w) sample_name)
 
-pub trans_makes : (goes_on : Word → Type 0) (tokens : List Lexeme) → Makes (IsName ⊗ (IsSign Colon ⊗ (IsName ⊗ (IsSign Arrow ⊗ (IsName ⊗ InBraces IsOutRule))))) IsTransItem (λ v. record { name = v.0; from = v.1.1.0; into = v.1.1.1.1.0; rules = v.1.1.1.1.1 }) goes_on tokens
-trans_makes goes_on tokens = remade (λ v ts spelled. spelled) (λ t ts spelled. ((t.name, (tt, (t.from, (tt, (t.into, t.rules))))), spelled, refl))
+-- ID : ID, in front of more
+typed_into : (n m : Name) (r : List Lexeme → Type 0) (ts : List Lexeme) → (IsTyped (n, m) ⌢ r) ts → (IsName n ⌢ sign Colon ⌢ IsName m ⌢ r) ts
+typed_into n m r ts joined = back_as (IsName n) ((sign Colon ⌢ IsName m) ⌢ r) (sign Colon ⌢ IsName m ⌢ r) ts (to_right (sign Colon) (IsName m) r) (to_right (IsName n) (sign Colon ⌢ IsName m) r ts joined)
 
-pub into_makes : (tokens : List Lexeme) → IsNext Arrow tokens → Makes (IsSign Arrow ⊗ IsName) IsInto (λ v. Some v.1) arrow_word tokens
-into_makes tokens is_next = stands tokens (λ v ts spelled. spelled) (λ m ts spelled. back m ts spelled) (starts_next Arrow arrow_word tokens is_next refl)
+typed_back : (n m : Name) (r : List Lexeme → Type 0) (ts : List Lexeme) → (IsName n ⌢ sign Colon ⌢ IsName m ⌢ r) ts → (IsTyped (n, m) ⌢ r) ts
+typed_back n m r ts joined = to_left (IsName n) (sign Colon ⌢ IsName m) r ts (back_as (IsName n) (sign Colon ⌢ IsName m ⌢ r) ((sign Colon ⌢ IsName m) ⌢ r) ts (to_left (sign Colon) (IsName m) r) joined)
+
+-- What stands behind the first words.
+
+pub tree_makes : (place : Pos) (tokens : List Lexeme) → Makes (IsTyped ⊗ IsAssigned) (IsBehind Tree place) (λ v. item_at place (tree (record { name = v.0.0; of = v.0.1; value = v.1 }))) closed tokens
+tree_makes place tokens = makes_of_made {to = λ v. record { name = v.0.0; of = v.0.1; value = v.1 }} (remade
+    (λ v ts spelled. typed_into v.0.0 v.0.1 (IsAssigned v.1) ts spelled)
+    (λ t ts spelled. (((t.name, t.of), t.value), typed_back t.name t.of (IsAssigned t.value) ts spelled, refl))) (made_makes (λ t. item_at place (tree t)) IsTreeItem)
+
+pub lang_makes : (place : Pos) (tokens : List Lexeme) → Makes (IsTyped ⊗ InBraces IsRule) (IsBehind Lang place) (λ v. item_at place (lang (record { name = v.0.0; of = v.0.1; rules = v.1 }))) closed tokens
+lang_makes place tokens = makes_of_made {to = λ v. record { name = v.0.0; of = v.0.1; rules = v.1 }} (remade
+    (λ v ts spelled. typed_into v.0.0 v.0.1 (InBraces IsRule v.1) ts spelled)
+    (λ l ts spelled. (((l.name, l.of), l.rules), typed_back l.name l.of (InBraces IsRule l.rules) ts spelled, refl))) (made_makes (λ l. item_at place (lang l)) IsLangItem)
+
+pub trans_makes : (place : Pos) (tokens : List Lexeme) → Makes (IsTyped ⊗ (IsNameBehind Arrow ⊗ InBraces IsOutRule)) (IsBehind Trans place) (λ v. item_at place (trans (record { name = v.0.0; from = v.0.1; into = v.1.0; rules = v.1.1 }))) closed tokens
+trans_makes place tokens = makes_of_made {to = λ v. record { name = v.0.0; from = v.0.1; into = v.1.0; rules = v.1.1 }} (remade (λ v ts spelled. into v ts spelled) (λ t ts spelled. back t ts spelled)) (made_makes (λ t. item_at place (trans t)) IsTransItem)
   where
-    back : (m : Option Name) (ts : List Lexeme) → IsInto m ts → (ts ≡ []) ⊎ ((v : Unit {0} × Name) × (IsSign Arrow ⊗ IsName) v ts × (m ≡ Some v.1))
+    into : (v : (Name × Name) × (Name × List OutRule)) (ts : List Lexeme) → (IsTyped ⊗ (IsNameBehind Arrow ⊗ InBraces IsOutRule)) v ts → (IsName v.0.0 ⌢ sign Colon ⌢ IsName v.0.1 ⌢ (sign Arrow ⌢ IsName v.1.0 ⌢ InBraces IsOutRule v.1.1)) ts
+    into v ts spelled = typed_into v.0.0 v.0.1 (sign Arrow ⌢ IsName v.1.0 ⌢ InBraces IsOutRule v.1.1) ts (back_as (IsTyped v.0) (IsNameBehind Arrow v.1.0 ⌢ InBraces IsOutRule v.1.1) (sign Arrow ⌢ IsName v.1.0 ⌢ InBraces IsOutRule v.1.1) ts (to_right (sign Arrow) (IsName v.1.0) (InBraces IsOutRule v.1.1)) spelled)
+
+    back : (t : TransItem) (ts : List Lexeme) → IsTransItem t ts → (v : (Name × Name) × (Name × List OutRule)) × (IsTyped ⊗ (IsNameBehind Arrow ⊗ InBraces IsOutRule)) v ts × (t ≡ record { name = v.0.0; from = v.0.1; into = v.1.0; rules = v.1.1 })
+    back t ts spelled = (((t.name, t.from), (t.into, t.rules)), back_as (IsTyped (t.name, t.from)) (sign Arrow ⌢ IsName t.into ⌢ InBraces IsOutRule t.rules) (IsNameBehind Arrow t.into ⌢ InBraces IsOutRule t.rules) ts (to_left (sign Arrow) (IsName t.into) (InBraces IsOutRule t.rules)) (typed_back t.name t.from (sign Arrow ⌢ IsName t.into ⌢ InBraces IsOutRule t.rules) ts spelled), refl)
+
+pub into_makes : (tokens : List Lexeme) → IsNext Arrow tokens → Makes (IsNameBehind Arrow) IsInto (λ n. Some n) arrow_word tokens
+into_makes tokens is_next = stands tokens (λ n ts spelled. spelled) (λ m ts spelled. back m ts spelled) (starts_next Arrow arrow_word tokens is_next refl)
+  where
+    back : (m : Option Name) (ts : List Lexeme) → IsInto m ts → (ts ≡ []) ⊎ ((n : Name) × IsNameBehind Arrow n ts × (m ≡ Some n))
     back None ts spelled = inl spelled
-    back (Some n) ts spelled = inr ((tt, n), spelled, refl)
+    back (Some n) ts spelled = inr (n, spelled, refl)
 
 into_starts : (m : Option Name) (ts : List Lexeme) → IsInto m ts → ((m ≡ None) × (ts ≡ [])) ⊎ StartsIn arrow_word ts
 into_starts None ts spelled = inl (refl, spelled)
@@ -43,187 +77,129 @@ into_none tokens is_other = left_out arrow_word tokens None refl into_starts (st
 pub sample_into : HasSample IsInto
 sample_into = record { value = None; tokens = []; spelled = refl }
 
-pub ends_into : Ends arrow_word (IsSign Assign ⊗ IsX) closed
-ends_into = ends_starting (IsSign Assign ⊗ IsX) closed (λ w is_assign is_arrow. let e : Assign ≡ Arrow = sym is_assign ∙ is_arrow in cc) (record { starts = λ v ts spelled. starts_joined (λ w. w ≡ Assign) _ _ ts ((sign_starts Assign).starts tt) spelled })
+pub ends_into : Ends arrow_word IsAssigned closed
+ends_into = ends_starting IsAssigned closed (λ w is_assign is_arrow. let e : Assign ≡ Arrow = sym is_assign ∙ is_arrow in cc) (record { starts = λ x ts spelled. starts_joined (λ w. w ≡ Assign) _ _ ts ((sign_starts Assign).starts tt) spelled })
 
-pub def_makes : (goes_on : Word → Type 0) (tokens : List Lexeme) → Makes (IsName ⊗ (IsSign Colon ⊗ (IsName ⊗ (IsInto ⊗ (IsSign Assign ⊗ IsX))))) IsDefItem (λ v. record { name = v.0; from = v.1.1.0; into = v.1.1.1.0; value = v.1.1.1.1.1 }) goes_on tokens
-def_makes goes_on tokens = remade (λ v ts spelled. spelled) (λ d ts spelled. ((d.name, (tt, (d.from, (d.into, (tt, d.value))))), spelled, refl))
+pub def_makes : (place : Pos) (tokens : List Lexeme) → Makes (IsTyped ⊗ (IsInto ⊗ IsAssigned)) (IsBehind Def place) (λ v. item_at place (def (record { name = v.0.0; from = v.0.1; into = v.1.0; value = v.1.1 }))) closed tokens
+def_makes place tokens = makes_of_made {to = λ v. record { name = v.0.0; from = v.0.1; into = v.1.0; value = v.1.1 }} (remade
+    (λ v ts spelled. typed_into v.0.0 v.0.1 ((IsInto ⊗ IsAssigned) v.1) ts spelled)
+    (λ d ts spelled. (((d.name, d.from), (d.into, d.value)), typed_back d.name d.from ((IsInto ⊗ IsAssigned) (d.into, d.value)) ts spelled, refl))) (made_makes (λ d. item_at place (def d)) IsDefItem)
 
-at_other : (w v : Word) (place : Pos) (q : List Lexeme → Type 0) (ts : List Lexeme) → (v ≡ w → ⊥) → (IsAt v place ⌢ q) ts → StartsIn (other_than w) ts
-at_other w v place q ts apart spelled = starts_joined (other_than w) _ _ ts (λ l is_at. word_other w v is_at.0 l apart is_at.1) spelled
+pub sample_assigned : HasSample IsAssigned
+sample_assigned = sample_as (λ (v : Unit {0} × X). v.1) (λ v ts spelled. spelled) (sample_pair (sample_sign Assign) sample_x)
 
-at_starts : (words : Word → Type 0) (v : Word) (place : Pos) (q : List Lexeme → Type 0) (ts : List Lexeme) → words v → (IsAt v place ⌢ q) ts → StartsIn words ts
-at_starts words v place q ts is_word spelled = starts_joined words _ _ ts (λ l is_at. starts_wider (λ u. u ≡ v) words l (λ u e. subst words (sym e) is_word) ((word_starts v).starts is_at.0 l is_at.1)) spelled
+-- An item is its first word and what stands behind it.
 
-abbrev pub item_at : Pos → Body → Item
-item_at place b = record { place = place; body = b }
+abbrev IsToken : Lexeme → List Lexeme → Type 0
+IsToken t ts = ts ≡ t ∷ []
 
-abbrev pub assert_item : Bool → Pos × Claim → Item
-assert_item wanted v = record { place = v.0; body = assertion (record { wanted = wanted; claim = v.1 }) }
+abbrev item_parts : Lexeme × Item → List Lexeme → Type 0
+item_parts = Chained IsToken (λ t. IsBehind t.word t.place)
 
-pub type_item_makes : (tokens : List Lexeme) → IsNext TypeWord tokens → Makes (IsAt TypeWord ⊗ IsTypeItem) IsItem (λ v. record { place = v.0; body = sorts v.1 }) closed tokens
-type_item_makes tokens is_next = alternative (other_than TypeWord) tokens (λ v ts spelled. spelled) (λ i ts spelled. back i.body i.place ts spelled) (stops_other_than TypeWord tokens is_next)
+token_read : (t : Lexeme) (tokens rest : List Lexeme) → tokens ≡ t ∷ rest → IsRead IsToken closed tokens t rest
+token_read t tokens rest here = record {
+  part = t ∷ [];
+  split = here;
+  spelled = refl;
+  only = λ more other after v as_rest same is stops.
+      let first : t ∷ more ≡ v ∷ after = same ∙ ap (λ l. l ++ after) is in (cc, cc);
+}
+
+put : {B : Type 0} (form : B → List Lexeme → Type 0) (to : B → Item) (t : Lexeme) (w : Word) (i : Item) (ts : List Lexeme) → t.word ≡ w → ((b : B) → (IsAt w t.place ⌢ form b) ts → IsItem (to b) ts) → (IsToken t ⌢ Made to form i) ts → IsItem i ts
+put form to t w i ts is into spelled = let made = spelled.at_back in
+    subst (λ (j : Item). IsItem j ts) (sym made.is) (into made.of (record { front = spelled.front; back = spelled.back; split = spelled.split; at_front = (t, (spelled.at_front, is), refl); at_back = made.spelled }))
+
+into_item : (t : Lexeme) (w : Word) (i : Item) (ts : List Lexeme) → t.word ≡ w → (IsToken t ⌢ IsBehind w t.place i) ts → IsItem i ts
+into_item t TypeWord i ts is spelled = put IsTypeItem (λ b. item_at t.place (sorts b)) t TypeWord i ts is (λ b s. s) spelled
+into_item t Tree i ts is spelled = put IsTreeItem (λ b. item_at t.place (tree b)) t Tree i ts is (λ b s. s) spelled
+into_item t Lang i ts is spelled = put IsLangItem (λ b. item_at t.place (lang b)) t Lang i ts is (λ b s. s) spelled
+into_item t Trans i ts is spelled = put IsTransItem (λ b. item_at t.place (trans b)) t Trans i ts is (λ b s. s) spelled
+into_item t Def i ts is spelled = put IsDefItem (λ b. item_at t.place (def b)) t Def i ts is (λ b s. s) spelled
+into_item t AssertTrue i ts is spelled = put IsA (asserted true t.place) t AssertTrue i ts is (λ b s. s) spelled
+into_item t AssertFalse i ts is spelled = put IsA (asserted false t.place) t AssertFalse i ts is (λ b s. s) spelled
+into_item t _ i ts is spelled = absurd spelled.at_back
+
+taken : {B : Type 0} (w : Word) (form : B → List Lexeme → Type 0) (to : Pos → B → Item) (place : Pos) (b : B) (ts : List Lexeme) → ((p : Pos) (i : Item) (l : List Lexeme) → Made (to p) form i l → IsBehind w p i l) → (IsAt w place ⌢ form b) ts → (v : Lexeme × Item) × item_parts v ts × (to place b ≡ v.1)
+taken w form to place b ts behind spelled = let at = spelled.at_front in let t = at.0 in (
+  (t, to place b),
+  record {
+    front = spelled.front;
+    back = spelled.back;
+    split = spelled.split;
+    at_front = at.1.0;
+    at_back = subst (λ (v : Word). IsBehind v t.place (to place b) spelled.back) (sym at.1.1) (behind t.place (to place b) spelled.back (record { of = b; spelled = spelled.at_back; is = ap (λ p. to p b) at.2 }));
+  },
+  refl,
+)
+
+of_body : (b : Body) (place : Pos) (ts : List Lexeme) → IsBody b place ts → (v : Lexeme × Item) × item_parts v ts × (item_at place b ≡ v.1)
+of_body (sorts b) place ts spelled = taken TypeWord IsTypeItem (λ p v. item_at p (sorts v)) place b ts (λ p i l made. made) spelled
+of_body (tree b) place ts spelled = taken Tree IsTreeItem (λ p v. item_at p (tree v)) place b ts (λ p i l made. made) spelled
+of_body (lang b) place ts spelled = taken Lang IsLangItem (λ p v. item_at p (lang v)) place b ts (λ p i l made. made) spelled
+of_body (trans b) place ts spelled = taken Trans IsTransItem (λ p v. item_at p (trans v)) place b ts (λ p i l made. made) spelled
+of_body (def b) place ts spelled = taken Def IsDefItem (λ p v. item_at p (def v)) place b ts (λ p i l made. made) spelled
+of_body (assertion a) place ts spelled = by a.wanted a.claim spelled
   where
-    asserted : (wanted : Bool) (claim : Claim) (place : Pos) (ts : List Lexeme) → (IsAt (assert_word wanted) place ⌢ IsA claim) ts → StartsIn (other_than TypeWord) ts
-    asserted true claim place ts spelled = at_other TypeWord AssertTrue place _ ts (λ h. cc) spelled
-    asserted false claim place ts spelled = at_other TypeWord AssertFalse place _ ts (λ h. cc) spelled
+    by : (wanted : Bool) (claim : Claim) → (IsAt (assert_word wanted) place ⌢ IsA claim) ts → (v : Lexeme × Item) × item_parts v ts × (asserted wanted place claim ≡ v.1)
+    by true claim s = taken AssertTrue IsA (asserted true) place claim ts (λ p i l made. made) s
+    by false claim s = taken AssertFalse IsA (asserted false) place claim ts (λ p i l made. made) s
 
-    back : (b : Body) (place : Pos) (ts : List Lexeme) → IsBody b place ts → StartsIn (other_than TypeWord) ts ⊎ ((v : Pos × TypeItem) × (IsAt TypeWord ⊗ IsTypeItem) v ts × (item_at place b ≡ item_at v.0 (sorts v.1)))
-    back (sorts t) place ts spelled = inr ((place, t), spelled, refl)
-    back (tree t) place ts spelled = inl (at_other TypeWord Tree place _ ts (λ h. cc) spelled)
-    back (lang t) place ts spelled = inl (at_other TypeWord Lang place _ ts (λ h. cc) spelled)
-    back (trans t) place ts spelled = inl (at_other TypeWord Trans place _ ts (λ h. cc) spelled)
-    back (def t) place ts spelled = inl (at_other TypeWord Def place _ ts (λ h. cc) spelled)
-    back (assertion a) place ts spelled = inl (asserted a.wanted a.claim place ts spelled)
+item_makes : (tokens : List Lexeme) → Makes item_parts IsItem (λ v. v.1) closed tokens
+item_makes tokens = remade (λ v ts spelled. into_item v.0 v.0.word v.1 ts refl spelled) (λ i ts spelled. of_body i.body i.place ts spelled)
 
-pub tree_item_makes : (tokens : List Lexeme) → IsNext Tree tokens → Makes (IsAt Tree ⊗ IsTreeItem) IsItem (λ v. record { place = v.0; body = tree v.1 }) closed tokens
-tree_item_makes tokens is_next = alternative (other_than Tree) tokens (λ v ts spelled. spelled) (λ i ts spelled. back i.body i.place ts spelled) (stops_other_than Tree tokens is_next)
+-- what was read behind the first word is the item's
+pub item_reads : {Y : Type 0} (t : Lexeme) (w : Word) (tokens rest : List Token) (view : Y → Item × List Lexeme) (r : Result Y Stop) → lexemes tokens ≡ t ∷ lexemes rest → t.word ≡ w → Reads (IsBehind w t.place) closed rest view r → Reads IsItem closed tokens view r
+item_reads t w tokens rest view (Ok x) here is read = as_read (item_makes _) (chained_read (λ v. ends_closed _ _) (token_read t _ _ here) (subst (λ (v : Word). IsRead (IsBehind v t.place) closed (lexemes rest) (view x).0 (view x).1) (sym is) read))
+item_reads t w tokens rest view (Err e) here is fails = as_fails _ (item_makes _) (chained_fails _ (λ v. ends_closed _ _) (token_read t _ _ here) (subst (λ (v : Word). Fails (IsBehind v t.place) closed (lexemes rest) (bad_of e)) (sym is) fails))
+
+-- the words with which items begin
+abbrev pub IsItemWord : Word → Type 0
+IsItemWord w = (place : Pos) × (i : Item) × (ts : List Lexeme) × IsBehind w place i ts
+
+item_begins : AllStartIn IsItemWord IsItem
+item_begins = record { starts = λ i ts spelled. begins ts (of_body i.body i.place ts spelled) }
   where
-    asserted : (wanted : Bool) (claim : Claim) (place : Pos) (ts : List Lexeme) → (IsAt (assert_word wanted) place ⌢ IsA claim) ts → StartsIn (other_than Tree) ts
-    asserted true claim place ts spelled = at_other Tree AssertTrue place _ ts (λ h. cc) spelled
-    asserted false claim place ts spelled = at_other Tree AssertFalse place _ ts (λ h. cc) spelled
-
-    back : (b : Body) (place : Pos) (ts : List Lexeme) → IsBody b place ts → StartsIn (other_than Tree) ts ⊎ ((v : Pos × TreeItem) × (IsAt Tree ⊗ IsTreeItem) v ts × (item_at place b ≡ item_at v.0 (tree v.1)))
-    back (sorts t) place ts spelled = inl (at_other Tree TypeWord place _ ts (λ h. cc) spelled)
-    back (tree t) place ts spelled = inr ((place, t), spelled, refl)
-    back (lang t) place ts spelled = inl (at_other Tree Lang place _ ts (λ h. cc) spelled)
-    back (trans t) place ts spelled = inl (at_other Tree Trans place _ ts (λ h. cc) spelled)
-    back (def t) place ts spelled = inl (at_other Tree Def place _ ts (λ h. cc) spelled)
-    back (assertion a) place ts spelled = inl (asserted a.wanted a.claim place ts spelled)
-
-pub lang_item_makes : (tokens : List Lexeme) → IsNext Lang tokens → Makes (IsAt Lang ⊗ IsLangItem) IsItem (λ v. record { place = v.0; body = lang v.1 }) closed tokens
-lang_item_makes tokens is_next = alternative (other_than Lang) tokens (λ v ts spelled. spelled) (λ i ts spelled. back i.body i.place ts spelled) (stops_other_than Lang tokens is_next)
-  where
-    asserted : (wanted : Bool) (claim : Claim) (place : Pos) (ts : List Lexeme) → (IsAt (assert_word wanted) place ⌢ IsA claim) ts → StartsIn (other_than Lang) ts
-    asserted true claim place ts spelled = at_other Lang AssertTrue place _ ts (λ h. cc) spelled
-    asserted false claim place ts spelled = at_other Lang AssertFalse place _ ts (λ h. cc) spelled
-
-    back : (b : Body) (place : Pos) (ts : List Lexeme) → IsBody b place ts → StartsIn (other_than Lang) ts ⊎ ((v : Pos × LangItem) × (IsAt Lang ⊗ IsLangItem) v ts × (item_at place b ≡ item_at v.0 (lang v.1)))
-    back (sorts t) place ts spelled = inl (at_other Lang TypeWord place _ ts (λ h. cc) spelled)
-    back (tree t) place ts spelled = inl (at_other Lang Tree place _ ts (λ h. cc) spelled)
-    back (lang t) place ts spelled = inr ((place, t), spelled, refl)
-    back (trans t) place ts spelled = inl (at_other Lang Trans place _ ts (λ h. cc) spelled)
-    back (def t) place ts spelled = inl (at_other Lang Def place _ ts (λ h. cc) spelled)
-    back (assertion a) place ts spelled = inl (asserted a.wanted a.claim place ts spelled)
-
-pub trans_item_makes : (tokens : List Lexeme) → IsNext Trans tokens → Makes (IsAt Trans ⊗ IsTransItem) IsItem (λ v. record { place = v.0; body = trans v.1 }) closed tokens
-trans_item_makes tokens is_next = alternative (other_than Trans) tokens (λ v ts spelled. spelled) (λ i ts spelled. back i.body i.place ts spelled) (stops_other_than Trans tokens is_next)
-  where
-    asserted : (wanted : Bool) (claim : Claim) (place : Pos) (ts : List Lexeme) → (IsAt (assert_word wanted) place ⌢ IsA claim) ts → StartsIn (other_than Trans) ts
-    asserted true claim place ts spelled = at_other Trans AssertTrue place _ ts (λ h. cc) spelled
-    asserted false claim place ts spelled = at_other Trans AssertFalse place _ ts (λ h. cc) spelled
-
-    back : (b : Body) (place : Pos) (ts : List Lexeme) → IsBody b place ts → StartsIn (other_than Trans) ts ⊎ ((v : Pos × TransItem) × (IsAt Trans ⊗ IsTransItem) v ts × (item_at place b ≡ item_at v.0 (trans v.1)))
-    back (sorts t) place ts spelled = inl (at_other Trans TypeWord place _ ts (λ h. cc) spelled)
-    back (tree t) place ts spelled = inl (at_other Trans Tree place _ ts (λ h. cc) spelled)
-    back (lang t) place ts spelled = inl (at_other Trans Lang place _ ts (λ h. cc) spelled)
-    back (trans t) place ts spelled = inr ((place, t), spelled, refl)
-    back (def t) place ts spelled = inl (at_other Trans Def place _ ts (λ h. cc) spelled)
-    back (assertion a) place ts spelled = inl (asserted a.wanted a.claim place ts spelled)
-
-pub def_item_makes : (tokens : List Lexeme) → IsNext Def tokens → Makes (IsAt Def ⊗ IsDefItem) IsItem (λ v. record { place = v.0; body = def v.1 }) closed tokens
-def_item_makes tokens is_next = alternative (other_than Def) tokens (λ v ts spelled. spelled) (λ i ts spelled. back i.body i.place ts spelled) (stops_other_than Def tokens is_next)
-  where
-    asserted : (wanted : Bool) (claim : Claim) (place : Pos) (ts : List Lexeme) → (IsAt (assert_word wanted) place ⌢ IsA claim) ts → StartsIn (other_than Def) ts
-    asserted true claim place ts spelled = at_other Def AssertTrue place _ ts (λ h. cc) spelled
-    asserted false claim place ts spelled = at_other Def AssertFalse place _ ts (λ h. cc) spelled
-
-    back : (b : Body) (place : Pos) (ts : List Lexeme) → IsBody b place ts → StartsIn (other_than Def) ts ⊎ ((v : Pos × DefItem) × (IsAt Def ⊗ IsDefItem) v ts × (item_at place b ≡ item_at v.0 (def v.1)))
-    back (sorts t) place ts spelled = inl (at_other Def TypeWord place _ ts (λ h. cc) spelled)
-    back (tree t) place ts spelled = inl (at_other Def Tree place _ ts (λ h. cc) spelled)
-    back (lang t) place ts spelled = inl (at_other Def Lang place _ ts (λ h. cc) spelled)
-    back (trans t) place ts spelled = inl (at_other Def Trans place _ ts (λ h. cc) spelled)
-    back (def t) place ts spelled = inr ((place, t), spelled, refl)
-    back (assertion a) place ts spelled = inl (asserted a.wanted a.claim place ts spelled)
-
-abbrev DeclaringWord : Word → Type 0
-DeclaringWord w = ((((w ≡ TypeWord) ⊎ (w ≡ Tree)) ⊎ (w ≡ Lang)) ⊎ (w ≡ Trans)) ⊎ (w ≡ Def)
-
-pub assertion_makes : (tokens : List Lexeme) → IsOther TypeWord tokens → IsOther Tree tokens → IsOther Lang tokens → IsOther Trans tokens → IsOther Def tokens → Makes IsAssertion IsItem (λ i. i) closed tokens
-assertion_makes tokens no_type no_tree no_lang no_trans no_def = alternative DeclaringWord tokens (λ i ts spelled. into i.body i.place ts spelled) (λ i ts spelled. back i.body i.place ts spelled) (stops tokens no_type no_tree no_lang no_trans no_def)
-  where
-    stops : (ts : List Lexeme) → IsOther TypeWord ts → IsOther Tree ts → IsOther Lang ts → IsOther Trans ts → IsOther Def ts → Stops DeclaringWord ts
-    stops [] a b c d e = tt
-    stops (t ∷ ts) a b c d e = λ h. elim h [ inl (inl (inl (inl x))) ↦ a x | inl (inl (inl (inr x))) ↦ b x | inl (inl (inr x)) ↦ c x | inl (inr x) ↦ d x | inr x ↦ e x ]
-
-    into : (b : Body) (place : Pos) (ts : List Lexeme) → IsAssertionBody b place ts → IsBody b place ts
-    into (sorts t) place ts spelled = absurd spelled
-    into (tree t) place ts spelled = absurd spelled
-    into (lang t) place ts spelled = absurd spelled
-    into (trans t) place ts spelled = absurd spelled
-    into (def t) place ts spelled = absurd spelled
-    into (assertion a) place ts spelled = spelled
-
-    back : (b : Body) (place : Pos) (ts : List Lexeme) → IsBody b place ts → StartsIn DeclaringWord ts ⊎ ((i : Item) × IsAssertion i ts × (item_at place b ≡ i))
-    back (sorts t) place ts spelled = inl (at_starts DeclaringWord TypeWord place _ ts (inl (inl (inl (inl refl)))) spelled)
-    back (tree t) place ts spelled = inl (at_starts DeclaringWord Tree place _ ts (inl (inl (inl (inr refl)))) spelled)
-    back (lang t) place ts spelled = inl (at_starts DeclaringWord Lang place _ ts (inl (inl (inr refl))) spelled)
-    back (trans t) place ts spelled = inl (at_starts DeclaringWord Trans place _ ts (inl (inr refl)) spelled)
-    back (def t) place ts spelled = inl (at_starts DeclaringWord Def place _ ts (inr refl) spelled)
-    back (assertion a) place ts spelled = inr (record { place = place; body = assertion a }, spelled, refl)
-
-pub assert_true_makes : (tokens : List Lexeme) → IsNext AssertTrue tokens → Makes (IsAt AssertTrue ⊗ IsA) IsAssertion (assert_item true) closed tokens
-assert_true_makes tokens is_next = alternative (other_than AssertTrue) tokens (λ v ts spelled. spelled) (λ i ts spelled. back i.body i.place ts spelled) (stops_other_than AssertTrue tokens is_next)
-  where
-    asserted : (wanted : Bool) (claim : Claim) (place : Pos) (ts : List Lexeme) → (IsAt (assert_word wanted) place ⌢ IsA claim) ts → StartsIn (other_than AssertTrue) ts ⊎ ((v : Pos × Claim) × (IsAt AssertTrue ⊗ IsA) v ts × (assert_item wanted (place, claim) ≡ assert_item true v))
-    asserted true claim place ts spelled = inr ((place, claim), spelled, refl)
-    asserted false claim place ts spelled = inl (at_other AssertTrue AssertFalse place _ ts (λ h. cc) spelled)
-
-    back : (b : Body) (place : Pos) (ts : List Lexeme) → IsAssertionBody b place ts → StartsIn (other_than AssertTrue) ts ⊎ ((v : Pos × Claim) × (IsAt AssertTrue ⊗ IsA) v ts × (item_at place b ≡ assert_item true v))
-    back (sorts t) place ts spelled = absurd spelled
-    back (tree t) place ts spelled = absurd spelled
-    back (lang t) place ts spelled = absurd spelled
-    back (trans t) place ts spelled = absurd spelled
-    back (def t) place ts spelled = absurd spelled
-    back (assertion a) place ts spelled = asserted a.wanted a.claim place ts spelled
-
-pub assert_false_makes : (tokens : List Lexeme) → IsOther AssertTrue tokens → Makes (IsAt AssertFalse ⊗ IsA) IsAssertion (assert_item false) closed tokens
-assert_false_makes tokens no_true = alternative (λ w. w ≡ AssertTrue) tokens (λ v ts spelled. spelled) (λ i ts spelled. back i.body i.place ts spelled) (stops_other AssertTrue tokens no_true)
-  where
-    asserted : (wanted : Bool) (claim : Claim) (place : Pos) (ts : List Lexeme) → (IsAt (assert_word wanted) place ⌢ IsA claim) ts → StartsIn (λ w. w ≡ AssertTrue) ts ⊎ ((v : Pos × Claim) × (IsAt AssertFalse ⊗ IsA) v ts × (assert_item wanted (place, claim) ≡ assert_item false v))
-    asserted true claim place ts spelled = inl (at_starts (λ w. w ≡ AssertTrue) AssertTrue place _ ts refl spelled)
-    asserted false claim place ts spelled = inr ((place, claim), spelled, refl)
-
-    back : (b : Body) (place : Pos) (ts : List Lexeme) → IsAssertionBody b place ts → StartsIn (λ w. w ≡ AssertTrue) ts ⊎ ((v : Pos × Claim) × (IsAt AssertFalse ⊗ IsA) v ts × (item_at place b ≡ assert_item false v))
-    back (sorts t) place ts spelled = absurd spelled
-    back (tree t) place ts spelled = absurd spelled
-    back (lang t) place ts spelled = absurd spelled
-    back (trans t) place ts spelled = absurd spelled
-    back (def t) place ts spelled = absurd spelled
-    back (assertion a) place ts spelled = asserted a.wanted a.claim place ts spelled
-
-starts_some : (w : Word) (place : Pos) (q : List Lexeme → Type 0) (ts : List Lexeme) → (IsAt w place ⌢ q) ts → StartsIn anything ts
-starts_some w place q ts spelled = at_starts anything w place q ts tt spelled
+    begins : {i : Item} (ts : List Lexeme) → (v : Lexeme × Item) × item_parts v ts × (i ≡ v.1) → StartsIn IsItemWord ts
+    begins ts parts = let s = parts.1 in starts_joined IsItemWord (IsToken parts.0.0) (λ l. IsBehind parts.0.0.word parts.0.0.place parts.0.1 l) ts (λ l is. subst (λ (m : List Lexeme). StartsIn IsItemWord m) (sym is) (parts.0.0.place, parts.0.1, s.back, s.at_back)) s
 
 pub item_starts : AllStartIn anything IsItem
-item_starts = record { starts = λ i ts spelled. each i.body i.place ts spelled }
-  where
-    each : (b : Body) (place : Pos) (ts : List Lexeme) → IsBody b place ts → StartsIn anything ts
-    each (sorts t) place ts spelled = starts_some TypeWord place _ ts spelled
-    each (tree t) place ts spelled = starts_some Tree place _ ts spelled
-    each (lang t) place ts spelled = starts_some Lang place _ ts spelled
-    each (trans t) place ts spelled = starts_some Trans place _ ts spelled
-    each (def t) place ts spelled = starts_some Def place _ ts spelled
-    each (assertion a) place ts spelled = starts_some (assert_word a.wanted) place _ ts spelled
+item_starts = record { starts = λ i ts spelled. starts_wider IsItemWord anything ts (λ w h. tt) (item_begins.starts i ts spelled) }
+
+sample_item : HasSample IsItem
+sample_item = sample_as (λ (v : Pos × Claim). asserted true v.0 v.1) (λ v ts spelled. spelled) (sample_pair (sample_at AssertTrue) sample_a)
+
+-- another word begins none
+pub item_refused : (tokens : List Lexeme) → Stops IsItemWord tokens → Fails IsItem closed tokens (Some tokens)
+item_refused tokens stops = record { why = missing tokens sample_item (λ more other after i as_rest same spelled. elsewhere IsItemWord tokens more stops as_rest (subst (λ (l : List Lexeme). StartsIn IsItemWord l) (sym same) (starts_append IsItemWord other after (item_begins.starts i other spelled)))) }
+
+pub stops_at_end : (tokens : List Lexeme) → tokens ≡ [] → Stops IsItemWord tokens
+stops_at_end tokens ended = subst (λ (l : List Lexeme). Stops IsItemWord l) (sym ended) tt
+
+pub stops_at_first : (t : Lexeme) (tokens rest : List Lexeme) → tokens ≡ t ∷ rest → (IsItemWord t.word → ⊥) → Stops IsItemWord tokens
+stops_at_first t tokens rest here none = subst (λ (l : List Lexeme). Stops IsItemWord l) (sym here) none
+
+pub no_item_word : (w : Word) → (w ≡ TypeWord → ⊥) → (w ≡ Tree → ⊥) → (w ≡ Lang → ⊥) → (w ≡ Trans → ⊥) → (w ≡ Def → ⊥) → (w ≡ AssertTrue → ⊥) → (w ≡ AssertFalse → ⊥) → IsItemWord w → ⊥
+no_item_word TypeWord a b c d e f g is = a refl
+no_item_word Tree a b c d e f g is = b refl
+no_item_word Lang a b c d e f g is = c refl
+no_item_word Trans a b c d e f g is = d refl
+no_item_word Def a b c d e f g is = e refl
+no_item_word AssertTrue a b c d e f g is = f refl
+no_item_word AssertFalse a b c d e f g is = g refl
+no_item_word _ a b c d e f g is = is.3
 
 -- A program.
-
--- where a token comes, an item comes
-pub program_first : {tokens rest : List Lexeme} {x : Item} (all : List Item) → IsRead IsItem closed tokens x rest → all ≡ x ∷ [] → IsPartWay IsProgram (Many IsItem) anything (λ b. all ++ b) tokens rest
-program_first {tokens} {rest} all item is_first = subst (λ (l : List Item). IsPartWay IsProgram (Many IsItem) anything (λ b. l ++ b) tokens rest) (sym is_first) (record {
-  read = λ b end more. as_read (many_make IsItem tokens (item_comes item)) (then_read (ends_closed (Many IsItem) anything) item more);
-  fails = λ bad more. as_fails bad (many_make IsItem tokens (item_comes item)) (then_fails bad (ends_closed (Many IsItem) anything) item more);
-})
-  where
-    item_comes : {x : Item} → IsRead IsItem closed tokens x rest → StartsIn anything tokens
-    item_comes read = subst (λ (l : List Lexeme). StartsIn anything l) (sym read.split) (starts_append anything read.part rest (item_starts.starts _ read.part read.spelled))
 
 pub some_token : (tokens : List Lexeme) → (tokens ≡ [] → ⊥) → StartsIn anything tokens
 some_token [] not_end = absurd (not_end refl)
 some_token (t ∷ ts) not_end = tt
 
-pub program_first_fails : (tokens : List Lexeme) (bad : Option (List Lexeme)) → (tokens ≡ [] → ⊥) → Fails IsItem closed tokens bad → Fails IsProgram anything tokens bad
-program_first_fails tokens bad not_end fails = as_fails bad (many_make IsItem tokens (some_token tokens not_end)) (first_fails bad (ends_closed (Many IsItem) anything) (sample_many IsItem) fails)
+-- the first item is read
+pub program_first : {tokens rest : List Lexeme} {x : Item} (all : List Item) → IsRead IsItem closed tokens x rest → StartsIn anything tokens → all ≡ x ∷ [] → IsPartWay IsProgram (Many IsItem) anything (λ b. all ++ b) tokens rest
+program_first {tokens} {x = x} all item starts is_first = many_more IsItem (λ l. l) [] all (record { read = λ b end more. more; fails = λ bad more. more }) starts item is_first
+
+pub program_first_fails : (tokens : List Lexeme) (bad : Option (List Lexeme)) → StartsIn anything tokens → Fails IsItem closed tokens bad → Fails IsProgram anything tokens bad
+program_first_fails tokens bad starts fails = many_more_fails IsItem {to = λ l. l} bad (record { read = λ b end more. more; fails = λ bad more. more }) starts fails
 
 pub program_ends : {tokens rest : List Lexeme} (all : List Item) → IsPartWay IsProgram (Many IsItem) anything (λ b. all ++ b) tokens rest → rest ≡ [] → IsRead IsProgram anything tokens all []
 program_ends {tokens} {rest} all so_far ended = subst (λ (l : List Lexeme). IsRead IsProgram anything tokens all l) ended (many_ends IsItem (λ l. l) all item_starts so_far (subst (λ (l : List Lexeme). Stops anything l) (sym ended) tt))

@@ -6,13 +6,15 @@ use Rattle.model_program.specs.Syntax.{Name}
 use Rattle.model_program.specs.Joined.{◌⌢◌, IsNext, IsOther, ◌⊗◌}
 use Rattle.read_forms.specs.Reads.{StartsIn, closed}
 use Rattle.model_program.specs.Grammar.{IsSign, sign, IsName, Many}
-use Rattle.read_forms.proofs.Forms.{Makes, HasSample, AllStartIn, sample_as, sample_pair, alternative, ends_closed, starts_joined, starts_wider, stops_other, stops_other_than, other_than}
+use Rattle.read_forms.specs.Parts.{HasSample, AllStartIn, other_than}
+use Rattle.read_forms.proofs.Forms.{Makes, sample_as, sample_pair, alternative, ends_closed, starts_joined, starts_wider, stops_other, stops_other_than, remade}
 use Rattle.read_forms.proofs.Words.{sign_starts, sample_sign}
 use Rattle.model_grammar.specs.Syntax.{Expr, Out, child, call, node, Outs, no_out, and_out, outs_of}
 use Rattle.model_grammar.specs.Terms.{AreLabels, IsOut, unchanged, called, made, AreOuts, no_outs, outs_on}
 use Rattle.label_reader.proofs.Names.{sample_name, name_starts}
-use Rattle.label_reader.proofs.Closings.{closing_of, IsClosable, sample_to_close}
-use Rattle.program_reader.specs.Nodes.{AreOutsToClose, IsBehindOutName}
+use Rattle.label_reader.specs.Lists.{closing_of}
+use Rattle.label_reader.proofs.Closings.{IsClosable, sample_to_close}
+use Rattle.program_reader.specs.Nodes.{IsNameToClose, AreOutsToClose, IsBehindOutName}
 
 pub child_makes : (tokens : List Lexeme) → IsNext Id tokens → Makes IsName IsOut child closed tokens
 child_makes tokens is_next = alternative (other_than Id) tokens (λ n ts spelled. unchanged n ts spelled) (λ b ts spelled. back b ts spelled) (stops_other_than Id tokens is_next)
@@ -84,11 +86,14 @@ open_makes tokens is_other = alternative (λ w. w ≡ Id) tokens (λ v ts spelle
       ap (λ l. node n labels l) list.is,
     )
 
-pub call_makes : (tokens : List Lexeme) → IsNext Id tokens → Makes (IsName ⊗ IsSign RoundClose) IsBehindOutName (λ v. inl v.0) closed tokens
-call_makes tokens is_next = alternative (other_than Id) tokens (λ v ts spelled. spelled) (λ b ts spelled. back b ts spelled) (stops_other_than Id tokens is_next)
+pub name_closes : (tokens : List Lexeme) → Makes (IsName ⊗ IsSign RoundClose) IsNameToClose (λ v. v.0) closed tokens
+name_closes tokens = remade (λ v ts spelled. spelled) (λ n ts spelled. ((n, tt), spelled, refl))
+
+pub call_makes : (tokens : List Lexeme) → IsNext Id tokens → Makes IsNameToClose IsBehindOutName (λ n. inl n) closed tokens
+call_makes tokens is_next = alternative (other_than Id) tokens (λ n ts spelled. spelled) (λ b ts spelled. back b ts spelled) (stops_other_than Id tokens is_next)
   where
-    back : (b : Name ⊎ (List Expr × List Out)) (ts : List Lexeme) → IsBehindOutName b ts → StartsIn (other_than Id) ts ⊎ ((v : Name × Unit {0}) × (IsName ⊗ IsSign RoundClose) v ts × (b ≡ inl v.0))
-    back (inl y) ts spelled = inr ((y, tt), spelled, refl)
+    back : (b : Name ⊎ (List Expr × List Out)) (ts : List Lexeme) → IsBehindOutName b ts → StartsIn (other_than Id) ts ⊎ ((n : Name) × IsNameToClose n ts × (b ≡ inl n))
+    back (inl y) ts spelled = inr (y, spelled, refl)
     back (inr v) ts spelled = inl (starts_wider (λ w. w ≡ SquareOpen) (other_than Id) ts (λ w a e. let f : SquareOpen ≡ Id = sym a ∙ e in cc) (starts_joined (λ w. w ≡ SquareOpen) _ _ ts (λ l labels. starts_joined (λ w. w ≡ SquareOpen) _ _ l ((sign_starts SquareOpen).starts tt) labels) spelled))
 
 pub node_makes : (tokens : List Lexeme) → IsOther Id tokens → Makes (AreLabels ⊗ AreOutsToClose) IsBehindOutName (λ v. inr v) closed tokens

@@ -6,7 +6,8 @@ use Rattle.model_program.specs.Lexeme.{Lexeme}
 use Rattle.model_program.specs.Joined.{◌⌢◌, IsOther}
 use Rattle.read_forms.specs.Reads.{Stops, StartsIn, closed}
 use Rattle.model_program.specs.Grammar.{sign, Many}
-use Rattle.read_forms.proofs.Forms.{Ends, HasSample, sample_as, sample_pair, starts_joined, starts_append, starts_wider, stops_of, other_than}
+use Rattle.read_forms.specs.Parts.{Ends, HasSample, other_than}
+use Rattle.read_forms.proofs.Forms.{sample_as, sample_pair, starts_joined, starts_append, starts_wider, stops_of}
 use Rattle.read_forms.proofs.Words.{sign_starts, sample_sign, sample_token}
 use Rattle.model_grammar.specs.declared.Level.TheVariants.{E}
 use Rattle.model_grammar.specs.Syntax.{Expr, field}
@@ -14,12 +15,11 @@ use Rattle.model_grammar.specs.Expressions.{IsE, field_name}
 use Rattle.model_grammar.proofs.Levels.{primary}
 use Rattle.model_grammar.specs.Terms.{IsLater, AreLabels}
 use Rattle.label_reader.specs.Levels.{strength, reach, GoesOn, BeginsAt}
-use Rattle.label_reader.proofs.Joins.{Without}
+use Rattle.label_reader.specs.Lists.{Without, closing_of, IsItem}
 use Rattle.label_reader.proofs.LevelForms.{level_begins}
 use Rattle.read_forms.proofs.Lists.{skip_nothing, to_right}
 use Rattle.label_reader.specs.declared.lists.Between.TheVariants as gap
-use Rattle.label_reader.proofs.Closings.{closing_of}
-use Rattle.label_reader.proofs.Listed.{IsItem, sample_row}
+use Rattle.label_reader.proofs.Listed.{sample_any_to}
 
 -- what begins an expression but for `-` is no sign between operands
 begins_no_sign : (w : Word) → BeginsAt E w → (w ≡ Minus → ⊥) → strength w ≡ 0
@@ -73,4 +73,4 @@ label_item = record {
 }
 
 pub sample_labels : HasSample AreLabels
-sample_labels = sample_as (λ (v : Unit {0} × List Expr). v.1) (λ v ts spelled. spelled) (sample_pair (sample_sign SquareOpen) (sample_row IsE SquareClose))
+sample_labels = sample_as (λ (v : Unit {0} × List Expr). v.1) (λ v ts spelled. spelled) (sample_pair (sample_sign SquareOpen) (sample_any_to gap.LabelComma IsE SquareClose))

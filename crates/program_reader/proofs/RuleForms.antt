@@ -1,22 +1,24 @@
 -- Of what rules are made.
-use Rattle.std.proofs.Common.{◌≡◌, List, [], ◌∷◌, ◌++◌, refl, sym, ap, ◌∙◌, subst, Option, Some, None, ◌⊎◌, inl, inr, arith}
+use Rattle.std.proofs.Common.{◌≡◌, List, [], ◌∷◌, ◌++◌, refl, sym, ap, ◌∙◌, subst, append_assoc, Option, Some, None, ◌⊎◌, inl, inr, arith}
 use Rattle.model_program.specs.declared.Word.{Word}
 use Rattle.model_program.specs.declared.Word.TheVariants.{Where, Given, To, Id, RoundOpen, RoundClose, CurlyOpen, CurlyClose, Bar}
 use Rattle.model_program.specs.Lexeme.{Lexeme}
 use Rattle.model_program.specs.Syntax.{Name, Demand}
 use Rattle.model_program.specs.Joined.{IsNext, IsOther, ◌⊗◌}
-use Rattle.read_forms.specs.Reads.{IsRead, StartsIn, closed}
-use Rattle.model_program.specs.Grammar.{IsSign, IsName, IsComma, Many, IsDemand, AreVars, IsGiven}
-use Rattle.read_forms.proofs.Forms.{Ends, Makes, HasSample, AllStartIn, as_read, as_fails, then_read, then_fails, sample_pair, sample_as, remade, stands, left_out, ends_left_out, ends_starting, ends_closed, starts_joined, starts_next, stops_other}
+use Rattle.read_forms.specs.Reads.{IsRead, Fails, StartsIn, closed}
+use Rattle.model_program.specs.Grammar.{IsSign, IsName, Many, IsDemand, AreVars, IsGiven}
+use Rattle.read_forms.specs.Parts.{Ends, HasSample, AllStartIn}
+use Rattle.read_forms.proofs.Forms.{Makes, as_read, as_fails, then_read, then_fails, first_fails, read_at, sample_pair, sample_as, remade, stands, left_out, ends_left_out, ends_starting, ends_closed, starts_joined, starts_next, stops_other}
 use Rattle.read_forms.proofs.Words.{sample_sign, sign_starts}
-use Rattle.read_forms.proofs.Lists.{IsPartWay, sample_any}
+use Rattle.read_forms.proofs.Lists.{IsPartWay, many_make, many_end, sample_many}
 use Rattle.model_grammar.specs.declared.Level.TheVariants.{E}
 use Rattle.model_grammar.specs.Syntax.{Expr, Rule, Out}
 use Rattle.model_grammar.specs.Expressions.{IsE}
 use Rattle.model_grammar.specs.Terms.{IsOut}
 use Rattle.model_grammar.specs.Grammar.{IsGuard, IsRule, IsOutRule, InBraces}
 use Rattle.label_reader.specs.declared.lists.Between.TheVariants as gap
-use Rattle.label_reader.proofs.Listed.{IsItem, named_item, bar_tail, sample_some}
+use Rattle.label_reader.specs.Lists.{IsItem}
+use Rattle.label_reader.proofs.Listed.{named_item, bar_tail, sample_any_to, sample_some_to}
 use Rattle.label_reader.specs.Levels.{strength, GoesOn}
 use Rattle.label_reader.proofs.Names.{sample_name, name_starts}
 use Rattle.program_reader.specs.Goings.{guard_words, given_words, rule_words}
@@ -42,7 +44,7 @@ pub var_item : IsItem gap.Comma RoundClose IsName closed
 var_item = named_item gap.Comma RoundClose sample_name name_starts (λ h. cc) (λ h. cc, λ h. cc) (ends_closed _ closed)
 
 pub sample_vars : HasSample AreVars
-sample_vars = sample_as (λ (v : Unit {0} × List Name). v.1) (λ v ts spelled. spelled) (sample_pair (sample_sign RoundOpen) (sample_any IsComma IsName RoundClose))
+sample_vars = sample_as (λ (v : Unit {0} × List Name). v.1) (λ v ts spelled. spelled) (sample_pair (sample_sign RoundOpen) (sample_any_to gap.Comma IsName RoundClose))
 
 pub guard_makes : (tokens : List Lexeme) → IsNext Where tokens → Makes (IsSign Where ⊗ IsE) IsGuard (λ v. Some v.1) guard_words tokens
 guard_makes tokens is_next = stands tokens (λ v ts spelled. spelled) (λ g ts spelled. back g ts spelled) (starts_next Where guard_words tokens is_next (inl refl))
@@ -78,16 +80,33 @@ given_makes tokens is_next = stands tokens (λ v ts spelled. spelled) (λ g ts s
 pub given_none : (tokens : List Lexeme) → IsOther Given tokens → IsRead IsGiven given_words tokens [] tokens
 given_none tokens is_other = left_out (λ w. w ≡ Given) tokens [] refl given_starts (stops_other Given tokens is_other)
 
-pub demand_goes_on : given_words RoundOpen
+demand_goes_on : given_words RoundOpen
 demand_goes_on = inl (inr refl)
 
--- the first demand is read
-pub given_first : {tokens middle rest : List Lexeme} {x : Demand} (all : List Demand) → IsNext Given tokens → IsRead (IsSign Given) closed tokens tt middle → IsRead IsDemand closed middle x rest → all ≡ x ∷ []
-    → IsPartWay IsGiven (Many IsDemand) given_words (λ b. all ++ b) tokens rest
-given_first {tokens} {rest = rest} all is_next first item is_first = subst (λ (l : List Demand). IsPartWay IsGiven (Many IsDemand) given_words (λ b. l ++ b) tokens rest) (sym is_first) (record {
-  read = λ b end more. as_read (given_makes tokens is_next) (then_read (ends_closed (IsDemand ⊗ Many IsDemand) given_words) first (then_read (ends_closed (Many IsDemand) given_words) item more));
-  fails = λ bad more. as_fails bad (given_makes tokens is_next) (then_fails bad (ends_closed (IsDemand ⊗ Many IsDemand) given_words) first (then_fails bad (ends_closed (Many IsDemand) given_words) item more));
+-- one demand more must be read behind those of `all`
+abbrev pub IsGivenSoFar : List Demand → List Lexeme → List Lexeme → Type 0
+IsGivenSoFar all tokens rest = IsPartWay IsGiven (IsDemand ⊗ Many IsDemand) given_words (λ v. all ++ (v.0 ∷ v.1)) tokens rest
+
+pub given_begins : {tokens rest : List Lexeme} (all : List Demand) → IsNext Given tokens → IsRead (IsSign Given) closed tokens tt rest → all ≡ [] → IsGivenSoFar all tokens rest
+given_begins {tokens} {rest} all is_next first none = subst (λ (l : List Demand). IsGivenSoFar l tokens rest) (sym none) (record {
+  read = λ b end more. as_read (given_makes tokens is_next) (then_read (ends_closed (IsDemand ⊗ Many IsDemand) given_words) first more);
+  fails = λ bad more. as_fails bad (given_makes tokens is_next) (then_fails bad (ends_closed (IsDemand ⊗ Many IsDemand) given_words) first more);
 })
+
+pub given_more : {tokens rest after : List Lexeme} {x : Demand} (all new : List Demand) → IsGivenSoFar all tokens rest → IsRead IsDemand closed rest x after → IsNext RoundOpen after → new ≡ all ++ x ∷ [] → IsGivenSoFar new tokens after
+given_more {tokens} {after = after} {x} all new so_far item is_next is_new = record {
+  read = λ b end more. subst (λ (l : List Demand). IsRead IsGiven given_words tokens l end) (sym (append_assoc all (x ∷ []) (b.0 ∷ b.1)) ∙ ap (λ l. l ++ (b.0 ∷ b.1)) (sym is_new)) (so_far.read (x, b.0 ∷ b.1) end (then_read (ends_closed (Many IsDemand) given_words) item (as_read another more)));
+  fails = λ bad more. so_far.fails bad (then_fails bad (ends_closed (Many IsDemand) given_words) item (as_fails bad another more));
+}
+  where
+    another : Makes (IsDemand ⊗ Many IsDemand) (Many IsDemand) (λ v. v.0 ∷ v.1) given_words after
+    another = many_make IsDemand after (starts_next RoundOpen given_words after is_next demand_goes_on)
+
+pub given_fails : {tokens rest : List Lexeme} (all : List Demand) (bad : Option (List Lexeme)) → IsGivenSoFar all tokens rest → Fails IsDemand closed rest bad → Fails IsGiven given_words tokens bad
+given_fails all bad so_far fails = so_far.fails bad (first_fails bad (ends_closed (Many IsDemand) given_words) (sample_many IsDemand) fails)
+
+pub given_ends : {tokens rest after : List Lexeme} {x : Demand} (all new : List Demand) → IsGivenSoFar all tokens rest → IsRead IsDemand closed rest x after → IsOther RoundOpen after → new ≡ all ++ x ∷ [] → IsRead IsGiven given_words tokens new after
+given_ends {after = after} {x} all new so_far item is_other is_new = read_at (sym is_new) (so_far.read (x, []) after (then_read (ends_closed (Many IsDemand) given_words) item (many_end IsDemand after demand_starts (stops_other RoundOpen after is_other))))
 
 pub sample_given : HasSample IsGiven
 sample_given = record { value = []; tokens = []; spelled = refl }
@@ -148,4 +167,4 @@ pub out_rule_item : IsItem gap.Bar CurlyClose IsOutRule closed
 out_rule_item = named_item gap.Bar CurlyClose sample_out_rule out_rule_starts (λ h. cc) (λ h. cc, λ h. cc) (ends_closed _ closed)
 
 pub sample_braces : {A : Type 0} (form : A → List Lexeme → Type 0) → HasSample form → HasSample (InBraces form)
-sample_braces {A} form sample = sample_as (λ (v : Unit {0} × List A). v.1) (λ v ts spelled. spelled) (sample_pair (sample_sign CurlyOpen) (sample_some (IsSign Bar) form CurlyClose sample))
+sample_braces {A} form sample = sample_as (λ (v : Unit {0} × List A). v.1) (λ v ts spelled. spelled) (sample_pair (sample_sign CurlyOpen) (sample_some_to gap.Bar form CurlyClose sample))

@@ -7,11 +7,13 @@ use Rattle.model_program.specs.Lexeme.{Lexeme}
 use Rattle.model_program.specs.Syntax.{Name, FieldItem, CtorItem}
 use Rattle.model_program.specs.Joined.{IsNext, IsOther, ◌⊗◌}
 use Rattle.read_forms.specs.Reads.{IsRead, StartsIn, closed}
-use Rattle.model_program.specs.Grammar.{IsWord, IsSign, IsName, IsNumber, IsComma, IsCtor, sort_text, IsSort, IsField, AreFields, AreFieldsOrNone, square_word, AreCtors, IsTypeItem}
-use Rattle.read_forms.proofs.Forms.{Ends, Makes, HasSample, AllStartIn, sample_pair, sample_as, remade, stands, left_out, ends_closed, ends_starting, starts_joined, starts_next, stops_other}
+use Rattle.model_program.specs.Grammar.{IsWord, IsSign, IsName, IsNumber, IsCtor, sort_text, IsSort, IsField, AreFields, AreFieldsOrNone, square_word, AreCtors, IsTypeItem}
+use Rattle.read_forms.specs.Parts.{Ends, HasSample, AllStartIn}
+use Rattle.read_forms.proofs.Forms.{Makes, sample_pair, sample_as, remade, stands, left_out, ends_closed, ends_starting, starts_joined, starts_next, stops_other}
 use Rattle.read_forms.proofs.Words.{sample_word, sample_sign, sign_starts}
 use Rattle.label_reader.specs.declared.lists.Between.TheVariants.{Comma}
-use Rattle.label_reader.proofs.Listed.{IsItem, named_item, sample_some}
+use Rattle.label_reader.specs.Lists.{IsItem}
+use Rattle.label_reader.proofs.Listed.{named_item, sample_some_to}
 use Rattle.label_reader.specs.Constants.{IsNumeral}
 use Rattle.label_reader.proofs.Names.{sample_name, name_starts}
 use Rattle.label_reader.proofs.Primaries.{sample_numeral}
@@ -44,7 +46,7 @@ pub ctor_item : IsItem Comma CurlyClose IsCtor closed
 ctor_item = named_item Comma CurlyClose sample_ctor ctor_starts (λ h. cc) (λ h. cc, λ h. cc) (ends_closed _ closed)
 
 pub sample_ctors : HasSample AreCtors
-sample_ctors = sample_as (λ (v : Unit {0} × List CtorItem). v.1) (λ v ts spelled. spelled) (sample_pair (sample_sign CurlyOpen) (sample_some IsComma IsCtor CurlyClose sample_ctor))
+sample_ctors = sample_as (λ (v : Unit {0} × List CtorItem). v.1) (λ v ts spelled. spelled) (sample_pair (sample_sign CurlyOpen) (sample_some_to Comma IsCtor CurlyClose sample_ctor))
 
 abbrev pub field_parts : Name × (Unit {0} × Name) → List Lexeme → Type 0
 field_parts = IsName ⊗ (IsSign Colon ⊗ IsSort)

@@ -8,7 +8,8 @@ use Rattle.model_program.specs.Syntax.{Name}
 use Rattle.model_program.specs.Joined.{◌⌢◌, IsNext, IsOther, ◌⊗◌}
 use Rattle.read_forms.specs.Reads.{IsRead, StartsIn, Stops, closed}
 use Rattle.model_program.specs.Grammar.{IsSign, sign, IsName, Many}
-use Rattle.read_forms.proofs.Forms.{Makes, HasSample, AllStartIn, sample_as, sample_pair, alternative, ends_closed, starts_joined, starts_wider, stops_other, stops_other_than, other_than}
+use Rattle.read_forms.specs.Parts.{HasSample, AllStartIn, other_than}
+use Rattle.read_forms.proofs.Forms.{Makes, sample_as, sample_pair, alternative, ends_closed, starts_joined, starts_wider, stops_other, stops_other_than}
 use Rattle.model_grammar.specs.declared.Op1.{Op1}
 use Rattle.model_grammar.specs.declared.Op1.TheVariants as one_of
 use Rattle.model_grammar.specs.declared.Op2.{Op2}
@@ -18,8 +19,9 @@ use Rattle.model_grammar.specs.Syntax.{Expr, X, named, one, two, literal, Xs, no
 use Rattle.model_grammar.specs.Terms.{AreLabels, IsX, name, on_one, on_two, new, AreXs, no_more, one_more}
 use Rattle.label_reader.proofs.Names.{sample_name, name_starts}
 use Rattle.label_reader.specs.declared.lists.Between.TheVariants as gap
-use Rattle.label_reader.proofs.Listed.{IsItem, starting_item}
-use Rattle.label_reader.proofs.Closings.{closing_of, IsClosable, sample_to_close}
+use Rattle.label_reader.specs.Lists.{IsItem, closing_of}
+use Rattle.label_reader.proofs.Listed.{starting_item}
+use Rattle.label_reader.proofs.Closings.{IsClosable, sample_to_close}
 use Rattle.program_reader.specs.Operations.{IsNoOp1, IsNoOp2, NoOp1, NoOp2}
 use Rattle.program_reader.specs.Nodes.{AreXsToClose, IsXInside}
 use Rattle.program_reader.specs.Nodes as inside

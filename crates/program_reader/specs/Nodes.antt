@@ -19,6 +19,10 @@ AreXsToClose xs = Many IsX xs ⌢ sign RoundClose
 abbrev pub AreOutsToClose : List Out → List Lexeme → Type 0
 AreOutsToClose outs = Many IsOut outs ⌢ sign RoundClose
 
+-- a name and the closing parenthesis
+abbrev pub IsNameToClose : Name → List Lexeme → Type 0
+IsNameToClose n = IsName n ⌢ sign RoundClose
+
 pub data IsXInside : X → List Lexeme → Type 0 where
   -- Op1 X )
   on_one : (op : Lexeme) (kind : Op1) (x : X) (inside : List Lexeme) → op.word ≡ op1_word kind → (IsX x ⌢ sign RoundClose) inside → IsXInside (one kind op.place x) (op ∷ inside)
@@ -29,5 +33,5 @@ pub data IsXInside : X → List Lexeme → Type 0 where
 
 -- What stands behind the first name of an output term: a child and the closing parenthesis, or labels and children.
 abbrev pub IsBehindOutName : Name ⊎ (List Expr × List Out) → List Lexeme → Type 0
-IsBehindOutName (inl y) = IsName y ⌢ sign RoundClose
+IsBehindOutName (inl y) = IsNameToClose y
 IsBehindOutName (inr v) = AreLabels v.0 ⌢ AreOutsToClose v.1

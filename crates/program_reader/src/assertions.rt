@@ -1,7 +1,7 @@
 //! Assertions, whose parentheses may be left out: which of the readings applies is seen from the next tokens alone.
 
 ghost use Rattle.std.specs.Prelude.{◌≡◌};
-ghost use Rattle.model_program.specs.declared.Word.TheVariants.{Id};
+ghost use Rattle.model_program.specs.declared.Word.TheVariants as word;
 ghost use Rattle.model_program.specs.Joined.{IsNext};
 ghost use Rattle.read_forms.specs.Reads.{closed};
 ghost use Rattle.model_grammar.specs.Grammar.{IsA, IsB};
@@ -52,6 +52,34 @@ fn claim_of(left: X, equal: bool, right: X) -> Claim
     }
 }
 
+fn read_empty<'t>(
+    alloc: Global,
+    tokens: &'t [Token<'t>],
+) -> Result<(Claim, &'t [Token<'t>]), Stop<'t>>
+    requires { IsNext word.IsEmpty (lexemes tokens.now) }
+    ensures { Reads IsBInside closed tokens.now (λ x. (plain_claim x.0, lexemes x.1.now)) result }
+{
+    let rest = read_sign(tokens, Word::IsEmpty)?;
+    let (x, rest) = read_x(alloc, rest)?;
+    let (x, rest) = kept(x, read_sign(rest, Word::RoundClose))?;
+    Ok((Claim::Empty(x), rest))
+}
+
+fn read_type_check<'t>(
+    alloc: Global,
+    tokens: &'t [Token<'t>],
+) -> Result<(Claim, &'t [Token<'t>]), Stop<'t>>
+    requires { IsNext word.TypeCheck (lexemes tokens.now) }
+    ensures { Reads IsBInside closed tokens.now (λ x. (plain_claim x.0, lexemes x.1.now)) result }
+{
+    let rest = read_sign(tokens, Word::TypeCheck)?;
+    let (x, rest) = read_x(alloc, rest)?;
+    let (x, (y, rest)) = kept(x, read_x(alloc, rest))?;
+    let ((x, y), (z, rest)) = kept((x, y), read_x(alloc, rest))?;
+    let ((x, y, z), rest) = kept((x, y, z), read_sign(rest, Word::RoundClose))?;
+    Ok((Claim::TypeCheck(x, y, z), rest))
+}
+
 /// What stands behind the first parenthesis of an assertion that has none of its own around it.
 fn read_b_inside<'t>(
     alloc: Global,
@@ -60,18 +88,10 @@ fn read_b_inside<'t>(
     ensures { Reads IsBInside closed tokens.now (λ x. (plain_claim x.0, lexemes x.1.now)) result }
 {
     if is_next(tokens, Word::IsEmpty) {
-        let rest = read_sign(tokens, Word::IsEmpty)?;
-        let (x, rest) = read_x(alloc, rest)?;
-        let (x, rest) = kept(x, read_sign(rest, Word::RoundClose))?;
-        return Ok((Claim::Empty(x), rest));
+        return read_empty(alloc, tokens);
     }
     if is_next(tokens, Word::TypeCheck) {
-        let rest = read_sign(tokens, Word::TypeCheck)?;
-        let (x, rest) = read_x(alloc, rest)?;
-        let (x, (y, rest)) = kept(x, read_x(alloc, rest))?;
-        let ((x, y), (z, rest)) = kept((x, y), read_x(alloc, rest))?;
-        let ((x, y, z), rest) = kept((x, y, z), read_sign(rest, Word::RoundClose))?;
-        return Ok((Claim::TypeCheck(x, y, z), rest));
+        return read_type_check(alloc, tokens);
     }
     let (left, rest) = read_x_inside(alloc, tokens)?;
     let (left, ((equal, right), rest)) = kept(left, read_right(alloc, rest))?;
@@ -95,7 +115,7 @@ fn read_named<'t>(
     alloc: Global,
     tokens: &'t [Token<'t>],
 ) -> Result<(Claim, &'t [Token<'t>]), Stop<'t>>
-    requires { IsNext Id (lexemes tokens.now) }
+    requires { IsNext word.Id (lexemes tokens.now) }
     ensures { Reads IsAInside closed tokens.now (λ x. (plain_claim x.0, lexemes x.1.now)) result }
 {
     let (name, rest) = read_name(alloc, tokens)?;

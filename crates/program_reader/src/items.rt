@@ -2,72 +2,118 @@
 
 ghost use Rattle.std.specs.Prelude.{◌≡◌, map, [], List, IfOk};
 ghost use Rattle.read_forms.specs.Reads.{closed, anything};
-ghost use Rattle.model_grammar.specs.Grammar.{IsTreeItem, IsLangItem, IsTransItem, IsInto, IsDefItem, IsItem, IsProgram};
+ghost use Rattle.model_program.specs.declared.Word.TheVariants as word;
+ghost use Rattle.model_grammar.specs.Grammar.{IsInto, IsItem, IsProgram};
 ghost use Rattle.model_grammar.specs.Wrong.{IsFirstWrong};
 ghost use Rattle.model_grammar.specs.Syntax as plain;
-ghost use Rattle.fast_syntax.specs.Plain.{plain_tree, plain_lang, plain_trans, plain_into, plain_def, plain_item, plain_program};
+ghost use Rattle.fast_syntax.specs.View.{plain_name};
+ghost use Rattle.fast_syntax.specs.Plain.{plain_x, plain_into, plain_item, plain_program};
 ghost use Rattle.label_reader.specs.Results.{lexemes, Reads, IfWrong};
 ghost use Rattle.program_reader.specs.Goings.{arrow_word};
-ghost use Rattle.program_reader.specs.Items.{IsAssertion};
+ghost use Rattle.program_reader.specs.Items.{IsNameBehind, IsTyped, IsAssigned, IsAsserted, IsBehind};
 
 use crate::assertions::read_a;
 use crate::rules::{read_out_rules, read_rules};
 use crate::terms::read_x;
-use crate::types::read_type_item;
+use crate::types::read_type;
 use fast_lex::{Token, Word};
-use fast_syntax::Name;
-use fast_syntax::items::{AssertItem, Body, DefItem, Item, LangItem, Program, TransItem, TreeItem};
-use label_reader::{ReadTokensStop, Stop, is_next, next_if, read_name, read_sign, read_word};
+use fast_syntax::items::{
+    AssertItem, Body, DefItem, Item, LangItem, Program, TransItem, TreeItem, X,
+};
+use fast_syntax::{Name, Pos};
+use label_reader::{ReadTokensStop, Stop, is_next, kept, read_name, read_sign};
 use std::alloc::Global;
+
+/// A name behind a sign.
+fn read_name_behind<'t>(
+    alloc: Global,
+    sign: Word,
+    tokens: &'t [Token<'t>],
+) -> Result<(Name, &'t [Token<'t>]), Stop<'t>>
+    ensures { Reads (IsNameBehind sign) closed tokens.now (λ x. (plain_name x.0, lexemes x.1.now)) result }
+{
+    let rest = read_sign(tokens, sign)?;
+    read_name(alloc, rest)
+}
+
+/// A name, and the name of its type.
+fn read_typed<'t>(
+    alloc: Global,
+    tokens: &'t [Token<'t>],
+) -> Result<((Name, Name), &'t [Token<'t>]), Stop<'t>>
+    ensures { Reads IsTyped closed tokens.now (λ x. ((plain_name x.0.0, plain_name x.0.1), lexemes x.1.now)) result }
+{
+    let (name, rest) = read_name(alloc, tokens)?;
+    let (name, (of, rest)) = kept(name, read_name_behind(alloc, Word::Colon, rest))?;
+    Ok(((name, of), rest))
+}
+
+/// The value of a name.
+fn read_assigned<'t>(
+    alloc: Global,
+    tokens: &'t [Token<'t>],
+) -> Result<(X, &'t [Token<'t>]), Stop<'t>>
+    ensures { Reads IsAssigned closed tokens.now (λ x. (plain_x x.0, lexemes x.1.now)) result }
+{
+    let rest = read_sign(tokens, Word::Assign)?;
+    read_x(alloc, rest)
+}
+
+fn read_type_item<'t>(
+    alloc: Global,
+    place: Pos,
+    tokens: &'t [Token<'t>],
+) -> Result<(Item, &'t [Token<'t>]), Stop<'t>>
+    ensures { Reads (IsBehind word.TypeWord place) closed tokens.now (λ x. (plain_item x.0, lexemes x.1.now)) result }
+{
+    let (item, rest) = read_type(alloc, tokens)?;
+    let body = Body::Sorts(item);
+    Ok((Item { place, body }, rest))
+}
 
 fn read_tree_item<'t>(
     alloc: Global,
+    place: Pos,
     tokens: &'t [Token<'t>],
-) -> Result<(TreeItem, &'t [Token<'t>]), Stop<'t>>
-    ensures { Reads IsTreeItem closed tokens.now (λ x. (plain_tree x.0, lexemes x.1.now)) result }
+) -> Result<(Item, &'t [Token<'t>]), Stop<'t>>
+    ensures { Reads (IsBehind word.Tree place) closed tokens.now (λ x. (plain_item x.0, lexemes x.1.now)) result }
 {
-    let (name, rest) = read_name(alloc, tokens)?;
-    let rest = read_sign(rest, Word::Colon)?;
-    let (of, rest) = read_name(alloc, rest)?;
-    let rest = read_sign(rest, Word::Assign)?;
-    let (value, rest) = read_x(alloc, rest)?;
-    Ok((TreeItem { name, of, value }, rest))
+    let (names, rest) = read_typed(alloc, tokens)?;
+    let ((name, of), (value, rest)) = kept(names, read_assigned(alloc, rest))?;
+    let body = Body::Tree(TreeItem { name, of, value });
+    Ok((Item { place, body }, rest))
 }
 
 fn read_lang_item<'t>(
     alloc: Global,
+    place: Pos,
     tokens: &'t [Token<'t>],
-) -> Result<(LangItem, &'t [Token<'t>]), Stop<'t>>
-    ensures { Reads IsLangItem closed tokens.now (λ x. (plain_lang x.0, lexemes x.1.now)) result }
+) -> Result<(Item, &'t [Token<'t>]), Stop<'t>>
+    ensures { Reads (IsBehind word.Lang place) closed tokens.now (λ x. (plain_item x.0, lexemes x.1.now)) result }
 {
-    let (name, rest) = read_name(alloc, tokens)?;
-    let rest = read_sign(rest, Word::Colon)?;
-    let (of, rest) = read_name(alloc, rest)?;
-    let (rules, rest) = read_rules(alloc, rest)?;
-    Ok((LangItem { name, of, rules }, rest))
+    let (names, rest) = read_typed(alloc, tokens)?;
+    let ((name, of), (rules, rest)) = kept(names, read_rules(alloc, rest))?;
+    let body = Body::Lang(LangItem { name, of, rules });
+    Ok((Item { place, body }, rest))
 }
 
 fn read_trans_item<'t>(
     alloc: Global,
+    place: Pos,
     tokens: &'t [Token<'t>],
-) -> Result<(TransItem, &'t [Token<'t>]), Stop<'t>>
-    ensures { Reads IsTransItem closed tokens.now (λ x. (plain_trans x.0, lexemes x.1.now)) result }
+) -> Result<(Item, &'t [Token<'t>]), Stop<'t>>
+    ensures { Reads (IsBehind word.Trans place) closed tokens.now (λ x. (plain_item x.0, lexemes x.1.now)) result }
 {
-    let (name, rest) = read_name(alloc, tokens)?;
-    let rest = read_sign(rest, Word::Colon)?;
-    let (from, rest) = read_name(alloc, rest)?;
-    let rest = read_sign(rest, Word::Arrow)?;
-    let (into, rest) = read_name(alloc, rest)?;
-    let (rules, rest) = read_out_rules(alloc, rest)?;
-    Ok((
-        TransItem {
-            name,
-            from,
-            into,
-            rules,
-        },
-        rest,
-    ))
+    let (names, rest) = read_typed(alloc, tokens)?;
+    let (names, (into, rest)) = kept(names, read_name_behind(alloc, Word::Arrow, rest))?;
+    let (((name, from), into), (rules, rest)) = kept((names, into), read_out_rules(alloc, rest))?;
+    let body = Body::Trans(TransItem {
+        name,
+        from,
+        into,
+        rules,
+    });
+    Ok((Item { place, body }, rest))
 }
 
 fn read_into<'t>(
@@ -79,32 +125,40 @@ fn read_into<'t>(
     if !is_next(tokens, Word::Arrow) {
         return Ok((None, tokens));
     }
-    let rest = read_sign(tokens, Word::Arrow)?;
-    let (into, rest) = read_name(alloc, rest)?;
+    let (into, rest) = read_name_behind(alloc, Word::Arrow, tokens)?;
     Ok((Some(into), rest))
 }
 
 fn read_def_item<'t>(
     alloc: Global,
+    place: Pos,
     tokens: &'t [Token<'t>],
-) -> Result<(DefItem, &'t [Token<'t>]), Stop<'t>>
-    ensures { Reads IsDefItem closed tokens.now (λ x. (plain_def x.0, lexemes x.1.now)) result }
+) -> Result<(Item, &'t [Token<'t>]), Stop<'t>>
+    ensures { Reads (IsBehind word.Def place) closed tokens.now (λ x. (plain_item x.0, lexemes x.1.now)) result }
 {
-    let (name, rest) = read_name(alloc, tokens)?;
-    let rest = read_sign(rest, Word::Colon)?;
-    let (from, rest) = read_name(alloc, rest)?;
-    let (into, rest) = read_into(alloc, rest)?;
-    let rest = read_sign(rest, Word::Assign)?;
-    let (value, rest) = read_x(alloc, rest)?;
-    Ok((
-        DefItem {
-            name,
-            from,
-            into,
-            value,
-        },
-        rest,
-    ))
+    let (names, rest) = read_typed(alloc, tokens)?;
+    let (names, (into, rest)) = kept(names, read_into(alloc, rest))?;
+    let (((name, from), into), (value, rest)) = kept((names, into), read_assigned(alloc, rest))?;
+    let body = Body::Def(DefItem {
+        name,
+        from,
+        into,
+        value,
+    });
+    Ok((Item { place, body }, rest))
+}
+
+fn read_assertion<'t>(
+    alloc: Global,
+    place: Pos,
+    wanted: bool,
+    tokens: &'t [Token<'t>],
+) -> Result<(Item, &'t [Token<'t>]), Stop<'t>>
+    ensures { Reads (IsAsserted wanted place) closed tokens.now (λ x. (plain_item x.0, lexemes x.1.now)) result }
+{
+    let (claim, rest) = read_a(alloc, tokens)?;
+    let body = Body::Assert(AssertItem { wanted, claim });
+    Ok((Item { place, body }, rest))
 }
 
 fn read_item<'t>(
@@ -113,62 +167,29 @@ fn read_item<'t>(
 ) -> Result<(Item, &'t [Token<'t>]), Stop<'t>>
     ensures { Reads IsItem closed tokens.now (λ x. (plain_item x.0, lexemes x.1.now)) result }
 {
-    if let Some((first, rest)) = next_if(tokens, Word::TypeWord) {
-        let (item, rest) = read_type_item(alloc, rest)?;
-        let (place, body) = (first.place, Body::Sorts(item));
-        return Ok((Item { place, body }, rest));
+    let Some((first, rest)) = tokens.split_first() else {
+        return Err(Stop::At(tokens));
+    };
+    match first.word {
+        Word::TypeWord => read_type_item(alloc, first.place, rest),
+        Word::Tree => read_tree_item(alloc, first.place, rest),
+        Word::Lang => read_lang_item(alloc, first.place, rest),
+        Word::Trans => read_trans_item(alloc, first.place, rest),
+        Word::Def => read_def_item(alloc, first.place, rest),
+        Word::AssertTrue => read_assertion(alloc, first.place, true, rest),
+        Word::AssertFalse => read_assertion(alloc, first.place, false, rest),
+        _ => Err(Stop::At(tokens)),
     }
-    if let Some((first, rest)) = next_if(tokens, Word::Tree) {
-        let (item, rest) = read_tree_item(alloc, rest)?;
-        let (place, body) = (first.place, Body::Tree(item));
-        return Ok((Item { place, body }, rest));
-    }
-    if let Some((first, rest)) = next_if(tokens, Word::Lang) {
-        let (item, rest) = read_lang_item(alloc, rest)?;
-        let (place, body) = (first.place, Body::Lang(item));
-        return Ok((Item { place, body }, rest));
-    }
-    if let Some((first, rest)) = next_if(tokens, Word::Trans) {
-        let (item, rest) = read_trans_item(alloc, rest)?;
-        let (place, body) = (first.place, Body::Trans(item));
-        return Ok((Item { place, body }, rest));
-    }
-    if let Some((first, rest)) = next_if(tokens, Word::Def) {
-        let (item, rest) = read_def_item(alloc, rest)?;
-        let (place, body) = (first.place, Body::Def(item));
-        return Ok((Item { place, body }, rest));
-    }
-    let (item, rest) = read_assertion(alloc, tokens)?;
-    Ok((item, rest))
-}
-
-fn read_assertion<'t>(
-    alloc: Global,
-    tokens: &'t [Token<'t>],
-) -> Result<(Item, &'t [Token<'t>]), Stop<'t>>
-    ensures { Reads IsAssertion closed tokens.now (λ x. (plain_item x.0, lexemes x.1.now)) result }
-{
-    if let Some((first, rest)) = next_if(tokens, Word::AssertTrue) {
-        let (claim, rest) = read_a(alloc, rest)?;
-        let wanted = true;
-        let (place, body) = (first.place, Body::Assert(AssertItem { wanted, claim }));
-        return Ok((Item { place, body }, rest));
-    }
-    let (first, rest) = read_word(tokens, Word::AssertFalse)?;
-    let (claim, rest) = read_a(alloc, rest)?;
-    let wanted = false;
-    let (place, body) = (first.place, Body::Assert(AssertItem { wanted, claim }));
-    Ok((Item { place, body }, rest))
 }
 
 fn read_program<'t>(alloc: Global, tokens: &'t [Token<'t>]) -> Result<Vec<Item>, Stop<'t>>
     ensures { Reads IsProgram anything tokens.now (λ v. (map plain_item v.items, [])) result }
 {
-    let mut all = Vec::new(alloc);
     if tokens.is_empty() {
-        return Ok(all);
+        return Ok(Vec::new(alloc));
     }
     let (first, mut rest) = read_item(alloc, tokens)?;
+    let mut all = Vec::new(alloc);
     all.push(first)?;
     'items: while !rest.is_empty() {
         let (next, after) = read_item(alloc, rest)?;

@@ -18,7 +18,7 @@ use fast_lex::{Token, Word};
 use fast_syntax::expressions::Expr;
 use fast_syntax::items::X;
 use fast_syntax::{Name, Op1, Op2, Pos};
-use label_reader::{Between, Stop, is_next, kept, next_if, read_any, read_name, read_sign};
+use label_reader::{Between, Items, Stop, is_next, kept, next_if, read_name, read_sign, read_to};
 use std::alloc::Global;
 
 /// A node whose next child is to be read, and what stands before that child.
@@ -157,6 +157,33 @@ fn resume_x<'t>(
     }
 }
 
+/// The children of a tree.
+struct Children;
+
+impl Items for Children {
+    ghost use Rattle.model_grammar.specs.Syntax as plain;
+    ghost use Rattle.model_grammar.specs.Terms.{IsX};
+    ghost use Rattle.read_forms.specs.Reads.{closed};
+    ghost use Rattle.fast_syntax.specs.Plain.{plain_x};
+
+    type Item = X;
+
+    ghost Plain = { plain.X };
+
+    ghost plain = { plain_x };
+
+    ghost spelled = { IsX };
+
+    ghost goes_on = { closed };
+
+    fn read_item<'t>(
+        alloc: Global,
+        tokens: &'t [Token<'t>],
+    ) -> Result<(X, &'t [Token<'t>]), Stop<'t>> {
+        read_x(alloc, tokens)
+    }
+}
+
 /// The children of a tree, and the closing parenthesis.
 pub(crate) fn read_xs<'t>(
     alloc: Global,
@@ -164,5 +191,5 @@ pub(crate) fn read_xs<'t>(
 ) -> Result<(Vec<X>, &'t [Token<'t>]), Stop<'t>>
     ensures { Reads AreXsToClose closed tokens.now (λ x. (map plain_x x.0.items, lexemes x.1.now)) result }
 {
-    read_any(alloc, Between::Nothing, Word::RoundClose, tokens, read_x)
+    read_to::<Children>(alloc, Between::Nothing, Word::RoundClose, tokens)
 }

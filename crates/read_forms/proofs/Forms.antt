@@ -4,6 +4,7 @@ use Rattle.model_program.specs.declared.Word.{Word}
 use Rattle.model_program.specs.Lexeme.{Lexeme}
 use Rattle.model_program.specs.Joined.{◌⌢◌, ◌⊗◌, IsNext, IsOther}
 use Rattle.read_forms.specs.Reads.{GoesOnAs, Stops, IsRead, IsRefused, Fails, StartsIn, closed}
+use Rattle.read_forms.specs.Parts.{Ends, HasSample, AllStartIn, other_than}
 
 -- what goes on as a list does still does behind the same tokens
 pub goes_on_behind : (part rest more : List Lexeme) → GoesOnAs rest more → GoesOnAs (part ++ rest) (part ++ more)
@@ -16,16 +17,6 @@ stops_closed (t ∷ ts) = λ none. none
 
 pub regroup : (a b c : List Lexeme) → (a ++ b) ++ c ≡ a ++ (b ++ c)
 regroup a b c = append_assoc a b c
-
--- each spelling of q, and what may stand behind it, ends a form before it that goes on by `first_goes_on`
-abbrev pub Ends : {B : Type 0} → (Word → Type 0) → (B → List Lexeme → Type 0) → (Word → Type 0) → Type 0
-Ends {B} first_goes_on q goes_on = (w : B) (other after : List Lexeme) → q w other → Stops goes_on after → Stops first_goes_on (other ++ after)
-
--- some value can be spelled
-pub record HasSample {B : Type 0} (q : B → List Lexeme → Type 0) : Type 0 where
-  pub value : B
-  pub tokens : List Lexeme
-  pub spelled : q value tokens
 
 -- a form, and one behind it that depends on the value of the first
 abbrev pub Chained : {A B : Type 0} → (A → List Lexeme → Type 0) → (A → B → List Lexeme → Type 0) → A × B → List Lexeme → Type 0
@@ -152,10 +143,6 @@ sample_pair p q = record { value = (p.value, q.value); tokens = p.tokens ++ q.to
 pub sample_as : {A B : Type 0} {p : A → List Lexeme → Type 0} {q : B → List Lexeme → Type 0} (to : A → B) → ((a : A) (ts : List Lexeme) → p a ts → q (to a) ts) → HasSample p → HasSample q
 sample_as to into p = record { value = to p.value; tokens = p.tokens; spelled = into p.value p.tokens p.spelled }
 
--- each spelling starts with one of these words
-pub record AllStartIn {A : Type 0} (words : Word → Type 0) (form : A → List Lexeme → Type 0) : Type 0 where
-  pub starts : (a : A) (ts : List Lexeme) → form a ts → StartsIn words ts
-
 pub starts_append : (words : Word → Type 0) (a b : List Lexeme) → StartsIn words a → StartsIn words (a ++ b)
 starts_append words [] b starts = absurd starts
 starts_append words (t ∷ ts) b starts = starts
@@ -281,10 +268,6 @@ closed_read read = record { part = read.part; split = read.split; spelled = read
 pub closed_fails : {A : Type 0} {form : A → List Lexeme → Type 0} {goes_on : Word → Type 0} {tokens : List Lexeme} (bad : Option (List Lexeme)) → Fails form closed tokens bad → Fails form goes_on tokens bad
 closed_fails None fails = record { why = tt }
 closed_fails (Some bad) fails = let r = fails.why in record { why = record { part = r.part; split = r.split; value = r.value; later = r.later; begins = r.begins; none = λ more other after w as_bad same spelled stops. r.none more other after w as_bad same spelled (stops_closed after) } }
-
--- every word but one
-abbrev pub other_than : Word → Word → Type 0
-other_than w v = v ≡ w → ⊥
 
 pub stops_other_than : (w : Word) (tokens : List Lexeme) → IsNext w tokens → Stops (other_than w) tokens
 stops_other_than w tokens is_next = stops_next w (other_than w) tokens is_next (λ h. h refl)

@@ -5,7 +5,8 @@ use Rattle.model_program.specs.Lexeme.{Lexeme}
 use Rattle.model_program.specs.Joined.{◌⊗◌}
 use Rattle.read_forms.specs.Reads.{GoesOnAs, IsRead, IsRefused, Fails, closed}
 use Rattle.read_forms.specs.Fronts.{Leaves, Done, Made, Through}
-use Rattle.read_forms.proofs.Forms.{Ends, Makes, HasSample, goes_on_behind, stops_closed, regroup}
+use Rattle.read_forms.specs.Parts.{Ends, HasSample}
+use Rattle.read_forms.proofs.Forms.{Makes, goes_on_behind, stops_closed, regroup}
 
 -- what goes on as the tokens behind a front, behind that front
 further : {rest : List Lexeme} (behind part more : List Lexeme) → rest ≡ part ++ behind → GoesOnAs behind more → GoesOnAs rest (part ++ more)

@@ -4,9 +4,9 @@ use Rattle.model_program.specs.declared.Word.{Word}
 use Rattle.model_program.specs.Lexeme.{Lexeme}
 use Rattle.model_program.specs.Joined.{◌⌢◌, Nothing, ◌⊗◌}
 use Rattle.read_forms.specs.Reads.{Stops, IsRead, Fails, StartsIn, closed}
-use Rattle.model_program.specs.Grammar.{IsSign, sign, Items, Any, Many}
-use Rattle.read_forms.proofs.Forms.{Makes, HasSample, AllStartIn, as_read, as_fails, then_read, then_fails, first_fails, ends_closed, regroup, starts_joined, left_out, stands, remade}
-use Rattle.read_forms.proofs.Words.{sample_sign}
+use Rattle.model_program.specs.Grammar.{IsSign, sign, Many}
+use Rattle.read_forms.specs.Parts.{HasSample, AllStartIn}
+use Rattle.read_forms.proofs.Forms.{Makes, as_read, as_fails, then_read, then_fails, first_fails, ends_closed, regroup, starts_joined, left_out, stands, remade}
 
 -- what is read of what is left is read of the whole
 pub record IsPartWay {A B : Type 0} (whole : A → List Lexeme → Type 0) (left : B → List Lexeme → Type 0) (goes_on : Word → Type 0) (to : B → A) (tokens rest : List Lexeme) : Type 0 where
@@ -37,17 +37,6 @@ skip_nothing p ts joined = subst p (sym (joined.split ∙ ap (λ l. l ++ joined.
 
 pub put_nothing : (p : List Lexeme → Type 0) (ts : List Lexeme) → p ts → (Nothing ⌢ p) ts
 put_nothing p ts is_p = record { front = []; back = ts; split = refl; at_front = refl; at_back = is_p }
-
--- a list that must have an item, and its closing sign
-abbrev pub items_to : {A : Type 0} → (Unit {0} → List Lexeme → Type 0) → (A → List Lexeme → Type 0) → Word → List A → List Lexeme → Type 0
-items_to between form close xs = Items between form xs ⌢ sign close
-
--- a list that may have none, and its closing sign
-abbrev pub any_to : {A : Type 0} → (Unit {0} → List Lexeme → Type 0) → (A → List Lexeme → Type 0) → Word → List A → List Lexeme → Type 0
-any_to between form close xs = Any between form xs ⌢ sign close
-
-pub sample_any : {A : Type 0} (between : Unit {0} → List Lexeme → Type 0) (form : A → List Lexeme → Type 0) (close : Word) → HasSample (any_to between form close)
-sample_any between form close = let s = sample_sign close in record { value = []; tokens = s.tokens; spelled = put_nothing (sign close) s.tokens s.spelled }
 
 -- a form behind its opening sign
 abbrev pub opened : {A : Type 0} → Word → (A → List Lexeme → Type 0) → A → List Lexeme → Type 0

@@ -6,7 +6,8 @@ use Rattle.model_program.specs.Lexeme.{Lexeme}
 use Rattle.model_program.specs.Joined.{IsNext, IsOther}
 use Rattle.read_forms.specs.Reads.{IsRead, IsRefused, StartsIn, closed}
 use Rattle.model_program.specs.Grammar.{IsWord, IsSign, IsAt, IsComma, comma}
-use Rattle.read_forms.proofs.Forms.{HasSample, AllStartIn, Makes, as_read, remade, stands, left_out, stops_other, starts_next, elsewhere, other_than, sample_as}
+use Rattle.read_forms.specs.Parts.{HasSample, AllStartIn, other_than}
+use Rattle.read_forms.proofs.Forms.{Makes, as_read, remade, stands, left_out, stops_other, starts_next, elsewhere, sample_as}
 
 -- a token of a word
 abbrev pub sample_token : Word → Lexeme

@@ -7,15 +7,16 @@ use Rattle.model_program.specs.Lexeme.{Lexeme}
 use Rattle.model_program.specs.Joined.{IsNext, IsOther, ◌⊗◌}
 use Rattle.read_forms.specs.Reads.{Stops, StartsIn, closed}
 use Rattle.model_program.specs.Grammar.{IsWord}
-use Rattle.read_forms.proofs.Forms.{Makes, HasSample, sample_as, sample_pair, alternative, other_than, stops_other_than, starts_wider, ends_closed}
+use Rattle.read_forms.specs.Parts.{HasSample, other_than}
+use Rattle.read_forms.proofs.Forms.{Makes, sample_as, sample_pair, alternative, stops_other_than, starts_wider, ends_closed}
 use Rattle.read_forms.proofs.Words.{sample_sign, sample_token}
 use Rattle.model_grammar.specs.Syntax.{Expr, number, text, truth}
 use Rattle.model_grammar.specs.Expressions.{negative}
 use Rattle.model_grammar.specs.TreeFiles.{AreConstants, IsConstant, a_number, a_negative, a_text, a_true, a_false}
 use Rattle.label_reader.specs.Constants.{IsNumeral, IsString}
-use Rattle.label_reader.proofs.Joins.{Without}
+use Rattle.label_reader.specs.Lists.{Without, IsItem}
 use Rattle.label_reader.specs.declared.lists.Between.TheVariants as gap
-use Rattle.label_reader.proofs.Listed.{IsItem, sample_row}
+use Rattle.label_reader.proofs.Listed.{sample_any_to}
 
 pub true_makes : (tokens : List Lexeme) → IsNext True tokens → Makes (IsWord True) IsConstant (λ v. truth v.place true) closed tokens
 true_makes tokens is_next = alternative (other_than True) tokens (λ v ts spelled. subst (λ (l : List Lexeme). IsConstant (truth v.place true) l) (sym spelled.0) (a_true v spelled.1)) (λ b ts spelled. back b ts spelled) (stops_other_than True tokens is_next)
@@ -116,4 +117,4 @@ constant_item = record {
 }
 
 pub sample_constants : HasSample AreConstants
-sample_constants = sample_as (λ (v : Unit {0} × List Expr). v.1) (λ v ts spelled. spelled) (sample_pair (sample_sign SquareOpen) (sample_row IsConstant SquareClose))
+sample_constants = sample_as (λ (v : Unit {0} × List Expr). v.1) (λ v ts spelled. spelled) (sample_pair (sample_sign SquareOpen) (sample_any_to gap.LabelComma IsConstant SquareClose))

@@ -13,7 +13,8 @@ use Rattle.model_program.specs.Joined.{◌⊗◌, IsOther}
 use Rattle.model_program.specs.Grammar.{IsWord, IsName}
 use Rattle.read_forms.specs.Reads.{IsRead, Fails, closed}
 use Rattle.read_forms.specs.Fronts.{Leaves, Done, Made, Through}
-use Rattle.read_forms.proofs.Forms.{HasSample, as_read, ends_closed}
+use Rattle.read_forms.specs.Parts.{HasSample}
+use Rattle.read_forms.proofs.Forms.{as_read, ends_closed}
 use Rattle.read_forms.proofs.Words.{next_of, word_read, sign_makes}
 use Rattle.read_forms.proofs.Fronts.{left_leaves, left_made, first_left, inside_left, before_none, whole_left, Around, around_begins, around_begins_fails, around_resumes, around_ends}
 use Rattle.model_grammar.specs.Syntax.{Expr}

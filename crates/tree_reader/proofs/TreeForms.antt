@@ -6,12 +6,14 @@ use Rattle.model_program.specs.Syntax.{Name}
 use Rattle.read_forms.specs.Reads.{Stops, IsRead, Fails, StartsIn, closed, anything}
 use Rattle.model_program.specs.Grammar.{IsWord, IsName, Many}
 use Rattle.model_program.specs.Joined.{◌⊗◌}
-use Rattle.read_forms.proofs.Forms.{Makes, HasSample, AllStartIn, as_read, as_fails, then_read, then_fails, first_fails, ends_closed, remade, starts_wider, starts_append, other_than, sample_pair}
+use Rattle.read_forms.specs.Parts.{HasSample, AllStartIn, other_than}
+use Rattle.read_forms.proofs.Forms.{Makes, as_read, as_fails, then_read, then_fails, first_fails, ends_closed, remade, starts_wider, starts_append, sample_pair}
 use Rattle.read_forms.proofs.Lists.{IsPartWay, many_make, many_ends, many_end, sample_many}
 use Rattle.model_grammar.specs.Syntax.{Expr}
 use Rattle.model_grammar.specs.TreeFiles.{FileTree, node, FileTrees, no_trees, and_tree, trees_of, AreConstants, IsTree, a_tree, AreTrees, no_more, one_more, IsTreeFile}
 use Rattle.label_reader.proofs.Names.{sample_name}
-use Rattle.label_reader.proofs.Closings.{closing_of, IsClosable, sample_to_close}
+use Rattle.label_reader.specs.Lists.{closing_of}
+use Rattle.label_reader.proofs.Closings.{IsClosable, sample_to_close}
 use Rattle.program_reader.proofs.ItemForms.{some_token}
 use Rattle.tree_reader.specs.Trees.{AreTreesToClose}
 use Rattle.tree_reader.proofs.ConstantForms.{sample_constants}

@@ -1,8 +1,11 @@
-use Rattle.label_reader.specs.Lists.{is_empty, not_empty}
+use Rattle.read_forms.proofs.Lists.{open_fails}
+use Rattle.label_reader.specs.Lists.{AnyTo}
+use Rattle.label_reader.proofs.Exits.{exit}
+use Rattle.label_reader.proofs.Listed.{opened_reads, sample_any_to}
 use Rattle.label_reader.proofs.lists.read_any.Goals as goal
 
-pub returns-in-Some : goal.returns-in-Some
-returns-in-Some g c = rw c.new.ensures.items (is_empty _ _ (_, c.in-Some.ensures.0, c.in-Some.ensures.1))
+pub returns-in_err-inside : goal.returns-in_err-inside
+returns-in_err-inside g c = exit _ _ _ c.from_residual.result c.from_residual.ensures.1 (open_fails _ (AnyTo c.args.between g.L.Items.spelled c.args.close) _ (sample_any_to _ _ _) c.in_err-inside.ensures)
 
 pub returns : goal.returns
-returns g c = not_empty _ _ c.in_default.ensures c.read_some.ensures
+returns g c = opened_reads _ (AnyTo c.args.between g.L.Items.spelled c.args.close) _ _ _ c.read_to.result c.in_ok-inside.ensures c.read_to.ensures

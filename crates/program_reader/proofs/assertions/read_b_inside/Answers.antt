@@ -1,49 +1,25 @@
-use Rattle.std.proofs.Common.{sym, ap, ◌∙◌}
-use Rattle.read_forms.proofs.Forms.{as_read, as_fails, then_read, then_fails, first_fails, ends_closed, sample_pair, read_at}
-use Rattle.read_forms.proofs.Words.{sample_sign}
+use Rattle.std.proofs.Common.{sym, ap}
+use Rattle.read_forms.proofs.Forms.{as_read, as_fails, then_read, then_fails, first_fails, ends_closed, read_at}
 use Rattle.label_reader.proofs.Exits.{exit}
 use Rattle.label_reader.proofs.Keeping.{told_read, told_fails}
-use Rattle.model_grammar.specs.Syntax.{type_check}
 use Rattle.fast_syntax.specs.Plain.{plain_x}
-use Rattle.program_reader.proofs.XForms.{sample_x}
-use Rattle.program_reader.proofs.AssertForms.{empty_makes, check_makes, inside_makes, sample_right}
+use Rattle.program_reader.proofs.AssertForms.{inside_makes, sample_right}
 use Rattle.program_reader.proofs.assertions.read_b_inside.Goals as goal
 
-pub returns-in_err-rest : goal.returns-in_err-rest
-returns-in_err-rest c = exit _ _ _ c.from_residual.result c.from_residual.ensures.1 (as_fails _ (empty_makes _ (c.is_next.ensures.yes c.if-is_next.true)) (first_fails _ (ends_closed _ _) (sample_pair sample_x (sample_sign _)) c.in_err-rest.ensures))
-
-pub returns-in_err-x : goal.returns-in_err-x
-returns-in_err-x c = exit _ _ _ c.from_residual-in_err-x.result c.from_residual-in_err-x.ensures.1 (as_fails _ (empty_makes _ (c.is_next.ensures.yes c.if-is_next.true)) (then_fails _ (ends_closed _ _) c.in_ok-rest.ensures (first_fails _ (ends_closed _ _) (sample_sign _) c.in_err-x.ensures)))
-
-pub returns-in_err-x-2 : goal.returns-in_err-x-2
-returns-in_err-x-2 c = exit _ _ _ c.from_residual-in_err-x-2.result c.from_residual-in_err-x-2.ensures.1 (as_fails _ (empty_makes _ (c.is_next.ensures.yes c.if-is_next.true)) (then_fails _ (ends_closed _ _) c.in_ok-rest.ensures (then_fails _ (ends_closed _ _) c.in_ok-x.ensures (told_fails _ _ c.in_err-x-2.ensures c.read_sign-then-is_next.ensures))))
+pub read_empty-requires : goal.read_empty-requires
+read_empty-requires c = c.is_next.ensures.yes c.if-is_next.true
 
 pub returns-then-is_next : goal.returns-then-is_next
-returns-then-is_next c = let e = c.in_ok-x-2.ensures in
-    as_read (empty_makes _ (c.is_next.ensures.yes c.if-is_next.true)) (then_read (ends_closed _ _) c.in_ok-rest.ensures (then_read (ends_closed _ _) (read_at (ap plain_x (sym e.0)) c.in_ok-x.ensures) (told_read _ _ e.1 c.read_sign-then-is_next.ensures)))
+returns-then-is_next c = c.read_empty.ensures
 
-pub returns-in_err-rest-2 : goal.returns-in_err-rest-2
-returns-in_err-rest-2 c = exit _ _ _ c.from_residual-in_err-rest-2.result c.from_residual-in_err-rest-2.ensures.1 (as_fails _ (check_makes _ (c.is_next-2.ensures.yes c.if-is_next-2.true)) (first_fails _ (ends_closed _ _) (sample_pair sample_x (sample_pair sample_x (sample_pair sample_x (sample_sign _)))) c.in_err-rest-2.ensures))
-
-pub returns-in_err-x-3 : goal.returns-in_err-x-3
-returns-in_err-x-3 c = exit _ _ _ c.from_residual-in_err-x-3.result c.from_residual-in_err-x-3.ensures.1 (as_fails _ (check_makes _ (c.is_next-2.ensures.yes c.if-is_next-2.true)) (then_fails _ (ends_closed _ _) c.in_ok-rest-2.ensures (first_fails _ (ends_closed _ _) (sample_pair sample_x (sample_pair sample_x (sample_sign _))) c.in_err-x-3.ensures)))
-
-pub returns-in_err-x-4 : goal.returns-in_err-x-4
-returns-in_err-x-4 c = exit _ _ _ c.from_residual-in_err-x-4.result c.from_residual-in_err-x-4.ensures.1 (as_fails _ (check_makes _ (c.is_next-2.ensures.yes c.if-is_next-2.true)) (then_fails _ (ends_closed _ _) c.in_ok-rest-2.ensures (then_fails _ (ends_closed _ _) c.in_ok-x-3.ensures (first_fails _ (ends_closed _ _) (sample_pair sample_x (sample_sign _)) (told_fails _ _ c.in_err-x-4.ensures c.read_x-then-is_next-2-2.ensures)))))
-
-pub returns-in_err-x-5 : goal.returns-in_err-x-5
-returns-in_err-x-5 c = exit _ _ _ c.from_residual-in_err-x-5.result c.from_residual-in_err-x-5.ensures.1 (as_fails _ (check_makes _ (c.is_next-2.ensures.yes c.if-is_next-2.true)) (then_fails _ (ends_closed _ _) c.in_ok-rest-2.ensures (then_fails _ (ends_closed _ _) c.in_ok-x-3.ensures (then_fails _ (ends_closed _ _) (told_read _ _ c.in_ok-x-4.ensures.1 c.read_x-then-is_next-2-2.ensures) (first_fails _ (ends_closed _ _) (sample_sign _) (told_fails _ _ c.in_err-x-5.ensures c.read_x-then-is_next-2-3.ensures))))))
-
-pub returns-in_err-x-6 : goal.returns-in_err-x-6
-returns-in_err-x-6 c = exit _ _ _ c.from_residual-in_err-x-6.result c.from_residual-in_err-x-6.ensures.1 (as_fails _ (check_makes _ (c.is_next-2.ensures.yes c.if-is_next-2.true)) (then_fails _ (ends_closed _ _) c.in_ok-rest-2.ensures (then_fails _ (ends_closed _ _) c.in_ok-x-3.ensures (then_fails _ (ends_closed _ _) (told_read _ _ c.in_ok-x-4.ensures.1 c.read_x-then-is_next-2-2.ensures) (then_fails _ (ends_closed _ _) (told_read _ _ c.in_ok-x-5.ensures.1 c.read_x-then-is_next-2-3.ensures) (told_fails _ _ c.in_err-x-6.ensures c.read_sign-then-is_next-2-2.ensures))))))
+pub read_type_check-requires : goal.read_type_check-requires
+read_type_check-requires c = c.is_next-2.ensures.yes c.if-is_next-2.true
 
 pub returns-then-is_next-2 : goal.returns-then-is_next-2
-returns-then-is_next-2 c = let one = c.in_ok-x-4.ensures in let two = c.in_ok-x-5.ensures in let three = c.in_ok-x-6.ensures in
-    read_at (λ i. type_check (plain_x (sym (ap (λ v. v.0) three.0 ∙ ap (λ v. v.0) two.0 ∙ one.0) i)) (plain_x (sym (ap (λ v. v.1) three.0 ∙ ap (λ v. v.1) two.0) i)) (plain_x (sym (ap (λ v. v.2) three.0) i)))
-    (as_read (check_makes _ (c.is_next-2.ensures.yes c.if-is_next-2.true)) (then_read (ends_closed _ _) c.in_ok-rest-2.ensures (then_read (ends_closed _ _) c.in_ok-x-3.ensures (then_read (ends_closed _ _) (told_read _ _ one.1 c.read_x-then-is_next-2-2.ensures) (then_read (ends_closed _ _) (told_read _ _ two.1 c.read_x-then-is_next-2-3.ensures) (told_read _ _ three.1 c.read_sign-then-is_next-2-2.ensures))))))
+returns-then-is_next-2 c = c.read_type_check.ensures
 
 pub returns-in_err-left : goal.returns-in_err-left
-returns-in_err-left c = exit _ _ _ c.from_residual-in_err-left.result c.from_residual-in_err-left.ensures.1 (as_fails _ (inside_makes _ (c.is_next.ensures.no c.if-is_next.false) (c.is_next-2.ensures.no c.if-is_next-2.false)) (first_fails _ (ends_closed _ _) sample_right c.in_err-left.ensures))
+returns-in_err-left c = exit _ _ _ c.from_residual.result c.from_residual.ensures.1 (as_fails _ (inside_makes _ (c.is_next.ensures.no c.if-is_next.false) (c.is_next-2.ensures.no c.if-is_next-2.false)) (first_fails _ (ends_closed _ _) sample_right c.in_err-left.ensures))
 
 pub returns-in_err-left-2 : goal.returns-in_err-left-2
 returns-in_err-left-2 c = exit _ _ _ c.from_residual-in_err-left-2.result c.from_residual-in_err-left-2.ensures.1 (as_fails _ (inside_makes _ (c.is_next.ensures.no c.if-is_next.false) (c.is_next-2.ensures.no c.if-is_next-2.false)) (then_fails _ (ends_closed _ _) c.in_ok-left.ensures (told_fails _ _ c.in_err-left-2.ensures c.read_right.ensures)))

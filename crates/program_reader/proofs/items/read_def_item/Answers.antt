@@ -1,28 +1,24 @@
-use Rattle.read_forms.proofs.Forms.{as_read, as_fails, then_read, then_fails, first_fails, ends_closed, sample_pair}
-use Rattle.read_forms.proofs.Words.{sample_sign}
+use Rattle.std.proofs.Common.{sym, ap, ◌∙◌}
+use Rattle.read_forms.proofs.Forms.{as_read, as_fails, then_read, then_fails, first_fails, ends_closed, sample_pair, read_at}
+use Rattle.fast_syntax.specs.View.{plain_name}
+use Rattle.fast_syntax.specs.Plain.{plain_into}
+use Rattle.program_reader.proofs.ItemForms.{def_makes, sample_into, ends_into, sample_assigned}
 use Rattle.label_reader.proofs.Exits.{exit}
-use Rattle.label_reader.proofs.Names.{sample_name}
-use Rattle.program_reader.proofs.XForms.{sample_x}
-use Rattle.program_reader.proofs.ItemForms.{def_makes, sample_into, ends_into}
+use Rattle.label_reader.proofs.Keeping.{told_read, told_fails}
 use Rattle.program_reader.proofs.items.read_def_item.Goals as goal
 
+pub returns-in_err-names : goal.returns-in_err-names
+returns-in_err-names c = exit _ _ _ c.from_residual.result c.from_residual.ensures.1 (as_fails _ (def_makes _ _) (first_fails _ (ends_closed _ _) (sample_pair sample_into sample_assigned) c.in_err-names.ensures))
+
+pub returns-in_err-names-2 : goal.returns-in_err-names-2
+returns-in_err-names-2 c = exit _ _ _ c.from_residual-in_err-names-2.result c.from_residual-in_err-names-2.ensures.1
+    (as_fails _ (def_makes _ _) (then_fails _ (ends_closed _ _) c.in_ok-names.ensures (first_fails _ ends_into sample_assigned (told_fails _ _ c.in_err-names-2.ensures c.read_into.ensures))))
+
 pub returns-in_err-name : goal.returns-in_err-name
-returns-in_err-name c = exit _ _ _ c.from_residual.result c.from_residual.ensures.1 (as_fails _ (def_makes _ _) (first_fails _ (ends_closed _ _) (sample_pair (sample_sign _) (sample_pair sample_name (sample_pair sample_into (sample_pair (sample_sign _) sample_x)))) c.in_err-name.ensures))
-
-pub returns-in_err-rest : goal.returns-in_err-rest
-returns-in_err-rest c = exit _ _ _ c.from_residual-in_err-rest.result c.from_residual-in_err-rest.ensures.1 (as_fails _ (def_makes _ _) (then_fails _ (ends_closed _ _) c.in_ok-name.ensures (first_fails _ (ends_closed _ _) (sample_pair sample_name (sample_pair sample_into (sample_pair (sample_sign _) sample_x))) c.in_err-rest.ensures)))
-
-pub returns-in_err-from : goal.returns-in_err-from
-returns-in_err-from c = exit _ _ _ c.from_residual-in_err-from.result c.from_residual-in_err-from.ensures.1 (as_fails _ (def_makes _ _) (then_fails _ (ends_closed _ _) c.in_ok-name.ensures (then_fails _ (ends_closed _ _) c.in_ok-rest.ensures (first_fails _ (ends_closed _ _) (sample_pair sample_into (sample_pair (sample_sign _) sample_x)) c.in_err-from.ensures))))
-
-pub returns-in_err-into : goal.returns-in_err-into
-returns-in_err-into c = exit _ _ _ c.from_residual-in_err-into.result c.from_residual-in_err-into.ensures.1 (as_fails _ (def_makes _ _) (then_fails _ (ends_closed _ _) c.in_ok-name.ensures (then_fails _ (ends_closed _ _) c.in_ok-rest.ensures (then_fails _ (ends_closed _ _) c.in_ok-from.ensures (first_fails _ ends_into (sample_pair (sample_sign _) sample_x) c.in_err-into.ensures)))))
-
-pub returns-in_err-rest-2 : goal.returns-in_err-rest-2
-returns-in_err-rest-2 c = exit _ _ _ c.from_residual-in_err-rest-2.result c.from_residual-in_err-rest-2.ensures.1 (as_fails _ (def_makes _ _) (then_fails _ (ends_closed _ _) c.in_ok-name.ensures (then_fails _ (ends_closed _ _) c.in_ok-rest.ensures (then_fails _ (ends_closed _ _) c.in_ok-from.ensures (then_fails _ ends_into c.in_ok-into.ensures (first_fails _ (ends_closed _ _) sample_x c.in_err-rest-2.ensures))))))
-
-pub returns-in_err-value : goal.returns-in_err-value
-returns-in_err-value c = exit _ _ _ c.from_residual-in_err-value.result c.from_residual-in_err-value.ensures.1 (as_fails _ (def_makes _ _) (then_fails _ (ends_closed _ _) c.in_ok-name.ensures (then_fails _ (ends_closed _ _) c.in_ok-rest.ensures (then_fails _ (ends_closed _ _) c.in_ok-from.ensures (then_fails _ ends_into c.in_ok-into.ensures (then_fails _ (ends_closed _ _) c.in_ok-rest-2.ensures c.in_err-value.ensures))))))
+returns-in_err-name c = exit _ _ _ c.from_residual-in_err-name.result c.from_residual-in_err-name.ensures.1
+    (as_fails _ (def_makes _ _) (then_fails _ (ends_closed _ _) c.in_ok-names.ensures (then_fails _ ends_into (told_read _ _ c.in_ok-names-2.ensures.1 c.read_into.ensures) (told_fails _ _ c.in_err-name.ensures c.read_assigned.ensures))))
 
 pub returns : goal.returns
-returns c = as_read (def_makes _ _) (then_read (ends_closed _ _) c.in_ok-name.ensures (then_read (ends_closed _ _) c.in_ok-rest.ensures (then_read (ends_closed _ _) c.in_ok-from.ensures (then_read ends_into c.in_ok-into.ensures (then_read (ends_closed _ _) c.in_ok-rest-2.ensures c.in_ok-value.ensures)))))
+returns c = let one = c.in_ok-names-2.ensures in let two = c.in_ok-name.ensures in
+    as_read (def_makes _ _) (then_read (ends_closed _ _) (read_at (ap (λ v. (plain_name v.0, plain_name v.1)) (sym (ap (λ v. v.0) two.0 ∙ one.0))) c.in_ok-names.ensures)
+    (then_read ends_into (read_at (ap (λ v. plain_into v.1) (sym two.0)) (told_read _ _ one.1 c.read_into.ensures)) (told_read _ _ two.1 c.read_assigned.ensures)))

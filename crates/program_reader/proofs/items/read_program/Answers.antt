@@ -11,13 +11,13 @@ use Rattle.program_reader.proofs.ItemForms.{no_program, program_first, program_f
 use Rattle.program_reader.proofs.items.read_program.Goals as goal
 
 pub returns-then-is_empty : goal.returns-then-is_empty
-returns-then-is_empty c = read_at (ap (λ l. map plain_item l) (sym c.new-all.ensures.items)) (no_program (none_left _ (eqb-true _ 0 (sym c.if-is_empty.ensures))))
+returns-then-is_empty c = read_at (ap (λ l. map plain_item l) (sym c.new.ensures.items)) (no_program (none_left _ (eqb-true _ 0 (sym c.if-is_empty.ensures))))
 
 pub returns-in_err-first : goal.returns-in_err-first
-returns-in_err-first c = exit _ _ _ c.from_residual.result c.from_residual.ensures.1 (program_first_fails _ _ (some_left _ (false-eqb _ 0 c.if-is_empty.ensures)) c.in_err-first.ensures)
+returns-in_err-first c = exit _ _ _ c.from_residual.result c.from_residual.ensures.1 (program_first_fails _ _ (some_token _ (some_left _ (false-eqb _ 0 c.if-is_empty.ensures))) c.in_err-first.ensures)
 
 pub items-init : goal.items-init
-items-init c = program_first _ c.in_ok-first.ensures (ap (λ l. map plain_item l) (c.in_ok-push.ensures.items ∙ ap (λ l. l ++ c.in_ok-first.first ∷ []) c.new-all.ensures.items))
+items-init c = program_first _ c.in_ok-first.ensures (some_token _ (some_left _ (false-eqb _ 0 c.if-is_empty.ensures))) (ap (λ l. map plain_item l) (c.in_ok-push.ensures.items ∙ ap (λ l. l ++ c.in_ok-first.first ∷ []) c.new-all.ensures.items))
 
 pub returns-in_err-next : goal.returns-in_err-next
 returns-in_err-next c = exit _ _ _ c.from_residual-in_err-next.result c.from_residual-in_err-next.ensures.1 (many_more_fails IsItem _ c.items.invariant (some_token _ (some_left _ (false-eqb _ 0 c.items-test.ensures))) c.in_err-next.ensures)

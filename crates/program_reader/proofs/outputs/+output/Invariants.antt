@@ -5,7 +5,7 @@ use Rattle.read_forms.proofs.Lists.{IsPartWay}
 use Rattle.model_grammar.specs.Terms.{IsOut}
 use Rattle.fast_syntax.specs.Plain.{plain_out}
 use Rattle.label_reader.specs.Results.{lexemes}
-use Rattle.label_reader.proofs.Closings.{closing_of}
+use Rattle.label_reader.specs.Lists.{closing_of}
 use Rattle.program_reader.specs.Nodes.{AreOutsToClose}
 use Rattle.program_reader.proofs.outputs.+output.Given as goal
 

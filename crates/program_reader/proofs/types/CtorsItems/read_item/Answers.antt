@@ -7,7 +7,7 @@ use Rattle.std.proofs.lemmas.Int.{to_z-of_z}
 use Rattle.fast_syntax.specs.View.{plain_name}
 use Rattle.label_reader.proofs.Digits.{fits_below}
 use Rattle.program_reader.proofs.TypeForms.{ctor_makes, number_makes, sample_number}
-use Rattle.program_reader.proofs.types.read_ctor.Goals as goal
+use Rattle.program_reader.proofs.types.CtorsItems.read_item.Goals as goal
 
 pub returns-in_err-name : goal.returns-in_err-name
 returns-in_err-name c = exit _ _ _ c.from_residual.result c.from_residual.ensures.1 (as_fails _ (ctor_makes _ _) (first_fails _ (ends_closed _ _) (sample_pair (sample_sign _) (sample_pair sample_number (sample_sign _))) c.in_err-name.ensures))

@@ -2,7 +2,7 @@ use Rattle.read_forms.proofs.Forms.{as_fails, as_read, then_fails, then_read, fi
 use Rattle.read_forms.proofs.Words.{sample_sign}
 use Rattle.label_reader.proofs.Exits.{exit}
 use Rattle.program_reader.proofs.TypeForms.{field_makes, sample_sort}
-use Rattle.program_reader.proofs.types.read_field.Goals as goal
+use Rattle.program_reader.proofs.types.FieldsItems.read_item.Goals as goal
 
 pub returns-in_err-name : goal.returns-in_err-name
 returns-in_err-name c = exit _ _ _ c.from_residual.result c.from_residual.ensures.1 (as_fails _ (field_makes _ _) (first_fails _ (ends_closed _ _) (sample_pair (sample_sign _) sample_sort) c.in_err-name.ensures))

@@ -6,7 +6,7 @@ use Rattle.label_reader.proofs.Keeping.{told_read, told_fails}
 use Rattle.fast_syntax.specs.Plain.{plain_rule}
 use Rattle.program_reader.proofs.OutForms.{sample_out}
 use Rattle.program_reader.proofs.RuleForms.{out_rule_makes, ends_rule}
-use Rattle.program_reader.proofs.rules.read_out_rule.Goals as goal
+use Rattle.program_reader.proofs.rules.OutRulesItems.read_item.Goals as goal
 
 pub returns-in_err-rule : goal.returns-in_err-rule
 returns-in_err-rule c = exit _ _ _ c.from_residual.result c.from_residual.ensures.1 (as_fails _ (out_rule_makes _ _) (first_fails _ ends_rule (sample_pair (sample_sign _) sample_out) c.in_err-rule.ensures))

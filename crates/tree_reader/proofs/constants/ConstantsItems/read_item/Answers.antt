@@ -8,7 +8,7 @@ use Rattle.read_forms.proofs.Words.{word_read, next_of}
 use Rattle.model_grammar.specs.Syntax.{number}
 use Rattle.label_reader.proofs.Exits.{exit}
 use Rattle.tree_reader.proofs.ConstantForms.{true_makes, false_makes, text_makes, negative_makes, number_makes}
-use Rattle.tree_reader.proofs.constants.read_constant.Goals as goal
+use Rattle.tree_reader.proofs.constants.ConstantsItems.read_item.Goals as goal
 
 pub returns-in-Some : goal.returns-in-Some
 returns-in-Some c = let e = c.in-Some.ensures in as_read (true_makes _ (next_of True _ _ _ e.0 e.1)) (word_read True _ _ _ e.0 e.1)

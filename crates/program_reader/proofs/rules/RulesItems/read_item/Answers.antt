@@ -5,7 +5,7 @@ use Rattle.label_reader.proofs.Keeping.{told_read, told_fails}
 use Rattle.fast_syntax.specs.View.{plain_name}
 use Rattle.fast_syntax.specs.Plain.{plain_guard}
 use Rattle.program_reader.proofs.RuleForms.{rule_makes, sample_vars, sample_guard, sample_given, ends_guard}
-use Rattle.program_reader.proofs.rules.read_rule.Goals as goal
+use Rattle.program_reader.proofs.rules.RulesItems.read_item.Goals as goal
 
 pub returns-in_err-ctor : goal.returns-in_err-ctor
 returns-in_err-ctor c = exit _ _ _ c.from_residual.result c.from_residual.ensures.1 (as_fails _ (rule_makes _ _) (first_fails _ (ends_closed _ _) (sample_pair sample_vars (sample_pair sample_guard sample_given)) c.in_err-ctor.ensures))

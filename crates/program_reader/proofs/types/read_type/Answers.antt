@@ -1,7 +1,7 @@
 use Rattle.read_forms.proofs.Forms.{as_fails, as_read, then_fails, then_read, first_fails, ends_closed, sample_pair}
 use Rattle.label_reader.proofs.Exits.{exit}
 use Rattle.program_reader.proofs.TypeForms.{type_makes, sample_fields, sample_ctors, ends_fields}
-use Rattle.program_reader.proofs.types.read_type_item.Goals as goal
+use Rattle.program_reader.proofs.types.read_type.Goals as goal
 
 pub returns-in_err-name : goal.returns-in_err-name
 returns-in_err-name c = exit _ _ _ c.from_residual.result c.from_residual.ensures.1 (as_fails _ (type_makes _ _) (first_fails _ (ends_closed _ _) (sample_pair sample_fields sample_ctors) c.in_err-name.ensures))
