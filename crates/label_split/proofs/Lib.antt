@@ -3,6 +3,7 @@ pub mod Truths
 pub mod Opens
 pub mod Forcing
 pub mod Literals
+mod Looking
 pub mod Weights
 pub mod Branches
 pub mod Numbering

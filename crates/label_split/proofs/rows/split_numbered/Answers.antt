@@ -1,4 +1,5 @@
 use Rattle.std.proofs.Common.{◌<◌, ◌+◌, [], take, length, refl, subst, arith}
+use Rattle.std.proofs.lemmas.List.{take_all}
 use Rattle.std.proofs.lemmas.Result.{err_from_is_err_and}
 use Rattle.label_split.specs.Numbers.{number_holds}
 use Rattle.label_split.specs.Signs.{signs_at}
@@ -32,3 +33,12 @@ returns-clause-stop g c =
     let long : c.args.most < length c.loop-i.rows.items = omega (arith, c.if-len-most-2.false, c.len-2.ensures, c.loop-i.rows.ok.0) in
     more_by_part (g.T.Theory.meaning c.args.theory.now) (signs_at (number_holds g.T.Theory.atom_holds c.args.atoms.now) (take c.loop-i.i c.args.formulas.now)) (signs_at (number_holds g.T.Theory.atom_holds c.args.atoms.now) c.args.formulas.now) (take c.loop-i.i) (signs_taken (number_holds g.T.Theory.atom_holds c.args.atoms.now) c.args.formulas.now c.loop-i.i) c.args.most
     (more_rows (g.T.Theory.meaning c.args.theory.now) (signs_at (number_holds g.T.Theory.atom_holds c.args.atoms.now) (take c.loop-i.i c.args.formulas.now)) (rows_of c.loop-i.rows.items) c.args.most c.loop-i.invariant (long_rows c.args.most c.loop-i.rows.items long))
+
+pub loop-i-preserved : goal.loop-i-preserved
+loop-i-preserved g c = c.in_ok-rows-2.ensures.rows
+
+pub returns-then-len-most-2-clause-rows : goal.returns-then-len-most-2-clause-rows
+returns-then-len-most-2-clause-rows g c = subst (λ fs. SplitsInto (g.T.Theory.meaning c.args.theory.now) (signs_at (number_holds g.T.Theory.atom_holds c.args.atoms.now) fs) (rows_of c.loop-i.rows.items)) (take_all c.loop-i.i c.args.formulas.now (omega (arith, c.loop-i-test.false))) c.loop-i.invariant
+
+pub loop-i-init : goal.loop-i-init
+loop-i-init g c = c.in_ok-rows.ensures.rows

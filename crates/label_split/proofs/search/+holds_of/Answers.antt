@@ -1,4 +1,4 @@
-use Rattle.std.proofs.Common.{sym, ◌∙◌}
+use Rattle.std.proofs.Common.{◌≡◌, true, drop, subst, sym, ◌∙◌, ◌+◌}
 use Rattle.std.specs.List.{list_all}
 use Rattle.std.proofs.lemmas.List.{at_drop_all}
 use Rattle.label_core.proofs.Elements.{all_next}
@@ -16,9 +16,14 @@ some-init g t c = rw (c.deref-part-items-in-Or.ensures.value, c.in-Or.is) (sym (
 pub every-preserved : goal.every-preserved
 every-preserved g t c =
     let truths = truths_at g.T.Theory.atom_holds c.args.atoms.now (g.T.Theory.label_of c.args.value.now) in
-    sym (all_next (holds_at truths) c.deref-part-items.result.now c.every.part-index c.part-item.result c.every-test.true c.part-item.is (sym c.holds_of-in-every.ensures ∙ c.if-not-holds_of.false)) ∙ c.every.invariant
+    let items = c.deref-part-items.result.now in
+    let same : c.holds_of-in-every.result ≡ holds_at truths c.part-item.result = c.holds_of-in-every.ensures in
+    let passes = subst (λ b. b ≡ true) same c.if-not-holds_of.false in
+    let next = all_next (holds_at truths) items c.every.part-index c.part-item.result c.every-test.true c.part-item.is passes in
+    ◌∙◌ {a = list_all (holds_at truths) (drop (c.every.part-index + 1) items)} {b = list_all (holds_at truths) (drop c.every.part-index items)} {c = holds_at truths c.args.formula.now} (sym next) c.every.invariant
 
 pub returns-after-every : goal.returns-after-every
 returns-after-every g t c =
     let truths = truths_at g.T.Theory.atom_holds c.args.atoms.now (g.T.Theory.label_of c.args.value.now) in
-    sym (at_drop_all (list_all (holds_at truths)) c.deref-part-items.result.now c.every.part-index c.every-test.false) ∙ c.every.invariant
+    let items = c.deref-part-items.result.now in
+    ◌∙◌ {b = list_all (holds_at truths) (drop c.every.part-index items)} {c = holds_at truths c.args.formula.now} (sym (at_drop_all (list_all (holds_at truths)) items c.every.part-index c.every-test.false)) c.every.invariant
