@@ -10,7 +10,7 @@ use Rattle.sta_core.specs.Machine.{plain_rule}
 use Rattle.sta_classes.specs.Applying.{meets_at}
 use Rattle.sta_classes.specs.Bits.{both}
 use Rattle.sta_classes.specs.Rows.{lists_of}
-use Rattle.sta_classes.specs.Searched.{AreSplit}
+use Rattle.sta_classes.specs.Searched.{AreSplit, IsTold}
 use Rattle.sta_classes.specs.Splits.{IsMetBy, AreMet, AreTold, AreAllTold}
 use Rattle.sta_classes.specs.declared.rules.Owned.{Owned}
 use Rattle.sta_classes.specs.declared.rules.Rules.{Rules}
@@ -165,6 +165,23 @@ module _ {A V W : Type 0} {label_of : V → Label} {holds : A → Label → Bool
 
           rules_same : (c : ℕ) (R' : Rules A) → c ≡ n → get_or own c R' ≡ R' → R ≡ R'
           rules_same c R' same e = sym of ∙ same_default own n R R' (omega (arith, low, h.many, many)) ∙ ap (λ k. get_or own k R') (sym same) ∙ e
+
+  -- what is known at one of them
+  module _ (rows : List Row) (splits : List (Splits V)) (h : AreSplit M ranks own rows splits) (c : ℕ) (R : Rules A) (s : Splits V) (own_low : c < length own) (low : c < length splits) (at : s ≡ get_or splits c s) where
+    pub met_at : (n : ℕ) → n ≡ get_or ranks c 0 → AreMet (get_or own c R).list.items n rows s.met.items
+    met_at n e = subst (λ k. AreMet (get_or own c R).list.items k rows s.met.items) (sym e) (h.met c (get_or own c R) s low (same_default own c (get_or own c R) R own_low) (sym at))
+
+    pub all_told_at : AreAllTold M (get_or own c R).list.items s
+    all_told_at = h.told c (get_or own c R) s low (same_default own c (get_or own c R) R own_low) (sym at)
+
+  -- the labels that are found there
+  pub told_found : (rows : List Row) (splits : List (Splits V)) (c : ℕ) (ks : List ℕ) (R R' : Rules A) (s s' : Splits V) (key : Row) (n : ℕ) → c < length own → get_or own c R' ≡ R' → c < length splits → get_or (set splits c s) c s' ≡ s'
+      → key ≡ map (λ x. rows_meet (map (λ k. get_or rows k []) ks) (plain_rule x.rule.now).demands) (get_or own c R).list.items
+      → (n < length s.told.items) × AreTold M (get_or own c R).list.items (both (get_or own c R).guarded key) (get_or (lists_of s.told.items) n [])
+      → (n < length s'.told.items) × IsTold M R' (map (λ k. get_or rows k []) ks) key (get_or (lists_of s'.told.items) n [])
+  told_found rows splits c ks R R' s s' key n own_low of low at is told =
+      subst (λ r. (n < length s'.told.items) × IsTold M r (map (λ k. get_or rows k []) ks) key (get_or (lists_of s'.told.items) n [])) (same_default own c R R' own_low ∙ of)
+      (subst (λ z. (n < length z.told.items) × IsTold M (get_or own c R) (map (λ k. get_or rows k []) ks) key (get_or (lists_of z.told.items) n [])) (sym (get_or-set_same splits c s s' low) ∙ at) (told.0, (is, told.1)))
 
   -- before there are classes
   pub split_none : (splits : List (Splits V)) → length splits ≡ length ranks → ((c : ℕ) (s : Splits V) → c < length splits → get_or splits c s ≡ s → (s.met.items ≡ []) × ((s.sets.keys ≡ []) × (s.told.items ≡ []))) → AreSplit M ranks own [] splits

@@ -1,6 +1,7 @@
 mod Bits
 pub mod Rows
 pub mod Kept
+pub mod Keeping
 pub mod Atoms
 pub mod Covered
 pub mod Grown
@@ -8,6 +9,7 @@ pub mod Loops
 pub mod Meet
 pub mod Numbers
 pub mod Places
+pub mod Children
 pub mod Choices
 pub mod Applying
 pub mod Listed

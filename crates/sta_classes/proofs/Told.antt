@@ -1,8 +1,10 @@
 -- Labels that tell the guards of some rules apart.
-use Rattle.std.proofs.Common.{ℕ, zero, suc, Vec, ◌≡◌, ◌<◌, Bool, true, false, IsTrue, List, [], ◌∷◌, get_or, length, map, Contains, All, refl, sym, ap, ap₂, subst, ◌∙◌, arith}
+use Rattle.std.proofs.Common.{ℕ, zero, suc, inl, inr, Some, ◌++◌, Vec, ◌≡◌, ◌<◌, Bool, true, false, IsTrue, List, [], ◌∷◌, get_or, length, map, Contains, All, refl, sym, ap, ap₂, subst, ◌∙◌, arith}
+use Rattle.std.specs.Prelude.{IsPermutation}
 use Rattle.std.specs.Cmp.{IsEquivalence}
-use Rattle.std.proofs.lemmas.List.{get_or-map, length-map}
-use Rattle.std.proofs.lemmas.List.Elements.{All-contains}
+use Rattle.std.proofs.lemmas.List.{get_or-map, length-map, length_push}
+use Rattle.std.proofs.lemmas.List.Elements.{All-contains, All-nil, All-push, All-pop, Contains-push, Contains-push_cases}
+use Rattle.std.proofs.lemmas.List.Sorted.{Contains-permutation}
 use Rattle.std.proofs.lemmas.Simd.{map-map}
 use Rattle.model_tree.specs.Label.{Label}
 use Rattle.model_tree.specs.Formula.{Formula, formula_holds, EveryAtom, formulas_of, all_of}
@@ -24,7 +26,7 @@ use Rattle.sta_classes.specs.Applying.{plain_owned, truth_at, chosen, guards_in,
 use Rattle.sta_classes.specs.Bits.{both}
 use Rattle.sta_classes.specs.Guards.{all_guards, atoms_of_all, truths, GuardsFit}
 use Rattle.sta_classes.specs.Rules.{plain_rules}
-use Rattle.sta_classes.specs.Splits.{AreTold}
+use Rattle.sta_classes.specs.Splits.{AreTelling, AreTold}
 use Rattle.sta_classes.specs.Stop.{ClassStopsFor}
 use Rattle.sta_classes.specs.declared.rules.Owned.{Owned}
 use Rattle.sta_classes.specs.declared.splits.Told.{Told}
@@ -34,7 +36,8 @@ use Rattle.sta_classes.proofs.Applying.{element}
 use Rattle.sta_classes.proofs.Atoms.{of_each_formula, guards_among}
 use Rattle.sta_classes.proofs.Covered.{Same, same_truths, truths_same}
 use Rattle.sta_classes.proofs.Kept.{each_split, each_fits}
-use Rattle.sta_theory.proofs.Lists.{map_member, in_map}
+use Rattle.sta_classes.proofs.Places.{old_at}
+use Rattle.sta_theory.proofs.Lists.{in_map}
 use Rattle.sta_classes.proofs.Rows.{each_all, all_each}
 
 pub all_to_map : {X Y : Type 0} (P : Y → Type 0) (f : X → Y) (xs : List X) → All (λ x. P (f x)) xs → All P (map f xs)
@@ -121,16 +124,41 @@ module _ {A : Type 0} (list : List (Owned A)) (numbers : Row) {V W : Type 0} {la
   one_row l m (false ∷ bs) (x ∷ xs) e = ap (λ ys. false ∷ ys) (one_row l m bs xs e)
 
   -- the labels of all rows of signs of these guards tell them apart
-  pub told_by : (rows : List (SignRow V)) → SplitsInto M (truths holds (chosen numbers (guards_in list))) rows → (told : List (Told V)) → map (λ t. t.value) told ≡ map (λ r. r.value) rows → All (λ t. t.holds ≡ map (truth_at holds (label_of t.value)) list) told → AreTold M list numbers told
-  told_by rows split told values held = record {
-    kept = All_from_map (λ v. M.keeps (label_of v)) (λ t. t.value) told (subst (All (λ v. M.keeps (label_of v))) (sym values) (all_to_map (λ v. M.keeps (label_of v)) (λ r. r.value) rows (λ k d low. (split.sound k d low).0)));
-    held = held;
+  pub told_by : (rows : List (SignRow V)) → SplitsInto M (truths holds (chosen numbers (guards_in list))) rows → (told : List (Told V)) → AreTelling M list rows [] told → AreTold M list numbers told
+  told_by rows split told all = record {
+    kept = all.kept;
+    held = all.held;
     complete = λ l d.
         let (r, r_in, signs) = split.complete l d in
         let sound = All-contains (IsRow M (truths holds (chosen numbers (guards_in list)))) rows r split.sound r_in in
-        let (t, t_in, t_is) = map_member (λ z. z.value) told r.value (subst (λ vs. Contains vs r.value) (sym values) (in_map (λ z. z.value) rows r r_in)) in (
-          t,
-          t_in,
-          one_row l (label_of t.value) numbers list (sym signs ∙ sound.1 ∙ ap (λ v. truths holds (chosen numbers (guards_in list)) (label_of v)) (sym t_is)),
-        );
+        elim (all.each r r_in) [
+          | inl left ↦ absurd (let none : left.0 < 0 = left.1 in omega (arith, none))
+          | inr (t, t_in, t_is) ↦ (t, t_in, one_row l (label_of t.value) numbers list (sym signs ∙ sound.1 ∙ ap (λ v. truths holds (chosen numbers (guards_in list)) (label_of v)) (sym t_is)))
+        ];
   }
+
+-- rows of signs that are told one by one, from the last one on
+module _ {A V W : Type 0} {label_of : V → Label} {holds : A → Label → Bool} (M : Meaning label_of holds W) (list : List (Owned A)) (rows : List (SignRow V)) where
+  pub telling_first : (left : List (SignRow V)) → IsPermutation rows left → (told : List (Told V)) → told ≡ [] → AreTelling M list rows left told
+  telling_first left same told none = record { kept = subst (All (λ t. M.keeps (label_of t.value))) (sym none) (All-nil (λ t. M.keeps (label_of t.value))); held = subst (All (λ t. t.holds ≡ map (truth_at holds (label_of t.value)) list)) (sym none) (All-nil (λ t. t.holds ≡ map (truth_at holds (label_of t.value)) list)); each = λ r r_in. inl (Contains-permutation rows left r same r_in) }
+
+  pub telling_more : (left left' : List (SignRow V)) (r : SignRow V) (told told' : List (Told V)) (t : Told V) → left ≡ left' ++ r ∷ [] → told' ≡ told ++ t ∷ [] → (t.value ≡ r.value) × (t.holds ≡ map (truth_at holds (label_of t.value)) list)
+      → M.keeps (label_of r.value) → AreTelling M list rows left told → AreTelling M list rows left' told'
+  telling_more left left' r told told' t popped pushed is keeps h = record {
+    kept = subst (All (λ t. M.keeps (label_of t.value))) (sym pushed) (All-push (λ t. M.keeps (label_of t.value)) told t h.kept (subst (λ v. M.keeps (label_of v)) (sym is.0) keeps));
+    held = subst (All (λ t. t.holds ≡ map (truth_at holds (label_of t.value)) list)) (sym pushed) (All-push (λ t. t.holds ≡ map (truth_at holds (label_of t.value)) list) told t h.held is.1);
+    each = λ s s_in. elim (h.each s s_in) [
+      | inl there ↦ elim (Contains-push_cases left' r s (subst (λ l. Contains l s) popped there)) [
+        | inl before ↦ inl before
+        | inr same ↦ inr (t, subst (λ l. Contains l t) (sym pushed) (Contains-push told t), is.0 ∙ ap (λ z. z.value) same)
+      ]
+      | inr (u, u_in, u_is) ↦ inr (u, subst (λ l. Contains l u) (sym pushed) (in_longer told u t u_in), u_is)
+    ];
+  }
+    where
+      in_longer : (xs : List (Told V)) (x y : Told V) → Contains xs x → Contains (xs ++ y ∷ []) x
+      in_longer xs x y (k, low, at) = (k, omega (arith, low, length_push xs y), old_at xs y x k low ∙ at)
+
+  -- the last row
+  pub last_row : (left left' : List (SignRow V)) (r : SignRow V) → left ≡ left' ++ r ∷ [] → All (λ r. M.keeps (label_of r.value)) left → All (λ r. M.keeps (label_of r.value)) left' × M.keeps (label_of r.value)
+  last_row left left' r popped h = All-pop (λ r. M.keeps (label_of r.value)) left left' (Some r) popped h

@@ -1,8 +1,9 @@
 -- What is known of a constructor's rules: which of them classes meet, and labels that tell guards apart.
-use Rattle.std.specs.Prelude.{ℕ, ◌≡◌, ◌<◌, Bool, List, [], map, get_or, length, All, Contains, Vec}
+use Rattle.std.specs.Prelude.{ℕ, ◌≡◌, ◌<◌, ◌⊎◌, Bool, List, [], map, get_or, length, All, Contains, Vec}
 use Rattle.model_tree.specs.Label.{Label}
 use Rattle.model_sta.specs.Sets.{Row}
 use Rattle.label_core.specs.Meaning.{Meaning}
+use Rattle.label_split.specs.declared.rows.SignRow.{SignRow}
 use Rattle.sta_core.specs.Machine.{plain_rule}
 use Rattle.sta_classes.specs.Applying.{meets_at, truth_at}
 use Rattle.sta_classes.specs.Bits.{both}
@@ -23,6 +24,12 @@ module _ {A : Type 0} (list : List (Owned A)) (places : ℕ) where
     pub each : (k : ℕ) → k < length classes → IsMetBy (get_or classes k []) (get_or (lists_of met) k [])
 
 module _ {A V W : Type 0} {label_of : V → Label} {holds : A → Label → Bool} (M : Meaning label_of holds W) (list : List (Owned A)) where
+  -- some of the rows of signs are left, and there is a label of each of the others, with the rules whose guards hold there
+  pub record AreTelling (rows left : List (SignRow V)) (told : List (Told V)) : Type 0 where
+    pub kept : All (λ t. M.keeps (label_of t.value)) told
+    pub held : All (λ t. t.holds ≡ map (truth_at holds (label_of t.value)) list) told
+    pub each : (r : SignRow V) → Contains rows r → Contains left r ⊎ ((t : Told V) × Contains told t × (t.value ≡ r.value))
+
   -- kept labels with the rules whose guards hold there; at each label the rules with these numbers have the truth values
   -- that they have at one of them
   pub record AreTold (numbers : Row) (told : List (Told V)) : Type 0 where

@@ -6,6 +6,7 @@
 
 mod class;
 mod formula;
+mod keep;
 mod known;
 mod lists;
 mod pending;

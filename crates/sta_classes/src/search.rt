@@ -18,6 +18,7 @@ ghost use Rattle.sta_classes.specs.declared.rules.Rules.{Rules};
 ghost use Rattle.sta_classes.specs.declared.splits.Splits.{Splits};
 
 use crate::class::{CAP, Class, cost_over};
+use crate::keep::kept;
 use crate::known::Known;
 use crate::lists::lists_with;
 use crate::pending::{Over, Pending};
@@ -308,22 +309,23 @@ impl<T: Theory> Search<'_, T> {
         Ok(())
     }
 
-    /// No class is found yet, and the trees of no children are offered.
-    fn begin(&self) -> Result<Course<T::Value>, ClassStop<T::Chain>>
+    /// No class is found yet, and no tree is offered.
+    fn begin(&self) -> Result<Course<T::Value>, Memory>
         requires ready { IsReady (T.atom_fits self.now.theory.now) self.now.ranks.now self.now.rules.now self.now.own.now }
-        ensures going { IfOk result (λ course. IsGoing (T.meaning self.now.theory.now) self.now.ranks.now self.now.rules.now self.now.own.now self.now.most course.known course.pending course.splits.items) }
-        ensures stop { IfErr result (ClassStopsFor (T.meaning self.now.theory.now) (HasMoreClasses (T.meaning self.now.theory.now) (record { ranks = self.now.ranks.now; rules = plain_rules self.now.rules.now }) self.now.most) (all_guards (plain_rules self.now.rules.now))) }
+        ensures none { IfOk result (λ course. course.known.classes.items ≡ []) }
+        ensures kinds { IfOk result (λ course. AreKinds self.now.ranks.now self.now.rules.now course.known.classes.items course.known.places.items) }
+        ensures sound { IfOk result (λ course. IsSound self.now.ranks.now (T.meaning self.now.theory.now).has (T.meaning self.now.theory.now).keeps (meaning_of T.atom_holds (plain_rules self.now.rules.now)) T.label_of course.known.classes.items course.pending) }
+        ensures few { IfOk result (λ course. length course.pending.sets.keys ≤ self.now.most) }
+        ensures splits { IfOk result (λ course. AreSplit (T.meaning self.now.theory.now) self.now.ranks.now self.now.own.now (class_rows course.known.classes.items) course.splits.items) }
     {
-        let known = Known::new(self.alloc, self.ranks, self.rules)?;
         let splits = self.no_splits()?;
+        let known = Known::new(self.alloc, self.ranks, self.rules)?;
         let pending = Pending::new(self.alloc);
-        let mut course = Course {
+        Ok(Course {
             known,
             pending,
             splits,
-        };
-        self.open_leaves(&course.known, &mut course.pending, &mut course.splits)?;
-        Ok(course)
+        })
     }
 
     /// One turn: the candidate that was taken is one more class.
@@ -345,6 +347,27 @@ impl<T: Theory> Search<'_, T> {
         Ok(())
     }
 
+    /// Offers the trees of no children, and takes turns until no candidate is left.
+    fn go_on(&self, course: &mut Course<T::Value>) -> Result<(), ClassStop<T::Chain>>
+        requires ready { IsReady (T.atom_fits self.now.theory.now) self.now.ranks.now self.now.rules.now self.now.own.now }
+        requires none { course.old.known.classes.items ≡ [] }
+        requires kinds { AreKinds self.now.ranks.now self.now.rules.now course.old.known.classes.items course.old.known.places.items }
+        requires sound { IsSound self.now.ranks.now (T.meaning self.now.theory.now).has (T.meaning self.now.theory.now).keeps (meaning_of T.atom_holds (plain_rules self.now.rules.now)) T.label_of course.old.known.classes.items course.old.pending }
+        requires few { length course.old.pending.sets.keys ≤ self.now.most }
+        requires splits { AreSplit (T.meaning self.now.theory.now) self.now.ranks.now self.now.own.now (class_rows course.old.known.classes.items) course.old.splits.items }
+        ensures classes { OnOk result (AreFound (T.meaning self.now.theory.now) CAP self.now.ranks.now (plain_rules self.now.rules.now) course.new.known.classes.items) }
+        ensures complete { OnOk result (AreAllFound (T.meaning self.now.theory.now) CAP self.now.ranks.now (plain_rules self.now.rules.now) course.new.known.classes.items) }
+        ensures kinds { OnOk result (AreKinds self.now.ranks.now self.now.rules.now course.new.known.classes.items course.new.known.places.items) }
+        ensures few { OnOk result (length course.new.known.classes.items ≤ self.now.most) }
+        ensures stop { IfErr result (ClassStopsFor (T.meaning self.now.theory.now) (HasMoreClasses (T.meaning self.now.theory.now) (record { ranks = self.now.ranks.now; rules = plain_rules self.now.rules.now }) self.now.most) (all_guards (plain_rules self.now.rules.now))) }
+    {
+        self.open_leaves(&course.known, &mut course.pending, &mut course.splits)?;
+        'turns: while let Some(class) = course.pending.take() {
+            self.turn(course, class)?;
+        }
+        Ok(())
+    }
+
     /// All classes, where there are not more than `most`.
     pub fn run(&self) -> Result<Known<T::Value>, ClassStop<T::Chain>>
         requires ready { IsReady (T.atom_fits self.now.theory.now) self.now.ranks.now self.now.rules.now self.now.own.now }
@@ -355,9 +378,7 @@ impl<T: Theory> Search<'_, T> {
         ensures stop { IfErr result (ClassStopsFor (T.meaning self.now.theory.now) (HasMoreClasses (T.meaning self.now.theory.now) (record { ranks = self.now.ranks.now; rules = plain_rules self.now.rules.now }) self.now.most) (all_guards (plain_rules self.now.rules.now))) }
     {
         let mut course = self.begin()?;
-        'turns: while let Some(class) = course.pending.take() {
-            self.turn(&mut course, class)?;
-        }
-        Ok(course.known)
+        let ended = self.go_on(&mut course);
+        kept(course.known, (course.pending, course.splits), ended)
     }
 }

@@ -9,7 +9,7 @@ ghost use Rattle.sta_classes.specs.Applying.{chosen, guards_in, truth_at};
 ghost use Rattle.sta_classes.specs.Bits.{both};
 ghost use Rattle.sta_classes.specs.Guards.{truths};
 ghost use Rattle.sta_classes.specs.Rows.{lists_of};
-ghost use Rattle.sta_classes.specs.Splits.{IsMetBy, AreMet, AreTold, AreAllTold};
+ghost use Rattle.sta_classes.specs.Splits.{IsMetBy, AreMet, AreTelling, AreTold, AreAllTold};
 ghost use Rattle.sta_classes.specs.Stop.{ClassStopsFor};
 
 use crate::row::Row;
@@ -50,24 +50,40 @@ fn met_by<A>(alloc: Global, list: &[Owned<A>], places: u32, row: &Row) -> Result
     Ok(made)
 }
 
-/// The rows, each with the rules whose guards hold of its label in place of the signs.
+/// The row with the rules whose guards hold of its label in place of the signs.
 fn tell<T: Theory>(
     theory: &T,
     alloc: Global,
     list: &[Owned<T::Atom>],
-    rows: Vec<SignRow<T::Value>>,
+    row: SignRow<T::Value>,
+) -> Result<Told<T::Value>, Memory>
+    requires fit { All (λ x. EveryAtom (T.atom_fits theory.now) (plain_rule x.rule.now).guard) list.now }
+    requires kept { (T.meaning theory.now).keeps (T.label_of row.value) }
+    ensures { IfOk result (λ t. (t.value ≡ row.value) × (t.holds ≡ map (truth_at T.atom_holds (T.label_of t.value)) list.now)) }
+{
+    let holds = held_at(theory, alloc, list, &row.value)?;
+    Ok(Told {
+        holds,
+        value: row.value,
+    })
+}
+
+/// The same of each of the rows, in order. None of them is left.
+fn tell_each<T: Theory>(
+    theory: &T,
+    alloc: Global,
+    list: &[Owned<T::Atom>],
+    rows: &mut Vec<SignRow<T::Value>>,
 ) -> Result<Vec<Told<T::Value>>, Memory>
     requires fit { All (λ x. EveryAtom (T.atom_fits theory.now) (plain_rule x.rule.now).guard) list.now }
-    requires kept { All (λ r. (T.meaning theory.now).keeps (T.label_of r.value)) rows.items }
-    ensures { IfOk result (λ told. map (λ t. t.value) told.items ≡ map (λ r. r.value) rows.items × All (λ t. t.holds ≡ map (truth_at T.atom_holds (T.label_of t.value)) list.now) told.items) }
+    requires kept { All (λ r. (T.meaning theory.now).keeps (T.label_of r.value)) rows.old.items }
+    ensures { IfOk result (λ told. AreTelling (T.meaning theory.now) list.now rows.old.items [] told.items) }
 {
     let mut told = Vec::new(alloc);
-    'rows: for row in rows {
-        let holds = held_at(theory, alloc, list, &row.value)?;
-        told.push(Told {
-            holds,
-            value: row.value,
-        })?;
+    // the last one is taken first
+    rows.reverse();
+    'rows: while let Some(row) = rows.pop() {
+        told.push(tell(theory, alloc, list, row)?)?;
     }
     Ok(told)
 }
@@ -103,8 +119,8 @@ fn told_of<T: Theory>(
     ensures told { IfOk result (λ told. AreTold (T.meaning theory.now) list.now numbers.now told.items) }
     ensures stop { IfErr result (ClassStopsFor (T.meaning theory.now) ⊥ (guards_in list.now)) }
 {
-    let rows = rows_of(theory, alloc, list, numbers)?;
-    Ok(tell(theory, alloc, list, rows)?)
+    let mut rows = rows_of(theory, alloc, list, numbers)?;
+    Ok(tell_each(theory, alloc, list, &mut rows)?)
 }
 
 impl<V: Drop> Splits<V> {

@@ -15,3 +15,9 @@ numbers-preserved g c =
 
 pub returns-clause-fired : goal.returns-clause-fired
 returns-clause-fired g c = fired_last c.args.list.now c.args.numbers.now c.numbers.row c.numbers.i (omega (arith, c.numbers-test.false)) c.numbers.invariant.fired
+
+pub insert-requires : goal.insert-requires
+insert-requires g c = omega (arith, c.requires.low c.numbers.i c.index-list-i.result c.numbers-test.true, c.numbers.invariant.many)
+
+pub returns-clause-many : goal.returns-clause-many
+returns-clause-many g c = c.numbers.invariant.many

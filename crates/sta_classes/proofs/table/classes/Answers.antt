@@ -1,7 +1,10 @@
+use Rattle.std.proofs.lemmas.Result.{err_from_is_err_and}
 use Rattle.std.proofs.Common.{ℕ, ◌≡◌, ◌<◌, ◌∙◌, get_or, ap, sym, subst, arith, length}
 use Rattle.sta_core.specs.Sta.{automaton_of}
 use Rattle.sta_classes.specs.Applying.{IsRules}
+use Rattle.sta_core.specs.Machine.{Machine}
 use Rattle.sta_classes.specs.Guards.{GuardsFit}
+use Rattle.sta_classes.specs.Meant.{StopsClasses}
 use Rattle.sta_classes.specs.Plain.{AreShaped}
 use Rattle.sta_classes.specs.Rules.{plain_rules, meaning_of}
 use Rattle.sta_classes.specs.declared.rules.Rules.{Rules}
@@ -39,3 +42,9 @@ returns-clause-built g c =
 pub returns-clause-kinds : goal.returns-clause-kinds
 returns-clause-kinds g c =
     has_kinds g.T.Theory.atom_holds c.ranks-ranks.result.now c.rules-rules.result.now c.in_ok-known.known.classes.items c.in_ok-known.known.places.items c.in_ok-known.ensures.kinds c.args.sta.now c.ranks-ranks.ensures c.rules-rules.ensures.rules
+
+pub returns-in_err-known-clause-stop : goal.returns-in_err-known-clause-stop
+returns-in_err-known-clause-stop g c =
+    let machine : (record { ranks = c.ranks-ranks.result.now; rules = plain_rules c.rules-rules.result.now }) ≡ c.args.sta.now = λ i. record { ranks = c.ranks-ranks.ensures i; rules = c.rules-rules.ensures.rules i } in
+    let got = err_from_is_err_and c.from_residual-in_err-known.result c.from_residual-in_err-known.ensures.1 in
+    rw (got.1, got.2) (subst (λ (m : Machine g.row.T-Atom.Denot). StopsClasses (g.T.Theory.meaning c.args.theory.now) m c.args.most c.in_err-known.field-0.0) machine c.in_err-known.ensures.stop)

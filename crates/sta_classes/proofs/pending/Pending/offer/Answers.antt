@@ -3,7 +3,7 @@ use Rattle.std.proofs.lemmas.Option.{slice_get_within}
 use Rattle.model_sta.proofs.Reached.{same_default}
 use Rattle.sta_classes.specs.Rows.{found_of}
 use Rattle.sta_classes.specs.Pending.{is_dearer}
-use Rattle.sta_classes.proofs.Offered.{row_at, number_there, offer_passed, keys_passed, offer_first, offer_cheaper}
+use Rattle.sta_classes.proofs.Offered.{row_at, number_there, number_new, offer_passed, keys_passed, offer_first, offer_cheaper}
 use Rattle.sta_classes.proofs.pending.Pending.offer.Goals as goal
 use Rattle.sta_classes.proofs.pending.Pending.offer.Goals.{else-not-new-via-then-not-new+else-not-is_dearer, else-not-new-via-else-not-new}
 
@@ -44,3 +44,12 @@ returns-clause-offered g c =
       | else-not-new-via-else-not-new w ↦
           (offer_first g.T.Theory.label_of c.args.self.now (record { sets = c.insert_full.new.self; best = c.keep.new.best; order = c.push.new.self }) c.requires.kept (record { row = c.args.row; nodes = c.args.over.now.nodes; constructor = c.args.over.now.constructor; label = g.T.Theory.label_of c.args.value.now; children = c.args.over.now.children.now }) c.in_ok-number.number c.in_ok-number.new c.in_ok-number.ensures.added c.in_ok-number.ensures.keys c.in_ok-number.ensures.stored c.in_ok-class.class is c.requires.capped c.in_ok-push.ensures.permutation c.in_ok-push.ensures.heap_order c.in_ok-keep.ensures w.if-not-new.false).1
     ]
+
+pub index-requires : goal.index-requires
+index-requires g c = omega (arith, number_there c.args.self.now.sets.keys c.insert_full.new.self.keys c.args.row c.in_ok-number.number c.in_ok-number.new c.in_ok-number.ensures.added c.in_ok-number.ensures.keys c.in_ok-number.ensures.stored c.if-not-new.true, c.requires.kept.many, c.args.self.now.best.ok.0)
+
+pub keep-requires : goal.keep-requires
+keep-requires g c = elim c.else-not-new.branch [
+  | else-not-new-via-then-not-new+else-not-is_dearer w ↦ omega (arith, number_there c.args.self.now.sets.keys c.insert_full.new.self.keys c.args.row c.in_ok-number.number c.in_ok-number.new c.in_ok-number.ensures.added c.in_ok-number.ensures.keys c.in_ok-number.ensures.stored w.if-not-new.true, c.requires.kept.many)
+  | else-not-new-via-else-not-new w ↦ omega (arith, number_new c.args.self.now.sets.keys c.insert_full.new.self.keys c.args.row c.in_ok-number.number c.in_ok-number.new c.in_ok-number.ensures.added c.in_ok-number.ensures.keys c.in_ok-number.ensures.stored w.if-not-new.false, c.requires.kept.many)
+]

@@ -14,3 +14,33 @@ pub offer_told-requires-clause-told : goal.offer_told-requires-clause-told
 offer_told-requires-clause-told g c own at =
     let found = c.in_ok-key.ensures.found own c.index.result.now at (sym c.index.ensures) in
     subst (IsTold (g.T.Theory.meaning c.args.self.now.theory.now) own (class_rows_at c.args.known.now.classes.items c.args.over.now.children.now) c.in_ok-key.key) (sym (list_at c.index.result.now.told.items c.in_ok-key.number c.index-told.result.now c.deref.result.now found.0 c.index-told.ensures c.deref.ensures.value)) found.1
+
+pub told-requires-clause-ready : goal.told-requires-clause-ready
+told-requires-clause-ready g c = c.requires.ready
+
+pub told-requires-clause-splits : goal.told-requires-clause-splits
+told-requires-clause-splits g c = c.requires.splits
+
+pub offer_told-requires-clause-ready : goal.offer_told-requires-clause-ready
+offer_told-requires-clause-ready g c = c.requires.ready
+
+pub offer_told-requires-clause-nodes : goal.offer_told-requires-clause-nodes
+offer_told-requires-clause-nodes g c = c.requires.nodes
+
+pub offer_told-requires-clause-above : goal.offer_told-requires-clause-above
+offer_told-requires-clause-above g c = c.requires.above
+
+pub offer_told-requires-clause-sound : goal.offer_told-requires-clause-sound
+offer_told-requires-clause-sound g c = c.requires.sound
+
+pub returns-clause-sound : goal.returns-clause-sound
+returns-clause-sound g c = c.in_ok-offer_told.ensures.sound
+
+pub returns-clause-better : goal.returns-clause-better
+returns-clause-better g c = c.in_ok-offer_told.ensures.better
+
+pub returns-clause-opened : goal.returns-clause-opened
+returns-clause-opened g c = c.in_ok-offer_told.ensures.opened
+
+pub returns-clause-splits : goal.returns-clause-splits
+returns-clause-splits g c = c.in_ok-key.ensures.splits

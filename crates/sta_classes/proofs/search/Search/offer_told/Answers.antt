@@ -1,5 +1,6 @@
 use Rattle.std.proofs.Common.{ℕ, ◌≡◌, ◌<◌, ◌∙◌, ◌↔◌, true, inl, inr, All, Contains, length, get_or, sym, ap, subst, arith}
 use Rattle.std.proofs.lemmas.Bool.{cases_lt}
+use Rattle.std.proofs.lemmas.List.{length-map}
 use Rattle.model_sta.specs.Sets.{has, step}
 use Rattle.model_sta.specs.Least.{rows_at}
 use Rattle.model_sta.proofs.Reached.{same_default}
@@ -45,3 +46,24 @@ returns-clause-opened g c =
     let is : IsRules c.args.self.now.rules.now c.args.over.now.constructor c.index-self-over.result = c.requires.ready.own_are c.args.over.now.constructor c.index-self-over.result (omega (arith, c.requires.low, c.requires.ready.many)) (sym c.index-self-over.is) in
     opened_by (g.T.Theory.meaning c.args.self.now.theory.now) c.args.self.now.ranks.now c.args.self.now.rules.now c.args.known.now.classes.items c.args.over.now.constructor c.index-self-over.result is c.args.over.now.children.now c.args.key.now c.args.told.now (c.requires.told c.index-self-over.result (sym c.index-self-over.is)) c.labels.pending c.args.over.now.nodes c.requires.nodes
     (λ i t low at. c.labels.invariant.met i t (omega (arith, low, c.labels-test.false)) low at)
+
+pub set-requires-clause-met : goal.set-requires-clause-met
+set-requires-clause-met g c =
+    ap length (c.requires.told c.index-self-over.result (sym c.index-self-over.is)).0 ∙ length-map c.index-self-over.result.list.items _ ∙ ap (λ R. length R.list.items) c.index-self-over.is
+
+pub set-requires-clause-held : goal.set-requires-clause-held
+set-requires-clause-held g c =
+    let (key_is, are) = c.requires.told c.index-self-over.result (sym c.index-self-over.is) in
+    ap (λ t. length t.holds) c.label-item.is ∙ ap length (are.held c.labels.label-index c.label-item.result c.labels-test.true) ∙ length-map c.index-self-over.result.list.items _ ∙ sym (ap length key_is ∙ length-map c.index-self-over.result.list.items _)
+
+pub offer-requires-clause-kept : goal.offer-requires-clause-kept
+offer-requires-clause-kept g c = c.labels.invariant.sound.kept
+
+pub labels-init : goal.labels-init
+labels-init g c = record { sound = c.requires.sound; better = λ q n m. m; met = λ i r low inside at. absurd (omega (arith, low)) }
+
+pub returns-clause-sound : goal.returns-clause-sound
+returns-clause-sound g c = c.labels.invariant.sound
+
+pub returns-clause-better : goal.returns-clause-better
+returns-clause-better g c = c.labels.invariant.better

@@ -15,3 +15,27 @@ offer_each-requires-clause-above g c k low =
 
 pub returns-then-len-self-clause-stop : goal.returns-then-len-self-clause-stop
 returns-then-len-self-clause-stop g c = more_sets c.args.self.now.ranks.now (g.T.Theory.meaning c.args.self.now.theory.now).has (g.T.Theory.meaning c.args.self.now.theory.now).keeps (meaning_of g.T.Theory.atom_holds (plain_rules c.args.self.now.rules.now)) g.T.Theory.label_of c.args.known.now.classes.items c.offer_each.new.pending c.offer_each.new.pending c.in_ok-offer_each.ensures.sound c.args.self.now.most (omega (arith, c.if-len-self.true, c.len.ensures.len))
+
+pub offer_each-requires-clause-ready : goal.offer_each-requires-clause-ready
+offer_each-requires-clause-ready g c = c.requires.ready
+
+pub offer_each-requires-clause-sound : goal.offer_each-requires-clause-sound
+offer_each-requires-clause-sound g c = c.requires.sound
+
+pub offer_each-requires-clause-splits : goal.offer_each-requires-clause-splits
+offer_each-requires-clause-splits g c = c.requires.splits
+
+pub returns-clause-sound : goal.returns-clause-sound
+returns-clause-sound g c = c.in_ok-offer_each.ensures.sound
+
+pub returns-clause-better : goal.returns-clause-better
+returns-clause-better g c = c.in_ok-offer_each.ensures.better
+
+pub returns-clause-opened : goal.returns-clause-opened
+returns-clause-opened g c = c.in_ok-offer_each.ensures.opened
+
+pub returns-clause-few : goal.returns-clause-few
+returns-clause-few g c = omega (arith, c.if-len-self.false, c.len.ensures.len)
+
+pub returns-clause-splits : goal.returns-clause-splits
+returns-clause-splits g c = c.in_ok-offer_each.ensures.splits

@@ -48,3 +48,42 @@ places-preserved g c =
 pub returns-clause-opened : goal.returns-clause-opened
 returns-clause-opened g c j ks low listed =
     c.places.invariant.opened j ks (omega (arith, low, c.places-test.false, c.len-place-end.ensures, c.index.result.now.ok.0, ap length (list_at c.args.known.now.places.items c.args.constructor c.index.result.now c.index.result.now.items (omega (arith, c.requires.low, c.requires.kinds.many)) c.index.ensures refl), (c.requires.kinds.each c.args.constructor c.requires.low).many)) low listed
+
+pub open_place-requires-clause-ready : goal.open_place-requires-clause-ready
+open_place-requires-clause-ready g c = c.requires.ready
+
+pub open_place-requires-clause-kinds : goal.open_place-requires-clause-kinds
+open_place-requires-clause-kinds g c = c.requires.kinds
+
+pub open_place-requires-clause-some : goal.open_place-requires-clause-some
+open_place-requires-clause-some g c = c.requires.some
+
+pub open_place-requires-clause-low : goal.open_place-requires-clause-low
+open_place-requires-clause-low g c = c.requires.low
+
+pub open_place-requires-clause-place : goal.open_place-requires-clause-place
+open_place-requires-clause-place g c = omega (arith, c.places-test.true, c.len-place-end.ensures, c.index.result.now.ok.0, ap length (list_at c.args.known.now.places.items c.args.constructor c.index.result.now c.index.result.now.items (omega (arith, c.requires.low, c.requires.kinds.many)) c.index.ensures refl), (c.requires.kinds.each c.args.constructor c.requires.low).many)
+
+pub open_place-requires-clause-sound : goal.open_place-requires-clause-sound
+open_place-requires-clause-sound g c = c.places.invariant.sound
+
+pub open_place-requires-clause-few : goal.open_place-requires-clause-few
+open_place-requires-clause-few g c = c.places.invariant.few
+
+pub open_place-requires-clause-splits : goal.open_place-requires-clause-splits
+open_place-requires-clause-splits g c = c.places.invariant.splits
+
+pub places-init : goal.places-init
+places-init g c = record { sound = c.requires.sound; better = λ q n m. m; splits = c.requires.splits; few = c.requires.few; opened = λ j ks low inside listed. absurd (omega (arith, low)) }
+
+pub returns-clause-sound : goal.returns-clause-sound
+returns-clause-sound g c = c.places.invariant.sound
+
+pub returns-clause-better : goal.returns-clause-better
+returns-clause-better g c = c.places.invariant.better
+
+pub returns-clause-few : goal.returns-clause-few
+returns-clause-few g c = c.places.invariant.few
+
+pub returns-clause-splits : goal.returns-clause-splits
+returns-clause-splits g c = c.places.invariant.splits

@@ -13,3 +13,27 @@ constructors-preserved g c = record {
 
 pub returns-clause-opened : goal.returns-clause-opened
 returns-clause-opened g c = run_touched (g.T.Theory.meaning c.args.self.now.theory.now) c.args.self.now.ranks.now c.args.self.now.rules.now c.args.known.now.classes.items c.args.known.now.places.items c.constructors.pending (λ n low j ks inside listed. c.constructors.invariant.opened n (omega (arith, low, c.constructors-test.false)) j ks inside listed)
+
+pub open_last-requires-clause-ready : goal.open_last-requires-clause-ready
+open_last-requires-clause-ready g c = c.requires.ready
+
+pub open_last-requires-clause-kinds : goal.open_last-requires-clause-kinds
+open_last-requires-clause-kinds g c = c.requires.kinds
+
+pub open_last-requires-clause-sound : goal.open_last-requires-clause-sound
+open_last-requires-clause-sound g c = c.constructors.invariant.sound
+
+pub open_last-requires-clause-splits : goal.open_last-requires-clause-splits
+open_last-requires-clause-splits g c = c.constructors.invariant.splits
+
+pub constructors-init : goal.constructors-init
+constructors-init g c = record { sound = c.requires.sound; better = λ q n m. m; splits = c.requires.splits; few = c.requires.few; opened = λ n low. absurd (omega (arith, low)) }
+
+pub returns-clause-sound : goal.returns-clause-sound
+returns-clause-sound g c = c.constructors.invariant.sound
+
+pub returns-clause-better : goal.returns-clause-better
+returns-clause-better g c = c.constructors.invariant.better
+
+pub returns-clause-splits : goal.returns-clause-splits
+returns-clause-splits g c = c.constructors.invariant.splits

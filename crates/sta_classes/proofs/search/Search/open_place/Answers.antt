@@ -52,3 +52,30 @@ returns-clause-opened g c ks listed =
     let count : length (lists_of c.deref-children-items.result.now) ≡ length c.deref-children-items.result.now = length-map c.deref-children-items.result.now (λ v. v.items) in
     subst (IsOpened c.args.self.now.ranks.now (g.T.Theory.meaning c.args.self.now.theory.now).has (g.T.Theory.meaning c.args.self.now.theory.now).keeps (meaning_of g.T.Theory.atom_holds (plain_rules c.args.self.now.rules.now)) g.T.Theory.label_of c.args.known.now.classes.items c.lists.pending c.args.constructor) (ap (λ l. get_or (lists_of l) i []) c.deref-children-items.ensures.value ∙ same_default (lists_of c.in_ok-lists.lists.items) i [] ks low ∙ is)
     (c.lists.invariant.opened i (omega (arith, low, long, count, c.lists-test.false)) (omega (arith, low, long)))
+
+pub open-requires-clause-ready : goal.open-requires-clause-ready
+open-requires-clause-ready g c = c.requires.ready
+
+pub open-requires-clause-low : goal.open-requires-clause-low
+open-requires-clause-low g c = c.requires.low
+
+pub open-requires-clause-sound : goal.open-requires-clause-sound
+open-requires-clause-sound g c = c.lists.invariant.sound
+
+pub open-requires-clause-splits : goal.open-requires-clause-splits
+open-requires-clause-splits g c = c.lists.invariant.splits
+
+pub lists-init : goal.lists-init
+lists-init g c = record { sound = c.requires.sound; better = λ q n m. m; splits = c.requires.splits; few = c.requires.few; opened = λ i low inside. absurd (omega (arith, low)) }
+
+pub returns-clause-sound : goal.returns-clause-sound
+returns-clause-sound g c = c.lists.invariant.sound
+
+pub returns-clause-better : goal.returns-clause-better
+returns-clause-better g c = c.lists.invariant.better
+
+pub returns-clause-few : goal.returns-clause-few
+returns-clause-few g c = c.lists.invariant.few
+
+pub returns-clause-splits : goal.returns-clause-splits
+returns-clause-splits g c = c.lists.invariant.splits

@@ -1,17 +1,24 @@
-use Rattle.std.proofs.Common.{arith}
-use Rattle.sta_classes.specs.Rules.{plain_rules, meaning_of}
-use Rattle.sta_classes.proofs.Runs.{run_last}
-use Rattle.sta_classes.proofs.Turns.{few_found}
+use Rattle.sta_classes.specs.Meant.{AreFound, AreAllFound, HasMoreClasses}
+use Rattle.std.proofs.Common.{◌≤◌, length}
+use Rattle.sta_classes.specs.Guards.{all_guards}
+use Rattle.sta_classes.specs.Rules.{plain_rules}
+use Rattle.sta_classes.specs.Searched.{AreKinds}
+use Rattle.sta_classes.specs.Stop.{ClassStopsFor}
+use Rattle.sta_classes.specs.declared.class.TheConstants.{CAP}
+use Rattle.sta_classes.proofs.Keeping.{kept_ok, kept_err}
 use Rattle.sta_classes.proofs.search.Search.run.Goals as goal
 
-pub turn-requires-clause-taken : goal.turn-requires-clause-taken
-turn-requires-clause-taken g c = (c.turns.course.pending, c.turns.invariant, c.in-Some.ensures.taken)
-
-pub turns-smaller : goal.turns-smaller
-turns-smaller g c = omega (arith, c.in_ok-turn.ensures.grown, c.in_ok-turn.ensures.going.few, few_found c.args.self.now.ranks.now (g.T.Theory.meaning c.args.self.now.theory.now).has (g.T.Theory.meaning c.args.self.now.theory.now).keeps (meaning_of g.T.Theory.atom_holds (plain_rules c.args.self.now.rules.now)) g.T.Theory.label_of c.turn.new.course.known.classes.items c.turn.new.course.pending c.in_ok-turn.ensures.going.sound)
+pub returns-clause-classes : goal.returns-clause-classes
+returns-clause-classes g c = kept_ok c.go_on-ended.new.course.known (λ known. AreFound (g.T.Theory.meaning c.args.self.now.theory.now) CAP c.args.self.now.ranks.now (plain_rules c.args.self.now.rules.now) known.classes.items) c.go_on-ended.result c.kept.result c.kept.ensures c.go_on-ended.ensures.classes
 
 pub returns-clause-complete : goal.returns-clause-complete
-returns-clause-complete g c = run_last (g.T.Theory.meaning c.args.self.now.theory.now) c.args.self.now.ranks.now c.args.self.now.rules.now c.turns.course.known.classes.items c.turns.course.known.places.items c.turns.course.pending c.take.new.self c.turns.invariant.sound c.turns.invariant.kinds c.turns.invariant.opened c.in_default.ensures.taken
+returns-clause-complete g c = kept_ok c.go_on-ended.new.course.known (λ known. AreAllFound (g.T.Theory.meaning c.args.self.now.theory.now) CAP c.args.self.now.ranks.now (plain_rules c.args.self.now.rules.now) known.classes.items) c.go_on-ended.result c.kept.result c.kept.ensures c.go_on-ended.ensures.complete
+
+pub returns-clause-kinds : goal.returns-clause-kinds
+returns-clause-kinds g c = kept_ok c.go_on-ended.new.course.known (λ known. AreKinds c.args.self.now.ranks.now c.args.self.now.rules.now known.classes.items known.places.items) c.go_on-ended.result c.kept.result c.kept.ensures c.go_on-ended.ensures.kinds
 
 pub returns-clause-few : goal.returns-clause-few
-returns-clause-few g c = omega (arith, c.turns.invariant.few, few_found c.args.self.now.ranks.now (g.T.Theory.meaning c.args.self.now.theory.now).has (g.T.Theory.meaning c.args.self.now.theory.now).keeps (meaning_of g.T.Theory.atom_holds (plain_rules c.args.self.now.rules.now)) g.T.Theory.label_of c.turns.course.known.classes.items c.turns.course.pending c.turns.invariant.sound)
+returns-clause-few g c = kept_ok c.go_on-ended.new.course.known (λ known. length known.classes.items ≤ c.args.self.now.most) c.go_on-ended.result c.kept.result c.kept.ensures c.go_on-ended.ensures.few
+
+pub returns-clause-stop : goal.returns-clause-stop
+returns-clause-stop g c = kept_err c.go_on-ended.new.course.known (ClassStopsFor (g.T.Theory.meaning c.args.self.now.theory.now) (HasMoreClasses (g.T.Theory.meaning c.args.self.now.theory.now) (record { ranks = c.args.self.now.ranks.now; rules = plain_rules c.args.self.now.rules.now }) c.args.self.now.most) (all_guards (plain_rules c.args.self.now.rules.now))) c.go_on-ended.result c.kept.result c.kept.ensures c.go_on-ended.ensures.stop

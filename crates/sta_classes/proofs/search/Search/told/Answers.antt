@@ -1,4 +1,5 @@
-use Rattle.std.proofs.Common.{◌≡◌, ◌<◌, ◌∙◌, All, length, get_or, sym, subst, arith}
+use Rattle.std.proofs.Common.{◌≡◌, ◌<◌, ◌∙◌, true, All, length, get_or, map, ap, sym, subst, arith}
+use Rattle.std.proofs.lemmas.List.{length-map}
 use Rattle.std.proofs.lemmas.Result.{err_from_is_err_and}
 use Rattle.model_tree.specs.Formula.{EveryAtom}
 use Rattle.model_sta.proofs.Reached.{same_default}
@@ -10,7 +11,7 @@ use Rattle.sta_classes.specs.Rows.{class_rows}
 use Rattle.sta_classes.specs.Rules.{plain_rules}
 use Rattle.sta_classes.specs.Splits.{AreMet, AreAllTold}
 use Rattle.sta_classes.specs.Stop.{ClassStopsFor}
-use Rattle.sta_classes.proofs.Keys.{split_set}
+use Rattle.sta_classes.proofs.Keys.{split_set, met_at, all_told_at, told_found}
 use Rattle.sta_classes.proofs.Told.{guards_fit, guards_of_all, stop_within}
 use Rattle.sta_classes.proofs.search.Search.told.Goals as goal
 
@@ -39,3 +40,31 @@ returns-clause-splits g c =
       subst (λ z. AreAllTold (g.T.Theory.meaning c.args.self.now.theory.now) z.list.items c.number.new.self) (sym c.index-self-over.is ∙ same) c.in_ok-number.ensures.told,
     ))
     c.requires.splits
+
+pub key-requires-clause-all : goal.key-requires-clause-all
+key-requires-clause-all g c =
+    let is : IsRules c.args.self.now.rules.now c.args.over.now.constructor c.index-self-over.result = c.requires.ready.own_are c.args.over.now.constructor c.index-self-over.result (omega (arith, c.requires.low, c.requires.ready.many)) (sym c.index-self-over.is) in
+    subst (λ R. R.all ≡ map (λ x. true) R.list.items) c.index-self-over.is is.all_are
+
+pub key-requires-clause-known : goal.key-requires-clause-known
+key-requires-clause-known g c =
+    let met = met_at (g.T.Theory.meaning c.args.self.now.theory.now) c.args.self.now.ranks.now c.args.self.now.own.now (class_rows c.args.known.now.classes.items) c.args.splits.now.items c.requires.splits c.args.over.now.constructor c.index-self-over.result c.index_mut-split.result.now (omega (arith, c.requires.low, c.requires.ready.many)) (omega (arith, c.requires.low, c.requires.splits.many)) c.index_mut-split.ensures.value (length c.args.over.now.children.now) c.requires.wide in
+    subst (λ n. All (λ k. k < n) c.args.over.now.children.now) (sym (met.many ∙ length-map c.args.known.now.classes.items (λ z. z.row))) c.requires.children
+
+pub key-requires-clause-met : goal.key-requires-clause-met
+key-requires-clause-met g c = (class_rows c.args.known.now.classes.items, met_at (g.T.Theory.meaning c.args.self.now.theory.now) c.args.self.now.ranks.now c.args.self.now.own.now (class_rows c.args.known.now.classes.items) c.args.splits.now.items c.requires.splits c.args.over.now.constructor c.index-self-over.result c.index_mut-split.result.now (omega (arith, c.requires.low, c.requires.ready.many)) (omega (arith, c.requires.low, c.requires.splits.many)) c.index_mut-split.ensures.value (length c.args.over.now.children.now) c.requires.wide)
+
+pub number-requires-clause-many : goal.number-requires-clause-many
+number-requires-clause-many g c =
+    let is : IsRules c.args.self.now.rules.now c.args.over.now.constructor c.index-self-over.result = c.requires.ready.own_are c.args.over.now.constructor c.index-self-over.result (omega (arith, c.requires.low, c.requires.ready.many)) (sym c.index-self-over.is) in
+    let met = met_at (g.T.Theory.meaning c.args.self.now.theory.now) c.args.self.now.ranks.now c.args.self.now.own.now (class_rows c.args.known.now.classes.items) c.args.splits.now.items c.requires.splits c.args.over.now.constructor c.index-self-over.result c.index_mut-split.result.now (omega (arith, c.requires.low, c.requires.ready.many)) (omega (arith, c.requires.low, c.requires.splits.many)) c.index_mut-split.ensures.value (length c.args.over.now.children.now) c.requires.wide in
+    ap length (c.in_ok-key.ensures (class_rows c.args.known.now.classes.items) met) ∙ length-map _ _ ∙ sym (subst (λ R. length R.guarded ≡ length R.list.items) c.index-self-over.is (ap length is.guarded_are ∙ length-map _ _))
+
+pub number-requires-clause-told : goal.number-requires-clause-told
+number-requires-clause-told g c = all_told_at (g.T.Theory.meaning c.args.self.now.theory.now) c.args.self.now.ranks.now c.args.self.now.own.now (class_rows c.args.known.now.classes.items) c.args.splits.now.items c.requires.splits c.args.over.now.constructor c.index-self-over.result c.index_mut-split.result.now (omega (arith, c.requires.low, c.requires.ready.many)) (omega (arith, c.requires.low, c.requires.splits.many)) c.index_mut-split.ensures.value
+
+pub returns-clause-found : goal.returns-clause-found
+returns-clause-found g c R s of at =
+    let met = met_at (g.T.Theory.meaning c.args.self.now.theory.now) c.args.self.now.ranks.now c.args.self.now.own.now (class_rows c.args.known.now.classes.items) c.args.splits.now.items c.requires.splits c.args.over.now.constructor c.index-self-over.result c.index_mut-split.result.now (omega (arith, c.requires.low, c.requires.ready.many)) (omega (arith, c.requires.low, c.requires.splits.many)) c.index_mut-split.ensures.value (length c.args.over.now.children.now) c.requires.wide in
+    told_found (g.T.Theory.meaning c.args.self.now.theory.now) c.args.self.now.ranks.now c.args.self.now.own.now (class_rows c.args.known.now.classes.items) c.args.splits.now.items c.args.over.now.constructor c.args.over.now.children.now c.index-self-over.result R c.number.new.self s c.in_ok-key.key c.in_ok-number.number (omega (arith, c.requires.low, c.requires.ready.many)) of (omega (arith, c.requires.low, c.requires.splits.many)) at
+    (c.in_ok-key.ensures (class_rows c.args.known.now.classes.items) met) c.in_ok-number.ensures.number

@@ -33,3 +33,9 @@ returns-clause-number g c =
     (subst (λ z. c.in_ok-number.number < length z.keys) (sym keys) (slice_get_within c.insert_full.new.self.keys c.in_ok-number.number c.in_ok-number.ensures.stored.0 c.in_ok-number.ensures.stored.1))
     (ap (λ z. get_or z.keys c.in_ok-number.number []) keys ∙ row_at c.args.self.now.sets.keys c.insert_full.new.self.keys c.meet.new.self c.in_ok-number.number c.in_ok-number.new c.in_ok-number.ensures.added c.in_ok-number.ensures.keys c.in_ok-number.ensures.stored
     ∙ c.meet.ensures ∙ ap (λ z. both z c.args.key.now) c.in_ok-wanted.ensures)
+
+pub meet-requires : goal.meet-requires
+meet-requires g c = c.requires.many ∙ sym (ap length c.in_ok-wanted.ensures)
+
+pub returns-clause-met : goal.returns-clause-met
+returns-clause-met g c = elim c.if-new.branch [ then-new+in_ok-told+in_ok-push w ↦ ap (λ s. s.met) w.self-is | else-new w ↦ ap (λ s. s.met) w.self-is ]

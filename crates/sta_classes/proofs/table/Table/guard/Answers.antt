@@ -1,4 +1,4 @@
-use Rattle.std.proofs.Common.{◌≡◌, ◌↔◌, IsTrue, refl, ap, sym, subst, subst₂, ◌∙◌, length, map}
+use Rattle.std.proofs.Common.{◌≡◌, ◌<◌, ◌↔◌, All, IsTrue, refl, ap, sym, subst, subst₂, ◌∙◌, length, map}
 use Rattle.std.proofs.lemmas.List.{length-map}
 use Rattle.model_tree.specs.Formula.{formula_holds}
 use Rattle.model_sta.specs.Sets.{step}
@@ -7,7 +7,7 @@ use Rattle.label_core.specs.Formula.{plain_formula, atoms_in}
 use Rattle.sta_core.specs.Machine.{plain_rule}
 use Rattle.sta_classes.specs.Rules.{plain_rules, meaning_of}
 use Rattle.sta_classes.specs.Guards.{all_guards, atoms_of_all}
-use Rattle.sta_classes.specs.Rows.{class_rows_at}
+use Rattle.sta_classes.specs.Rows.{plain_class, class_rows_at}
 use Rattle.sta_classes.specs.declared.class.TheConstants.{CAP}
 use Rattle.sta_classes.proofs.Trees.{row_long, guard_here}
 use Rattle.sta_classes.proofs.Fired.{row_holds, row_atoms}
@@ -35,3 +35,7 @@ pub returns-clause-atoms : goal.returns-clause-atoms
 returns-clause-atoms g c =
     subst₂ (λ f rs. EachHasEqual g.A.PartialEq.eq (atoms_in f) (atoms_of_all (all_guards rs))) (sym c.in_ok-formula.ensures) (c.rules.ensures.rules ∙ ap (λ z. z.machine.rules) c.self.view_is)
     (row_atoms c.args.constructor (class_rows_at c.deref.result.now c.deref-2.result.now) g.A.PartialEq.eq g.met.A.Eq.laws (plain_rules c.rules.result.now) c.index.result.now.row)
+
+pub row_formula-requires-clause-children : goal.row_formula-requires-clause-children
+row_formula-requires-clause-children g c =
+    subst₂ (λ n ks. All (λ k. k < n) ks) (ap (λ z. length z.found) (sym c.self.view_is) ∙ length-map c.self.inside.known.classes.items plain_class ∙ sym (ap length c.deref.ensures.value)) (sym (c.deref-2.ensures.value ∙ c.in_ok-children.ensures)) c.requires.children

@@ -1,0 +1,9 @@
+use Rattle.std.proofs.Common.{◌≡◌, ◌∙◌, IfOk, ap, subst}
+use Rattle.model_tree.specs.Formula.{some_of, formulas_of}
+use Rattle.label_core.specs.Formula.{plain_formula}
+use Rattle.sta_classes.specs.RowFormula.{signed}
+use Rattle.sta_classes.proofs.formula.state_formula.Goals as goal
+
+pub returns : goal.returns
+returns g c =
+    subst (λ f. IfOk c.signed.result (λ made. plain_formula made ≡ signed c.args.sign f)) (c.disjunction.ensures ∙ ap (λ fs. some_of (formulas_of fs)) c.in_ok-guards.ensures) c.signed.ensures

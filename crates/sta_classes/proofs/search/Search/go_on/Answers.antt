@@ -1,0 +1,32 @@
+use Rattle.std.proofs.Common.{arith}
+use Rattle.sta_classes.specs.Rules.{plain_rules, meaning_of}
+use Rattle.sta_classes.proofs.Runs.{run_first, run_last}
+use Rattle.sta_classes.proofs.Turns.{few_found}
+use Rattle.sta_classes.proofs.search.Search.go_on.Goals as goal
+
+pub turns-init : goal.turns-init
+turns-init g c = record {
+  sound = c.in_ok-open_leaves.ensures.sound;
+  kinds = c.requires.kinds;
+  splits = c.in_ok-open_leaves.ensures.splits;
+  few = c.in_ok-open_leaves.ensures.few;
+  opened = run_first (g.T.Theory.meaning c.args.self.now.theory.now) c.args.self.now.ranks.now c.args.self.now.rules.now c.args.course.now.known.classes.items c.args.course.now.known.places.items c.open_leaves.new.pending c.requires.none c.requires.kinds c.in_ok-open_leaves.ensures.opened;
+}
+
+pub turn-requires-clause-taken : goal.turn-requires-clause-taken
+turn-requires-clause-taken g c = (c.turns.course.pending, c.turns.invariant, c.in-Some.ensures.taken)
+
+pub turns-smaller : goal.turns-smaller
+turns-smaller g c = omega (arith, c.in_ok-turn.ensures.grown, c.in_ok-turn.ensures.going.few, few_found c.args.self.now.ranks.now (g.T.Theory.meaning c.args.self.now.theory.now).has (g.T.Theory.meaning c.args.self.now.theory.now).keeps (meaning_of g.T.Theory.atom_holds (plain_rules c.args.self.now.rules.now)) g.T.Theory.label_of c.turn.new.course.known.classes.items c.turn.new.course.pending c.in_ok-turn.ensures.going.sound)
+
+pub returns-clause-classes : goal.returns-clause-classes
+returns-clause-classes g c = c.turns.invariant.sound.classes
+
+pub returns-clause-complete : goal.returns-clause-complete
+returns-clause-complete g c = run_last (g.T.Theory.meaning c.args.self.now.theory.now) c.args.self.now.ranks.now c.args.self.now.rules.now c.turns.course.known.classes.items c.turns.course.known.places.items c.turns.course.pending c.take.new.self c.turns.invariant.sound c.turns.invariant.kinds c.turns.invariant.opened c.in_default.ensures.taken
+
+pub returns-clause-kinds : goal.returns-clause-kinds
+returns-clause-kinds g c = c.turns.invariant.kinds
+
+pub returns-clause-few : goal.returns-clause-few
+returns-clause-few g c = omega (arith, c.turns.invariant.few, few_found c.args.self.now.ranks.now (g.T.Theory.meaning c.args.self.now.theory.now).has (g.T.Theory.meaning c.args.self.now.theory.now).keeps (meaning_of g.T.Theory.atom_holds (plain_rules c.args.self.now.rules.now)) g.T.Theory.label_of c.turns.course.known.classes.items c.turns.course.pending c.turns.invariant.sound)

@@ -1,0 +1,26 @@
+use Rattle.std.proofs.Common.{subst, arith}
+use Rattle.std.proofs.lemmas.List.{nil_from_length}
+use Rattle.std.proofs.lemmas.List.Sorted.{All-permutation}
+use Rattle.sta_classes.specs.Splits.{AreTelling}
+use Rattle.sta_classes.proofs.Told.{telling_first, telling_more, last_row}
+use Rattle.sta_classes.proofs.splits.tell_each.Goals as goal
+
+pub rows-init : goal.rows-init
+rows-init g c = record {
+  left = All-permutation (λ r. (g.T.Theory.meaning c.args.theory.now).keeps (g.T.Theory.label_of r.value)) c.args.rows.now.items c.reverse.new.self.items c.reverse.ensures.permutation c.requires.kept;
+  telling = telling_first (g.T.Theory.meaning c.args.theory.now) c.args.list.now c.args.rows.now.items c.reverse.new.self.items c.reverse.ensures.permutation c.new-told.result.items c.new-told.ensures.items;
+}
+
+pub tell-requires-clause-kept : goal.tell-requires-clause-kept
+tell-requires-clause-kept g c = (last_row (g.T.Theory.meaning c.args.theory.now) c.args.list.now c.args.rows.now.items c.rows.rows.items c.pop.new.self.items c.in-Some.row c.in-Some.ensures.items c.rows.invariant.left).1
+
+pub rows-preserved : goal.rows-preserved
+rows-preserved g c =
+    let (left, keeps) = last_row (g.T.Theory.meaning c.args.theory.now) c.args.list.now c.args.rows.now.items c.rows.rows.items c.pop.new.self.items c.in-Some.row c.in-Some.ensures.items c.rows.invariant.left in
+    record {
+      left = left;
+      telling = telling_more (g.T.Theory.meaning c.args.theory.now) c.args.list.now c.args.rows.now.items c.rows.rows.items c.pop.new.self.items c.in-Some.row c.rows.told.items c.push.new.self.items c.in_ok-tell.field-0 c.in-Some.ensures.items c.in_ok-push.ensures.items c.in_ok-tell.ensures keeps c.rows.invariant.telling;
+    }
+
+pub returns : goal.returns
+returns g c = subst (λ left. AreTelling (g.T.Theory.meaning c.args.theory.now) c.args.list.now c.args.rows.now.items left c.rows.told.items) (nil_from_length c.rows.rows.items (omega (arith, c.in_default.ensures.cases.0, c.rows.rows.ok.0))) c.rows.invariant.telling

@@ -1,0 +1,15 @@
+//! A value that is kept where what was done to it ended well.
+//!
+//! It is of any type, and so is what is let go with it, so that each is dropped whole, and not part by part.
+
+ghost use Rattle.std.specs.Prelude.{◌≡◌, MatchResult, Ok, Err};
+
+/// The value without the rest, unless there was a stop.
+pub fn kept<A: Drop, B: Drop, E>(value: A, _rest: B, ended: Result<(), E>) -> Result<A, E>
+    ensures { MatchResult result (λ x. (x ≡ value) × (ended ≡ Ok tt)) (λ e. ended ≡ Err e) }
+{
+    match ended {
+        Ok(()) => Ok(value),
+        Err(stop) => Err(stop),
+    }
+}
