@@ -1,11 +1,13 @@
 use Rattle.std.proofs.lemmas.Result.{err_from_is_err_and}
-use Rattle.std.proofs.Common.{ℕ, ◌≡◌, ◌<◌, ◌∙◌, get_or, ap, sym, subst, arith, length}
+use Rattle.std.proofs.lemmas.List.{length-map}
+use Rattle.std.proofs.Common.{ℕ, ◌≡◌, ◌<◌, ◌∙◌, get_or, refl, ap, sym, subst, arith, length}
 use Rattle.sta_core.specs.Sta.{automaton_of}
 use Rattle.sta_classes.specs.Applying.{IsRules}
 use Rattle.sta_core.specs.Machine.{Machine}
 use Rattle.sta_classes.specs.Guards.{GuardsFit}
 use Rattle.sta_classes.specs.Meant.{StopsClasses}
 use Rattle.sta_classes.specs.Plain.{AreShaped}
+use Rattle.sta_classes.specs.Rows.{plain_class}
 use Rattle.sta_classes.specs.Rules.{plain_rules, meaning_of}
 use Rattle.sta_classes.specs.declared.rules.Rules.{Rules}
 use Rattle.sta_classes.specs.declared.class.TheConstants.{CAP}
@@ -48,3 +50,12 @@ returns-in_err-known-clause-stop g c =
     let machine : (record { ranks = c.ranks-ranks.result.now; rules = plain_rules c.rules-rules.result.now }) ≡ c.args.sta.now = λ i. record { ranks = c.ranks-ranks.ensures i; rules = c.rules-rules.ensures.rules i } in
     let got = err_from_is_err_and c.from_residual-in_err-known.result c.from_residual-in_err-known.ensures.1 in
     rw (got.1, got.2) (subst (λ (m : Machine g.row.T-Atom.Denot). StopsClasses (g.T.Theory.meaning c.args.theory.now) m c.args.most c.in_err-known.field-0.0) machine c.in_err-known.ensures.stop)
+
+pub returns-clause-few : goal.returns-clause-few
+returns-clause-few g c = omega (arith, length-map c.in_ok-known.known.classes.items plain_class, c.in_ok-known.ensures.few)
+
+pub returns-clause-machine : goal.returns-clause-machine
+returns-clause-machine g c = refl
+
+pub returns-in_err-own-clause-stop : goal.returns-in_err-own-clause-stop
+returns-in_err-own-clause-stop g c = let got = err_from_is_err_and c.from_residual.result c.from_residual.ensures.1 in rw (got.1, got.2) tt

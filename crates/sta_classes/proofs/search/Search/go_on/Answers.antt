@@ -1,4 +1,5 @@
 use Rattle.std.proofs.Common.{arith}
+use Rattle.std.proofs.lemmas.Result.{err_from_is_err_and}
 use Rattle.sta_classes.specs.Rules.{plain_rules, meaning_of}
 use Rattle.sta_classes.proofs.Runs.{run_first, run_last}
 use Rattle.sta_classes.proofs.Turns.{few_found}
@@ -30,3 +31,9 @@ returns-clause-kinds g c = c.turns.invariant.kinds
 
 pub returns-clause-few : goal.returns-clause-few
 returns-clause-few g c = omega (arith, c.turns.invariant.few, few_found c.args.self.now.ranks.now (g.T.Theory.meaning c.args.self.now.theory.now).has (g.T.Theory.meaning c.args.self.now.theory.now).keeps (meaning_of g.T.Theory.atom_holds (plain_rules c.args.self.now.rules.now)) g.T.Theory.label_of c.turns.course.known.classes.items c.turns.course.pending c.turns.invariant.sound)
+
+pub returns-in_err-turn-clause-stop : goal.returns-in_err-turn-clause-stop
+returns-in_err-turn-clause-stop g c = let got = err_from_is_err_and c.from_residual-in_err-turn.result c.from_residual-in_err-turn.ensures.1 in rw (got.1, got.2) c.in_err-turn.ensures.stop
+
+pub returns-in_err-open_leaves-clause-stop : goal.returns-in_err-open_leaves-clause-stop
+returns-in_err-open_leaves-clause-stop g c = let got = err_from_is_err_and c.from_residual.result c.from_residual.ensures.1 in rw (got.1, got.2) c.in_err-open_leaves.ensures.stop

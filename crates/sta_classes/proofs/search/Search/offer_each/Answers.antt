@@ -1,3 +1,4 @@
+use Rattle.std.proofs.lemmas.Result.{err_from_is_err_and}
 use Rattle.std.proofs.Common.{sym, subst, arith}
 use Rattle.sta_classes.specs.Rows.{class_rows_at}
 use Rattle.sta_classes.specs.Searched.{IsTold}
@@ -44,3 +45,9 @@ returns-clause-opened g c = c.in_ok-offer_told.ensures.opened
 
 pub returns-clause-splits : goal.returns-clause-splits
 returns-clause-splits g c = c.in_ok-key.ensures.splits
+
+pub returns-in_err-key-clause-stop : goal.returns-in_err-key-clause-stop
+returns-in_err-key-clause-stop g c = let got = err_from_is_err_and c.from_residual.result c.from_residual.ensures.1 in rw (got.1, got.2) c.in_err-key.ensures.stop
+
+pub returns-in_err-offer_told-clause-stop : goal.returns-in_err-offer_told-clause-stop
+returns-in_err-offer_told-clause-stop g c = let got = err_from_is_err_and c.from_residual-in_err-offer_told.result c.from_residual-in_err-offer_told.ensures.1 in rw (got.1, got.2) tt

@@ -1,4 +1,5 @@
 use Rattle.std.proofs.Common.{◌≤◌, get_or, sym, subst, arith}
+use Rattle.std.proofs.lemmas.Result.{err_from_is_err_and}
 use Rattle.model_sta.specs.Least.{counts_of}
 use Rattle.sta_classes.specs.Rules.{plain_rules, meaning_of}
 use Rattle.sta_classes.specs.Rows.{founds}
@@ -39,3 +40,6 @@ returns-clause-few g c = omega (arith, c.if-len-self.false, c.len.ensures.len)
 
 pub returns-clause-splits : goal.returns-clause-splits
 returns-clause-splits g c = c.in_ok-offer_each.ensures.splits
+
+pub returns-in_err-offer_each-clause-stop : goal.returns-in_err-offer_each-clause-stop
+returns-in_err-offer_each-clause-stop g c = let got = err_from_is_err_and c.from_residual.result c.from_residual.ensures.1 in rw (got.1, got.2) c.in_err-offer_each.ensures.stop

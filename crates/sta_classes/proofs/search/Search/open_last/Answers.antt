@@ -1,4 +1,5 @@
 use Rattle.std.proofs.Common.{◌≡◌, ◌<◌, ◌≤◌, ◌-◌, ◌∙◌, true≢false, length, get_or, refl, sym, ap, subst, arith}
+use Rattle.std.proofs.lemmas.Result.{err_from_is_err_and}
 use Rattle.std.proofs.lemmas.List.{length-map}
 use Rattle.sta_classes.specs.Rules.{plain_rules, meaning_of}
 use Rattle.sta_classes.specs.Pending.{IsBetter}
@@ -87,3 +88,6 @@ returns-clause-few g c = c.places.invariant.few
 
 pub returns-clause-splits : goal.returns-clause-splits
 returns-clause-splits g c = c.places.invariant.splits
+
+pub returns-in_err-open_place-clause-stop : goal.returns-in_err-open_place-clause-stop
+returns-in_err-open_place-clause-stop g c = let got = err_from_is_err_and c.from_residual.result c.from_residual.ensures.1 in rw (got.1, got.2) c.in_err-open_place.ensures.stop

@@ -1,4 +1,5 @@
-use Rattle.std.proofs.Common.{◌≤◌, ◌∙◌, [], length, sym, subst}
+use Rattle.std.proofs.Common.{◌≤◌, ◌∙◌, [], length, sym, subst, arith}
+use Rattle.std.proofs.lemmas.Result.{err_from_is_err_and}
 use Rattle.model_sta.proofs.Reached.{same_default}
 use Rattle.sta_classes.specs.Rules.{plain_rules, meaning_of}
 use Rattle.sta_classes.specs.Pending.{IsBetter}
@@ -26,3 +27,24 @@ constructors-preserved g c =
             (λ z. absurd (w.if-self-constructor-eq0.false (same_default c.args.self.now.ranks.now c.constructors.constructor _ 0 c.constructors-test.true ∙ z)));
       }
     ]
+
+pub returns-in_err-open-clause-stop : goal.returns-in_err-open-clause-stop
+returns-in_err-open-clause-stop g c = let got = err_from_is_err_and c.from_residual.result c.from_residual.ensures.1 in rw (got.1, got.2) c.in_err-open.ensures.stop
+
+pub open-requires-clause-ready : goal.open-requires-clause-ready
+open-requires-clause-ready g c = c.requires.ready
+
+pub open-requires-clause-sound : goal.open-requires-clause-sound
+open-requires-clause-sound g c = c.constructors.invariant.sound
+
+pub open-requires-clause-splits : goal.open-requires-clause-splits
+open-requires-clause-splits g c = c.constructors.invariant.splits
+
+pub constructors-init : goal.constructors-init
+constructors-init g c = record { sound = c.requires.sound; splits = c.requires.splits; few = c.requires.few; opened = λ n low. absurd (omega (arith, low)) }
+
+pub returns-clause-sound : goal.returns-clause-sound
+returns-clause-sound g c = c.constructors.invariant.sound
+
+pub returns-clause-splits : goal.returns-clause-splits
+returns-clause-splits g c = c.constructors.invariant.splits

@@ -1,4 +1,5 @@
 use Rattle.std.proofs.Common.{arith}
+use Rattle.std.proofs.lemmas.Result.{err_from_is_err_and}
 use Rattle.sta_classes.proofs.Runs.{new_more, run_touched}
 use Rattle.sta_classes.proofs.search.Search.open_new.Goals as goal
 
@@ -37,3 +38,6 @@ returns-clause-better g c = c.constructors.invariant.better
 
 pub returns-clause-splits : goal.returns-clause-splits
 returns-clause-splits g c = c.constructors.invariant.splits
+
+pub returns-in_err-open_last-clause-stop : goal.returns-in_err-open_last-clause-stop
+returns-in_err-open_last-clause-stop g c = let got = err_from_is_err_and c.from_residual.result c.from_residual.ensures.1 in rw (got.1, got.2) c.in_err-open_last.ensures.stop

@@ -1,4 +1,5 @@
 use Rattle.std.proofs.Common.{◌≡◌, ◌<◌, ◌≤◌, ◌-◌, ◌∙◌, [], inl, inr, length, get_or, All, Contains, sym, ap, subst, arith}
+use Rattle.std.proofs.lemmas.Result.{err_from_is_err_and}
 use Rattle.std.proofs.lemmas.Bool.{cases_lt}
 use Rattle.std.proofs.lemmas.List.{length-map}
 use Rattle.model_sta.specs.Least.{counts_of, nodes_at, cost}
@@ -79,3 +80,9 @@ returns-clause-few g c = c.lists.invariant.few
 
 pub returns-clause-splits : goal.returns-clause-splits
 returns-clause-splits g c = c.lists.invariant.splits
+
+pub returns-in_err-open-clause-stop : goal.returns-in_err-open-clause-stop
+returns-in_err-open-clause-stop g c = let got = err_from_is_err_and c.from_residual-in_err-open.result c.from_residual-in_err-open.ensures.1 in rw (got.1, got.2) c.in_err-open.ensures.stop
+
+pub returns-in_err-lists-clause-stop : goal.returns-in_err-lists-clause-stop
+returns-in_err-lists-clause-stop g c = let got = err_from_is_err_and c.from_residual.result c.from_residual.ensures.1 in rw (got.1, got.2) tt

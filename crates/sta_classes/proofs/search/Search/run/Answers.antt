@@ -1,3 +1,4 @@
+use Rattle.std.proofs.lemmas.Result.{err_from_is_err_and}
 use Rattle.sta_classes.specs.Meant.{AreFound, AreAllFound, HasMoreClasses}
 use Rattle.std.proofs.Common.{◌≤◌, length}
 use Rattle.sta_classes.specs.Guards.{all_guards}
@@ -22,3 +23,6 @@ returns-clause-few g c = kept_ok c.go_on-ended.new.course.known (λ known. lengt
 
 pub returns-clause-stop : goal.returns-clause-stop
 returns-clause-stop g c = kept_err c.go_on-ended.new.course.known (ClassStopsFor (g.T.Theory.meaning c.args.self.now.theory.now) (HasMoreClasses (g.T.Theory.meaning c.args.self.now.theory.now) (record { ranks = c.args.self.now.ranks.now; rules = plain_rules c.args.self.now.rules.now }) c.args.self.now.most) (all_guards (plain_rules c.args.self.now.rules.now))) c.go_on-ended.result c.kept.result c.kept.ensures c.go_on-ended.ensures.stop
+
+pub returns-in_err-course-clause-stop : goal.returns-in_err-course-clause-stop
+returns-in_err-course-clause-stop g c = let got = err_from_is_err_and c.from_residual.result c.from_residual.ensures.1 in rw (got.1, got.2) tt

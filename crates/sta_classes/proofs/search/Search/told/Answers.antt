@@ -68,3 +68,6 @@ returns-clause-found g c R s of at =
     let met = met_at (g.T.Theory.meaning c.args.self.now.theory.now) c.args.self.now.ranks.now c.args.self.now.own.now (class_rows c.args.known.now.classes.items) c.args.splits.now.items c.requires.splits c.args.over.now.constructor c.index-self-over.result c.index_mut-split.result.now (omega (arith, c.requires.low, c.requires.ready.many)) (omega (arith, c.requires.low, c.requires.splits.many)) c.index_mut-split.ensures.value (length c.args.over.now.children.now) c.requires.wide in
     told_found (g.T.Theory.meaning c.args.self.now.theory.now) c.args.self.now.ranks.now c.args.self.now.own.now (class_rows c.args.known.now.classes.items) c.args.splits.now.items c.args.over.now.constructor c.args.over.now.children.now c.index-self-over.result R c.number.new.self s c.in_ok-key.key c.in_ok-number.number (omega (arith, c.requires.low, c.requires.ready.many)) of (omega (arith, c.requires.low, c.requires.splits.many)) at
     (c.in_ok-key.ensures (class_rows c.args.known.now.classes.items) met) c.in_ok-number.ensures.number
+
+pub returns-in_err-key-clause-stop : goal.returns-in_err-key-clause-stop
+returns-in_err-key-clause-stop g c = let got = err_from_is_err_and c.from_residual.result c.from_residual.ensures.1 in rw (got.1, got.2) tt

@@ -1,3 +1,4 @@
+use Rattle.std.proofs.lemmas.Result.{err_from_is_err_and}
 use Rattle.std.proofs.Common.{◌≤◌, ◌∙◌, ◌∷◌, [], length, sym, ap, subst}
 use Rattle.std.proofs.lemmas.List.{length_push, map-append}
 use Rattle.sta_classes.specs.Rows.{class_rows}
@@ -44,3 +45,12 @@ returns-clause-going g c =
 
 pub returns-clause-grown : goal.returns-clause-grown
 returns-clause-grown g c = ap length c.in_ok-add.ensures.classes ∙ length_push c.args.course.now.known.classes.items c.args.class
+
+pub returns-in_err-add_to_splits-clause-stop : goal.returns-in_err-add_to_splits-clause-stop
+returns-in_err-add_to_splits-clause-stop g c = let got = err_from_is_err_and c.from_residual.result c.from_residual.ensures.1 in rw (got.1, got.2) tt
+
+pub returns-in_err-add-clause-stop : goal.returns-in_err-add-clause-stop
+returns-in_err-add-clause-stop g c = let got = err_from_is_err_and c.from_residual-in_err-add.result c.from_residual-in_err-add.ensures.1 in rw (got.1, got.2) tt
+
+pub returns-in_err-open_new-clause-stop : goal.returns-in_err-open_new-clause-stop
+returns-in_err-open_new-clause-stop g c = let got = err_from_is_err_and c.from_residual-in_err-open_new.result c.from_residual-in_err-open_new.ensures.1 in rw (got.1, got.2) c.in_err-open_new.ensures.stop

@@ -1,3 +1,4 @@
+use Rattle.std.proofs.lemmas.Result.{err_from_is_err_and}
 use Rattle.std.proofs.Common.{◌≡◌, ◌<◌, ◌∙◌, [], length, get_or, ap, sym, subst, refl}
 use Rattle.std.proofs.lemmas.Option.{slice_get_within}
 use Rattle.model_sta.proofs.Reached.{same_default}
@@ -39,3 +40,12 @@ meet-requires g c = c.requires.many ∙ sym (ap length c.in_ok-wanted.ensures)
 
 pub returns-clause-met : goal.returns-clause-met
 returns-clause-met g c = elim c.if-new.branch [ then-new+in_ok-told+in_ok-push w ↦ ap (λ s. s.met) w.self-is | else-new w ↦ ap (λ s. s.met) w.self-is ]
+
+pub returns-in_err-wanted-clause-stop : goal.returns-in_err-wanted-clause-stop
+returns-in_err-wanted-clause-stop g c = let got = err_from_is_err_and c.from_residual.result c.from_residual.ensures.1 in rw (got.1, got.2) tt
+
+pub returns-in_err-number-clause-stop : goal.returns-in_err-number-clause-stop
+returns-in_err-number-clause-stop g c = let got = err_from_is_err_and c.from_residual-in_err-number.result c.from_residual-in_err-number.ensures.1 in rw (got.1, got.2) tt
+
+pub returns-in_err-push-clause-stop : goal.returns-in_err-push-clause-stop
+returns-in_err-push-clause-stop g c = let got = err_from_is_err_and c.from_residual-in_err-push.result c.from_residual-in_err-push.ensures.1 in rw (got.1, got.2) tt
