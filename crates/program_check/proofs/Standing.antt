@@ -1,22 +1,21 @@
 -- What operations stand for.
 use Rattle.std.proofs.Common.{◌≡◌, ℕ, Bool, true, false, cond, List, Option, Some, None, refl, sym, ap, ap₂, ◌∙◌}
-use Rattle.std.specs.Option.{option_map, option_and_then}
+use Rattle.std.specs.Borrow.{Bor}
+use Rattle.std.specs.Option.{option_map}
 use Rattle.fast_fault.specs.declared.place.Pos.{Pos}
 use Rattle.model_grammar.specs.declared.Op1.{Op1}
 use Rattle.model_grammar.specs.declared.Op1.TheVariants.{Complement, Minimize, GetWitness, Domain}
 use Rattle.model_grammar.specs.declared.Op2.{Op2}
 use Rattle.model_grammar.specs.declared.Op2.TheVariants.{Intersect, Union, Difference, PreImage, Compose, Restrict, RestrictOut, Apply}
 use Rattle.model_grammar.specs.Syntax.{X, one, two, Item}
-use Rattle.model_names.specs.Declared.{find_type}
 use Rattle.model_names.specs.Kinds.{same_kind, if_kind, taken_by_one, kind_of, type_of, output_of}
 use Rattle.model_names.specs.Kinds as model
 use Rattle.model_checks.specs.Expressions.{wanted_second}
-use Rattle.program_check.specs.declared.declared_type.DeclaredType.{DeclaredType}
 use Rattle.program_check.specs.declared.expressions.Kind.{Kind}
 use Rattle.program_check.specs.declared.expressions.Kind.TheVariants.{Language, Transformation}
 use Rattle.program_check.specs.declared.expressions.Standing.{Standing}
 use Rattle.program_check.specs.Typed.{type_name}
-use Rattle.program_check.specs.Standings.{plain_kind, IsDeclared, IsStanding, only_as, kind_taken, second_wanted, standing_of_one, standing_of_two}
+use Rattle.program_check.specs.Standings.{plain_kind, IsStanding, only_as, kind_taken, second_wanted, standing_of_one, standing_of_two}
 
 pub kind_is : (op : Op1) → plain_kind (kind_taken op) ≡ taken_by_one op
 kind_is Complement = refl
@@ -24,28 +23,17 @@ kind_is Minimize = refl
 kind_is GetWitness = refl
 kind_is Domain = refl
 
-name_if : (b : Bool) (t : Option DeclaredType) → type_name (cond b t None) ≡ cond b (type_name t) None
+name_if : (b : Bool) (t : Option (Bor (List ℕ))) → type_name (cond b t None) ≡ cond b (type_name t) None
 name_if true t = refl
 name_if false t = refl
 
-only_name : (k : Kind) (known : Option Kind) (t : Option DeclaredType) → type_name (only_as k known t) ≡ if_kind (plain_kind k) (option_map plain_kind known) (type_name t)
+only_name : (k : Kind) (known : Option Kind) (t : Option (Bor (List ℕ))) → type_name (only_as k known t) ≡ if_kind (plain_kind k) (option_map plain_kind known) (type_name t)
 only_name k None t = refl
 only_name k (Some found) t = name_if (same_kind (plain_kind found) (plain_kind k)) t
 
 -- the type or nothing, where something is known of the kind and of the type
-pub only_is : (k : Kind) (known : Option Kind) (t : Option DeclaredType) (kind : Option model.Kind) (name : Option (List ℕ)) → option_map plain_kind known ≡ kind → type_name t ≡ name → type_name (only_as k known t) ≡ if_kind (plain_kind k) kind name
+pub only_is : (k : Kind) (known : Option Kind) (t : Option (Bor (List ℕ))) (kind : Option model.Kind) (name : Option (List ℕ)) → option_map plain_kind known ≡ kind → type_name t ≡ name → type_name (only_as k known t) ≡ if_kind (plain_kind k) kind name
 only_is k known t kind name kind_is name_is = only_name k known t ∙ ap₂ (λ o n. if_kind (plain_kind k) o n) kind_is name_is
-
-none_declared : (items : List Item) → IsDeclared items None
-none_declared items = record { is = refl }
-
-declared_if : (items : List Item) (b : Bool) (t : Option DeclaredType) → IsDeclared items t → IsDeclared items (cond b t None)
-declared_if items true t h = h
-declared_if items false t h = none_declared items
-
-pub only_declared : (items : List Item) (k : Kind) (known : Option Kind) (t : Option DeclaredType) → IsDeclared items t → IsDeclared items (only_as k known t)
-only_declared items k None t h = none_declared items
-only_declared items k (Some found) t h = declared_if items (same_kind (plain_kind found) (plain_kind k)) t h
 
 module _ (items before : List Item) where
   pub one_stands : (op : Op1) (place : Pos) (x : X) (s : Standing) → IsStanding items x s → IsStanding items (one op place x) (standing_of_one op s)
@@ -53,8 +41,6 @@ module _ (items before : List Item) where
     kind = given op;
     input = only_is (kind_taken op) s.kind s.input _ _ h.kind h.input ∙ ap (λ k. if_kind k (kind_of items x) (type_of items x)) (kind_is op);
     output = refl;
-    declared_input = only_declared items (kind_taken op) s.kind s.input h.declared_input;
-    declared_output = none_declared items;
   }
     where
       given : (op : Op1) → option_map plain_kind (standing_of_one op s).kind ≡ kind_of items (one op place x)
@@ -73,34 +59,12 @@ module _ (items before : List Item) where
   wanted_is RestrictOut x s h = only_is Transformation s.kind s.output _ _ h.kind h.output
   wanted_is Apply x s h = only_is Transformation s.kind s.input _ _ h.kind h.input
 
-  pub wanted_declared : (op : Op2) (x : X) (s : Standing) → IsStanding items x s → IsDeclared items (second_wanted op s)
-  wanted_declared Intersect x s h = only_declared items Language s.kind s.input h.declared_input
-  wanted_declared Union x s h = only_declared items Language s.kind s.input h.declared_input
-  wanted_declared Difference x s h = only_declared items Language s.kind s.input h.declared_input
-  wanted_declared PreImage x s h = only_declared items Transformation s.kind s.output h.declared_output
-  wanted_declared Compose x s h = only_declared items Transformation s.kind s.output h.declared_output
-  wanted_declared Restrict x s h = only_declared items Transformation s.kind s.input h.declared_input
-  wanted_declared RestrictOut x s h = only_declared items Transformation s.kind s.output h.declared_output
-  wanted_declared Apply x s h = only_declared items Transformation s.kind s.input h.declared_input
-
-  two_of : (op : Op2) (place : Pos) (x y : X) (s t : Standing) → IsStanding items x s → IsStanding items y t
-      → (option_map plain_kind (standing_of_two op s t).kind ≡ kind_of items (two op place x y))
-      → (type_name (standing_of_two op s t).input ≡ type_of items (two op place x y))
-      → (type_name (standing_of_two op s t).output ≡ output_of items (two op place x y))
-      → IsDeclared items (standing_of_two op s t).input → IsDeclared items (standing_of_two op s t).output → IsStanding items (two op place x y) (standing_of_two op s t)
-  two_of op place x y s t h g kind input output from into = record { kind = kind; input = input; output = output; declared_input = from; declared_output = into }
-
   pub two_stands : (op : Op2) (place : Pos) (x y : X) (s t : Standing) → IsStanding items x s → IsStanding items y t → IsStanding items (two op place x y) (standing_of_two op s t)
-  two_stands Intersect place x y s t h g = two_of Intersect place x y s t h g refl (only_is Language s.kind s.input _ _ h.kind h.input) refl (only_declared items Language s.kind s.input h.declared_input) (none_declared items)
-  two_stands Union place x y s t h g = two_of Union place x y s t h g refl (only_is Language s.kind s.input _ _ h.kind h.input) refl (only_declared items Language s.kind s.input h.declared_input) (none_declared items)
-  two_stands Difference place x y s t h g = two_of Difference place x y s t h g refl (only_is Language s.kind s.input _ _ h.kind h.input) refl (only_declared items Language s.kind s.input h.declared_input) (none_declared items)
-  two_stands PreImage place x y s t h g = two_of PreImage place x y s t h g refl (only_is Transformation s.kind s.input _ _ h.kind h.input) refl (only_declared items Transformation s.kind s.input h.declared_input) (none_declared items)
-  two_stands Compose place x y s t h g = two_of Compose place x y s t h g refl (only_is Transformation s.kind s.input _ _ h.kind h.input) (only_is Transformation t.kind t.output _ _ g.kind g.output) (only_declared items Transformation s.kind s.input h.declared_input) (only_declared items Transformation t.kind t.output g.declared_output)
-  two_stands Restrict place x y s t h g = two_of Restrict place x y s t h g refl (only_is Transformation s.kind s.input _ _ h.kind h.input) (only_is Transformation s.kind s.output _ _ h.kind h.output) (only_declared items Transformation s.kind s.input h.declared_input) (only_declared items Transformation s.kind s.output h.declared_output)
-  two_stands RestrictOut place x y s t h g = two_of RestrictOut place x y s t h g refl (only_is Transformation s.kind s.input _ _ h.kind h.input) (only_is Transformation s.kind s.output _ _ h.kind h.output) (only_declared items Transformation s.kind s.input h.declared_input) (only_declared items Transformation s.kind s.output h.declared_output)
-  two_stands Apply place x y s t h g = two_of Apply place x y s t h g refl (only_is Transformation s.kind s.output _ _ h.kind h.output) refl (only_declared items Transformation s.kind s.output h.declared_output) (none_declared items)
-
--- ---- the same in the same program
-
-pub declared_in : {a b : List Item} (t : Option DeclaredType) → a ≡ b → IsDeclared b t → IsDeclared a t
-declared_in t e h = record { is = h.is ∙ ap (λ items. option_and_then (find_type items) (type_name t)) (sym e) }
+  two_stands Intersect place x y s t h g = record { kind = refl; input = only_is Language s.kind s.input _ _ h.kind h.input; output = refl }
+  two_stands Union place x y s t h g = record { kind = refl; input = only_is Language s.kind s.input _ _ h.kind h.input; output = refl }
+  two_stands Difference place x y s t h g = record { kind = refl; input = only_is Language s.kind s.input _ _ h.kind h.input; output = refl }
+  two_stands PreImage place x y s t h g = record { kind = refl; input = only_is Transformation s.kind s.input _ _ h.kind h.input; output = refl }
+  two_stands Compose place x y s t h g = record { kind = refl; input = only_is Transformation s.kind s.input _ _ h.kind h.input; output = only_is Transformation t.kind t.output _ _ g.kind g.output }
+  two_stands Restrict place x y s t h g = record { kind = refl; input = only_is Transformation s.kind s.input _ _ h.kind h.input; output = only_is Transformation s.kind s.output _ _ h.kind h.output }
+  two_stands RestrictOut place x y s t h g = record { kind = refl; input = only_is Transformation s.kind s.input _ _ h.kind h.input; output = only_is Transformation s.kind s.output _ _ h.kind h.output }
+  two_stands Apply place x y s t h g = record { kind = refl; input = only_is Transformation s.kind s.output _ _ h.kind h.output; output = refl }

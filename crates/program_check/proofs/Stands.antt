@@ -1,24 +1,15 @@
--- What is found by a name is a declared type; operations around others.
+-- Operations around others.
 use Rattle.std.proofs.Common.{◌≡◌, ℕ, suc, ◌+◌, ◌<◌, ◌≤◌, Bool, true, false, List, [], ◌++◌, Option, Some, None, length, refl, sym, ap, ap₂, ◌∙◌, arith, add-one}
 use Rattle.std.specs.Prelude.{nat_le, nat_lt}
 use Rattle.std.proofs.lemmas.Bool.Decides.{nat_tests}
 use Rattle.fast_fault.specs.declared.place.Pos.{Pos}
 use Rattle.fast_fault.specs.declared.code.Code.TheVariants.{TooMany}
 use Rattle.model_grammar.specs.Syntax.{X, named, one, two, literal, Xs, no_x, and_x, Item}
-use Rattle.model_names.specs.Declared.{find_type}
-use Rattle.program_check.specs.declared.declared_type.DeclaredType.{DeclaredType}
-use Rattle.program_check.specs.Typed.{plain_of, plain_option}
 use Rattle.model_names.specs.Kinds.{a_tree, taken_by_one, taken_first, taken_second}
 use Rattle.model_checks.specs.Failures.{fails_if}
 use Rattle.model_checks.specs.Labels.{labels_failures}
 use Rattle.model_checks.specs.Rules.{constructor_failures, label_count_failures, fields_of}
 use Rattle.model_checks.specs.Expressions.{nesting_failures, x_failures, xs_failures, needs_be, wanted_second, expected_as, type_called, count_xs}
-use Rattle.model_checks.proofs.SoundParts.{found_named}
-use Rattle.program_check.specs.Standings.{IsDeclared}
-
-pub found_is : (items : List Item) (name : List ℕ) (t : Option DeclaredType) → plain_option t ≡ find_type items name → IsDeclared items t
-found_is items name None e = record { is = refl }
-found_is items name (Some t) e = record { is = e ∙ ap (find_type items) (sym (found_named items name (plain_of t) (sym e))) }
 
 -- where there are 64 operations around, it doesn't matter how many
 nested_alike : (m n : ℕ) (place : Pos) → 64 ≤ m → 64 ≤ n → nesting_failures m place ≡ nesting_failures n place

@@ -1,6 +1,7 @@
 -- What an expression stands for, as the code keeps it.
 use Rattle.std.specs.Prelude.{◌≡◌, ℕ, ◌++◌, List, [], Option, Some, None, cond, length}
-use Rattle.std.specs.Option.{option_map, option_and_then}
+use Rattle.std.specs.Borrow.{Bor}
+use Rattle.std.specs.Option.{option_map}
 use Rattle.fast_fault.specs.declared.refusal.Refusal.{Refusal}
 use Rattle.model_program.specs.Syntax.{Name}
 use Rattle.model_program.specs.Syntax as model
@@ -10,7 +11,6 @@ use Rattle.model_grammar.specs.declared.Op1.{Op1}
 use Rattle.model_grammar.specs.declared.Op1.TheVariants.{Complement, Minimize, GetWitness, Domain}
 use Rattle.model_grammar.specs.declared.Op2.{Op2}
 use Rattle.model_grammar.specs.declared.Op2.TheVariants.{Intersect, Union, Difference, PreImage, Compose, Restrict, RestrictOut, Apply}
-use Rattle.model_names.specs.Declared.{find_type}
 use Rattle.model_names.specs.Kinds.{language, transformation, a_tree, same_kind, kind_of, type_of, output_of}
 use Rattle.model_names.specs.Kinds as model_kinds
 use Rattle.model_checks.specs.Labels.{labels_failures}
@@ -18,31 +18,24 @@ use Rattle.model_checks.specs.Rules.{constructor_failures, label_count_failures,
 use Rattle.model_checks.specs.Expressions.{expected_as, needs_be, x_failures}
 use Rattle.program_check.specs.declared.expressions.Kind.{Kind}
 use Rattle.program_check.specs.declared.expressions.Kind.TheVariants.{Language, Transformation, Tree}
-use Rattle.program_check.specs.declared.declared_type.DeclaredType.{DeclaredType}
 use Rattle.program_check.specs.declared.expressions.Standing.{Standing}
-use Rattle.program_check.specs.Typed.{plain_option, type_name}
+use Rattle.program_check.specs.Typed.{type_name}
 
 abbrev pub plain_kind : Kind → model_kinds.Kind
 plain_kind Language = language
 plain_kind Transformation = transformation
 plain_kind Tree = a_tree
 
--- a type is the one that its name finds
-pub record IsDeclared (items : List Item) (t : Option DeclaredType) : Type 0 where
-  pub is : plain_option t ≡ option_and_then (find_type items) (type_name t)
-
--- the kind and the types of an expression
+-- the kind of an expression, and the names of its types
 pub record IsStanding (items : List Item) (x : X) (s : Standing) : Type 0 where
   pub kind : option_map plain_kind s.kind ≡ kind_of items x
   pub input : type_name s.input ≡ type_of items x
   pub output : type_name s.output ≡ output_of items x
-  pub declared_input : IsDeclared items s.input
-  pub declared_output : IsDeclared items s.output
 
--- the type, where something is of this kind
-abbrev pub only_as : Kind → Option Kind → Option DeclaredType → Option DeclaredType
-only_as kind None t = None
-only_as kind (Some found) t = cond (same_kind (plain_kind found) (plain_kind kind)) t None
+-- the name of the type, where something is of this kind
+abbrev pub only_as : Kind → Option Kind → Option (Bor (List ℕ)) → Option (Bor (List ℕ))
+only_as kind None name = None
+only_as kind (Some found) name = cond (same_kind (plain_kind found) (plain_kind kind)) name None
 
 -- an expression, inside so many operations, that is to be of this type and this kind
 abbrev pub as_failures : List Item → List Item → ℕ → Option (List ℕ) → model_kinds.Kind → X → List Refusal
@@ -52,8 +45,8 @@ as_failures items before around type kind x = x_failures items before around (ex
 abbrev pub literal_failures : Option model.TypeItem → Name → List plain.Expr → ℕ → List Refusal
 literal_failures t name labels count = constructor_failures t name count ++ (label_count_failures t name (length labels) ++ labels_failures (Some []) (fields_of t) labels)
 
--- the types of what an operation on two operands gives
-abbrev pub input_of_two : Op2 → Standing → Option DeclaredType
+-- the names of the types of what an operation on two operands gives
+abbrev pub input_of_two : Op2 → Standing → Option (Bor (List ℕ))
 input_of_two Intersect s = only_as Language s.kind s.input
 input_of_two Union s = only_as Language s.kind s.input
 input_of_two Difference s = only_as Language s.kind s.input
@@ -63,7 +56,7 @@ input_of_two Restrict s = only_as Transformation s.kind s.input
 input_of_two RestrictOut s = only_as Transformation s.kind s.input
 input_of_two Apply s = only_as Transformation s.kind s.output
 
-abbrev pub output_of_two : Op2 → Standing → Standing → Option DeclaredType
+abbrev pub output_of_two : Op2 → Standing → Standing → Option (Bor (List ℕ))
 output_of_two Intersect s t = None
 output_of_two Union s t = None
 output_of_two Difference s t = None
@@ -73,8 +66,8 @@ output_of_two Restrict s t = only_as Transformation s.kind s.output
 output_of_two RestrictOut s t = only_as Transformation s.kind s.output
 output_of_two Apply s t = None
 
--- the type that the second operand is to have
-abbrev pub second_wanted : Op2 → Standing → Option DeclaredType
+-- the name of the type that the second operand is to have
+abbrev pub second_wanted : Op2 → Standing → Option (Bor (List ℕ))
 second_wanted Intersect s = only_as Language s.kind s.input
 second_wanted Union s = only_as Language s.kind s.input
 second_wanted Difference s = only_as Language s.kind s.input

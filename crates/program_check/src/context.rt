@@ -3,13 +3,13 @@
 //! What a name stands for is found in constant time, and so is whether it stands before the item.
 
 ghost use Rattle.std.specs.Prelude.{◌≡◌, ℕ, List, Some, None, map, is_some, slice_get};
-ghost use Rattle.std.specs.Option.{option_map};
+ghost use Rattle.std.specs.Option.{option_map, option_and_then};
 ghost use Rattle.std.proofs.Props.{props};
 ghost use Rattle.model_names.specs.Declared.{find_type, find_item};
 ghost use Rattle.fast_syntax.specs.Plain.{plain_item};
 ghost use Rattle.program_check.specs.Naming.{place_in};
 ghost use Rattle.program_check.specs.Numbered.{is_below, own_type_item, own_ctors, ctor_place, type_there, AreNumbered};
-ghost use Rattle.program_check.specs.Typed.{plain_option};
+ghost use Rattle.program_check.specs.Typed.{plain_option, type_name};
 
 use crate::declarations::Declarations;
 use crate::declared_type::DeclaredType;
@@ -35,6 +35,26 @@ impl<'p> Context<'p> {
     {
         match self.declared.types.place(name) {
             Some(place) => self.type_at(place),
+            None => None,
+        }
+    }
+
+    /// The type of this name, where there is a name.
+    pub(crate) fn type_called(&self, name: &Option<&Text>) -> Option<DeclaredType<'p>>
+        ensures { plain_option result ≡ option_and_then (find_type (items_of self.now)) (type_name name.now) }
+    {
+        match name {
+            Some(name) => self.find_type(name),
+            None => None,
+        }
+    }
+
+    /// The name of the type, where there is one of this name.
+    pub(crate) fn type_name(&self, name: &Text) -> Option<&'p Text>
+        ensures { type_name result ≡ option_map (λ t. t.name.text) (find_type (items_of self.now) name.now) }
+    {
+        match self.find_type(name) {
+            Some(of) => Some(&of.item.name.text),
             None => None,
         }
     }

@@ -5,7 +5,7 @@ ghost use Rattle.std.specs.Option.{option_map, option_and_then, option_map_or};
 ghost use Rattle.model_tree.specs.Limits.{most_around};
 ghost use Rattle.fast_fault.specs.declared.code.Code.TheVariants as code;
 ghost use Rattle.model_grammar.specs.Syntax as plain;
-ghost use Rattle.model_names.specs.Declared.{find_item};
+ghost use Rattle.model_names.specs.Declared.{find_type, find_item};
 ghost use Rattle.model_checks.specs.Failures.{failure, fails_if};
 ghost use Rattle.model_names.specs.Kinds.{taken_by_one, given_by_one, taken_first, taken_second, given_by_two, kind_of, type_of, output_of, declared_type, own_kind, own_type, own_output, defined_kind};
 ghost use Rattle.fast_syntax.specs.View.{plain_name, plain_field, plain_type};
@@ -13,20 +13,19 @@ ghost use Rattle.fast_syntax.specs.Plain.{plain_expr, plain_x, plain_item, plain
 ghost use Rattle.fast_syntax.specs.Slices.{plain_children};
 ghost use Rattle.model_checks.specs.Expressions.{place_of_x, is_other_kind, is_known_later, expected_as, nesting_failures, name_failures, needs_kind, needs_type, needs_be, x_failures, xs_failures};
 ghost use Rattle.program_check.specs.Notes.{Notes, Left};
-ghost use Rattle.program_check.specs.Typed.{plain_option, type_name};
+ghost use Rattle.program_check.specs.Typed.{type_name};
 ghost use Rattle.program_check.specs.Contexts.{items_of, before_of};
 ghost use Rattle.program_check.specs.Waiting.{plain_waiting, weight, weights};
-ghost use Rattle.program_check.specs.Standings.{plain_kind, IsDeclared, IsStanding, only_as, as_failures, input_of_two, output_of_two, second_wanted, kind_taken, kind_given, kind_given_by_two, standing_of_one, standing_of_two, literal_failures};
+ghost use Rattle.program_check.specs.Standings.{plain_kind, IsStanding, only_as, as_failures, input_of_two, output_of_two, second_wanted, kind_taken, kind_given, kind_given_by_two, standing_of_one, standing_of_two, literal_failures};
 
 use crate::checker::Checker;
 use crate::context::Context;
-use crate::declared_type::DeclaredType;
 use crate::labels::{Scope, both};
 use crate::limits::MOST_AROUND;
 use crate::outputs::fields_of;
 use crate::rules::differ;
 use crate::waiting::Waiting;
-use fast_fault::{Code, Memory, Pos};
+use fast_fault::{Code, Memory, Pos, Text};
 use fast_syntax::Name;
 use fast_syntax::expressions::Expr;
 use fast_syntax::items::{Body, Item, X};
@@ -40,12 +39,12 @@ pub(crate) enum Kind {
     Tree,
 }
 
-/// What an expression stands for, and of which types it is.
+/// What an expression stands for, and the names of its types.
 #[derive(Clone, Copy)]
 pub(crate) struct Standing<'p> {
     pub(crate) kind: Option<Kind>,
-    pub(crate) input: Option<DeclaredType<'p>>,
-    pub(crate) output: Option<DeclaredType<'p>>,
+    pub(crate) input: Option<&'p Text>,
+    pub(crate) output: Option<&'p Text>,
 }
 
 fn taken_by_one(op: Op1) -> Kind
@@ -123,28 +122,27 @@ fn is_other_kind(kind: Kind, known: &Option<Kind>) -> bool
     }
 }
 
-/// The type, where something is of this kind.
+/// The name of the type, where something is of this kind.
 pub(crate) fn only_as<'p>(
     kind: Kind,
     known: &Option<Kind>,
-    item: &Option<DeclaredType<'p>>,
-) -> Option<DeclaredType<'p>>
-    ensures { result ≡ only_as kind known.now item.now }
+    of: &Option<&'p Text>,
+) -> Option<&'p Text>
+    ensures { result ≡ only_as kind known.now of.now }
 {
     match known {
-        Some(found) if *found == kind => *item,
+        Some(found) if *found == kind => *of,
         _ => None,
     }
 }
 
 /// A type is expected of a tree alone.
-fn expected_as<'p>(kind: Kind, item: &Option<DeclaredType<'p>>) -> Option<DeclaredType<'p>>
-    ensures name { type_name result ≡ expected_as (plain_kind kind) (type_name item.now) }
-    ensures declared { (items : _) → IsDeclared items item.now → IsDeclared items result }
+fn expected_as<'p>(kind: Kind, of: &Option<&'p Text>) -> Option<&'p Text>
+    ensures { type_name result ≡ expected_as (plain_kind kind) (type_name of.now) }
 {
     match kind {
         Kind::Language | Kind::Transformation => None,
-        Kind::Tree => *item,
+        Kind::Tree => *of,
     }
 }
 
@@ -160,8 +158,8 @@ fn deeper(around: usize) -> usize
     }
 }
 
-/// The type that the second operand is to have.
-fn wanted_second<'p>(op: Op2, first: &Standing<'p>) -> Option<DeclaredType<'p>>
+/// The name of the type that the second operand is to have.
+fn wanted_second<'p>(op: Op2, first: &Standing<'p>) -> Option<&'p Text>
     ensures { result ≡ second_wanted op first.now }
 {
     let kind = taken_first(op);
@@ -196,8 +194,8 @@ fn of_two<'p>(op: Op2, first: &Standing<'p>, second: &Standing<'p>) -> Standing<
     }
 }
 
-/// The type of what an operation gives.
-fn input_of_two<'p>(op: Op2, first: &Standing<'p>) -> Option<DeclaredType<'p>>
+/// The name of the type of what an operation gives.
+fn input_of_two<'p>(op: Op2, first: &Standing<'p>) -> Option<&'p Text>
     ensures { result ≡ input_of_two op first.now }
 {
     let taken = taken_first(op);
@@ -213,12 +211,8 @@ fn input_of_two<'p>(op: Op2, first: &Standing<'p>) -> Option<DeclaredType<'p>>
     }
 }
 
-/// The type of the outputs of what an operation gives.
-fn output_of_two<'p>(
-    op: Op2,
-    first: &Standing<'p>,
-    second: &Standing<'p>,
-) -> Option<DeclaredType<'p>>
+/// The name of the type of the outputs of what an operation gives.
+fn output_of_two<'p>(op: Op2, first: &Standing<'p>, second: &Standing<'p>) -> Option<&'p Text>
     ensures { result ≡ output_of_two op first.now second.now }
 {
     match op {
@@ -230,13 +224,12 @@ fn output_of_two<'p>(
     }
 }
 
-/// The type of this name.
-pub(crate) fn declared<'p>(context: &Context<'p>, name: &Option<&Name>) -> Option<DeclaredType<'p>>
-    ensures name { type_name result ≡ option_and_then (declared_type (items_of context.now)) (option_map (λ n. plain_name n.now) name.now) }
-    ensures declared { IsDeclared (items_of context.now) result }
+/// The name of the type that has this name.
+fn declared<'p>(context: &Context<'p>, name: &Option<&Name>) -> Option<&'p Text>
+    ensures { type_name result ≡ option_and_then (declared_type (items_of context.now)) (option_map (λ n. plain_name n.now) name.now) }
 {
     match name {
-        Some(name) => context.find_type(&name.text),
+        Some(name) => context.type_name(&name.text),
         None => None,
     }
 }
@@ -324,22 +317,25 @@ fn standing_of_nothing<'p>(context: &Context<'p>, name: &Name) -> Standing<'p>
 }
 
 impl<'p> Checker<'p> {
-    /// The expression is of this kind and this type.
-    fn check_be(&mut self, item: &Option<DeclaredType>, kind: Kind, x: &X, standing: &Standing)
+    /// The expression is of this kind and the type of this name.
+    fn check_be(&mut self, of: &Option<&Text>, kind: Kind, x: &X, standing: &Standing)
         requires { IsStanding (items_of self.old.context) (plain_x x.now) standing.now }
-        ensures { Notes self.old self.new (needs_be (items_of self.old.context) (before_of self.old.context) (type_name item.now) (plain_kind kind) (plain_x x.now)) }
+        ensures { Notes self.old self.new (needs_be (items_of self.old.context) (before_of self.old.context) (type_name of.now) (plain_kind kind) (plain_x x.now)) }
     {
         let place = place_of(x);
         self.note_if(is_other_kind(kind, &standing.kind), Code::WrongKind, place);
         let found = only_as(kind, &standing.kind, &standing.input);
-        self.note_if(differ(item, &found), Code::WrongType, place);
+        self.note_if(differ(of, &found), Code::WrongType, place);
     }
 
-    /// An operation that is inside too many others.
-    fn check_nested(&mut self, around: usize, place: Pos)
-        ensures { Notes self.old self.new (nesting_failures around place) }
+    /// An operation isn't inside too many others. So many are around its operands.
+    fn check_nested(&mut self, around: usize, place: Pos) -> usize
+        ensures noted { Notes self.old self.new (nesting_failures around place) }
+        ensures few { around < most_around → result ≡ around + 1 }
+        ensures many { most_around ≤ around → result ≡ around }
     {
         self.note_if(around >= MOST_AROUND, Code::TooMany, place);
+        deeper(around)
     }
 
     /// A name of a definition or a tree is known from the next item on.
@@ -376,17 +372,18 @@ impl<'p> Checker<'p> {
     /// The constructor of a literal of this type, and its labels, which have no names of fields.
     fn check_literal(
         &mut self,
-        item: &Option<DeclaredType>,
+        expected: &Option<&Text>,
         name: &Name,
         labels: &[Expr],
         count: usize,
     ) -> Result<(), Memory>
-        ensures { OnOk result (Notes self.old self.new (literal_failures (plain_option item.now) (plain_name name.now) (map plain_expr labels.now) count)) }
+        ensures { OnOk result (Notes self.old self.new (literal_failures (option_and_then (find_type (items_of self.old.context)) (type_name expected.now)) (plain_name name.now) (map plain_expr labels.now) count)) }
     {
-        self.check_constructor(item, name, count);
-        self.check_label_count(item, name, labels.len());
+        let of = self.context.type_called(expected);
+        self.check_constructor(&of, name, count);
+        self.check_label_count(&of, name, labels.len());
         let scope = Scope { fields: Some(&[]) };
-        self.check_labels(&scope, fields_of(item), labels)
+        self.check_labels(&scope, fields_of(&of), labels)
     }
 
     /// Notes what fails in an expression inside so many operations, and tells what it stands for. A literal has the type
@@ -395,25 +392,22 @@ impl<'p> Checker<'p> {
     pub(crate) fn check_x(
         &mut self,
         around: usize,
-        expected: &Option<DeclaredType<'p>>,
+        expected: &Option<&'p Text>,
         x: &X,
     ) -> Result<Standing<'p>, Memory>
-        requires { IsDeclared (items_of self.old.context) expected.now }
         ensures noted { OnOk result (Notes self.old self.new (x_failures (items_of self.old.context) (before_of self.old.context) around (type_name expected.now) (plain_x x.now))) }
         ensures standing { IfOk result (IsStanding (items_of self.old.context) (plain_x x.now)) }
     {
         match x {
             X::Named(name) => Ok(self.check_word(name)),
             X::One(op, place, inside) => {
-                self.check_nested(around, *place);
-                let deep = deeper(around);
+                let deep = self.check_nested(around, *place);
                 let kind = taken_by_one(*op);
                 let operand = self.check_as(deep, &None, kind, inside)?;
                 Ok(of_one(*op, &operand))
             }
             X::Two(op, place, first, second) => {
-                self.check_nested(around, *place);
-                let deep = deeper(around);
+                let deep = self.check_nested(around, *place);
                 let kind = taken_first(*op);
                 let left = self.check_as(deep, &None, kind, first)?;
                 let wanted = wanted_second(*op, &left);
@@ -438,17 +432,16 @@ impl<'p> Checker<'p> {
     pub(crate) fn check_as(
         &mut self,
         around: usize,
-        item: &Option<DeclaredType<'p>>,
+        of: &Option<&'p Text>,
         kind: Kind,
         x: &X,
     ) -> Result<Standing<'p>, Memory>
-        requires { IsDeclared (items_of self.old.context) item.now }
-        ensures noted { OnOk result (Notes self.old self.new (as_failures (items_of self.old.context) (before_of self.old.context) around (type_name item.now) (plain_kind kind) (plain_x x.now))) }
+        ensures noted { OnOk result (Notes self.old self.new (as_failures (items_of self.old.context) (before_of self.old.context) around (type_name of.now) (plain_kind kind) (plain_x x.now))) }
         ensures standing { IfOk result (IsStanding (items_of self.old.context) (plain_x x.now)) }
     {
-        let expected = expected_as(kind, item);
+        let expected = expected_as(kind, of);
         let standing = self.check_x(around, &expected, x)?;
-        self.check_be(item, kind, x, &standing);
+        self.check_be(of, kind, x, &standing);
         Ok(standing)
     }
 
@@ -457,10 +450,9 @@ impl<'p> Checker<'p> {
     fn check_children(
         &mut self,
         around: usize,
-        expected: &Option<DeclaredType<'p>>,
+        expected: &Option<&'p Text>,
         children: &[X],
     ) -> Result<(), Memory>
-        requires { IsDeclared (items_of self.old.context) expected.now }
         ensures { OnOk result (Notes self.old self.new (xs_failures (items_of self.old.context) (before_of self.old.context) around (type_name expected.now) (plain_children children.now))) }
     {
         let mut waiting = Waiting::new(self.alloc);
@@ -476,11 +468,10 @@ impl<'p> Checker<'p> {
     fn check_next_child<'x>(
         &mut self,
         around: usize,
-        expected: &Option<DeclaredType<'p>>,
+        expected: &Option<&'p Text>,
         child: &'x X,
         waiting: &mut Waiting<'x>,
     ) -> Result<(), Memory>
-        requires { IsDeclared (items_of self.old.context) expected.now }
         ensures noted { OnOk result (Left self.old self.new (xs_failures (items_of self.old.context) (before_of self.old.context) around (type_name expected.now) (plain.and_x (plain_x child.now) (plain_waiting waiting.old))) (xs_failures (items_of self.old.context) (before_of self.old.context) around (type_name expected.now) (plain_waiting waiting.new))) }
         ensures less { OnOk result (weights (plain_waiting waiting.new) < weight (plain_x child.now) + weights (plain_waiting waiting.old)) }
     {

@@ -14,31 +14,29 @@ ghost use Rattle.model_checks.specs.Programs.{is_tree, type_again, name_again, t
 ghost use Rattle.program_check.specs.Notes.{Notes};
 ghost use Rattle.program_check.specs.Typed.{type_name};
 ghost use Rattle.program_check.specs.Contexts.{items_of, before_of};
-ghost use Rattle.program_check.specs.Standings.{plain_kind, IsDeclared, IsStanding};
+ghost use Rattle.program_check.specs.Standings.{plain_kind, IsStanding};
 ghost use Rattle.model_names.specs.Kinds as kinds;
 ghost use Rattle.model_grammar.specs.Syntax as plain;
 ghost use Rattle.model_checks.specs.Types.{type_failures};
 
 use crate::checker::Checker;
 use crate::context::Context;
-use crate::declared_type::DeclaredType;
-use crate::expressions::{Kind, Standing, declared, defined_kind, only_as, place_of};
+use crate::expressions::{Kind, Standing, defined_kind, only_as, place_of};
 use crate::limits::MOST_RULES;
 use crate::rules::{Between, differ};
-use fast_fault::{Code, Memory};
+use fast_fault::{Code, Memory, Text};
 use fast_syntax::items::{Body, Claim, DefItem, LangItem, OutRule, Rule, TransItem, TreeItem, X};
 use fast_syntax::{Name, TypeItem};
 
-/// The type of this name.
-fn type_named<'p>(context: &Context<'p>, name: &Name) -> Option<DeclaredType<'p>>
-    ensures name { type_name result ≡ declared_type (items_of context.now) (plain_name name.now) }
-    ensures declared { IsDeclared (items_of context.now) result }
+/// The name of the type that has this name.
+fn type_named<'p>(context: &Context<'p>, name: &Name) -> Option<&'p Text>
+    ensures { type_name result ≡ declared_type (items_of context.now) (plain_name name.now) }
 {
-    declared(context, &Some(name))
+    context.type_name(&name.text)
 }
 
-/// The type of the outputs that a definition says.
-fn output_named<'p>(context: &Context<'p>, into: &Option<Name>) -> Option<DeclaredType<'p>>
+/// The name of the type of the outputs that a definition says.
+fn output_named<'p>(context: &Context<'p>, into: &Option<Name>) -> Option<&'p Text>
     ensures { type_name result ≡ option_and_then (declared_type (items_of context.now)) (plain_into into.now) }
 {
     match into {

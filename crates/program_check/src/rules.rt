@@ -28,7 +28,7 @@ use crate::declared_type::DeclaredType;
 use crate::labels::{Scope, either};
 use crate::types::is_rank;
 use crate::vars::Vars;
-use fast_fault::{Code, Memory};
+use fast_fault::{Code, Memory, Text};
 use fast_syntax::expressions::Expr;
 use fast_syntax::items::{Body, Item, LangItem, Rule, TransItem};
 use fast_syntax::{Demand, Name};
@@ -41,14 +41,14 @@ pub(crate) struct Between<'p> {
     pub(crate) into: &'p Name,
 }
 
-/// Whether two types are known to differ.
-pub(crate) fn differ(left: &Option<DeclaredType>, right: &Option<DeclaredType>) -> bool
+/// Whether the types of these names are known and differ.
+pub(crate) fn differ(left: &Option<&Text>, right: &Option<&Text>) -> bool
     ensures { result ≡ differ (type_name left.now) (type_name right.now) }
 {
     let (Some(left), Some(right)) = (left, right) else {
         return false;
     };
-    left.item.name.text != right.item.name.text
+    **left != **right
 }
 
 /// The fields of a type, where it is declared.
@@ -88,8 +88,8 @@ pub(crate) fn types_differ(context: &Context, left: &Name, right: &Name) -> bool
     ensures { result ≡ differ (declared_type (items_of context.now) (plain_name left.now)) (declared_type (items_of context.now) (plain_name right.now)) }
 {
     let (left, right) = (
-        context.find_type(&left.text),
-        context.find_type(&right.text),
+        context.type_name(&left.text),
+        context.type_name(&right.text),
     );
     differ(&left, &right)
 }

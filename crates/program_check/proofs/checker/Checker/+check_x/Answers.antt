@@ -1,11 +1,11 @@
-use Rattle.std.proofs.Common.{◌≡◌, ◌∙◌, suc, ◌++◌, None, sym, ap, ap₂, map, subst, length, arith}
+use Rattle.std.proofs.Common.{◌≡◌, ◌∙◌, suc, ◌++◌, None, refl, sym, ap, ap₂, map, subst, length, arith}
 use Rattle.fast_syntax.specs.View.{plain_name}
 use Rattle.fast_syntax.specs.Plain.{plain_x, plain_expr}
 use Rattle.fast_syntax.specs.Slices.{plain_children}
-use Rattle.model_checks.specs.Expressions.{x_failures, xs_failures, needs_be}
+use Rattle.model_checks.specs.Expressions.{type_called, x_failures, xs_failures, needs_be}
 use Rattle.program_check.specs.Contexts.{items_of, before_of}
-use Rattle.program_check.specs.Typed.{plain_option, type_name}
-use Rattle.program_check.specs.Standings.{plain_kind, as_failures, IsDeclared, IsStanding}
+use Rattle.program_check.specs.Typed.{type_name}
+use Rattle.program_check.specs.Standings.{plain_kind, as_failures, IsStanding}
 use Rattle.program_check.proofs.Noting.{next, same, of_same, on_ok1}
 use Rattle.program_check.proofs.Standing.{wanted_is, one_stands, two_stands, kind_is}
 use Rattle.fast_syntax.proofs.Rows.{plain_literal}
@@ -24,8 +24,8 @@ check_as-returns-clause-noted t c =
     let before = before_of c.args.self.now.context in
     let x = plain_x c.args.x.now in
     let one = c.in_ok-standing.ensures.noted in
-    next (same (ap (λ n. x_failures items before c.args.around n x) c.expected_as-expected.ensures.name) one)
-    (of_same (λ d. needs_be (items_of d) (before_of d) (type_name c.args.item.now) (plain_kind c.args.kind) x) one.same c.check_be.ensures)
+    next (same (ap (λ n. x_failures items before c.args.around n x) c.expected_as-expected.ensures) one)
+    (of_same (λ d. needs_be (items_of d) (before_of d) (type_name c.args.of.now) (plain_kind c.args.kind) x) one.same c.check_be.ensures)
 
 pub check_as-check_be-requires : goal.check_as-check_be-requires
 check_as-check_be-requires t c = subst (λ (d : Context). IsStanding (items_of d) (plain_x c.args.x.now) c.in_ok-standing.standing) (sym c.in_ok-standing.ensures.noted.same) c.in_ok-standing.ensures.standing
@@ -35,17 +35,17 @@ check_x-returns-in_ok-operand-in-One-clause-noted t c =
     let items = items_of c.args.self.now.context in
     let before = before_of c.args.self.now.context in
     let e = type_name c.args.expected.now in
-    let deep = c.deeper-deep.result in
-    let one = c.check_nested.ensures in
-    let two = of_same (λ d. as_failures (items_of d) (before_of d) deep None (plain_kind c.taken_by_one-kind.result) (plain_x c.deref.result.now)) one.same c.in_ok-operand-in-One.ensures.noted in
+    let deep = c.check_nested-deep in
+    let one = deep.ensures.noted in
+    let two = of_same (λ d. as_failures (items_of d) (before_of d) deep.result None (plain_kind c.taken_by_one-kind.result) (plain_x c.deref.result.now)) one.same c.in_ok-operand-in-One.ensures.noted in
     same (ap (x_failures items before c.args.around e) (sym (ap plain_x c.in-One.is)))
-    (one_noted items before c.in-One.op c.in-One.place c.args.around deep e (plain_x c.in-One.inside.value) _ (plain_kind c.taken_by_one-kind.result) _ _ _ (ap plain_x c.deref.ensures) (ap plain_kind c.taken_by_one-kind.ensures ∙ kind_is c.in-One.op)
-    (λ n z. as_deep items before c.args.around deep n z c.deeper-deep.ensures.few c.deeper-deep.ensures.many) one two)
+    (one_noted items before c.in-One.op c.in-One.place c.args.around deep.result e (plain_x c.in-One.inside.value) _ (plain_kind c.taken_by_one-kind.result) _ _ _ (ap plain_x c.deref.ensures) (ap plain_kind c.taken_by_one-kind.ensures ∙ kind_is c.in-One.op)
+    (λ n z. as_deep items before c.args.around deep.result n z deep.ensures.few deep.ensures.many) one two)
 
 pub check_x-returns-in_ok-operand-in-One-clause-standing : goal.check_x-returns-in_ok-operand-in-One-clause-standing
 check_x-returns-in_ok-operand-in-One-clause-standing t c =
     let x = plain_x c.in-One.inside.value in
-    let is = subst (λ (d : Context). IsStanding (items_of d) (plain_x c.deref.result.now) c.in_ok-operand-in-One.operand) c.check_nested.ensures.same c.in_ok-operand-in-One.ensures.standing in
+    let is = subst (λ (d : Context). IsStanding (items_of d) (plain_x c.deref.result.now) c.in_ok-operand-in-One.operand) c.check_nested-deep.ensures.noted.same c.in_ok-operand-in-One.ensures.standing in
     let here = subst (λ (z : X). IsStanding (items_of c.args.self.now.context) z c.in_ok-operand-in-One.operand) (ap plain_x c.deref.ensures) is in
     subst (λ (z : X). IsStanding (items_of c.args.self.now.context) z c.of_one.result) (sym (ap plain_x c.in-One.is))
     (rw c.of_one.ensures (one_stands (items_of c.args.self.now.context) (before_of c.args.self.now.context) c.in-One.op c.in-One.place x c.in_ok-operand-in-One.operand here))
@@ -55,10 +55,10 @@ check_x-returns-in_ok-right-in-Two-clause-noted t c =
     let items = items_of c.args.self.now.context in
     let before = before_of c.args.self.now.context in
     let e = type_name c.args.expected.now in
-    let deep = c.deeper-deep-in-Two in
+    let deep = c.check_nested-deep-in-Two in
     let left = c.in_ok-left-in-Two.left in
     let wanted = c.wanted_second-wanted.result in
-    let one = c.check_nested-in-Two.ensures in
+    let one = deep.ensures.noted in
     let two = of_same (λ d. as_failures (items_of d) (before_of d) deep.result None (plain_kind c.taken_first-kind.result) (plain_x c.deref-in-Two.result.now)) one.same c.in_ok-left-in-Two.ensures.noted in
     let three = of_same (λ d. as_failures (items_of d) (before_of d) deep.result (type_name wanted) (plain_kind c.taken_second-kind.result) (plain_x c.deref-in-Two-2.result.now)) (two.same ∙ one.same) c.in_ok-right-in-Two.ensures.noted in
     let is = subst (λ (d : Context). IsStanding (items_of d) (plain_x c.deref-in-Two.result.now) left) one.same c.in_ok-left-in-Two.ensures.standing in
@@ -73,7 +73,7 @@ check_x-returns-in_ok-right-in-Two-clause-standing t c =
     let items = items_of c.args.self.now.context in
     let left = c.in_ok-left-in-Two.left in
     let right = c.in_ok-right-in-Two.right in
-    let one = c.check_nested-in-Two.ensures.same in
+    let one = c.check_nested-deep-in-Two.ensures.noted.same in
     let two = c.in_ok-left-in-Two.ensures.noted.same in
     let first = subst (λ (z : X). IsStanding items z left) (ap plain_x c.deref-in-Two.ensures) (subst (λ (d : Context). IsStanding (items_of d) (plain_x c.deref-in-Two.result.now) left) one c.in_ok-left-in-Two.ensures.standing) in
     let second = subst (λ (z : X). IsStanding items z right) (ap plain_x c.deref-in-Two-2.ensures) (subst (λ (d : Context). IsStanding (items_of d) (plain_x c.deref-in-Two-2.result.now) right) (two ∙ one) c.in_ok-right-in-Two.ensures.standing) in
@@ -87,20 +87,20 @@ check_x-returns-in_ok-check_children-in-Literal-clause-noted t c =
     let e = type_name c.args.expected.now in
     let each = x_failures items before c.args.around e in
     let name = plain_name c.in-Literal.name in
-    let t = plain_option c.args.expected.now in
+    let t = type_called items before e in
     let xs = c.in-Literal.children.items in
     let one = same (ap₂ (λ ls n. literal_failures t name (map plain_expr ls) n) c.deref-in-Literal.ensures.value (c.len.ensures ∙ sym c.deref-in-Literal-2.ensures.len ∙ ap length c.deref-in-Literal-2.ensures.value)) c.in_ok-check_literal-in-Literal.ensures in
     let two = same (ap (λ l. xs_failures items before c.args.around e (plain_children l)) c.deref-in-Literal-2.ensures.value) (of_same (λ d. xs_failures (items_of d) (before_of d) c.args.around e (plain_children c.deref-in-Literal-2.result.now)) one.same c.in_ok-check_children-in-Literal.ensures) in
     same (sym (ap each (ap plain_x c.in-Literal.is ∙ plain_literal c.in-Literal.name c.in-Literal.labels c.in-Literal.children)))
     (literal_noted items before c.args.around (length xs) e t name (map plain_expr c.in-Literal.labels.items) (plain_children xs) _ _ _
-    c.requires.is (xs_counted xs) one two)
+    refl (xs_counted xs) one two)
 
 pub check_x-check_children-requires : goal.check_x-check_children-requires
 check_x-check_children-requires t c =
     let xs = c.in-Literal.children.items in
     let is : weight (plain_x c.args.x.now) ≡ suc (suc (suc (suc (weights (plain_children xs))))) = ap weight (ap plain_x c.in-Literal.is ∙ plain_literal c.in-Literal.name c.in-Literal.labels c.in-Literal.children) in
     let inside = ap (λ l. weights (plain_children l)) c.deref-in-Literal-2.ensures.value in
-    (omega (arith, is, inside, c.decreases), subst (λ (d : Context). IsDeclared (items_of d) c.args.expected.now) (sym c.in_ok-check_literal-in-Literal.ensures.same) c.requires)
+    omega (arith, is, inside, c.decreases)
 
 pub check_next_child-returns-clause-noted : goal.check_next_child-returns-clause-noted
 check_next_child-returns-clause-noted t c =
@@ -108,12 +108,12 @@ check_next_child-returns-clause-noted t c =
     let before = before_of c.args.self.now.context in
     let e = type_name c.args.expected.now in
     let name = plain_name c.in-Literal.name in
-    let t = plain_option c.args.expected.now in
+    let t = type_called items before e in
     let xs = c.in-Literal.children.items in
     let old = those_of c.args.waiting.now in
     let one = same (ap₂ (λ ls n. literal_failures t name (map plain_expr ls) n) c.deref.ensures.value (c.len.ensures ∙ sym c.deref-2.ensures.len ∙ ap length c.deref-2.ensures.value)) c.in_ok-check_literal.ensures in
     on_ok1 c.add.result (λ more. literal_child items before c.args.around (length xs) e t (plain_x c.args.child.now) name (map plain_expr c.in-Literal.labels.items) xs old (those_of c.add.new.self) _ _
-    c.requires.is (xs_counted xs) (ap plain_x c.in-Literal.is ∙ plain_literal c.in-Literal.name c.in-Literal.labels c.in-Literal.children) (more ∙ ap (λ l. l ++ old) c.deref-2.ensures.value) one) c.add.ensures
+    refl (xs_counted xs) (ap plain_x c.in-Literal.is ∙ plain_literal c.in-Literal.name c.in-Literal.labels c.in-Literal.children) (more ∙ ap (λ l. l ++ old) c.deref-2.ensures.value) one) c.add.ensures
 
 pub check_next_child-returns-clause-less : goal.check_next_child-returns-clause-less
 check_next_child-returns-clause-less t c =

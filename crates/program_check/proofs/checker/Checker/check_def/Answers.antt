@@ -8,12 +8,8 @@ use Rattle.program_check.specs.Contexts.{items_of, before_of}
 use Rattle.program_check.specs.Typed.{type_name}
 use Rattle.program_check.specs.Standings.{plain_kind, IsStanding}
 use Rattle.program_check.proofs.Noting.{next, same, of_same}
-use Rattle.program_check.proofs.Standing.{declared_in}
 use Rattle.program_check.specs.declared.context.Context.{Context}
 use Rattle.program_check.proofs.checker.Checker.check_def.Goals as goal
-
-pub check_as-requires : goal.check_as-requires
-check_as-requires c = declared_in c.type_named-from.result (ap items_of (c.check_into.ensures.same ∙ c.check_type_name.ensures.same ∙ c.check_new_name.ensures.same)) c.type_named-from.ensures.declared
 
 pub check_output-requires : goal.check_output-requires
 check_output-requires c = subst (λ (d : Context). IsStanding (items_of d) (plain_x c.args.item.now.value) c.in_ok-standing.standing) (sym c.in_ok-standing.ensures.noted.same) c.in_ok-standing.ensures.standing
@@ -28,4 +24,4 @@ returns c =
     let three = of_same (λ d. into_failures (items_of d) (before_of d) into) (two.same ∙ one.same) c.check_into.ensures in
     let four = of_same (λ d. whole_failures (items_of d) (before_of d) (type_name c.type_named-from.result) (plain_kind c.defined_kind-kind.result) x) (three.same ∙ two.same ∙ one.same) c.in_ok-standing.ensures.noted in
     let five = of_same (λ d. needs_output (items_of d) (before_of d) into x) (four.same ∙ three.same ∙ two.same ∙ one.same) c.check_output.ensures in
-    next one (next two (next three (next (same (ap₂ (λ n k. whole_failures (items_of c.args.self.now.context) (before_of c.args.self.now.context) n k x) c.type_named-from.ensures.name c.defined_kind-kind.ensures) four) five)))
+    next one (next two (next three (next (same (ap₂ (λ n k. whole_failures (items_of c.args.self.now.context) (before_of c.args.self.now.context) n k x) c.type_named-from.ensures c.defined_kind-kind.ensures) four) five)))

@@ -5,12 +5,9 @@ use Rattle.model_names.specs.Kinds.{a_tree}
 use Rattle.program_check.specs.Contexts.{items_of, before_of}
 use Rattle.program_check.specs.Typed.{type_name}
 use Rattle.program_check.proofs.Noting.{next, same, of_same}
-use Rattle.program_check.proofs.Standing.{declared_in, only_is, only_declared}
+use Rattle.program_check.proofs.Standing.{only_is}
 use Rattle.program_check.specs.declared.expressions.Kind.TheVariants.{Language}
 use Rattle.program_check.proofs.checker.Checker.check_member.Goals as goal
-
-pub check_as-requires-2 : goal.check_as-requires-2
-check_as-requires-2 c = declared_in c.only_as-wanted.result (ap items_of c.in_ok-language.ensures.noted.same) (rw c.only_as-wanted.ensures (only_declared (items_of c.args.self.now.context) Language c.in_ok-language.language.kind c.in_ok-language.language.input c.in_ok-language.ensures.standing.declared_input))
 
 pub returns : goal.returns
 returns c =

@@ -7,11 +7,7 @@ use Rattle.model_names.specs.Kinds.{a_tree}
 use Rattle.program_check.specs.Contexts.{items_of, before_of}
 use Rattle.program_check.specs.Typed.{type_name}
 use Rattle.program_check.proofs.Noting.{next, same, of_same}
-use Rattle.program_check.proofs.Standing.{declared_in}
 use Rattle.program_check.proofs.checker.Checker.check_tree.Goals as goal
-
-pub check_as-requires : goal.check_as-requires
-check_as-requires c = declared_in c.type_named-of.result (ap items_of (c.check_type_name.ensures.same ∙ c.check_new_name.ensures.same)) c.type_named-of.ensures.declared
 
 pub returns : goal.returns
 returns c =
@@ -19,4 +15,4 @@ returns c =
     let one = c.check_new_name.ensures in
     let two = of_same (λ d. type_name_failures (items_of d) (plain_name c.args.item.now.of)) one.same c.check_type_name.ensures in
     let three = of_same (λ d. whole_failures (items_of d) (before_of d) (type_name c.type_named-of.result) a_tree x) (two.same ∙ one.same) c.in_ok-check_as.ensures.noted in
-    next one (next two (same (ap (λ n. whole_failures (items_of c.args.self.now.context) (before_of c.args.self.now.context) n a_tree x) c.type_named-of.ensures.name) three))
+    next one (next two (same (ap (λ n. whole_failures (items_of c.args.self.now.context) (before_of c.args.self.now.context) n a_tree x) c.type_named-of.ensures) three))

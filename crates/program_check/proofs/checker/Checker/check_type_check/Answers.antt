@@ -6,16 +6,10 @@ use Rattle.program_check.specs.Contexts.{items_of, before_of}
 use Rattle.program_check.specs.Typed.{type_name}
 use Rattle.program_check.specs.Standings.{IsStanding}
 use Rattle.program_check.proofs.Noting.{next, same, of_same}
-use Rattle.program_check.proofs.Standing.{declared_in, only_is, only_declared}
+use Rattle.program_check.proofs.Standing.{only_is}
 use Rattle.program_check.specs.declared.expressions.Kind.TheVariants.{Language, Transformation}
 use Rattle.program_check.specs.declared.context.Context.{Context}
 use Rattle.program_check.proofs.checker.Checker.check_type_check.Goals as goal
-
-pub check_as-requires-2 : goal.check_as-requires-2
-check_as-requires-2 c = declared_in c.only_as-input.result (ap items_of c.in_ok-language.ensures.noted.same) (rw c.only_as-input.ensures (only_declared (items_of c.args.self.now.context) Language c.in_ok-language.language.kind c.in_ok-language.language.input c.in_ok-language.ensures.standing.declared_input))
-
-pub check_as-requires-3 : goal.check_as-requires-3
-check_as-requires-3 c = declared_in c.only_as-output.result (ap items_of c.in_ok-standing.ensures.noted.same) (rw c.only_as-output.ensures (only_declared _ Transformation c.in_ok-standing.standing.kind c.in_ok-standing.standing.output c.in_ok-standing.ensures.standing.declared_output))
 
 pub returns : goal.returns
 returns c =
