@@ -21,3 +21,4 @@ pub mod XParts
 pub mod Numbering
 pub mod Weights
 pub mod Told
+mod Ranked

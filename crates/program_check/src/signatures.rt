@@ -1,6 +1,6 @@
 //! The signature of each type of a program: its fields with their sorts, and its constructors with their ranks.
 
-ghost use Rattle.std.specs.Prelude.{◌≡◌, IfOk, map};
+ghost use Rattle.std.specs.Prelude.{◌≡◌, IfOk, Some, true, map};
 ghost use Rattle.std.specs.Option.{option_map};
 ghost use Rattle.fast_tree.specs.Signatures.{plain_sort, plain_field, plain_constructor, plain_signature};
 ghost use Rattle.fast_syntax.specs.View as syntax;
@@ -9,10 +9,12 @@ ghost use Rattle.fast_syntax.specs.Plain.{plain_item};
 ghost use Rattle.model_names.specs.Sorts.{own_sort};
 ghost use Rattle.model_meaning.specs.Types.{rank_of, signature_of};
 ghost use Rattle.program_check.specs.Numbered.{own_type_item};
-ghost use Rattle.program_check.specs.Signed.{field_of, constructor_of, own_signature};
+ghost use Rattle.model_program.specs.Syntax as plain;
+ghost use Rattle.model_checks.specs.Types.{is_rank_in_range};
+ghost use Rattle.model_checks.specs.Programs.{is_well_formed};
+ghost use Rattle.program_check.specs.Signed.{field_of, constructor_of, HaveRanks, own_signature};
 
 use crate::declarations::own_type;
-use crate::limits::MOST_CHILDREN;
 use crate::types::sort_named;
 use fast_fault::Memory;
 use fast_syntax::items::Item;
@@ -39,23 +41,21 @@ fn field_of(alloc: Global, field: &FieldItem) -> Result<FieldOf, Memory>
     })
 }
 
-/// A rank as a number; of a well-formed program each is in range.
-fn rank_of(rank: i128) -> Result<u32, Memory>
-    ensures { IfOk result (λ made. made ≡ rank_of rank) }
+/// A rank as a number.
+fn rank_of(rank: i128) -> u32
+    requires { is_rank_in_range rank ≡ true }
+    ensures { result ≡ rank_of rank }
 {
-    if 0 <= rank && rank <= MOST_CHILDREN {
-        Ok(rank as u32)
-    } else {
-        Err(Memory)
-    }
+    rank as u32
 }
 
 fn constructor_of(alloc: Global, ctor: &CtorItem) -> Result<CtorOf, Memory>
+    requires { is_rank_in_range ctor.now.rank ≡ true }
     ensures { IfOk result (λ made. plain_constructor made ≡ constructor_of (syntax.plain_ctor ctor.now)) }
 {
     Ok(CtorOf {
         name: ctor.name.text.copy(alloc)?,
-        rank: rank_of(ctor.rank)?,
+        rank: rank_of(ctor.rank),
     })
 }
 
@@ -70,6 +70,7 @@ fn fields_of(alloc: Global, fields: &[FieldItem]) -> Result<Vec<FieldOf>, Memory
 }
 
 fn constructors_of(alloc: Global, ctors: &[CtorItem]) -> Result<Vec<CtorOf>, Memory>
+    requires { HaveRanks (map syntax.plain_ctor ctors.now) }
     ensures { IfOk result (λ made. map plain_constructor made.items ≡ map constructor_of (map syntax.plain_ctor ctors.now)) }
 {
     let mut made = Vec::new(alloc);
@@ -81,6 +82,7 @@ fn constructors_of(alloc: Global, ctors: &[CtorItem]) -> Result<Vec<CtorOf>, Mem
 
 /// The signature of a type.
 fn signature_of(alloc: Global, item: &TypeItem) -> Result<Signature, Memory>
+    requires { HaveRanks (plain_type item.now).ctors }
     ensures { IfOk result (λ made. plain_signature made ≡ signature_of (plain_type item.now)) }
 {
     Ok(Signature {
@@ -92,6 +94,7 @@ fn signature_of(alloc: Global, item: &TypeItem) -> Result<Signature, Memory>
 
 /// The signature of an item, where it is a type.
 fn own_signature(alloc: Global, item: &Item) -> Result<Option<Signature>, Memory>
+    requires { (t : plain.TypeItem) → own_type_item (plain_item item.now).body ≡ Some t → HaveRanks t.ctors }
     ensures { IfOk result (λ made. option_map plain_signature made ≡ option_map signature_of (own_type_item (plain_item item.now).body)) }
 {
     match own_type(item) {
@@ -102,6 +105,7 @@ fn own_signature(alloc: Global, item: &Item) -> Result<Option<Signature>, Memory
 
 /// The signature of each item that is a type, at the item's place.
 pub(crate) fn signatures_of(alloc: Global, items: &[Item]) -> Result<Vec<Option<Signature>>, Memory>
+    requires { is_well_formed (map plain_item items.now) ≡ true }
     ensures { IfOk result (λ made. map (option_map plain_signature) made.items ≡ map own_signature (map plain_item items.now)) }
 {
     let mut made = Vec::new(alloc);
