@@ -1,7 +1,7 @@
 -- Items that are numbered, and items that are looked at, one after another.
-use Rattle.std.proofs.Common.{◌≡◌, ℕ, zero, suc, ◌+◌, ◌<◌, ◌≤◌, Bool, true, false, cond, List, [], ◌∷◌, ◌++◌, length, map, take, drop, get_or, Option, Some, None, refl, sym, ap, ap₂, ◌∙◌, arith}
+use Rattle.std.proofs.Common.{◌≡◌, ℕ, zero, suc, ◌+◌, ◌<◌, ◌≤◌, Bool, true, false, cond, List, [], ◌∷◌, ◌++◌, length, map, take, drop, get_or, Option, Some, None, refl, sym, ap, ap₂, ◌∙◌, subst, arith}
 use Rattle.std.specs.Option.{option_map}
-use Rattle.std.proofs.lemmas.List.{take_all, get_or-map, length-map, length-take-le}
+use Rattle.std.proofs.lemmas.List.{take_all, get_or-map, length-map, length-take-le, map-append}
 use Rattle.fast_fault.specs.declared.refusal.Refusal.{Refusal}
 use Rattle.model_checks.specs.Failures.{first_among}
 use Rattle.model_checks.specs.Programs.{body_failures, failures_behind}
@@ -9,8 +9,10 @@ use Rattle.fast_syntax.specs.declared.items.Item as code
 use Rattle.fast_syntax.specs.Plain.{plain_item}
 use Rattle.fast_syntax.proofs.Appending.{drop_at}
 use Rattle.program_check.specs.declared.names.Names.{Names}
-use Rattle.program_check.specs.Naming.{place_in, or_else}
-use Rattle.program_check.specs.Numbered.{place_by}
+use Rattle.program_check.specs.declared.declarations.Declarations.{Declarations}
+use Rattle.model_names.specs.Declared.{declares}
+use Rattle.program_check.specs.Naming.{place_in, or_else, Grows}
+use Rattle.program_check.specs.Numbered.{place_by, declares_type, own_ctors, ctor_place, AreNumbered}
 use Rattle.program_check.proofs.Noting.{first_among-append}
 use Rattle.program_check.proofs.Repeating.{take_at}
 
@@ -45,6 +47,19 @@ numbered_more plain has xs i x old new low is grows so_far name =
 
 pub numbered_all : {A B : Type 0} (plain : A → B) (has : List ℕ → B → Bool) (xs : List A) (i : ℕ) (names : Names) → length xs ≤ i → ((name : List ℕ) → place_in names name ≡ place_by (has name) (take i (map plain xs))) → (name : List ℕ) → place_in names name ≡ place_by (has name) (map plain xs)
 numbered_all plain has xs i names end so_far name = so_far name ∙ ap (place_by (has name)) (take_all i (map plain xs) (rw length-map end))
+
+-- what the items so far declare, with one more
+pub numbered_item : (xs : List code.Item) (i : ℕ) (x : code.Item) (old new : Declarations) → i < length xs → x ≡ get_or xs i x → Grows old.types new.types (λ name. declares_type name (plain_item x)) i → Grows old.names new.names (λ name. declares name (plain_item x)) i
+    → map place_in new.ctors.items ≡ map place_in old.ctors.items ++ ctor_place (own_ctors (plain_item x)) ∷ [] → AreNumbered (take i (map plain_item xs)) old → AreNumbered (take (i + 1) (map plain_item xs)) new
+numbered_item xs i x old new low is types names ctors so_far = record {
+  types = numbered_more plain_item declares_type xs i x old.types new.types low is types.same so_far.types;
+  names = numbered_more plain_item declares xs i x old.names new.names low is names.same so_far.names;
+  ctors = ctors ∙ ap (λ l. l ++ ctor_place (own_ctors (plain_item x)) ∷ []) so_far.ctors
+      ∙ sym (ap (map (λ item. ctor_place (own_ctors item))) (take_mapped plain_item xs i x low is) ∙ map-append (λ item. ctor_place (own_ctors item)) (take i (map plain_item xs)) (plain_item x ∷ []));
+}
+
+pub numbered_items : (xs : List code.Item) (i : ℕ) (d : Declarations) → length xs ≤ i → AreNumbered (take i (map plain_item xs)) d → AreNumbered (map plain_item xs) d
+numbered_items xs i d end so_far = subst (λ items. AreNumbered items d) (take_all i (map plain_item xs) (rw length-map end)) so_far
 
 -- an element that is there doesn't depend on what stands for a missing one
 pub same_element : {A : Type 0} (xs : List A) (i : ℕ) (d e : A) → i < length xs → get_or xs i d ≡ get_or xs i e

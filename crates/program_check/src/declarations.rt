@@ -1,12 +1,12 @@
 //! What a program declares: each name is numbered once, and found in constant time from then on.
 
-ghost use Rattle.std.specs.Prelude.{◌≡◌, ℕ, List, OnOk, IfOk, map};
+ghost use Rattle.std.specs.Prelude.{◌≡◌, ◌++◌, ◌∷◌, [], Some, None, OnOk, IfOk, map};
 ghost use Rattle.std.specs.Option.{option_map};
 ghost use Rattle.model_names.specs.Declared.{own_name, declares};
 ghost use Rattle.fast_syntax.specs.View.{plain_name, plain_ctor, plain_type};
 ghost use Rattle.fast_syntax.specs.Plain.{plain_item};
 ghost use Rattle.program_check.specs.Naming.{place_in, Grows};
-ghost use Rattle.program_check.specs.Numbered.{place_by, declares_type, own_type_item, ctor_place, own_ctors, HasCtors, AreNumbered};
+ghost use Rattle.program_check.specs.Numbered.{declares_type, own_type_item, ctor_place, own_ctors, HasCtors, AreNumbered};
 
 use crate::names::Names;
 use fast_fault::Memory;
@@ -55,16 +55,6 @@ fn number_type(alloc: Global, types: &mut Names, item: &Item, place: usize) -> R
     }
 }
 
-fn number_types(alloc: Global, items: &[Item]) -> Result<Names, Memory>
-    ensures { IfOk result (λ types. (name : List ℕ) → place_in types name ≡ place_by (declares_type name) (map plain_item items.now)) }
-{
-    let mut types = Names::new(alloc);
-    'items: for (place, item) in items.iter().enumerate() {
-        number_type(alloc, &mut types, item, place)?;
-    }
-    Ok(types)
-}
-
 fn number_name(alloc: Global, names: &mut Names, item: &Item, place: usize) -> Result<(), Memory>
     ensures { OnOk result (Grows names.old names.new (λ name. declares name (plain_item item.now)) place) }
 {
@@ -72,16 +62,6 @@ fn number_name(alloc: Global, names: &mut Names, item: &Item, place: usize) -> R
         Some(own) => names.add(alloc, &own.text, place),
         None => Ok(()),
     }
-}
-
-fn number_names(alloc: Global, items: &[Item]) -> Result<Names, Memory>
-    ensures { IfOk result (λ names. (name : List ℕ) → place_in names name ≡ place_by (declares name) (map plain_item items.now)) }
-{
-    let mut names = Names::new(alloc);
-    'items: for (place, item) in items.iter().enumerate() {
-        number_name(alloc, &mut names, item, place)?;
-    }
-    Ok(names)
 }
 
 /// The numbers of the constructors of a type.
@@ -104,23 +84,38 @@ fn own_ctors(alloc: Global, item: &Item) -> Result<Names, Memory>
     }
 }
 
-fn all_ctors(alloc: Global, items: &[Item]) -> Result<Vec<Names>, Memory>
-    ensures { IfOk result (λ made. map place_in made.items ≡ map (λ item. ctor_place (own_ctors item)) (map plain_item items.now)) }
-{
-    let mut made = Vec::new(alloc);
-    'items: for item in items {
-        made.push(own_ctors(alloc, item)?)?;
+impl Declarations {
+    /// What no items declare.
+    fn new(alloc: Global) -> Declarations
+        ensures { AreNumbered [] result }
+    {
+        Declarations {
+            types: Names::new(alloc),
+            names: Names::new(alloc),
+            ctors: Vec::new(alloc),
+        }
     }
-    Ok(made)
+
+    /// Adds what the item at this place declares.
+    fn add(&mut self, alloc: Global, item: &Item, place: usize) -> Result<(), Memory>
+        ensures types { OnOk result (Grows self.old.types self.new.types (λ name. declares_type name (plain_item item.now)) place) }
+        ensures names { OnOk result (Grows self.old.names self.new.names (λ name. declares name (plain_item item.now)) place) }
+        ensures ctors { OnOk result (map place_in self.new.ctors.items ≡ map place_in self.old.ctors.items ++ ctor_place (own_ctors (plain_item item.now)) ∷ []) }
+    {
+        number_type(alloc, &mut self.types, item, place)?;
+        number_name(alloc, &mut self.names, item, place)?;
+        self.ctors.push(own_ctors(alloc, item)?)?;
+        Ok(())
+    }
 }
 
 /// Numbers what the items declare.
 pub(crate) fn number_items(alloc: Global, items: &[Item]) -> Result<Declarations, Memory>
     ensures { IfOk result (AreNumbered (map plain_item items.now)) }
 {
-    Ok(Declarations {
-        types: number_types(alloc, items)?,
-        names: number_names(alloc, items)?,
-        ctors: all_ctors(alloc, items)?,
-    })
+    let mut declared = Declarations::new(alloc);
+    'items: for (place, item) in items.iter().enumerate() {
+        declared.add(alloc, item, place)?;
+    }
+    Ok(declared)
 }
