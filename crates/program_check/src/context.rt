@@ -40,8 +40,8 @@ impl<'p> Context<'p> {
     }
 
     /// The type of this name, where there is a name.
-    pub(crate) fn type_called(&self, name: &Option<&Text>) -> Option<DeclaredType<'p>>
-        ensures { plain_option result ≡ option_and_then (find_type (items_of self.now)) (type_name name.now) }
+    pub(crate) fn type_called(&self, name: Option<&Text>) -> Option<DeclaredType<'p>>
+        ensures { plain_option result ≡ option_and_then (find_type (items_of self.now)) (type_name name.entry) }
     {
         match name {
             Some(name) => self.find_type(name),

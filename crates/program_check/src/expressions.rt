@@ -113,36 +113,32 @@ pub(crate) fn place_of(x: &X) -> Pos
 }
 
 /// Whether it is known to be of another kind.
-fn is_other_kind(kind: Kind, known: &Option<Kind>) -> bool
-    ensures { result ≡ is_other_kind (plain_kind kind) (option_map plain_kind known.now) }
+fn is_other_kind(kind: Kind, known: Option<Kind>) -> bool
+    ensures { result ≡ is_other_kind (plain_kind kind) (option_map plain_kind known) }
 {
     match known {
-        Some(found) => *found != kind,
+        Some(found) => found != kind,
         None => false,
     }
 }
 
 /// The name of the type, where something is of this kind.
-pub(crate) fn only_as<'p>(
-    kind: Kind,
-    known: &Option<Kind>,
-    of: &Option<&'p Text>,
-) -> Option<&'p Text>
-    ensures { result ≡ only_as kind known.now of.now }
+pub(crate) fn only_as<'p>(kind: Kind, known: Option<Kind>, of: Option<&'p Text>) -> Option<&'p Text>
+    ensures { result ≡ only_as kind known of.entry }
 {
     match known {
-        Some(found) if *found == kind => *of,
+        Some(found) if found == kind => of,
         _ => None,
     }
 }
 
 /// A type is expected of a tree alone.
-fn expected_as<'p>(kind: Kind, of: &Option<&'p Text>) -> Option<&'p Text>
-    ensures { type_name result ≡ expected_as (plain_kind kind) (type_name of.now) }
+fn expected_as<'p>(kind: Kind, of: Option<&'p Text>) -> Option<&'p Text>
+    ensures { type_name result ≡ expected_as (plain_kind kind) (type_name of.entry) }
 {
     match kind {
         Kind::Language | Kind::Transformation => None,
-        Kind::Tree => *of,
+        Kind::Tree => of,
     }
 }
 
@@ -165,10 +161,10 @@ fn wanted_second<'p>(op: Op2, first: &Standing<'p>) -> Option<&'p Text>
     let kind = taken_first(op);
     match op {
         Op2::Intersect | Op2::Union | Op2::Difference | Op2::Restrict | Op2::Apply => {
-            only_as(kind, &first.kind, &first.input)
+            only_as(kind, first.kind, first.input)
         }
         Op2::PreImage | Op2::Compose | Op2::RestrictOut => {
-            only_as(kind, &first.kind, &first.output)
+            only_as(kind, first.kind, first.output)
         }
     }
 }
@@ -179,7 +175,7 @@ fn of_one<'p>(op: Op1, operand: &Standing<'p>) -> Standing<'p>
     let taken = taken_by_one(op);
     Standing {
         kind: Some(given_by_one(op)),
-        input: only_as(taken, &operand.kind, &operand.input),
+        input: only_as(taken, operand.kind, operand.input),
         output: None,
     }
 }
@@ -200,14 +196,14 @@ fn input_of_two<'p>(op: Op2, first: &Standing<'p>) -> Option<&'p Text>
 {
     let taken = taken_first(op);
     match op {
-        Op2::Apply => only_as(taken, &first.kind, &first.output),
+        Op2::Apply => only_as(taken, first.kind, first.output),
         Op2::Intersect
         | Op2::Union
         | Op2::Difference
         | Op2::PreImage
         | Op2::Compose
         | Op2::Restrict
-        | Op2::RestrictOut => only_as(taken, &first.kind, &first.input),
+        | Op2::RestrictOut => only_as(taken, first.kind, first.input),
     }
 }
 
@@ -216,17 +212,17 @@ fn output_of_two<'p>(op: Op2, first: &Standing<'p>, second: &Standing<'p>) -> Op
     ensures { result ≡ output_of_two op first.now second.now }
 {
     match op {
-        Op2::Compose => only_as(Kind::Transformation, &second.kind, &second.output),
+        Op2::Compose => only_as(Kind::Transformation, second.kind, second.output),
         Op2::Restrict | Op2::RestrictOut => {
-            only_as(Kind::Transformation, &first.kind, &first.output)
+            only_as(Kind::Transformation, first.kind, first.output)
         }
         Op2::Intersect | Op2::Union | Op2::Difference | Op2::PreImage | Op2::Apply => None,
     }
 }
 
 /// The name of the type that has this name.
-fn declared<'p>(context: &Context<'p>, name: &Option<&Name>) -> Option<&'p Text>
-    ensures { type_name result ≡ option_and_then (declared_type (items_of context.now)) (option_map (λ n. plain_name n.now) name.now) }
+fn declared<'p>(context: &Context<'p>, name: Option<&Name>) -> Option<&'p Text>
+    ensures { type_name result ≡ option_and_then (declared_type (items_of context.now)) (option_map (λ n. plain_name n.now) name.entry) }
 {
     match name {
         Some(name) => context.type_name(&name.text),
@@ -295,12 +291,10 @@ fn standing_of<'p>(context: &Context<'p>, name: &Name, item: &Item) -> Standing<
     requires { find_item (items_of context.now) name.now.text ≡ Some (plain_item item.now) }
     ensures { IsStanding (items_of context.now) (plain.named (plain_name name.now)) result }
 {
-    let input = own_type(item);
-    let output = own_output(item);
     Standing {
         kind: own_kind(item),
-        input: declared(context, &input),
-        output: declared(context, &output),
+        input: declared(context, own_type(item)),
+        output: declared(context, own_output(item)),
     }
 }
 
@@ -318,17 +312,17 @@ fn standing_of_nothing<'p>(context: &Context<'p>, name: &Name) -> Standing<'p>
 
 impl<'p> Checker<'p> {
     /// The expression is of this kind and the type of this name.
-    fn check_be(&mut self, of: &Option<&Text>, kind: Kind, x: &X, standing: &Standing)
+    fn check_be(&mut self, of: Option<&Text>, kind: Kind, x: &X, standing: &Standing)
         requires { IsStanding (items_of self.old.context) (plain_x x.now) standing.now }
-        ensures { Notes self.old self.new (needs_be (items_of self.old.context) (before_of self.old.context) (type_name of.now) (plain_kind kind) (plain_x x.now)) }
+        ensures { Notes self.old self.new (needs_be (items_of self.old.context) (before_of self.old.context) (type_name of.entry) (plain_kind kind) (plain_x x.now)) }
     {
         let place = place_of(x);
-        self.note_if(is_other_kind(kind, &standing.kind), Code::WrongKind, place);
-        let found = only_as(kind, &standing.kind, &standing.input);
-        self.note_if(differ(of, &found), Code::WrongType, place);
+        self.note_if(is_other_kind(kind, standing.kind), Code::WrongKind, place);
+        let found = only_as(kind, standing.kind, standing.input);
+        self.note_if(differ(of, found), Code::WrongType, place);
     }
 
-    /// An operation isn't inside too many others. So many are around its operands.
+    /// An operation isn't inside too many others. How many are around its operands comes back.
     fn check_nested(&mut self, around: usize, place: Pos) -> usize
         ensures noted { Notes self.old self.new (nesting_failures around place) }
         ensures few { around < most_around → result ≡ around + 1 }
@@ -372,12 +366,12 @@ impl<'p> Checker<'p> {
     /// The constructor of a literal of this type, and its labels, which have no names of fields.
     fn check_literal(
         &mut self,
-        expected: &Option<&Text>,
+        expected: Option<&Text>,
         name: &Name,
         labels: &[Expr],
         count: usize,
     ) -> Result<(), Memory>
-        ensures { OnOk result (Notes self.old self.new (literal_failures (option_and_then (find_type (items_of self.old.context)) (type_name expected.now)) (plain_name name.now) (map plain_expr labels.now) count)) }
+        ensures { OnOk result (Notes self.old self.new (literal_failures (option_and_then (find_type (items_of self.old.context)) (type_name expected.entry)) (plain_name name.now) (map plain_expr labels.now) count)) }
     {
         let of = self.context.type_called(expected);
         self.check_constructor(&of, name, count);
@@ -392,10 +386,10 @@ impl<'p> Checker<'p> {
     pub(crate) fn check_x(
         &mut self,
         around: usize,
-        expected: &Option<&'p Text>,
+        expected: Option<&'p Text>,
         x: &X,
     ) -> Result<Standing<'p>, Memory>
-        ensures noted { OnOk result (Notes self.old self.new (x_failures (items_of self.old.context) (before_of self.old.context) around (type_name expected.now) (plain_x x.now))) }
+        ensures noted { OnOk result (Notes self.old self.new (x_failures (items_of self.old.context) (before_of self.old.context) around (type_name expected.entry) (plain_x x.now))) }
         ensures standing { IfOk result (IsStanding (items_of self.old.context) (plain_x x.now)) }
     {
         match x {
@@ -403,16 +397,16 @@ impl<'p> Checker<'p> {
             X::One(op, place, inside) => {
                 let deep = self.check_nested(around, *place);
                 let kind = taken_by_one(*op);
-                let operand = self.check_as(deep, &None, kind, inside)?;
+                let operand = self.check_as(deep, None, kind, inside)?;
                 Ok(of_one(*op, &operand))
             }
             X::Two(op, place, first, second) => {
                 let deep = self.check_nested(around, *place);
                 let kind = taken_first(*op);
-                let left = self.check_as(deep, &None, kind, first)?;
+                let left = self.check_as(deep, None, kind, first)?;
                 let wanted = wanted_second(*op, &left);
                 let kind = taken_second(*op);
-                let right = self.check_as(deep, &wanted, kind, second)?;
+                let right = self.check_as(deep, wanted, kind, second)?;
                 Ok(of_two(*op, &left, &right))
             }
             X::Literal(name, labels, children) => {
@@ -432,15 +426,15 @@ impl<'p> Checker<'p> {
     pub(crate) fn check_as(
         &mut self,
         around: usize,
-        of: &Option<&'p Text>,
+        of: Option<&'p Text>,
         kind: Kind,
         x: &X,
     ) -> Result<Standing<'p>, Memory>
-        ensures noted { OnOk result (Notes self.old self.new (as_failures (items_of self.old.context) (before_of self.old.context) around (type_name of.now) (plain_kind kind) (plain_x x.now))) }
+        ensures noted { OnOk result (Notes self.old self.new (as_failures (items_of self.old.context) (before_of self.old.context) around (type_name of.entry) (plain_kind kind) (plain_x x.now))) }
         ensures standing { IfOk result (IsStanding (items_of self.old.context) (plain_x x.now)) }
     {
         let expected = expected_as(kind, of);
-        let standing = self.check_x(around, &expected, x)?;
+        let standing = self.check_x(around, expected, x)?;
         self.check_be(of, kind, x, &standing);
         Ok(standing)
     }
@@ -450,10 +444,10 @@ impl<'p> Checker<'p> {
     fn check_children(
         &mut self,
         around: usize,
-        expected: &Option<&'p Text>,
+        expected: Option<&'p Text>,
         children: &[X],
     ) -> Result<(), Memory>
-        ensures { OnOk result (Notes self.old self.new (xs_failures (items_of self.old.context) (before_of self.old.context) around (type_name expected.now) (plain_children children.now))) }
+        ensures { OnOk result (Notes self.old self.new (xs_failures (items_of self.old.context) (before_of self.old.context) around (type_name expected.entry) (plain_children children.now))) }
     {
         let mut waiting = Waiting::new(self.alloc);
         waiting.add(children)?;
@@ -468,11 +462,11 @@ impl<'p> Checker<'p> {
     fn check_next_child<'x>(
         &mut self,
         around: usize,
-        expected: &Option<&'p Text>,
+        expected: Option<&'p Text>,
         child: &'x X,
         waiting: &mut Waiting<'x>,
     ) -> Result<(), Memory>
-        ensures noted { OnOk result (Left self.old self.new (xs_failures (items_of self.old.context) (before_of self.old.context) around (type_name expected.now) (plain.and_x (plain_x child.now) (plain_waiting waiting.old))) (xs_failures (items_of self.old.context) (before_of self.old.context) around (type_name expected.now) (plain_waiting waiting.new))) }
+        ensures noted { OnOk result (Left self.old self.new (xs_failures (items_of self.old.context) (before_of self.old.context) around (type_name expected.entry) (plain.and_x (plain_x child.now) (plain_waiting waiting.old))) (xs_failures (items_of self.old.context) (before_of self.old.context) around (type_name expected.entry) (plain_waiting waiting.new))) }
         ensures less { OnOk result (weights (plain_waiting waiting.new) < weight (plain_x child.now) + weights (plain_waiting waiting.old)) }
     {
         let X::Literal(name, labels, children) = child else {

@@ -78,7 +78,7 @@ impl<'p> Checker<'p> {
         let of = type_named(&self.context, &item.of);
         self.check_new_name(&item.name);
         self.check_type_name(&item.of);
-        self.check_as(0, &of, Kind::Tree, &item.value)?;
+        self.check_as(0, of, Kind::Tree, &item.value)?;
         Ok(())
     }
 
@@ -154,8 +154,8 @@ impl<'p> Checker<'p> {
         ensures { Notes self.old self.new (needs_output (items_of self.old.context) (before_of self.old.context) (plain_into into.now) (plain_x x.now)) }
     {
         let wanted = output_named(&self.context, into);
-        let found = only_as(Kind::Transformation, &standing.kind, &standing.output);
-        self.note_if(differ(&wanted, &found), Code::WrongType, place_of(x));
+        let found = only_as(Kind::Transformation, standing.kind, standing.output);
+        self.note_if(differ(wanted, found), Code::WrongType, place_of(x));
     }
 
     fn check_def(&mut self, item: &DefItem) -> Result<(), Memory>
@@ -166,7 +166,7 @@ impl<'p> Checker<'p> {
         self.check_type_name(&item.from);
         self.check_into(&item.into);
         let kind = defined_kind(&item.into);
-        let standing = self.check_as(0, &from, kind, &item.value)?;
+        let standing = self.check_as(0, from, kind, &item.value)?;
         self.check_output(&item.into, &item.value, &standing);
         Ok(())
     }
@@ -175,9 +175,9 @@ impl<'p> Checker<'p> {
     fn check_equal(&mut self, x: &X, y: &X) -> Result<(), Memory>
         ensures { OnOk result (Notes self.old self.new (claim_failures (items_of self.old.context) (before_of self.old.context) (plain.equal (plain_x x.now) (plain_x y.now)))) }
     {
-        let left = self.check_as(0, &None, Kind::Language, x)?;
-        let wanted = only_as(Kind::Language, &left.kind, &left.input);
-        self.check_as(0, &wanted, Kind::Language, y)?;
+        let left = self.check_as(0, None, Kind::Language, x)?;
+        let wanted = only_as(Kind::Language, left.kind, left.input);
+        self.check_as(0, wanted, Kind::Language, y)?;
         Ok(())
     }
 
@@ -185,9 +185,9 @@ impl<'p> Checker<'p> {
     fn check_member(&mut self, x: &X, y: &X) -> Result<(), Memory>
         ensures { OnOk result (Notes self.old self.new (claim_failures (items_of self.old.context) (before_of self.old.context) (plain.member (plain_x x.now) (plain_x y.now)))) }
     {
-        let language = self.check_as(0, &None, Kind::Language, y)?;
-        let wanted = only_as(Kind::Language, &language.kind, &language.input);
-        self.check_as(0, &wanted, Kind::Tree, x)?;
+        let language = self.check_as(0, None, Kind::Language, y)?;
+        let wanted = only_as(Kind::Language, language.kind, language.input);
+        self.check_as(0, wanted, Kind::Tree, x)?;
         Ok(())
     }
 
@@ -195,7 +195,7 @@ impl<'p> Checker<'p> {
     fn check_empty(&mut self, x: &X) -> Result<(), Memory>
         ensures { OnOk result (Notes self.old self.new (claim_failures (items_of self.old.context) (before_of self.old.context) (plain.empty (plain_x x.now)))) }
     {
-        let standing = self.check_x(0, &None, x)?;
+        let standing = self.check_x(0, None, x)?;
         self.note_if(is_tree(&standing), Code::WrongKind, place_of(x));
         Ok(())
     }
@@ -204,11 +204,11 @@ impl<'p> Checker<'p> {
     fn check_type_check(&mut self, x: &X, y: &X, z: &X) -> Result<(), Memory>
         ensures { OnOk result (Notes self.old self.new (claim_failures (items_of self.old.context) (before_of self.old.context) (plain.type_check (plain_x x.now) (plain_x y.now) (plain_x z.now)))) }
     {
-        let language = self.check_as(0, &None, Kind::Language, x)?;
-        let input = only_as(Kind::Language, &language.kind, &language.input);
-        let standing = self.check_as(0, &input, Kind::Transformation, y)?;
-        let output = only_as(Kind::Transformation, &standing.kind, &standing.output);
-        self.check_as(0, &output, Kind::Language, z)?;
+        let language = self.check_as(0, None, Kind::Language, x)?;
+        let input = only_as(Kind::Language, language.kind, language.input);
+        let standing = self.check_as(0, input, Kind::Transformation, y)?;
+        let output = only_as(Kind::Transformation, standing.kind, standing.output);
+        self.check_as(0, output, Kind::Language, z)?;
         Ok(())
     }
 

@@ -130,9 +130,9 @@ fn form_of_field(
     alloc: Global,
     fields: &[FieldItem],
     name: &Text,
-    sort: &Option<Sort>,
+    sort: Option<Sort>,
 ) -> Result<Option<Form>, Memory>
-    ensures { IfOk result (λ form. form ≡ option_and_then (λ s. cond (same_sort s wholes) (form_numbered (number_at (plain_fields (map plain_field fields.now)) wholes name.now)) None) (option_map plain_sort sort.now)) }
+    ensures { IfOk result (λ form. form ≡ option_and_then (λ s. cond (same_sort s wholes) (form_numbered (number_at (plain_fields (map plain_field fields.now)) wholes name.now)) None) (option_map plain_sort sort)) }
 {
     match sort {
         Some(Sort::Int) => form_numbered(alloc, number_at(fields, name)),
@@ -189,20 +189,20 @@ impl Known {
 }
 
 /// Whether it is known to be of another sort.
-fn is_other_sort(sort: Sort, known: &Option<Sort>) -> bool
-    ensures { result ≡ is_other_sort (plain_sort sort) (option_map plain_sort known.now) }
+fn is_other_sort(sort: Sort, known: Option<Sort>) -> bool
+    ensures { result ≡ is_other_sort (plain_sort sort) (option_map plain_sort known) }
 {
     match known {
-        Some(found) => *found != sort,
+        Some(found) => found != sort,
         None => false,
     }
 }
 
-pub(crate) fn differ_in_sort(left: &Option<Sort>, right: &Option<Sort>) -> bool
-    ensures { result ≡ differ_in_sort (option_map plain_sort left.now) (option_map plain_sort right.now) }
+pub(crate) fn differ_in_sort(left: Option<Sort>, right: Option<Sort>) -> bool
+    ensures { result ≡ differ_in_sort (option_map plain_sort left) (option_map plain_sort right) }
 {
     match left {
-        Some(sort) => is_other_sort(*sort, right),
+        Some(sort) => is_other_sort(sort, right),
         None => false,
     }
 }
@@ -293,7 +293,7 @@ impl Checker<'_> {
             return Ok(Known::of_nothing(None));
         };
         let sort = sort_at(fields, place_of_field);
-        let form = form_of_field(self.alloc, fields, name, &sort)?;
+        let form = form_of_field(self.alloc, fields, name, sort)?;
         Ok(Known {
             sort,
             has_field: true,
@@ -329,7 +329,7 @@ impl Checker<'_> {
     fn check_sort(&mut self, sort: Sort, side: Side)
         ensures { Notes self.old self.new (sort_failures (plain_sort sort) side) }
     {
-        self.note_if(is_other_sort(sort, &side.sort), Code::WrongSort, side.place);
+        self.note_if(is_other_sort(sort, side.sort), Code::WrongSort, side.place);
     }
 
     /// The sides of an equality are of one sort, those of another comparison are whole numbers.
@@ -338,7 +338,7 @@ impl Checker<'_> {
     {
         match rel {
             Rel::Equal | Rel::NotEqual => {
-                let differ = differ_in_sort(&left.sort, &right.sort);
+                let differ = differ_in_sort(left.sort, right.sort);
                 self.note_if(differ, Code::WrongSort, right.place);
             }
             Rel::Less | Rel::AtMost | Rel::Greater | Rel::AtLeast => {

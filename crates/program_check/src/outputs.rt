@@ -43,7 +43,7 @@ impl Checker<'_> {
     {
         let sort = sort_named(&field.sort.text);
         self.note_if(
-            differ_in_sort(&sort, &label.sort),
+            differ_in_sort(sort, label.sort),
             Code::WrongSort,
             label.place,
         );

@@ -42,13 +42,13 @@ pub(crate) struct Between<'p> {
 }
 
 /// Whether the types of these names are known and differ.
-pub(crate) fn differ(left: &Option<&Text>, right: &Option<&Text>) -> bool
-    ensures { result ≡ differ (type_name left.now) (type_name right.now) }
+pub(crate) fn differ(left: Option<&Text>, right: Option<&Text>) -> bool
+    ensures { result ≡ differ (type_name left.entry) (type_name right.entry) }
 {
     let (Some(left), Some(right)) = (left, right) else {
         return false;
     };
-    **left != **right
+    *left != *right
 }
 
 /// The fields of a type, where it is declared.
@@ -91,7 +91,7 @@ pub(crate) fn types_differ(context: &Context, left: &Name, right: &Name) -> bool
         context.type_name(&left.text),
         context.type_name(&right.text),
     );
-    differ(&left, &right)
+    differ(left, right)
 }
 
 impl Checker<'_> {

@@ -25,7 +25,7 @@ check_as-returns-clause-noted t c =
     let x = plain_x c.args.x.now in
     let one = c.in_ok-standing.ensures.noted in
     next (same (ap (λ n. x_failures items before c.args.around n x) c.expected_as-expected.ensures) one)
-    (of_same (λ d. needs_be (items_of d) (before_of d) (type_name c.args.of.now) (plain_kind c.args.kind) x) one.same c.check_be.ensures)
+    (of_same (λ d. needs_be (items_of d) (before_of d) (type_name c.args.of) (plain_kind c.args.kind) x) one.same c.check_be.ensures)
 
 pub check_as-check_be-requires : goal.check_as-check_be-requires
 check_as-check_be-requires t c = subst (λ (d : Context). IsStanding (items_of d) (plain_x c.args.x.now) c.in_ok-standing.standing) (sym c.in_ok-standing.ensures.noted.same) c.in_ok-standing.ensures.standing
@@ -34,7 +34,7 @@ pub check_x-returns-in_ok-operand-in-One-clause-noted : goal.check_x-returns-in_
 check_x-returns-in_ok-operand-in-One-clause-noted t c =
     let items = items_of c.args.self.now.context in
     let before = before_of c.args.self.now.context in
-    let e = type_name c.args.expected.now in
+    let e = type_name c.args.expected in
     let deep = c.check_nested-deep in
     let one = deep.ensures.noted in
     let two = of_same (λ d. as_failures (items_of d) (before_of d) deep.result None (plain_kind c.taken_by_one-kind.result) (plain_x c.deref.result.now)) one.same c.in_ok-operand-in-One.ensures.noted in
@@ -54,7 +54,7 @@ pub check_x-returns-in_ok-right-in-Two-clause-noted : goal.check_x-returns-in_ok
 check_x-returns-in_ok-right-in-Two-clause-noted t c =
     let items = items_of c.args.self.now.context in
     let before = before_of c.args.self.now.context in
-    let e = type_name c.args.expected.now in
+    let e = type_name c.args.expected in
     let deep = c.check_nested-deep-in-Two in
     let left = c.in_ok-left-in-Two.left in
     let wanted = c.wanted_second-wanted.result in
@@ -84,7 +84,7 @@ pub check_x-returns-in_ok-check_children-in-Literal-clause-noted : goal.check_x-
 check_x-returns-in_ok-check_children-in-Literal-clause-noted t c =
     let items = items_of c.args.self.now.context in
     let before = before_of c.args.self.now.context in
-    let e = type_name c.args.expected.now in
+    let e = type_name c.args.expected in
     let each = x_failures items before c.args.around e in
     let name = plain_name c.in-Literal.name in
     let t = type_called items before e in
@@ -106,7 +106,7 @@ pub check_next_child-returns-clause-noted : goal.check_next_child-returns-clause
 check_next_child-returns-clause-noted t c =
     let items = items_of c.args.self.now.context in
     let before = before_of c.args.self.now.context in
-    let e = type_name c.args.expected.now in
+    let e = type_name c.args.expected in
     let name = plain_name c.in-Literal.name in
     let t = type_called items before e in
     let xs = c.in-Literal.children.items in
@@ -126,7 +126,7 @@ check_next_child-returns-clause-less t c =
 
 pub check_next_child-returns-in_default-clause-noted : goal.check_next_child-returns-in_default-clause-noted
 check_next_child-returns-in_default-clause-noted t c =
-    other_child (items_of c.args.self.now.context) (before_of c.args.self.now.context) c.args.around (type_name c.args.expected.now) (plain_x c.args.child.now) (plain_waiting c.args.waiting.now) _ _ c.in_ok-check_as.ensures.noted
+    other_child (items_of c.args.self.now.context) (before_of c.args.self.now.context) c.args.around (type_name c.args.expected) (plain_x c.args.child.now) (plain_waiting c.args.waiting.now) _ _ c.in_ok-check_as.ensures.noted
 
 pub check_next_child-returns-in_default-clause-less : goal.check_next_child-returns-in_default-clause-less
 check_next_child-returns-in_default-clause-less t c = let some = some_weight (plain_x c.args.child.now) in omega (arith, some)

@@ -14,4 +14,4 @@ returns c =
     let s = c.args.standing.now in
     let kind = c.args.kind in
     let one = same (ap₂ (λ b p. fails_if b WrongKind p) (c.is_other_kind.ensures ∙ ap (is_other_kind (plain_kind kind)) c.requires.kind) c.place_of-place.ensures) c.note_if.ensures in
-    next one (same (ap₂ (λ b p. fails_if b WrongType p) (c.differ.ensures ∙ ap (differ (type_name c.args.of.now)) (ap type_name c.only_as-found.ensures ∙ only_is kind s.kind s.input _ _ c.requires.kind c.requires.input)) c.place_of-place.ensures) c.note_if-2.ensures)
+    next one (same (ap₂ (λ b p. fails_if b WrongType p) (c.differ.ensures ∙ ap (differ (type_name c.args.of)) (ap type_name c.only_as-found.ensures ∙ only_is kind s.kind s.input _ _ c.requires.kind c.requires.input)) c.place_of-place.ensures) c.note_if-2.ensures)
