@@ -1,18 +1,14 @@
 -- Terms that lie in a list are members of its form.
-use Rattle.std.proofs.Common.{◌≡◌, ℕ, zero, suc, ◌<◌, inl, inr, List, [], ◌∷◌, length, get_or, refl, ap, ◌∙◌, arith}
+use Rattle.std.proofs.Common.{◌≡◌, ℕ, zero, suc, ◌<◌, inl, inr, List, [], ◌∷◌, length, get_or, refl, ◌∙◌, arith}
 use Rattle.std.proofs.Common.{Bool, true, ◌&&◌}
 use Rattle.std.specs.Cmp.Lexicographic.{pointwise}
 use Rattle.model_form.proofs.Values.{both_out}
-use Rattle.model_form.specs.Form.{Form, count, Term}
+use Rattle.model_form.specs.Form.{Form, Term}
 use Rattle.model_form.specs.Same.{Item, members, IsIn, same_form}
 use Rattle.model_form.proofs.Sorted.{AreIn}
 use Rattle.lin_form.specs.declared.form.RemTerm.{RemTerm}
 use Rattle.lin_form.specs.declared.form.FieldTerm.{FieldTerm}
 use Rattle.lin_form.specs.Terms.{plain_fields, plain_remainders, member}
-
-pub count_is : (ts : List RemTerm) → count (plain_remainders ts) ≡ length ts
-count_is [] = refl
-count_is (t ∷ ts) = ap suc (count_is ts)
 
 pub member_at : (ts : List RemTerm) (x : Item) (k : ℕ) (d : RemTerm) → k < length ts → x ≡ member (get_or ts k d) → IsIn x (members (plain_remainders ts))
 member_at [] x k d h e = absurd (omega arith)

@@ -6,7 +6,8 @@ use Rattle.model_form.specs.Same.{ordered, members, IsIn}
 use Rattle.model_form.proofs.Equals.{same_out, same_in, differ_in_fields, differ_in_count, differ_in_member, same_by_parts}
 use Rattle.lin_form.specs.Terms.{plain_fields, plain_remainders, member}
 use Rattle.lin_form.specs.declared.form.RemTerm.{RemTerm}
-use Rattle.lin_form.proofs.Members.{count_is, member_at, place_of, all_members, of_views, get_or-any}
+use Rattle.lin_form.proofs.Hashing.{count-remainders}
+use Rattle.lin_form.proofs.Members.{member_at, place_of, all_members, of_views, get_or-any}
 use Rattle.lin_form.proofs.+same.Goals as goal
 use Rattle.lin_form.proofs.+same.Goals.{same::has-else-term-other-via-then-term-other+then-term-other-2+else-is_same, same::has-else-term-other-via-then-term-other+else-term-other-2, same::has-else-term-other-via-else-term-other}
 
@@ -20,7 +21,7 @@ pub form::Form::is_same-returns-then-terms-others : goal.form::Form::is_same-ret
 form::Form::is_same-returns-then-terms-others t c =
     of_views false (form c.self.inside.constant (plain_fields c.self.inside.fields.items) (plain_remainders c.self.inside.remainders.items)) (form c.other.inside.constant (plain_fields c.other.inside.fields.items) (plain_remainders c.other.inside.remainders.items)) c.args.self.now c.args.other.now c.self.view_is c.other.view_is
     (differ_in_count c.self.inside.constant c.other.inside.constant (plain_fields c.self.inside.fields.items) (plain_fields c.other.inside.fields.items) (plain_remainders c.self.inside.remainders.items) (plain_remainders c.other.inside.remainders.items)
-    (λ e. c.if-terms-others.true (ap length c.as_slice-terms.ensures.value ∙ sym (count_is c.self.inside.remainders.items) ∙ e ∙ count_is c.other.inside.remainders.items ∙ sym (ap length c.as_slice-others.ensures.value))))
+    (λ e. c.if-terms-others.true (ap length c.as_slice-terms.ensures.value ∙ sym (count-remainders c.self.inside.remainders.items) ∙ e ∙ count-remainders c.other.inside.remainders.items ∙ sym (ap length c.as_slice-others.ensures.value))))
 
 pub form::Form::is_same-returns-then-not-has : goal.form::Form::is_same-returns-then-not-has
 form::Form::is_same-returns-then-not-has t c =
@@ -45,7 +46,7 @@ form::Form::is_same-returns t c =
     (omega (arith, ints))
     (sym (ap plain_fields c.deref.ensures.value) ∙ c.same_fields.ensures.0 c.if-not-same_fields.false ∙ ap plain_fields c.deref-2.ensures.value)
     c.self.invariant.form.3
-    (count_is c.self.inside.remainders.items ∙ sym (ap length c.as_slice-terms.ensures.value) ∙ c.if-terms-others.false ∙ ap length c.as_slice-others.ensures.value ∙ sym (count_is c.other.inside.remainders.items))
+    (count-remainders c.self.inside.remainders.items ∙ sym (ap length c.as_slice-terms.ensures.value) ∙ c.if-terms-others.false ∙ ap length c.as_slice-others.ensures.value ∙ sym (count-remainders c.other.inside.remainders.items))
     (subst (λ ts. AreIn (members (plain_remainders ts)) (members (plain_remainders c.other.inside.remainders.items))) c.as_slice-terms.ensures.value (subst (λ us. AreIn (members (plain_remainders c.as_slice-terms.result.now)) (members (plain_remainders us))) c.as_slice-others.ensures.value all)))
 
 pub same::has-returns-then-is_same : goal.same::has-returns-then-is_same
