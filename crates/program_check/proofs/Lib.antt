@@ -20,5 +20,4 @@ pub mod Standing
 pub mod XParts
 pub mod Numbering
 pub mod Weights
-pub mod Told
 mod Ranked

@@ -10,7 +10,6 @@ use Rattle.model_meaning.specs.Meaning.{IsTreeOf, signature_named}
 use Rattle.model_meaning.specs.Outputs.{number_named, made_label}
 use Rattle.model_meaning.specs.Values.{Printed, IsValue, AreValues, IsLeastOf}
 use Rattle.model_run.specs.Causes.{AreAllLarge}
-use Rattle.program_check.specs.Tells.{IsChecked}
 use Rattle.fast_build.specs.Items.{items_of}
 use Rattle.fast_eval.specs.Stops.{IsStopOf}
 use Rattle.tree_values.specs.declared.stops.ValueStop.{ValueStop}
@@ -24,9 +23,8 @@ use Rattle.tree_values.specs.Trees.{meant, Tells, AreTypedTrees}
 abbrev pub items_in : Given → List Item
 items_in g = items_of g.checked.now
 
--- The program is well-formed, the trees are typed, and some trees that were printed are these.
+-- The trees are typed, and some trees that were printed are these.
 pub record IsGiven (g : Given) : Type 0 where
-  pub checked : IsChecked g.checked.now
   pub typed : AreTypedTrees (items_in g) g.trees.now
   pub printed : List Printed
   pub told : Tells g.trees.now printed

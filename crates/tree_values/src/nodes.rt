@@ -8,7 +8,6 @@ ghost use Rattle.fast_syntax.specs.View.{plain_name};
 ghost use Rattle.model_grammar.specs.Syntax as plain;
 ghost use Rattle.model_names.specs.Declared.{find_type};
 ghost use Rattle.model_meaning.specs.Meaning.{signature_named};
-ghost use Rattle.program_check.specs.Tells.{IsChecked};
 ghost use Rattle.fast_build.specs.Items.{items_of};
 ghost use Rattle.tree_values.specs.Forms.{IsLabelled};
 ghost use Rattle.tree_values.specs.Nodes.{IsFirst, HasOneMore, IsClosed, IsUnclosed};
@@ -91,7 +90,6 @@ pub(crate) fn closed(
     of: &Text,
     node: OpenNode,
 ) -> Result<Option<Measured>, ValueStop>
-    requires checked { IsChecked checked.now }
     requires declared { is_some (find_type (items_of checked.now) of.now) ≡ true }
     requires node { IsLabelled (signature_named (items_of checked.now) (Some of.now)) node.name.now.text (map plain_expr node.labels.now) }
     ensures closed { IfOk result (IsClosed (signature_named (items_of checked.now) (Some of.now)) node.entry) }

@@ -1,12 +1,11 @@
 use Rattle.model_run.specs.Outcomes.{trees_in}
-use Rattle.program_check.proofs.Told.{is_checked}
 use Rattle.fast_session.proofs.Printing.{if_err_both, value_made, value_known, value_stops}
 use Rattle.fast_session.proofs.trees.value_of.Goals as goal
 
 pub value-requires-clause-given : goal.value-requires-clause-given
 value-requires-clause-given c =
     let r = c.requires.ready in
-    record { checked = is_checked c.args.around.now.checked.now; typed = r.kept.typed; printed = trees_in r.outcomes; told = r.told; shallow = r.shallow }
+    record { typed = r.kept.typed; printed = trees_in r.outcomes; told = r.told; shallow = r.shallow }
 
 pub value-requires-clause-made : goal.value-requires-clause-made
 value-requires-clause-made c = value_made _ _ _ c.requires.ready c.requires.composable _ c.requires.is

@@ -4,13 +4,12 @@ use Rattle.fast_session.specs.Kept.{items_in}
 use Rattle.fast_session.specs.Items.{IsStoppedAt}
 use Rattle.fast_session.proofs.Members.{member_on, member_names, member_stops}
 use Rattle.model_run.specs.Outcomes.{trees_in}
-use Rattle.program_check.proofs.Told.{is_checked}
 use Rattle.fast_session.proofs.verdicts.looked_up.Goals as goal
 
 pub member-requires-clause-given : goal.member-requires-clause-given
 member-requires-clause-given c =
     let r = c.requires.ready in
-    record { checked = is_checked c.args.around.now.checked.now; typed = r.kept.typed; printed = trees_in r.outcomes; told = r.told; shallow = r.shallow }
+    record { typed = r.kept.typed; printed = trees_in r.outcomes; told = r.told; shallow = r.shallow }
 
 pub member-requires-clause-made : goal.member-requires-clause-made
 member-requires-clause-made c = member_on _ _ _ c.requires.ready c.requires.composable _ c.requires.is (plain_x c.in-Member.x) (plain_x c.in-Member.y) (ap plain_claim c.in-Member.is)
