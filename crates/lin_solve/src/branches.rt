@@ -35,7 +35,7 @@ use lin_reduce::{Explored, clashes, explore};
 use std::alloc::Global;
 
 // How many branches are looked at.
-const MOST: usize = 400;
+const MOST: usize = 1000;
 
 // The values by which a branch is split of which nothing is found.
 const NOUGHTS: [LabelInt; 8] = [0; 8];
@@ -92,7 +92,7 @@ fn without_multiples(alloc: Global, mut system: Vec<Constraint>) -> Result<Vec<C
     Ok(kept)
 }
 
-// What is found of conditions: that they clash, or what is found where multiples are left out.
+// What is found of conditions where multiples are left out.
 fn explore_sums(
     alloc: Global,
     conditions: Vec<Constraint>,
@@ -100,9 +100,6 @@ fn explore_sums(
 ) -> Result<Explored, Memory>
     ensures { IfOk result (TellsNever count conditions.items) }
 {
-    if clashes(alloc, &conditions, count)? {
-        return Ok(Explored::Never);
-    }
     let sums = without_multiples(alloc, conditions)?;
     explore(alloc, &sums, count)
 }
@@ -115,7 +112,16 @@ fn explore_loosely(alloc: Global, literals: &[Lit<Compare>]) -> Result<Explored,
     are_over(&own);
     let known = remainders_of(alloc, &own)?;
     let system = first_system(alloc, &own, &known, false, &[])?;
-    explore_sums(alloc, system.conditions, system.count)
+    match explore_sums(alloc, system.conditions, system.count)? {
+        Explored::Open => {}
+        found => return Ok(found),
+    }
+    // what follows from multiples is asked last, and anew: sums tell nearly all that it tells, and sooner
+    let whole = first_system(alloc, &own, &known, false, &[])?;
+    if clashes(alloc, &whole.conditions, whole.count)? {
+        return Ok(Explored::Never);
+    }
+    Ok(Explored::Open)
 }
 
 // How a field stands to a number.

@@ -14,7 +14,7 @@ use lin_form::Form;
 use std::alloc::Global;
 
 // How often values are mended, and how far a field within a remainder is moved.
-const TURNS: usize = 40;
+const TURNS: usize = 10;
 
 const FARTHEST: usize = 30;
 

@@ -4,4 +4,4 @@ use Rattle.lin_solve.proofs.Branched.{never_loosened}
 use Rattle.lin_solve.proofs.branches.explore_sums.Goals as goal
 
 pub returns : goal.returns
-returns c = never_loosened _ c.args.conditions.items c.deref-2.result.now c.explore.result (λ vs h. subst (Solves vs) (sym c.deref-2.ensures.value) (c.in_ok-sums.ensures {u = tt} vs h)) c.explore.ensures
+returns c = never_loosened _ c.args.conditions.items c.deref.result.now c.explore.result (λ vs h. subst (Solves vs) (sym c.deref.ensures.value) (c.in_ok-sums.ensures {u = tt} vs h)) c.explore.ensures

@@ -1,4 +1,4 @@
-use Rattle.std.proofs.Common.{◌≡◌, ◌≢◌, ◌∙◌, ◌⊎◌, ⊎_elim, ap, subst, get_or, arith}
+use Rattle.std.proofs.Common.{◌≢◌, ◌∙◌, ⊎_elim, ap, subst, get_or, arith}
 use Rattle.std.proofs.Math.IntN.{pos, ◌+ℤ◌, ◌*ℤ◌}
 use Rattle.std.proofs.lemmas.Bool.{ltb-true}
 use Rattle.math_int.proofs.Laws.{divide}
