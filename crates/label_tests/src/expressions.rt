@@ -17,7 +17,7 @@ use fast_syntax::expressions::{Expr, Node};
 use fast_tree::{Signature, Sort};
 use label_core::Formula;
 use lin_form::FormStop;
-use record_label::{RowMap, guard_of, map_of};
+use record_label::{RowMap, form_of, guard_of, map_of};
 use std::alloc::Global;
 use std::test::Fail;
 
@@ -94,6 +94,34 @@ fn reads_guard(alloc: Global, signature: &Signature) -> Result<bool, FormStop>
     let written = related(alloc, Rel::Greater, "x", "y", signature)?;
     let guard = guard_of(alloc, &written, signature)?;
     Ok(guard == Formula::Atom(less(alloc, 1, 0)?))
+}
+
+/// The number outside its range of the form of a written number, if it is outside.
+fn outside(alloc: Global, value: i128, signature: &Signature) -> Result<Option<i128>, FormStop>
+    requires { length signature.now.fields.items ≤ 8 }
+{
+    let written = Expr {
+        place: Pos { line: 1, column: 1 },
+        node: Node::Num(value),
+    };
+    match form_of(alloc, &written, signature) {
+        Ok(_form) => Ok(None),
+        Err(FormStop::Range(number)) => Ok(Some(number)),
+        Err(FormStop::Memory) => Err(FormStop::Memory),
+    }
+}
+
+#[test]
+fn reads_numbers_in_their_range(rt: HostRuntime) -> Result<(), Fail> {
+    let alloc = rt.alloc();
+    let signature = signature(alloc)?;
+    for (value, want) in [
+        (-9223372036854775808, None),
+        (-9223372036854775809, Some(-9223372036854775809)),
+    ] {
+        assert!(rt; outside(alloc, value, &signature)? == want, "{value}");
+    }
+    Ok(())
 }
 
 #[test]

@@ -1,7 +1,11 @@
-//! Systems of inequalities that are drawn, with answers from another solver, and small systems that clash or do not.
+//! Systems of inequalities that are drawn, with answers from another solver, and small systems that clash or do not, that
+//! are solved, or whose solutions are far off.
 
-use cooper_solve::{Constraint, Relation};
-use fast_fault::Memory;
+ghost use Rattle.std.specs.Prelude.{IfOk};
+ghost use Rattle.cooper_solve.specs.Views.{IsSystem};
+
+use cooper_solve::{Constraint, Found, Relation, is_hopeless, reach_of, solve};
+use fast_fault::{LabelInt, Memory};
 use lin_reduce::{Explored, clashes, explore};
 use std::alloc::Global;
 use std::test::Fail;
@@ -159,5 +163,58 @@ fn equations_and_multiples_clash(rt: HostRuntime) -> Result<(), Fail> {
         let system = system_of(rt.alloc(), rows)?;
         assert_eq!(rt; clashes(rt.alloc(), &system, 2)?, *want);
     }
+    Ok(())
+}
+
+/// x is at least 2^64, which no value of 64 bits is.
+#[test]
+fn greater_values_are_not_shown(rt: HostRuntime) -> Result<(), Fail> {
+    let system = system_of(rt.alloc(), &[(0, -18446744073709551616, [1, 0])])?;
+    let found = told(rt.alloc(), &system, 2)?;
+    assert!(rt; found == "open", "{found}");
+    Ok(())
+}
+
+/// 2 x and the first number are at least 0 together, and so are the second number and -2 x.
+fn twice_between(alloc: Global, first: i128, second: i128) -> Result<Vec<Constraint>, Memory>
+    ensures { IfOk result (λ made. IsSystem 1 made.items) }
+{
+    let mut made = Vec::new(alloc);
+    made.push(Constraint {
+        relation: Relation::AtLeast,
+        constant: first,
+        coefficients: Vec::from_slice(alloc, &[2])?,
+    })?;
+    made.push(Constraint {
+        relation: Relation::AtLeast,
+        constant: second,
+        coefficients: Vec::from_slice(alloc, &[-2])?,
+    })?;
+    Ok(made)
+}
+
+/// The value of x that is found, if one is.
+fn value_between(alloc: Global, first: i128, second: i128) -> Result<Option<LabelInt>, Fail> {
+    let system = twice_between(alloc, first, second)?;
+    match solve(alloc, &system, 1)? {
+        Found::Solved(solution) => Ok(solution.values.first().copied()),
+        Found::Unsat => Ok(None),
+        Found::Far(_) | Found::Wide(_) => Err("no value of 64 bits".into()),
+    }
+}
+
+/// Twice a number is from 3 to 4, or from 3 to 3; a sum of both bounds tells that it isn't from 3 to 2; and from 3 to 9 the
+/// number is from 2 to 4.
+#[test]
+fn twice_a_number_is_bounded(rt: HostRuntime) -> Result<(), Fail> {
+    let alloc = rt.alloc();
+    assert!(rt; value_between(alloc, -3, 4)? == Some(2));
+    assert!(rt; value_between(alloc, -3, 3)? == None);
+    let some = twice_between(alloc, -3, 9)?;
+    let none = twice_between(alloc, -3, 2)?;
+    assert!(rt; !is_hopeless(alloc, &some, 1)?);
+    assert!(rt; is_hopeless(alloc, &none, 1)?);
+    let reach = reach_of(alloc, &some, 1, 0)?;
+    assert!(rt; reach.low == Some(2) && reach.high == Some(4));
     Ok(())
 }

@@ -10,7 +10,7 @@ ghost use Rattle.sta_core.specs.Sta.{AtomsFit};
 
 use fast_fault::Memory;
 use fast_tree::Tree;
-use flat_label::{BoolAtom, Bools, Never};
+use flat_label::{BoolAtom, Bools, Never, Texts};
 use label_core::{Formula, Pair, PairAtom, Theory, Verdict};
 use label_split::{SplitStop, find, split};
 use lin_form::Form;
@@ -182,6 +182,23 @@ fn both_are_far(alloc: Global) -> Result<bool, Memory> {
         Verdict::Wide(chain) => theory.far(&chain),
         _ => false,
     })
+}
+
+/// Whether a value of some label has an equal copy.
+fn copies_some<T: Theory>(theory: &T, alloc: Global) -> Result<bool, Memory> {
+    let formulas = Vec::new(alloc);
+    Ok(match find(theory, alloc, &formulas)? {
+        Verdict::Sat(value) => theory.copy_value(alloc, &value)? == value,
+        _ => false,
+    })
+}
+
+#[test]
+fn values_of_each_theory_are_copied(rt: HostRuntime) -> Result<(), Fail> {
+    assert!(rt; copies_some(&Bools::new(2), rt.alloc())?);
+    assert!(rt; copies_some(&Texts::new(2), rt.alloc())?);
+    assert!(rt; copies_some(&Ints::new(2), rt.alloc())?);
+    Ok(())
 }
 
 #[test]

@@ -232,6 +232,7 @@ fn tells_the_first_refusal_that_holds(rt: HostRuntime) -> Result<(), Fail> {
     assert!(rt; is_read(program_answer(alloc, &long)));
     long.push(0xff)?;
     assert!(rt; is_refused(program_answer(alloc, &long), Code::TooLong, 1, 1));
+    assert!(rt; is_refused(trees_answer(alloc, &long), Code::TooLong, 1, 1));
     let texts: [(&[u8], Code, u32, u32); 5] = [
         (b"} #\n\xff", Code::NotUtf8, 2, 1),
         (b"\xe2\x82", Code::NotUtf8, 1, 1),
