@@ -1,9 +1,12 @@
-//! The example programs of this crate's folder of data: each is run, and its report is compared with the one that is
-//! stored beside it.
+//! The example programs of this crate's folder of data, each of which is run and its report compared with the one that is
+//! stored beside it; and tables of command lines over small texts, with what they report.
 //!
-//! It promises nothing itself: it shows, each time the gate runs it, that the stored reports are what the program writes.
+//! It promises nothing itself: it shows, each time the gate runs it, that what is stored is what the program writes.
 #![tactic(auto)]
 
+mod cases;
+
+use cases::{Tally, run_all};
 use fast_fault::{FileTexts, Memory, SureSink, TextSource};
 use fast_tool::run;
 use std::io;
@@ -24,7 +27,17 @@ const NAMES: [&str; 12] = [
     "typecheck",
 ];
 
-/// The most bytes of a stored report.
+/// Files of command lines and what they report.
+const TABLES: [&str; 6] = [
+    "refusals",
+    "runs",
+    "stops",
+    "trees",
+    "transformations",
+    "compositions",
+];
+
+/// The most bytes of a stored report or table.
 const LONGEST: u64 = 65536;
 
 /// The exit code of the run of an example, where its report is the stored one.
@@ -43,11 +56,39 @@ fn shown<R: Files + AllocGlobal>(rt: &R, name: &str) -> Result<Option<u8>, Memor
     }
 }
 
+/// How many command lines of a table report what is written there, where it can be read.
+fn tallied<R: Files + AllocGlobal>(rt: &R, name: &str) -> Result<Option<Tally>, Memory> {
+    let alloc = rt.alloc();
+    let mut texts = FileTexts::new(rt);
+    let file = format!(in alloc; "{name}.cases")?;
+    let Ok(bytes) = texts.take(alloc, file.as_str(), LONGEST) else {
+        return Ok(None);
+    };
+    match str::from_utf8(&bytes) {
+        Ok(text) => Ok(Some(run_all(alloc, text)?)),
+        Err(_) => Ok(None),
+    }
+}
+
 fn main(rt: HostRuntime) -> io::Result<()> {
     for name in NAMES {
         match shown(&rt, name) {
             Ok(Some(code)) => println!(rt; "{name}: status {code}, and the stored report")?,
             Ok(None) => println!(rt; "{name}: another report")?,
+            Err(Memory) => println!(rt; "{name}: no memory")?,
+        }
+    }
+    for name in TABLES {
+        match tallied(&rt, name) {
+            Ok(
+                Some(
+                    Tally {
+                        as_written,
+                        otherwise,
+                    },
+                ),
+            ) => println!(rt; "{name}: {as_written} reports as written, {otherwise} otherwise")?,
+            Ok(None) => println!(rt; "{name}: no table")?,
             Err(Memory) => println!(rt; "{name}: no memory")?,
         }
     }

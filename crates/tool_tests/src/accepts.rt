@@ -35,84 +35,11 @@ pub(crate) fn answers<R: Abort + AllocGlobal>(
     Ok(())
 }
 
-/// Lists of even and of odd length, and those that aren't of even length.
+/// Lists of even and of odd length.
 const EVEN_ODD: &str = "type L[]{nil(0), cons(1)}
 lang e : L { nil() | cons(x) given (o x) }
 lang o : L { cons(x) given (e x) }
-def other : L := (complement e)
-tree t : L := (get-witness e)
 ";
-
-const NUMBERS: &str = "type N[x : Int]{z(0)} lang p : N { z() where x > 0 }";
-
-/// Command lines, programs, trees, exit codes and reports.
-const ANSWERS: [(&str, &str, &str, u8, &str); 9] = [
-    (
-        "accepts F e G",
-        EVEN_ODD,
-        "(nil []) (cons [] (nil []))",
-        0,
-        "input 1 yes\ninput 2 no\n",
-    ),
-    (
-        "accepts F other G",
-        EVEN_ODD,
-        "(nil []) (cons [] (nil []))",
-        0,
-        "input 1 no\ninput 2 yes\n",
-    ),
-    ("accepts F e G", EVEN_ODD, "", 0, ""),
-    (
-        "accepts F f G",
-        EVEN_ODD,
-        "(nil [])",
-        3,
-        "refused 13 UnknownName at word 3\n",
-    ),
-    (
-        "accepts F t G",
-        EVEN_ODD,
-        "(nil [])",
-        3,
-        "refused 14 WrongKind at word 3\n",
-    ),
-    (
-        "accepts F p G",
-        NUMBERS,
-        "(z [1])(z [0])",
-        0,
-        "input 1 yes\ninput 2 no\n",
-    ),
-    (
-        "accepts F p G",
-        NUMBERS,
-        "(z [1]) (z [true])",
-        3,
-        "refused 19 WrongSort at G:1:13\n",
-    ),
-    (
-        "accepts F p G",
-        NUMBERS,
-        "(z [1] (z [1]))",
-        3,
-        "refused 16 WrongRank at G:1:2\n",
-    ),
-    (
-        "accepts F p G",
-        NUMBERS,
-        "(z [9223372036854775808])",
-        3,
-        "refused 22 NumberRange at G:1:5\n",
-    ),
-];
-
-#[test]
-fn answers_for_trees(rt: HostRuntime) -> Result<(), Fail> {
-    for (line, program, trees, code, report) in ANSWERS {
-        answers(&rt, line, program, trees.as_bytes(), (code, report)).map_err(|_| "memory")?;
-    }
-    Ok(())
-}
 
 #[test]
 fn trees_are_nested_so_far(rt: HostRuntime) -> Result<(), Fail> {

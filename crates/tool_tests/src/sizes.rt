@@ -32,13 +32,30 @@ const SMALL: [(&str, &str); 2] = [
     ),
 ];
 
+/// What is asked of the complete trees of height 20 alone.
+const LARGE: [&str; 4] = [
+    "assert-false (is-empty",
+    "assert-true h20 == (intersect h19",
+    "assert-true (get-witness h20) in (complement",
+    "tree t : B := (get-witness",
+];
+
+/// Two rules that meet at the complete trees of height 20 alone, before a transformation that copies.
+const MEETING: &str =
+    "trans pick : B -> B { n(x, y) given (h19 x) (h19 y) to x | n(x, y) given (h19 x) (h19 y) to y }
+trans copy : B -> B { n(x, y) to (n [] x x) }
+def d : B -> B := (restrict (compose pick copy)";
+
 #[test]
 fn large_trees(rt: HostRuntime) -> Result<(), Fail> {
     let shown = b"refused 38 TreeSize at F:23:1\n";
-    for asked in ["assert-false (is-empty", "tree t : B := (get-witness"] {
+    for asked in LARGE {
         let text = complete_trees(rt.alloc(), 20, asked, 20).map_err(|_| "memory")?;
         shows(&rt, "run F", &text, 4, shown.as_slice()).map_err(|_| "memory")?;
     }
+    let text = complete_trees(rt.alloc(), 20, MEETING, 20).map_err(|_| "memory")?;
+    let shown = b"refused 38 TreeSize at F:25:1\n";
+    shows(&rt, "run F", &text, 4, shown.as_slice()).map_err(|_| "memory")?;
     for (asked, shown) in SMALL {
         let text = complete_trees(rt.alloc(), 20, asked, 2).map_err(|_| "memory")?;
         shows(&rt, "run F", &text, 0, shown.as_bytes()).map_err(|_| "memory")?;
