@@ -43,9 +43,9 @@ lang o : L { cons(x) given (e x) }
 
 #[test]
 fn trees_are_nested_so_far(rt: HostRuntime) -> Result<(), Fail> {
-    let deep = repeated(rt.alloc(), "", "(cons [] ", 2001, "").map_err(|_| "memory")?;
+    let deep = repeated(rt.alloc(), "", "(cons [] ", 2001, "")?;
     let refused = "refused 5 Nested at G:1:18001\n";
-    answers(&rt, "accepts F e G", EVEN_ODD, &deep, (3, refused)).map_err(|_| "memory")?;
+    answers(&rt, "accepts F e G", EVEN_ODD, &deep, (3, refused))?;
     Ok(())
 }
 
@@ -54,20 +54,20 @@ const TEXTS: &str = "type W[s : String]{z(0)} lang p : W { z() where s = \"\" }"
 
 #[test]
 fn texts_of_trees_are_so_long(rt: HostRuntime) -> Result<(), Fail> {
-    let longest = repeated(rt.alloc(), "(z [\"", "e", 4096, "\"])").map_err(|_| "memory")?;
-    answers(&rt, "accepts F p G", TEXTS, &longest, (0, "input 1 no\n")).map_err(|_| "memory")?;
-    let longer = repeated(rt.alloc(), "(z [\"", "e", 4097, "\"])").map_err(|_| "memory")?;
+    let longest = repeated(rt.alloc(), "(z [\"", "e", 4096, "\"])")?;
+    answers(&rt, "accepts F p G", TEXTS, &longest, (0, "input 1 no\n"))?;
+    let longer = repeated(rt.alloc(), "(z [\"", "e", 4097, "\"])")?;
     let refused = "refused 24 TooMany at G:1:5\n";
-    answers(&rt, "accepts F p G", TEXTS, &longer, (3, refused)).map_err(|_| "memory")?;
+    answers(&rt, "accepts F p G", TEXTS, &longer, (3, refused))?;
     Ok(())
 }
 
 #[test]
 fn files_of_trees_are_so_long(rt: HostRuntime) -> Result<(), Fail> {
-    let longest = repeated(rt.alloc(), "(z [\"\"])", " ", 1_048_568, "").map_err(|_| "memory")?;
-    answers(&rt, "accepts F p G", TEXTS, &longest, (0, "input 1 yes\n")).map_err(|_| "memory")?;
-    let longer = repeated(rt.alloc(), "(z [\"\"])", " ", 1_048_569, "").map_err(|_| "memory")?;
+    let longest = repeated(rt.alloc(), "(z [\"\"])", " ", 1_048_568, "")?;
+    answers(&rt, "accepts F p G", TEXTS, &longest, (0, "input 1 yes\n"))?;
+    let longer = repeated(rt.alloc(), "(z [\"\"])", " ", 1_048_569, "")?;
     let refused = "refused 1 TooLong at G:1:1\n";
-    answers(&rt, "accepts F p G", TEXTS, &longer, (3, refused)).map_err(|_| "memory")?;
+    answers(&rt, "accepts F p G", TEXTS, &longer, (3, refused))?;
     Ok(())
 }

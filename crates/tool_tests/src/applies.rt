@@ -39,34 +39,34 @@ fn output(alloc: Global, cons: &str, count: u32) -> Result<Vec<u8>, Memory> {
 
 #[test]
 fn equal_outputs_are_one(rt: HostRuntime) -> Result<(), Fail> {
-    let equal = list(rt.alloc(), "(cons [] ", 60, "(nil [])").map_err(|_| "memory")?;
+    let equal = list(rt.alloc(), "(cons [] ", 60, "(nil [])")?;
     let mut report = String::from_str(rt.alloc(), "input 1 outputs 1\noutput ")?;
-    report.push_str(str::from_utf8(&equal).map_err(|_| "no text")?)?;
+    report.push_str(str::from_utf8(&equal)?)?;
     report.push('\n')?;
-    answers(&rt, "apply F f G", TWICE, &equal, (0, report.as_str())).map_err(|_| "memory")?;
+    answers(&rt, "apply F f G", TWICE, &equal, (0, report.as_str()))?;
     Ok(())
 }
 
 #[test]
 fn so_many_outputs(rt: HostRuntime) -> Result<(), Fail> {
-    let long = list(rt.alloc(), "(cons [0] ", 13, "(nil [0])").map_err(|_| "memory")?;
+    let long = list(rt.alloc(), "(cons [0] ", 13, "(nil [0])")?;
     let refused = "refused 37 Outputs at G:1:1 outputs\n";
-    answers(&rt, "apply F f G", CHOICES, &long, (4, refused)).map_err(|_| "memory")?;
-    let trees = list(rt.alloc(), "(cons [0] ", 12, "(nil [0])").map_err(|_| "memory")?;
-    let held = held_both(rt.alloc(), CHOICES, &trees).map_err(|_| "memory")?;
+    answers(&rt, "apply F f G", CHOICES, &long, (4, refused))?;
+    let trees = list(rt.alloc(), "(cons [0] ", 12, "(nil [0])")?;
+    let held = held_both(rt.alloc(), CHOICES, &trees)?;
     let mut texts = SureTexts::new(held);
     let mut sink = SureSink::new(rt.alloc());
     let words = words(rt.alloc(), "apply F f G")?;
     let status = run(rt.alloc(), &words, &mut texts, &mut sink);
     assert!(rt; status.code() == 0);
-    let first = output(rt.alloc(), "(cons [0] ", 12).map_err(|_| "memory")?;
-    let last = output(rt.alloc(), "(cons [1] ", 12).map_err(|_| "memory")?;
-    let report = str::from_utf8(sink.bytes()).map_err(|_| "no text")?;
+    let first = output(rt.alloc(), "(cons [0] ", 12)?;
+    let last = output(rt.alloc(), "(cons [1] ", 12)?;
+    let report = str::from_utf8(sink.bytes())?;
     let outputs = report
         .strip_prefix("input 1 outputs 4096\n")
         .ok_or("no outputs")?;
-    let first = str::from_utf8(&first).map_err(|_| "no text")?;
-    let last = str::from_utf8(&last).map_err(|_| "no text")?;
+    let first = str::from_utf8(&first)?;
+    let last = str::from_utf8(&last)?;
     assert!(rt; outputs.starts_with(first) && outputs.ends_with(last));
     let lines = sink.bytes().iter().filter(|byte| **byte == b'\n').count();
     assert_eq!(rt; lines, 4097);
@@ -85,13 +85,13 @@ const LONGER: &str =
 /// nodes and one more are 2,001 levels.
 #[test]
 fn so_large_outputs(rt: HostRuntime) -> Result<(), Fail> {
-    let behind = list(rt.alloc(), "(cons [7] ", 1015, "(nil [7])").map_err(|_| "memory")?;
-    let behind = str::from_utf8(&behind).map_err(|_| "no text")?;
-    let chosen = list(rt.alloc(), "(cons [0] ", 10, behind).map_err(|_| "memory")?;
+    let behind = list(rt.alloc(), "(cons [7] ", 1015, "(nil [7])")?;
+    let behind = str::from_utf8(&behind)?;
+    let chosen = list(rt.alloc(), "(cons [0] ", 10, behind)?;
     let refused = "refused 37 Outputs at G:1:1 nodes\n";
-    answers(&rt, "apply F f G", KEPT, &chosen, (4, refused)).map_err(|_| "memory")?;
-    let long = list(rt.alloc(), "(cons [] ", 500, "(nil [])").map_err(|_| "memory")?;
+    answers(&rt, "apply F f G", KEPT, &chosen, (4, refused))?;
+    let long = list(rt.alloc(), "(cons [] ", 500, "(nil [])")?;
     let refused = "refused 37 Outputs at G:1:1 depth\n";
-    answers(&rt, "apply F f G", LONGER, &long, (4, refused)).map_err(|_| "memory")?;
+    answers(&rt, "apply F f G", LONGER, &long, (4, refused))?;
     Ok(())
 }

@@ -44,7 +44,7 @@ fn sinks_fail_at_each_line(rt: HostRuntime) -> Result<(), Fail> {
             let front = front.ok_or("a short line")?;
             let mut failing = Vec::new(rt.alloc());
             failing.push(CutAt { call, bytes })?;
-            let entries = held(rt.alloc(), LONGER.as_bytes()).map_err(|_| "memory")?;
+            let entries = held(rt.alloc(), LONGER.as_bytes())?;
             let mut texts = SureTexts::new(entries);
             let mut sink = MemSink::cutting(rt.alloc(), failing);
             let status = run(rt.alloc(), &line, &mut texts, &mut sink);
@@ -55,7 +55,7 @@ fn sinks_fail_at_each_line(rt: HostRuntime) -> Result<(), Fail> {
         }
         whole.extend_from_slice(own.as_bytes())?;
     }
-    shows(&rt, "run F", LONGER.as_bytes(), 1, &whole).map_err(|_| "memory")?;
+    shows(&rt, "run F", LONGER.as_bytes(), 1, &whole)?;
     Ok(())
 }
 
@@ -66,7 +66,7 @@ fn texts_fail_at_each_take(rt: HostRuntime) -> Result<(), Fail> {
         let mut failing = Vec::new(rt.alloc());
         failing.push(call)?;
         let trees = b"(z [3]) (z [0])";
-        let entries = held_both(rt.alloc(), OPPOSITE, trees.as_slice()).map_err(|_| "memory")?;
+        let entries = held_both(rt.alloc(), OPPOSITE, trees.as_slice())?;
         let mut texts = MemTexts::new(entries, failing);
         let mut sink = SureSink::new(rt.alloc());
         let status = run(rt.alloc(), &line, &mut texts, &mut sink);
@@ -82,11 +82,11 @@ fn texts_end_anywhere(rt: HostRuntime) -> Result<(), Fail> {
     let line = words(rt.alloc(), "check F")?;
     for (end, _) in SANITISER.char_indices() {
         let front = SANITISER.get(..end).ok_or("no front")?;
-        let entries = held(rt.alloc(), front.as_bytes()).map_err(|_| "memory")?;
+        let entries = held(rt.alloc(), front.as_bytes())?;
         let mut texts = SureTexts::new(entries);
         let mut sink = SureSink::new(rt.alloc());
         let status = run(rt.alloc(), &line, &mut texts, &mut sink);
-        let report = str::from_utf8(sink.bytes()).map_err(|_| "no text")?;
+        let report = str::from_utf8(sink.bytes())?;
         let shown = report.strip_suffix('\n').ok_or("no line")?;
         assert!(rt; !shown.contains('\n'), "lines of the front of {end} bytes");
         let begins = match status.code() {
@@ -116,16 +116,16 @@ fn parentheses_are_nested_so_far(rt: HostRuntime) -> Result<(), Fail> {
         (64, 0, "checked 2 items\n"),
         (65, 3, "refused 5 Nested at F:1:110\n"),
     ] {
-        let text = nested(rt.alloc(), count).map_err(|_| "memory")?;
-        shows(&rt, "check F", &text, code, report.as_bytes()).map_err(|_| "memory")?;
+        let text = nested(rt.alloc(), count)?;
+        shows(&rt, "check F", &text, code, report.as_bytes())?;
     }
     Ok(())
 }
 
 #[test]
 fn programs_are_so_long(rt: HostRuntime) -> Result<(), Fail> {
-    let longest = repeated(rt.alloc(), "", " ", 1_048_576, "").map_err(|_| "memory")?;
+    let longest = repeated(rt.alloc(), "", " ", 1_048_576, "")?;
     let report = b"checked 0 items\n";
-    shows(&rt, "check F", &longest, 0, report.as_slice()).map_err(|_| "memory")?;
+    shows(&rt, "check F", &longest, 0, report.as_slice())?;
     Ok(())
 }

@@ -108,10 +108,10 @@ const LIMITS: [(&str, &str, &str, u32, &str, &str); 4] = [
 #[test]
 fn limits(rt: HostRuntime) -> Result<(), Fail> {
     for (first, more, last, count, within, past) in LIMITS {
-        let text = repeated(rt.alloc(), first, more, count, last).map_err(|_| "memory")?;
-        shows(&rt, "check F", &text, 0, within.as_bytes()).map_err(|_| "memory")?;
-        let text = repeated(rt.alloc(), first, more, count + 1, last).map_err(|_| "memory")?;
-        shows(&rt, "check F", &text, 3, past.as_bytes()).map_err(|_| "memory")?;
+        let text = repeated(rt.alloc(), first, more, count, last)?;
+        shows(&rt, "check F", &text, 0, within.as_bytes())?;
+        let text = repeated(rt.alloc(), first, more, count + 1, last)?;
+        shows(&rt, "check F", &text, 3, past.as_bytes())?;
     }
     Ok(())
 }
@@ -134,11 +134,10 @@ fn texts_that_cannot_be_read(rt: HostRuntime) -> Result<(), Fail> {
         b"type \xff".as_slice(),
         3,
         b"refused 2 NotUtf8 at F:1:6\n".as_slice(),
-    )
-    .map_err(|_| "memory")?;
+    )?;
     let long = vec![in rt.alloc(); b' '; 1_048_577]?;
     let shown = b"refused 1 TooLong at F:1:1\n";
-    shows(&rt, "check F", long.as_slice(), 3, shown.as_slice()).map_err(|_| "memory")?;
+    shows(&rt, "check F", long.as_slice(), 3, shown.as_slice())?;
     Ok(())
 }
 
@@ -161,12 +160,12 @@ const FRESH: [(&str, [&str; 3]); 3] = [
 #[test]
 fn fresh_texts(rt: HostRuntime) -> Result<(), Fail> {
     for (text, others) in FRESH {
-        let mut texts = SureTexts::new(held(rt.alloc(), text.as_bytes()).map_err(|_| "memory")?);
+        let mut texts = SureTexts::new(held(rt.alloc(), text.as_bytes())?);
         let mut sink = SureSink::new(rt.alloc());
         let line = words(rt.alloc(), "run F")?;
         let status = run(rt.alloc(), &line, &mut texts, &mut sink);
         assert!(rt; status.code() == 0);
-        let report = str::from_utf8(sink.bytes()).map_err(|_| "no text")?;
+        let report = str::from_utf8(sink.bytes())?;
         let (_, shown) = report
             .split_once("assert 3 pass (z [\"")
             .ok_or("no verdict")?;
@@ -184,7 +183,7 @@ fn fresh_texts(rt: HostRuntime) -> Result<(), Fail> {
 fn faults(rt: HostRuntime) -> Result<(), Fail> {
     let mut failing = Vec::new(rt.alloc());
     failing.push(2)?;
-    let entries = held(rt.alloc(), PAIRS.as_bytes()).map_err(|_| "memory")?;
+    let entries = held(rt.alloc(), PAIRS.as_bytes())?;
     let mut texts = SureTexts::new(entries);
     let mut sink = MemSink::new(rt.alloc(), failing);
     let line = words(rt.alloc(), "run F")?;
@@ -193,7 +192,7 @@ fn faults(rt: HostRuntime) -> Result<(), Fail> {
     assert!(rt; sink.bytes() == b"assert 5 pass (l [false])\n".as_slice());
     let mut failing = Vec::new(rt.alloc());
     failing.push(1)?;
-    let entries = held(rt.alloc(), PAIRS.as_bytes()).map_err(|_| "memory")?;
+    let entries = held(rt.alloc(), PAIRS.as_bytes())?;
     let mut texts = MemTexts::new(entries, failing);
     let mut sink = SureSink::new(rt.alloc());
     let status = run(rt.alloc(), &line, &mut texts, &mut sink);

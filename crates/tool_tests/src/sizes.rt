@@ -50,15 +50,15 @@ def d : B -> B := (restrict (compose pick copy)";
 fn large_trees(rt: HostRuntime) -> Result<(), Fail> {
     let shown = b"refused 38 TreeSize at F:23:1\n";
     for asked in LARGE {
-        let text = complete_trees(rt.alloc(), 20, asked, 20).map_err(|_| "memory")?;
-        shows(&rt, "run F", &text, 4, shown.as_slice()).map_err(|_| "memory")?;
+        let text = complete_trees(rt.alloc(), 20, asked, 20)?;
+        shows(&rt, "run F", &text, 4, shown.as_slice())?;
     }
-    let text = complete_trees(rt.alloc(), 20, MEETING, 20).map_err(|_| "memory")?;
+    let text = complete_trees(rt.alloc(), 20, MEETING, 20)?;
     let shown = b"refused 38 TreeSize at F:25:1\n";
-    shows(&rt, "run F", &text, 4, shown.as_slice()).map_err(|_| "memory")?;
+    shows(&rt, "run F", &text, 4, shown.as_slice())?;
     for (asked, shown) in SMALL {
-        let text = complete_trees(rt.alloc(), 20, asked, 2).map_err(|_| "memory")?;
-        shows(&rt, "run F", &text, 0, shown.as_bytes()).map_err(|_| "memory")?;
+        let text = complete_trees(rt.alloc(), 20, asked, 2)?;
+        shows(&rt, "run F", &text, 0, shown.as_bytes())?;
     }
     Ok(())
 }
@@ -81,11 +81,11 @@ fn list_lengths(alloc: Global, count: u32) -> Result<Vec<u8>, Memory> {
 
 #[test]
 fn many_languages(rt: HostRuntime) -> Result<(), Fail> {
-    let text = list_lengths(rt.alloc(), 1001).map_err(|_| "memory")?;
+    let text = list_lengths(rt.alloc(), 1001)?;
     let shown = b"refused 30 Classes at F:1003:1 1000\n";
-    shows(&rt, "run F", &text, 4, shown.as_slice()).map_err(|_| "memory")?;
-    let text = list_lengths(rt.alloc(), 60).map_err(|_| "memory")?;
+    shows(&rt, "run F", &text, 4, shown.as_slice())?;
+    let text = list_lengths(rt.alloc(), 60)?;
     let shown = b"assert 62 pass (nil [])\n";
-    shows(&rt, "run F", &text, 0, shown.as_slice()).map_err(|_| "memory")?;
+    shows(&rt, "run F", &text, 0, shown.as_slice())?;
     Ok(())
 }
