@@ -67,7 +67,6 @@ def as_rust(text):
     return text[:front] + "#[allow(unused_imports)]\nuse shim::prelude::*;\n" + text[front:]
 
 
-
 def main():
     folder = sys.argv[1]
     home = sys.argv[2] if len(sys.argv) > 2 else os.path.join(os.path.dirname(__file__), "..")

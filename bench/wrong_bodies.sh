@@ -11,7 +11,9 @@ git ls-files -z crates crates.txt HANDLES | xargs -0 cp --parents -t "$copy"
 for folder in crates/*/wrong-bodies; do
   name=$(basename "$(dirname "$folder")")
   if [ $# -gt 0 ] && ! printf '%s\n' "$@" | grep -qx "$name"; then continue; fi
-  mv "$copy/$folder" "$copy/crates/$name/must-fail"
+  mkdir -p "$copy/crates/$name/must-fail"
+  mv "$copy/$folder"/*.edit "$copy/crates/$name/must-fail/"
+  rmdir "$copy/$folder"
   tried+=("$name")
 done
 if [ ${#tried[@]} -eq 0 ]; then
