@@ -4,10 +4,15 @@ use Rattle.std.proofs.Math.IntN.{ℤ}
 use Rattle.std.specs.Cmp.{IsEquivalence}
 use Rattle.model_form.specs.Same.{same_form}
 use Rattle.model_chain.specs.Literals.{compare_holds}
+use Rattle.label_core.specs.Atoms.{EachHasEqual}
+use Rattle.label_core.specs.declared.theory.Lit.{Lit}
 use Rattle.lin_solve.specs.declared.compare.Compare.{Compare}
-use Rattle.lin_solve.specs.Plain.{plain_compare}
+use Rattle.lin_solve.specs.Kept.{is_same}
+use Rattle.lin_solve.specs.Plain.{plain_compare, plain_literals}
+use Rattle.lin_solve.specs.Sought.{NeverHoldAll}
 use Rattle.lin_solve.specs.Wholes.{wholes_label}
 use Rattle.lin_solve.specs.Equal.{IsRelationEq, IsCompareEq, equal_parts, wholes_back, compare_laws, equal_hold}
+use Rattle.lin_solve.proofs.Once.{hold_among}
 use Rattle.lin_solve.specs.contracts.compare.ComparePartialEq.TheImpl.{ghosts as compares}
 use Rattle.lin_solve.specs.contracts.compare.RelationPartialEq.TheImpl.{ghosts as relations}
 
@@ -31,3 +36,7 @@ copy_equal a b e = subst (λ c. compares.eq c b ≡ true) (sym e) (laws_of_equal
 pub alike : (us : List ℤ) (a b : Compare) → compares.eq a b ≡ true → compare_holds (plain_compare a) us ≡ compare_holds (plain_compare b) us
 alike us a b e =
     subst (λ ns. compare_holds (plain_compare a) ns ≡ compare_holds (plain_compare b) ns) (wholes_back us) (equal_hold relations.eq relations_apart compares.eq by_parts a b (wholes_label us) e)
+
+-- where literals that hold nowhere are among others, these don't either
+pub never_among : (ls ms : List (Lit Compare)) → EachHasEqual (is_same compares.eq) ls ms → NeverHoldAll (plain_literals ls) → NeverHoldAll (plain_literals ms)
+never_among ls ms each never us l holds = never us l (hold_among compares.eq laws_of_equality us (alike us) ls ms each holds)

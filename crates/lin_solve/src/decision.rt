@@ -15,6 +15,7 @@ use crate::compare::Compare;
 use crate::found::Sought;
 use crate::gaps::is_clear_clash;
 use crate::guess::guess;
+use crate::memo::Memo;
 use crate::mend::mend;
 use crate::numbering::{Remainder, remainders_of};
 use crate::over::are_over;
@@ -85,21 +86,13 @@ fn decide_all(
     }
 }
 
-/// Decides whether the literals hold at some values of the eight fields. Values that are found by trying are an answer, and so is
-/// that what they say of one form can't be; else Cooper's method tells. Its chain has each of them once, negated
-/// equalities last: so sides are tried where all else is known.
-pub fn decide(
+// Decides them by all that takes more than a look at them.
+fn decide_deeply(
     alloc: Global,
     literals: &[Lit<Compare>],
 ) -> Result<Verdict<Vec<LabelInt>, Chain>, Memory>
     ensures { IfOk result (Answers (AreKept ⟦<Compare as PartialEq>⟧.eq literals.now) vec_items literals.now) }
 {
-    if let Some(values) = guess(alloc, literals, 3)? {
-        return Ok(Verdict::Sat(values));
-    }
-    if is_clear_clash(alloc, literals)? {
-        return Ok(Verdict::Unsat);
-    }
     if let Some(values) = guess(alloc, literals, literals.len().saturating_add(8))? {
         return Ok(Verdict::Sat(values));
     }
@@ -121,4 +114,49 @@ pub fn decide(
     }
     let kept = once(alloc, literals)?;
     decide_all(alloc, &kept)
+}
+
+// The same, and keeps what is found.
+fn decide_and_keep(
+    alloc: Global,
+    memo: &Memo,
+    literals: &[Lit<Compare>],
+) -> Result<Verdict<Vec<LabelInt>, Chain>, Memory>
+    ensures { IfOk result (Answers (AreKept ⟦<Compare as PartialEq>⟧.eq literals.now) vec_items literals.now) }
+{
+    match decide_deeply(alloc, literals)? {
+        Verdict::Sat(values) => {
+            memo.keep_values(&values)?;
+            Ok(Verdict::Sat(values))
+        }
+        Verdict::Unsat => {
+            memo.keep_refuted(alloc, literals)?;
+            Ok(Verdict::Unsat)
+        }
+        Verdict::Wide(chain) => Ok(Verdict::Wide(chain)),
+    }
+}
+
+/// Decides whether the literals hold at some values of the eight fields. Values that are found by trying are an answer, and so
+/// is what follows from what the memo keeps, and that what they say of one form can't be; else Cooper's method tells. Its
+/// chain has each of them once, negated equalities last: so sides are tried where all else is known.
+pub fn decide(
+    alloc: Global,
+    memo: &Memo,
+    literals: &[Lit<Compare>],
+) -> Result<Verdict<Vec<LabelInt>, Chain>, Memory>
+    ensures { IfOk result (Answers (AreKept ⟦<Compare as PartialEq>⟧.eq literals.now) vec_items literals.now) }
+{
+    if let Some(values) = guess(alloc, literals, 3)? {
+        return Ok(Verdict::Sat(values));
+    }
+    match memo.told(alloc, literals)? {
+        Sought::Values(values) => return Ok(Verdict::Sat(values)),
+        Sought::Never => return Ok(Verdict::Unsat),
+        Sought::Open => {}
+    }
+    if is_clear_clash(alloc, literals)? {
+        return Ok(Verdict::Unsat);
+    }
+    decide_and_keep(alloc, memo, literals)
 }

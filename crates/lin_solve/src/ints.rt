@@ -6,25 +6,27 @@ ghost use Rattle.lin_solve.specs.Shown.{AllKept};
 use crate::chain::{Chain, Width};
 use crate::compare::{Compare, Relation};
 use crate::decision::decide;
+use crate::memo::Memo;
 use crate::over::are_over;
 use fast_fault::{LabelInt, Memory};
 use label_core::{Lit, Theory, Verdict};
 use std::alloc::Global;
 
-/// Labels of a number of whole numbers, eight at most.
+/// Labels of a number of whole numbers, eight at most, and what was found of conjunctions over such labels.
 #[derive(Drop)]
-pub struct Ints {
+pub struct Ints<'m> {
     fields: u32,
+    memo: &'m Memo,
     ghost few: { fields ≤ 8 },
 }
 
-impl Ints {
+impl Ints<'_> {
     /// The theory of labels with so many whole numbers.
-    pub fn new(fields: u32) -> Ints
+    pub fn new(fields: u32, memo: &Memo) -> Ints<'_>
         requires { fields ≤ 8 }
         ensures { result.fields ≡ fields }
     {
-        Ints { fields }
+        Ints { fields, memo }
     }
 }
 
@@ -41,7 +43,7 @@ fn first(alloc: Global, values: &[LabelInt], count: u32) -> Result<Vec<LabelInt>
     Ok(first)
 }
 
-impl Theory for Ints {
+impl Theory for Ints<'_> {
     type Atom = Compare;
 
     type Value = Vec<LabelInt>;
@@ -80,7 +82,7 @@ impl Theory for Ints {
         alloc: Global,
         literals: &[Lit<Compare>],
     ) -> Result<Verdict<Vec<LabelInt>, Chain>, Memory> {
-        match decide(alloc, literals)? {
+        match decide(alloc, self.memo, literals)? {
             Verdict::Sat(values) => Ok(Verdict::Sat(first(alloc, &values, self.fields)?)),
             Verdict::Unsat => Ok(Verdict::Unsat),
             Verdict::Wide(chain) => {

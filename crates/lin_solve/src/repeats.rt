@@ -20,7 +20,8 @@ pub(crate) fn copy_literal(alloc: Global, literal: &Lit<Compare>) -> Result<Lit<
     })
 }
 
-fn is_same(literal: &Lit<Compare>, other: &Lit<Compare>) -> bool
+/// Whether they say the same of equal comparisons.
+pub(crate) fn is_same(literal: &Lit<Compare>, other: &Lit<Compare>) -> bool
     ensures { result ≡ is_same ⟦<Compare as PartialEq>⟧.eq literal.now other.now }
 {
     literal.sign == other.sign && literal.atom == other.atom

@@ -1,7 +1,7 @@
 use fast_fault::Memory;
 use label_core::{Lit, Verdict};
 use lin_form::{Form, FormStop, Signed};
-use lin_solve::{Compare, Relation, Width, decide};
+use lin_solve::{Compare, Memo, Relation, Width, decide};
 use std::alloc::Global;
 use std::test::Fail;
 
@@ -66,9 +66,24 @@ fn push(
     Ok(())
 }
 
-/// What is decided: values that satisfy the literals, that there are none, or the width that is passed.
+/// What is decided, also where it was found before.
 fn told(alloc: Global, literals: &[Lit<Compare>]) -> Result<&'static str, Memory> {
-    match decide(alloc, literals)? {
+    let memo = Memo::new(alloc);
+    let first = told_with(alloc, &memo, literals)?;
+    if told_with(alloc, &memo, literals)? == first {
+        Ok(first)
+    } else {
+        Ok("another answer")
+    }
+}
+
+/// What is decided: values that satisfy the literals, that there are none, or the width that is passed.
+fn told_with(
+    alloc: Global,
+    memo: &Memo,
+    literals: &[Lit<Compare>],
+) -> Result<&'static str, Memory> {
+    match decide(alloc, memo, literals)? {
         Verdict::Sat(values) => {
             for literal in literals {
                 if literal.atom.holds(&values) != literal.sign {

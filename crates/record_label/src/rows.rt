@@ -20,7 +20,7 @@ use fast_fault::{LabelInt, Memory};
 use fast_tree::{Label, Signature, Sort, Value};
 use flat_label::{BoolAtom, Bools, Never, TextAtom, TextSide, Texts};
 use label_core::{Lit, Pair, PairAtom, PairChain, Theory, Verdict};
-use lin_solve::{Chain, Compare, Ints};
+use lin_solve::{Chain, Compare, Ints, Memo};
 use std::alloc::Global;
 use std::marker::Model;
 
@@ -28,10 +28,12 @@ use std::marker::Model;
 /// sort, in the order of the type.
 pub type RowAtom = PairAtom<Compare, PairAtom<BoolAtom, TextAtom>>;
 
-/// The labels of a type of trees: the sorts of its fields, eight at most.
+/// The labels of a type of trees: the sorts of its fields, eight at most. Beside them what was found of their whole numbers so
+/// far, which no clause speaks of: it answers later questions sooner, and not otherwise than they may be answered.
 #[derive(Drop)]
 pub struct RowLabels {
     pub(crate) sorts: Vec<Sort>,
+    memo: Memo,
 }
 
 impl Model for RowLabels {
@@ -100,7 +102,10 @@ impl RowLabels {
         for field in &input.fields {
             sorts.push(field.sort)?;
         }
-        Ok(RowLabels { sorts })
+        Ok(RowLabels {
+            sorts,
+            memo: Memo::new(alloc),
+        })
     }
 
     /// Whether the atom speaks of fields of these labels. Takes no memory.
@@ -135,14 +140,14 @@ impl RowLabels {
     }
 
     /// The theory of the whole numbers.
-    fn ints(&self) -> Ints
+    fn ints(&self) -> Ints<'_>
         ensures { result.fields ≡ count_of wholes self.now }
     {
-        Ints::new(count(&self.sorts, Sort::Int))
+        Ints::new(count(&self.sorts, Sort::Int), &self.memo)
     }
 
     /// The theories of the whole numbers, of the truth values and of the texts.
-    fn parts(&self) -> Pair<Ints, Pair<Bools, Texts>>
+    fn parts(&self) -> Pair<Ints<'_>, Pair<Bools, Texts>>
         ensures wholes { result.left.fields ≡ count_of wholes self.now }
         ensures truths { result.right.left.fields ≡ count_of truths self.now }
         ensures texts { result.right.right.fields ≡ count_of texts self.now }

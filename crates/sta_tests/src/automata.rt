@@ -14,7 +14,7 @@ use flat_label::{BoolAtom, Bools, Never, Texts};
 use label_core::{Formula, Pair, PairAtom, Theory, Verdict};
 use label_split::{SplitStop, find, split};
 use lin_form::Form;
-use lin_solve::{Compare, Ints, Relation};
+use lin_solve::{Compare, Ints, Memo, Relation};
 use sta_core::{Sta, StaRule, accepts};
 use sta_marks::{Marks, mark_nodes};
 use std::alloc::Global;
@@ -163,7 +163,8 @@ fn above(alloc: Global) -> Result<Compare, Memory>
 
 /// The bits of the chain for a whole number above 2^63 - 1, if one is too wide.
 fn width_above(alloc: Global) -> Result<Option<u32>, Memory> {
-    let theory = Ints::new(1);
+    let memo = Memo::new(alloc);
+    let theory = Ints::new(1, &memo);
     let mut formulas = Vec::new(alloc);
     formulas.push(Formula::Atom(above(alloc)?))?;
     Ok(match find(&theory, alloc, &formulas)? {
@@ -174,7 +175,8 @@ fn width_above(alloc: Global) -> Result<Option<u32>, Memory> {
 
 /// Whether a far chain is found where both parts of a pair are above 2^63 - 1.
 fn both_are_far(alloc: Global) -> Result<bool, Memory> {
-    let theory = Pair::new(Ints::new(1), Ints::new(1));
+    let memo = Memo::new(alloc);
+    let theory = Pair::new(Ints::new(1, &memo), Ints::new(1, &memo));
     let mut formulas = Vec::new(alloc);
     formulas.push(Formula::Atom(PairAtom::Left(above(alloc)?)))?;
     formulas.push(Formula::Atom(PairAtom::Right(above(alloc)?)))?;
@@ -197,7 +199,8 @@ fn copies_some<T: Theory>(theory: &T, alloc: Global) -> Result<bool, Memory> {
 fn values_of_each_theory_are_copied(rt: HostRuntime) -> Result<(), Fail> {
     assert!(rt; copies_some(&Bools::new(2), rt.alloc())?);
     assert!(rt; copies_some(&Texts::new(2), rt.alloc())?);
-    assert!(rt; copies_some(&Ints::new(2), rt.alloc())?);
+    let memo = Memo::new(rt.alloc());
+    assert!(rt; copies_some(&Ints::new(2, &memo), rt.alloc())?);
     Ok(())
 }
 

@@ -3,7 +3,7 @@ use Rattle.std.specs.Prelude.{vec_items}
 use Rattle.lin_solve.specs.contracts.compare.ComparePartialEq.TheImpl.{ghosts as compares}
 use Rattle.lin_solve.proofs.Alike.{laws_of_equality, alike}
 use Rattle.lin_solve.proofs.Once.{kept_all, answers_kept}
-use Rattle.lin_solve.proofs.decision.decide.Goals as goal
+use Rattle.lin_solve.proofs.decision.decide_deeply.Goals as goal
 
 pub returns-then-sided_stand_last : goal.returns-then-sided_stand_last
 returns-then-sided_stand_last c =

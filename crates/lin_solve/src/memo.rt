@@ -1,0 +1,272 @@
+//! What was found of earlier literals: values at which some held, and literals that hold nowhere. Splits of overlapping
+//! lists of formulas ask for the same conjunctions, and for longer ones, many times.
+//!
+//! No clause knows what a cell holds, and nothing rests on it but what its types say: values are tried before they are an
+//! answer, and literals that were refuted carry that they hold nowhere.
+
+ghost use Rattle.std.specs.Prelude.{◌≡◌, IfOk, IfSome, IsTrue, length};
+ghost use Rattle.label_core.specs.Atoms.{has_equal};
+ghost use Rattle.model_chain.specs.Literals.{HoldsAll};
+ghost use Rattle.lin_solve.specs.Kept.{is_same};
+ghost use Rattle.lin_solve.specs.Plain.{plain_literals};
+ghost use Rattle.lin_solve.specs.Sought.{NeverHoldAll, TellsSought};
+
+use crate::compare::{Compare, Relation};
+use crate::found::Sought;
+use crate::guess::all_hold;
+use crate::repeats::{copy_literal, is_same};
+use fast_fault::{LabelInt, Memory};
+use label_core::Lit;
+use std::alloc::Global;
+use std::cell::RefCell;
+
+// How many lists of values are kept, and how many lists of literals.
+const MOST_VALUES: usize = 64;
+
+const MOST_REFUTED: usize = 4096;
+
+// Where forms are looked at to tell literals apart: equal ones have equal values there, and others hardly ever.
+const POINT: [LabelInt; 8] = [
+    7919,
+    104_729,
+    -1_299_709,
+    15_485_863,
+    -611_953,
+    2_750_159,
+    -32_452_843,
+    86_028_121,
+];
+
+// The lower half of the number without its sign.
+fn low_bits(number: i128) -> u64 {
+    (number.unsigned_abs() % 0x1_0000_0000_0000_0000) as u64
+}
+
+// A number that equal literals share.
+fn mark(literal: &Lit<Compare>) -> u64 {
+    let relation = match literal.atom.relation {
+        Relation::Less => 2,
+        Relation::AtMost => 4,
+        Relation::Equal => 6,
+    };
+    let left = low_bits(literal.atom.left.eval(&POINT));
+    let right = low_bits(literal.atom.right.eval(&POINT));
+    let both = left.wrapping_mul(0x9e37_79b9_7f4a_7c15) ^ right.rotate_left(29);
+    both.wrapping_add(relation + literal.sign as u64)
+        .wrapping_mul(0xd6e8_feb8_6659_fd93)
+}
+
+// Literals with their marks, and a set of 64 into which each mark falls.
+#[derive(Drop)]
+struct Marked<'l> {
+    literals: &'l [Lit<Compare>],
+    marks: Vec<u64>,
+    all: u64,
+}
+
+fn with_marks(alloc: Global, literals: &[Lit<Compare>]) -> Result<Marked<'_>, Memory>
+    ensures { IfOk result (λ own. own.literals.now ≡ literals.now) }
+{
+    let mut marks = Vec::new(alloc);
+    let mut all = 0;
+    for literal in literals {
+        let own = mark(literal);
+        all |= 1u64.wrapping_shl((own >> 58) as u32);
+        marks.push(own)?;
+    }
+    Ok(Marked {
+        literals,
+        marks,
+        all,
+    })
+}
+
+impl Marked<'_> {
+    // Whether the literal, which has this mark, is one of them.
+    fn has(&self, literal: &Lit<Compare>, mark: u64) -> bool
+        ensures { IsTrue result → IsTrue (has_equal (is_same ⟦<Compare as PartialEq>⟧.eq) self.now.literals.now literal.now) }
+    {
+        for i in 0..self.literals.len() {
+            if self.marks.get(i).copied() == Some(mark) && is_same(literal, &self.literals[i]) {
+                return true;
+            }
+        }
+        false
+    }
+}
+
+// Literals that hold nowhere.
+#[derive(Drop)]
+struct Refuted {
+    literals: Vec<Lit<Compare>>,
+    marks: Vec<u64>,
+    all: u64,
+    ghost never: { NeverHoldAll (plain_literals literals.items) },
+}
+
+fn copies(alloc: Global, literals: &[Lit<Compare>]) -> Result<Vec<Lit<Compare>>, Memory>
+    ensures { IfOk result (λ made. made.items ≡ literals.now) }
+{
+    let mut made = Vec::new(alloc);
+    for literal in literals {
+        made.push(copy_literal(alloc, literal)?)?;
+    }
+    Ok(made)
+}
+
+impl Refuted {
+    fn new(alloc: Global, literals: &[Lit<Compare>]) -> Result<Refuted, Memory>
+        requires { NeverHoldAll (plain_literals literals.now) }
+    {
+        let Marked { marks, all, .. } = with_marks(alloc, literals)?;
+        Ok(Refuted {
+            literals: copies(alloc, literals)?,
+            marks,
+            all,
+        })
+    }
+
+    // Whether each of them is one of these.
+    fn is_among(&self, others: &Marked<'_>) -> bool
+        ensures { IsTrue result → NeverHoldAll (plain_literals others.now.literals.now) }
+    {
+        if self.all & !others.all != 0 {
+            return false;
+        }
+        for i in 0..self.literals.len() {
+            let mark = self.marks.get(i).copied().unwrap_or(0);
+            if !others.has(&self.literals[i], mark) {
+                return false;
+            }
+        }
+        true
+    }
+}
+
+// What is kept. The last values stand before the place where the next ones go, and the first behind it.
+#[derive(Drop)]
+struct Known {
+    values: Vec<[LabelInt; 8]>,
+    next: usize,
+    refuted: Vec<Refuted>,
+}
+
+impl Known {
+    // Values at which the literals hold.
+    fn values_for(
+        &self,
+        alloc: Global,
+        literals: &[Lit<Compare>],
+    ) -> Result<Option<Vec<LabelInt>>, Memory>
+        ensures { IfOk result (λ found. IfSome found (λ vs. (length vs.items ≡ 8) × HoldsAll (plain_literals literals.now) vs.items)) }
+    {
+        for values in &self.values {
+            if all_hold(literals, values) {
+                return Ok(Some(Vec::from_slice(alloc, values)?));
+            }
+        }
+        Ok(None)
+    }
+
+    // Whether some that hold nowhere are among the literals.
+    fn refutes(&self, alloc: Global, literals: &[Lit<Compare>]) -> Result<bool, Memory>
+        ensures { IfOk result (λ yes. IsTrue yes → NeverHoldAll (plain_literals literals.now)) }
+    {
+        if self.refuted.is_empty() {
+            return Ok(false);
+        }
+        let own = with_marks(alloc, literals)?;
+        for refuted in &self.refuted {
+            if refuted.is_among(&own) {
+                return Ok(true);
+            }
+        }
+        Ok(false)
+    }
+
+    fn told(&self, alloc: Global, literals: &[Lit<Compare>]) -> Result<Sought, Memory>
+        ensures { IfOk result (TellsSought (plain_literals literals.now)) }
+    {
+        if let Some(values) = self.values_for(alloc, literals)? {
+            return Ok(Sought::Values(values));
+        }
+        if self.refutes(alloc, literals)? {
+            return Ok(Sought::Never);
+        }
+        Ok(Sought::Open)
+    }
+
+    fn keep_values(&mut self, values: [LabelInt; 8]) -> Result<(), Memory> {
+        if self.values.len() < MOST_VALUES {
+            self.values.push(values)?;
+        } else if let Some(oldest) = self.values.get_mut(self.next) {
+            *oldest = values;
+            self.next = (self.next + 1) % MOST_VALUES;
+        }
+        Ok(())
+    }
+
+    fn keep_refuted(&mut self, alloc: Global, literals: &[Lit<Compare>]) -> Result<(), Memory>
+        requires { NeverHoldAll (plain_literals literals.now) }
+    {
+        if self.refuted.len() < MOST_REFUTED {
+            self.refuted.push(Refuted::new(alloc, literals)?)?;
+        }
+        Ok(())
+    }
+}
+
+/// What was found of literals so far, for answers to later ones. It keeps 64 lists of values and 4,096 of literals.
+#[derive(Drop)]
+pub struct Memo {
+    known: RefCell<Known>,
+}
+
+impl Memo {
+    /// Nothing is known.
+    pub fn new(alloc: Global) -> Memo {
+        Memo {
+            known: RefCell::new(Known {
+                values: Vec::new(alloc),
+                next: 0,
+                refuted: Vec::new(alloc),
+            }),
+        }
+    }
+
+    /// What follows for the literals from what is kept.
+    pub(crate) fn told(&self, alloc: Global, literals: &[Lit<Compare>]) -> Result<Sought, Memory>
+        ensures { IfOk result (TellsSought (plain_literals literals.now)) }
+    {
+        match self.known.try_borrow() {
+            Ok(known) => known.told(alloc, literals),
+            Err(_) => Ok(Sought::Open),
+        }
+    }
+
+    /// Keeps values that were found.
+    pub(crate) fn keep_values(&self, values: &[LabelInt]) -> Result<(), Memory> {
+        let mut own = [0; 8];
+        for i in 0..8 {
+            own[i] = values.get(i).copied().unwrap_or(0);
+        }
+        match self.known.try_borrow_mut() {
+            Ok(mut known) => known.keep_values(own),
+            Err(_) => Ok(()),
+        }
+    }
+
+    /// Keeps that the literals hold nowhere.
+    pub(crate) fn keep_refuted(
+        &self,
+        alloc: Global,
+        literals: &[Lit<Compare>],
+    ) -> Result<(), Memory>
+        requires { NeverHoldAll (plain_literals literals.now) }
+    {
+        match self.known.try_borrow_mut() {
+            Ok(mut known) => known.keep_refuted(alloc, literals),
+            Err(_) => Ok(()),
+        }
+    }
+}
