@@ -1,17 +1,18 @@
 //! Runs over texts that stand in a file, and what each must report.
 
-use fast_fault::{Held, Memory, SureSink, SureTexts, Text};
+use fast_fault::{CutAt, Held, MemSink, MemTexts, Memory, Text};
 use fast_tool::run;
 use std::alloc::{AllocError, Global};
 
-/// Command lines over two texts, and the exit status and the report of each. The first text is a program that may be that of
-/// the case before, and what stands behind it.
+/// Command lines over two texts, which of their calls fails, and the exit status and the report of each. The first text is a
+/// program that may be that of the case before, and what stands behind it.
 #[derive(Drop)]
 struct Case<'t> {
     lines: &'t str,
     program: Option<&'t str>,
     behind: &'t str,
     trees: &'t str,
+    fails: &'t str,
     status: &'t str,
     report: &'t str,
 }
@@ -23,6 +24,7 @@ fn read_case(written: &str) -> Case<'_> {
         program: None,
         behind: "",
         trees: "",
+        fails: "",
         status: "",
         report: "",
     };
@@ -36,6 +38,8 @@ fn read_case(written: &str) -> Case<'_> {
             case.behind = body;
         } else if head == "G" {
             case.trees = body;
+        } else if head == "fails" {
+            case.fails = body;
         } else {
             case.status = head;
             case.report = body;
@@ -52,12 +56,34 @@ fn words(alloc: Global, line: &str) -> Result<Vec<String>, AllocError> {
     Ok(all)
 }
 
+fn number(word: Option<&str>) -> u64 {
+    match word {
+        Some(word) => word.parse::<u64>().unwrap_or(0),
+        None => 0,
+    }
+}
+
+/// Adds the text, in which `@4096@more@` stands for 4,096 times `more`.
+fn add(bytes: &mut Vec<u8>, written: &str) -> Result<(), Memory> {
+    let mut parts = written.split('@');
+    while let Some(text) = parts.next() {
+        bytes.extend_from_slice(text.as_bytes())?;
+        let times = number(parts.next());
+        let more = parts.next().unwrap_or("");
+        for _ in 0..times {
+            bytes.extend_from_slice(more.as_bytes())?;
+        }
+    }
+    Ok(())
+}
+
 /// Two texts, held under the names F and G; each has two parts.
 fn held(alloc: Global, program: &str, case: &Case<'_>) -> Result<Vec<Held>, Memory> {
     let mut entries = Vec::new(alloc);
     for (name, first, second) in [("F", program, case.behind), ("G", case.trees, "")] {
-        let mut bytes = Vec::from_slice(alloc, first.as_bytes())?;
-        bytes.extend_from_slice(second.as_bytes())?;
+        let mut bytes = Vec::new(alloc);
+        add(&mut bytes, first)?;
+        add(&mut bytes, second)?;
         entries.push(Held {
             name: Text::of(alloc, name)?,
             bytes,
@@ -66,18 +92,47 @@ fn held(alloc: Global, program: &str, case: &Case<'_>) -> Result<Vec<Held>, Memo
     Ok(entries)
 }
 
+/// The calls that take a text of which the case lets one fail, or none.
+fn failing_takes(alloc: Global, case: &Case<'_>) -> Result<Vec<u64>, Memory> {
+    let mut calls = Vec::new(alloc);
+    if let Some(call) = case.fails.strip_prefix("take ") {
+        calls.push(number(Some(call)))?;
+    }
+    Ok(calls)
+}
+
+/// The puts of which the case lets one fail, after so many bytes, or none.
+fn failing_puts(alloc: Global, case: &Case<'_>) -> Result<Vec<CutAt>, Memory> {
+    let mut calls = Vec::new(alloc);
+    if let Some(words) = case.fails.strip_prefix("put ") {
+        let mut numbers = words.split(' ');
+        calls.push(CutAt {
+            call: number(numbers.next()),
+            bytes: number(numbers.next()),
+        })?;
+    }
+    Ok(calls)
+}
+
+/// The report of the case, whose last line ends unless something fails.
+fn report(alloc: Global, case: &Case<'_>) -> Result<Vec<u8>, Memory> {
+    let mut report = Vec::new(alloc);
+    add(&mut report, case.report)?;
+    if case.fails.is_empty() && !case.report.is_empty() {
+        report.push(b'\n')?;
+    }
+    Ok(report)
+}
+
 /// Whether a command line over the texts has the status and the report.
 fn reports(alloc: Global, line: &str, program: &str, case: &Case<'_>) -> Result<bool, Memory> {
-    let mut texts = SureTexts::new(held(alloc, program, case)?);
-    let mut sink = SureSink::new(alloc);
+    let mut texts = MemTexts::new(held(alloc, program, case)?, failing_takes(alloc, case)?);
+    let mut sink = MemSink::cutting(alloc, failing_puts(alloc, case)?);
     let words = words(alloc, line)?;
     let status = run(alloc, &words, &mut texts, &mut sink);
-    let mut report = String::from_str(alloc, case.report)?;
-    if !case.report.is_empty() {
-        report.push('\n')?;
-    }
-    let code = format!(in alloc; "{}", status.code())?;
-    Ok(code.as_str() == case.status && sink.bytes() == report.as_bytes())
+    let code = u64::from(status.code());
+    let report = report(alloc, case)?;
+    Ok(number(Some(case.status)) == code && sink.bytes() == report.as_slice())
 }
 
 /// How many command lines report what is written, and how many don't.

@@ -28,13 +28,15 @@ const NAMES: [&str; 12] = [
 ];
 
 /// Files of command lines and what they report.
-const TABLES: [&str; 6] = [
+const TABLES: [&str; 8] = [
     "refusals",
     "runs",
     "stops",
     "trees",
     "transformations",
     "compositions",
+    "limits",
+    "faults",
 ];
 
 /// The most bytes of a stored report or table.
