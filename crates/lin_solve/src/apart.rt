@@ -17,7 +17,7 @@ use label_core::Lit;
 use std::alloc::Global;
 
 // The fields of the literal, a bit each.
-fn fields_in(literal: &Lit<Compare>) -> u32 {
+pub(crate) fn fields_in(literal: &Lit<Compare>) -> u32 {
     let mut fields = 0;
     for field in 0..8 {
         if has_field(&literal.atom.left, field) || has_field(&literal.atom.right, field) {

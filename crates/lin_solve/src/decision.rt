@@ -17,6 +17,7 @@ use crate::gaps::is_clear_clash;
 use crate::guess::guess;
 use crate::memo::Memo;
 use crate::mend::mend;
+use crate::near::seek_near;
 use crate::numbering::{Remainder, remainders_of};
 use crate::over::are_over;
 use crate::repeats::{are_different, once, sided_stand_last};
@@ -108,6 +109,9 @@ fn decide_deeply(
         Sought::Values(values) => return Ok(Verdict::Sat(values)),
         Sought::Never => return Ok(Verdict::Unsat),
         Sought::Open => {}
+    }
+    if let Some(values) = seek_near(alloc, literals)? {
+        return Ok(Verdict::Sat(values));
     }
     if are_different(literals) && sided_stand_last(literals) {
         return decide_all(alloc, literals);

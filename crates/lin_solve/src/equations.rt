@@ -18,11 +18,11 @@ use label_core::Lit;
 use lin_form::{Form, FormStop};
 use std::alloc::Global;
 
-// A field, and a form that has its value.
+/// A field, and a form that has its value.
 #[derive(Drop)]
-struct Own {
-    field: u32,
-    form: Form,
+pub(crate) struct Own {
+    pub(crate) field: u32,
+    pub(crate) form: Form,
 }
 
 fn is_within(form: &Form, field: u32) -> bool {
@@ -64,8 +64,8 @@ fn own_of(alloc: Global, left: &Form, right: &Form) -> Result<Option<Own>, FormS
     }
 }
 
-// A field that the literal gives, if it is an equation.
-fn given_by(alloc: Global, literal: &Lit<Compare>) -> Result<Option<Own>, FormStop>
+/// A field that the literal gives, if it is an equation.
+pub(crate) fn given_by(alloc: Global, literal: &Lit<Compare>) -> Result<Option<Own>, FormStop>
     ensures { IfOk result (λ found. IfSome found (λ own. (own.field < 8) × Gives literal.now own.form own.field)) }
 {
     let (Relation::Equal, true) = (literal.atom.relation, literal.sign) else {

@@ -17,6 +17,7 @@ mod guess;
 mod ints;
 mod memo;
 mod mend;
+mod near;
 mod numbering;
 mod over;
 mod puts;

@@ -21,7 +21,7 @@ use std::alloc::Global;
 use std::cell::RefCell;
 
 // How many lists of values are kept, and how many lists of literals.
-const MOST_VALUES: usize = 64;
+const MOST_VALUES: usize = 256;
 
 const MOST_REFUTED: usize = 4096;
 
@@ -216,7 +216,7 @@ impl Known {
     }
 }
 
-/// What was found of literals so far, for answers to later ones. It keeps 64 lists of values and 4,096 of literals.
+/// What was found of literals so far, for answers to later ones. It keeps 256 lists of values and 4,096 of literals.
 #[derive(Drop)]
 pub struct Memo {
     known: RefCell<Known>,

@@ -3,7 +3,7 @@
 use crate::compare::{Compare, Relation};
 use crate::mend::coefficient;
 use label_core::Lit;
-use lin_form::{FieldTerm, Form};
+use lin_form::Form;
 
 // No bound is further; what is at least half as far counts as none.
 const FAR: i128 = 0x10_0000_0000_0000_0000_0000_0000;
@@ -73,21 +73,9 @@ impl Range {
     }
 }
 
-fn least_of(term: &FieldTerm, sign: i128, ranges: &[Range]) -> i128 {
-    match ranges.get(term.field as usize) {
-        Some(range) => range.least(sign.saturating_mul(term.coefficient as i128)),
-        None => -FAR,
-    }
-}
-
-// The least value that the form with a sign can have, apart from one field's term.
-fn least(form: &Form, sign: i128, ranges: &[Range], but: u32) -> i128 {
+// The least value that the form with a sign can have, apart from its fields.
+fn least_within(form: &Form, sign: i128) -> i128 {
     let mut sum = form.constant().saturating_mul(sign);
-    for term in form.fields() {
-        if term.field != but {
-            sum = no_further(sum.saturating_add(least_of(term, sign, ranges)));
-        }
-    }
     for term in form.remainders() {
         let times = sign.saturating_mul(term.coefficient as i128);
         let whole = Range {
@@ -99,21 +87,36 @@ fn least(form: &Form, sign: i128, ranges: &[Range], but: u32) -> i128 {
     sum
 }
 
-// The one form less the other is at most this.
-fn bound(ranges: &mut [Range], more: &Form, less: &Form, most: i128) {
+// The least that so many times each field can be together, apart from one.
+fn least_but(ranges: &[Range; 8], times: &[i128; 8], but: usize) -> i128 {
+    let mut sum: i128 = 0;
     for field in 0..8 {
-        let times = coefficient(more, field).saturating_sub(coefficient(less, field));
-        if times != 0 {
-            let first = least(more, 1, ranges, field);
-            let rest = first.saturating_add(least(less, -1, ranges, field));
-            if let (true, Some(range)) = (rest > -FAR / 2, ranges.get_mut(field as usize)) {
-                range.cut(times, most.saturating_sub(rest));
+        if field != but {
+            sum = no_further(sum.saturating_add(ranges[field].least(times[field])));
+        }
+    }
+    sum
+}
+
+// The one form less the other is at most this. A field that both have counts once, with what is left of it.
+fn bound(ranges: &mut [Range; 8], more: &Form, less: &Form, most: i128) {
+    let mut times: [i128; 8] = [0; 8];
+    for field in 0..8 {
+        let own = field as u32;
+        times[field] = coefficient(more, own).saturating_sub(coefficient(less, own));
+    }
+    let within = least_within(more, 1).saturating_add(least_within(less, -1));
+    for field in 0..8 {
+        if times[field] != 0 {
+            let rest = within.saturating_add(least_but(ranges, &times, field));
+            if rest > -FAR / 2 {
+                ranges[field].cut(times[field], most.saturating_sub(rest));
             }
         }
     }
 }
 
-fn bound_by(ranges: &mut [Range], literal: &Lit<Compare>) {
+fn bound_by(ranges: &mut [Range; 8], literal: &Lit<Compare>) {
     let (left, right) = (&literal.atom.left, &literal.atom.right);
     match (literal.atom.relation, literal.sign) {
         (Relation::Less, true) => bound(ranges, left, right, -1),
