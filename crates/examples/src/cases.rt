@@ -130,9 +130,9 @@ fn reports(alloc: Global, line: &str, program: &str, case: &Case<'_>) -> Result<
     let mut sink = MemSink::cutting(alloc, failing_puts(alloc, case)?);
     let words = words(alloc, line)?;
     let status = run(alloc, &words, &mut texts, &mut sink);
-    let code = u64::from(status.code());
+    let code = format!(in alloc; "{}", status.code())?;
     let report = report(alloc, case)?;
-    Ok(number(Some(case.status)) == code && sink.bytes() == report.as_slice())
+    Ok(code.as_str() == case.status && sink.bytes() == report.as_slice())
 }
 
 /// How many command lines report what is written, and how many don't.
