@@ -1,7 +1,7 @@
 #!/usr/bin/env bash
-# Tries the wrong bodies of the crates whose proofs take longest, which the gate leaves out for that: the prover must refuse
-# each. The words are crates; without words it is all that have a folder of wrong bodies. It works on a copy. A crate takes
-# the time of its proof, and half a minute for each body. The last line counts the crates below and their edits, too.
+# Tries the wrong bodies that the gate leaves out for the time that they take: the prover must refuse each. The words are
+# crates; without words it is all that have a folder of wrong bodies. It works on a copy. A crate takes the time of its proof,
+# and half a minute for each body. The last line counts the crates below and their edits, too.
 set -u
 cd "$(dirname "$0")/.." || exit 1
 copy=$(mktemp -d)
