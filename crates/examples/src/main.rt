@@ -1,14 +1,16 @@
 //! The example programs of this crate's folder of data, each of which is run and its report compared with the one that is
-//! stored beside it; and tables of command lines over small texts, with what they report.
+//! stored beside it; tables of command lines over small texts, with what they report; and guards, with how they are decided.
 //!
 //! It promises nothing itself: it shows, each time the gate runs it, that what is stored is what the program writes.
 #![tactic(auto)]
 
 mod cases;
+mod guards;
 
 use cases::{Tally, run_all};
 use fast_fault::{FileTexts, Memory, SureSink, TextSource};
 use fast_tool::run;
+use guards::decide_all;
 use std::io;
 use std::rt::Files;
 
@@ -27,16 +29,20 @@ const NAMES: [&str; 12] = [
     "typecheck",
 ];
 
-/// Files of command lines and what they report.
-const TABLES: [&str; 8] = [
-    "refusals",
-    "runs",
-    "stops",
-    "trees",
-    "transformations",
-    "compositions",
-    "limits",
-    "faults",
+/// The file of guards and how they are decided.
+const GUARDS: &str = "guards.decided";
+
+/// Files of command lines and what they report, and that of guards.
+const TABLES: [&str; 9] = [
+    "refusals.cases",
+    "runs.cases",
+    "stops.cases",
+    "trees.cases",
+    "transformations.cases",
+    "compositions.cases",
+    "limits.cases",
+    "faults.cases",
+    GUARDS,
 ];
 
 /// The most bytes of a stored report or table.
@@ -58,15 +64,16 @@ fn shown<R: Files + AllocGlobal>(rt: &R, name: &str) -> Result<Option<u8>, Memor
     }
 }
 
-/// How many command lines of a table report what is written there, where it can be read.
+/// How many command lines of a table report what is written there, or how many guards are decided so, where the file can be
+/// read.
 fn tallied<R: Files + AllocGlobal>(rt: &R, name: &str) -> Result<Option<Tally>, Memory> {
     let alloc = rt.alloc();
     let mut texts = FileTexts::new(rt);
-    let file = format!(in alloc; "{name}.cases")?;
-    let Ok(bytes) = texts.take(alloc, file.as_str(), LONGEST) else {
+    let Ok(bytes) = texts.take(alloc, name, LONGEST) else {
         return Ok(None);
     };
     match str::from_utf8(&bytes) {
+        Ok(text) if name == GUARDS => Ok(Some(decide_all(alloc, text)?)),
         Ok(text) => Ok(Some(run_all(alloc, text)?)),
         Err(_) => Ok(None),
     }
@@ -89,7 +96,7 @@ fn main(rt: HostRuntime) -> io::Result<()> {
                         otherwise,
                     },
                 ),
-            ) => println!(rt; "{name}: {as_written} reports as written, {otherwise} otherwise")?,
+            ) => println!(rt; "{name}: {as_written} as written, {otherwise} otherwise")?,
             Ok(None) => println!(rt; "{name}: no table")?,
             Err(Memory) => println!(rt; "{name}: no memory")?,
         }
