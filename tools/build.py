@@ -144,7 +144,7 @@ class Build:
     def __init__(self, all_crates):
         self.all = all_crates
         self.done = {name for name, crate in all_crates.items() if crate.is_built()}
-        self.runs, self.began, self.told = {}, time.monotonic(), ""
+        self.runs, self.began, self.told = {}, time.monotonic(), 0
         users = {name: [it for it in all_crates.values() if name in it.uses] for name in all_crates}
         self.behind = {}
         for name, crate in reversed(all_crates.items()):

@@ -1,6 +1,7 @@
 pub mod Texts
 pub mod Typed
 pub mod Runs
+pub mod Puts
 pub mod Tallies
 pub mod Generated
 pub mod Numerals

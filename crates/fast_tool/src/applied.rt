@@ -21,7 +21,7 @@ ghost use Rattle.fast_tool.specs.Answers.{IsPrepared, IsAnswered, IsUnanswered};
 
 use crate::answers::Inquiry;
 use crate::named::type_of_outputs;
-use crate::refusals::{put_line, refuse_item};
+use crate::refusals::{put_lines, refuse_item};
 use fast_cut::Cut;
 use fast_fault::{Memory, Sink, Status, Text};
 use fast_session::{Session, Stopped};
@@ -105,7 +105,7 @@ pub fn tell_outputs<K: Sink>(
     ensures faults { RoseExactlyWhere (result ≡ Err SinkFault) (K.faults sink.old) (K.faults sink.new) }
 {
     match listed(alloc, session, inquiry.name, number, &given.tree) {
-        Ok(lines) => put_line(sink, &lines),
+        Ok(lines) => put_lines(sink, &lines),
         Err(Stopped::By(cause)) => {
             let (checked, file) = (session.checked(), inquiry.trees);
             Err(refuse_item(alloc, sink, checked, file, given.place, &cause))

@@ -1,6 +1,6 @@
 //! Lines that are put, and the lines of refusals.
 
-ghost use Rattle.std.specs.Prelude.{◌≡◌, ◌≢◌, IfOk, IfErr, OnOk, OnErr, Err, true, string_bytes, codes, ◌++◌, suc};
+ghost use Rattle.std.specs.Prelude.{◌≡◌, ◌≢◌, ◌<◌, ◌≤◌, length, IfOk, IfErr, OnOk, OnErr, Err, true, string_bytes, codes, ◌++◌, suc};
 ghost use Rattle.fast_fault.specs.Written.{Appends, AppendsPrefix, RoseExactlyWhere};
 ghost use Rattle.fast_fault.specs.declared.status.Status.TheVariants.{TextRefused, RunRefused, SinkFault, TextFault};
 ghost use Rattle.model_tree.specs.Scalars.{has_scalars};
@@ -39,6 +39,37 @@ pub fn put_line<K: Sink>(sink: &mut K, line: &[u8]) -> Result<(), Status>
         Err(PutFault::Failed) => Err(Status::SinkFault),
         Err(PutFault::Memory) => Err(Status::Memory),
     }
+}
+
+/// The place behind the first line's end from there on, or the end of the text.
+fn line_end(text: &[u8], from: usize) -> usize
+    requires some { from < length text.now }
+    ensures low { from < result }
+    ensures high { result ≤ length text.now }
+{
+    let mut last = from;
+    'bytes: while last + 1 < text.len() && text[last] != b'\n' {
+        last += 1;
+    }
+    last + 1
+}
+
+/// Puts the lines of the text, one after the other.
+pub fn put_lines<K: Sink>(sink: &mut K, text: &[u8]) -> Result<(), Status>
+    ensures ok { OnOk result (Appends (K.written sink.old) (K.written sink.new) text.now) }
+    ensures err { OnErr result (AppendsPrefix (K.written sink.old) (K.written sink.new) text.now) }
+    ensures fault { IfErr result (λ status. IsFault status) }
+    ensures faults { RoseExactlyWhere (result ≡ Err SinkFault) (K.faults sink.old) (K.faults sink.new) }
+{
+    let mut from = 0;
+    'lines: while from < text.len() {
+        let end = line_end(text, from);
+        match put_line(sink, &text[from..end]) {
+            Ok(()) => from = end,
+            Err(status) => return Err(status),
+        }
+    }
+    Ok(())
 }
 
 /// Puts a line and ends with the status.
