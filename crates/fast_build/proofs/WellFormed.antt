@@ -11,8 +11,7 @@ use Rattle.model_program.specs.Syntax.{Name, Demand, CtorItem, TypeItem}
 use Rattle.model_grammar.specs.Syntax.{Expr, Rule, LangItem, Item}
 use Rattle.model_names.specs.Declared.{same_text}
 use Rattle.model_meaning.specs.Types.{rank_of, signature_of, signature_at, no_signature}
-use Rattle.model_checks.specs.Types.{is_rank}
-use Rattle.model_checks.specs.Rules.{find_ctor}
+use Rattle.model_checks.specs.Types.{is_rank, find_ctor}
 use Rattle.model_checks.specs.Programs.{is_well_formed}
 use Rattle.model_checks.specs.Sound.{are_distinct, names_of_ctors, IsSoundType, IsSoundGuard, IsSoundDemand, IsSoundRule, IsSoundLang, IsSound}
 use Rattle.model_checks.proofs.SoundWhole.{sound, finds}

@@ -13,8 +13,8 @@ use Rattle.model_names.specs.Declared.{same_text, find_type, find_item, own_out_
 use Rattle.model_names.specs.Kinds.{declared_type, own_type, own_output}
 use Rattle.model_checks.specs.Failures.{is_empty, failure, fails_if}
 use Rattle.model_checks.specs.Labels.{labels_failures}
-use Rattle.model_checks.specs.Types.{is_rank}
-use Rattle.model_checks.specs.Rules.{differ, find_ctor, type_at, own_trans, constructor_failures, label_count_failures, transformation_failures, out_failures, outs_failures, variable_failures, count_outs, scope_of, fields_of}
+use Rattle.model_checks.specs.Types.{is_rank, find_ctor}
+use Rattle.model_checks.specs.Rules.{differ, type_at, own_trans, constructor_failures, label_count_failures, transformation_failures, out_failures, outs_failures, variable_failures, count_outs, scope_of, fields_of}
 use Rattle.model_checks.specs.Sound.{IsSoundType, IsSound, StandsIn}
 use Rattle.model_checks.proofs.Soundness.{empty_first, empty_second, passed, needed}
 use Rattle.model_checks.proofs.SoundParts.{some_fails, has_ctor, same_types}

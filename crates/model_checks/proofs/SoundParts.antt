@@ -2,7 +2,7 @@
 use Rattle.std.proofs.Common.{◌≡◌, ℕ, ◌≤◌, Bool, true, false, ◌&&◌, cond, List, [], ◌∷◌, ◌++◌, length, map, Option, Some, None, Contains, refl, sym, ap, ◌∙◌, subst}
 use Rattle.std.proofs.lemmas.List.{length-map}
 use Rattle.std.specs.Prelude.{not, is_some, find}
-use Rattle.std.specs.List.{list_any, list_all, flat_map}
+use Rattle.std.specs.List.{list_all, flat_map}
 use Rattle.std.specs.Option.{option_map, option_map_or, option_and_then}
 use Rattle.fast_fault.specs.declared.code.Code.{Code}
 use Rattle.fast_fault.specs.declared.place.Pos.{Pos}
@@ -20,8 +20,8 @@ use Rattle.model_checks.specs.Failures.{failure, fails_if, is_empty}
 use Rattle.model_names.specs.Sorts.{sort_named}
 use Rattle.model_checks.specs.Sorts.{find_field, field_sort, sort_of, place_of, is_other_sort, needs_sort}
 use Rattle.model_checks.specs.Labels.{label_failures, sorted_failures}
-use Rattle.model_checks.specs.Types.{is_among, is_rank, is_rank_in_range, repeated, field_failures, ctor_failures, field_limit, type_failures}
-use Rattle.model_checks.specs.Rules.{differ, find_ctor, constructor_failures, variable_failures, guard_failures, scope_of, own_lang, rule_limit, type_at, type_name_failures, language_failures, demand_failures, rule_failures, out_failures, out_rule_failures}
+use Rattle.model_checks.specs.Types.{is_among, is_rank, is_rank_in_range, repeated, field_failures, ctor_failures, field_limit, find_ctor, has_leaf, type_failures}
+use Rattle.model_checks.specs.Rules.{differ, constructor_failures, variable_failures, guard_failures, scope_of, own_lang, rule_limit, type_at, type_name_failures, language_failures, demand_failures, rule_failures, out_failures, out_rule_failures}
 use Rattle.model_checks.specs.Programs.{name_again, body_failures}
 use Rattle.model_checks.specs.Sound.{names_of_fields, names_of_ctors, IsSoundType, IsSoundLabel, IsSoundDemand, IsSoundRule, IsSoundLang, IsSoundTrans}
 use Rattle.model_checks.proofs.Soundness.{empty_first, empty_second, passed, not_false, needed, of_each, all_by, at_most, same_from_test, distinct, found_passes, is_there}
@@ -36,22 +36,22 @@ few_fields fields e = at_most (λ f. failure TooMany f.name.place) fields 8 (λ 
 
 pub sound_type : (t : TypeItem) → is_empty (type_failures t) ≡ true → IsSoundType t
 sound_type t e =
-    let leaf = fails_if (not (list_any (λ c. is_rank 0 c.rank) t.ctors)) NoLeaf t.name.place in
     let fields = repeated DuplicateName (map (λ f. f.name) t.fields) in
     let sorted = flat_map field_failures t.fields in
     let ctors = repeated DuplicateName (map (λ c. c.name) t.ctors) in
+    let leaf = fails_if (not (has_leaf t.ctors)) NoLeaf t.name.place in
     let ranks = flat_map ctor_failures t.ctors in
-    let after_leaf = empty_second leaf (fields ++ (sorted ++ (field_limit t.fields ++ (ctors ++ ranks)))) e in
-    let after_fields = empty_second fields (sorted ++ (field_limit t.fields ++ (ctors ++ ranks))) after_leaf in
-    let after_sorts = empty_second sorted (field_limit t.fields ++ (ctors ++ ranks)) after_fields in
-    let after_limit = empty_second (field_limit t.fields) (ctors ++ ranks) after_sorts in
+    let after_fields = empty_second fields (sorted ++ (field_limit t.fields ++ (ctors ++ (leaf ++ ranks)))) e in
+    let after_sorts = empty_second sorted (field_limit t.fields ++ (ctors ++ (leaf ++ ranks))) after_fields in
+    let after_limit = empty_second (field_limit t.fields) (ctors ++ (leaf ++ ranks)) after_sorts in
+    let after_ctors = empty_second ctors (leaf ++ ranks) after_limit in
     record {
-      leaf = needed (list_any (λ c. is_rank 0 c.rank) t.ctors) NoLeaf t.name.place (empty_first leaf (fields ++ (sorted ++ (field_limit t.fields ++ (ctors ++ ranks)))) e);
-      fields = distinct DuplicateName (names_of_fields t.fields) (empty_first fields (sorted ++ (field_limit t.fields ++ (ctors ++ ranks))) after_leaf);
-      sorts = all_by (λ f. is_some (sort_named f.sort.text)) (λ f. UnknownName) (λ f. f.sort.place) t.fields (empty_first sorted (field_limit t.fields ++ (ctors ++ ranks)) after_fields);
-      few_fields = few_fields t.fields (empty_first (field_limit t.fields) (ctors ++ ranks) after_sorts);
-      ctors = distinct DuplicateName (names_of_ctors t.ctors) (empty_first ctors ranks after_limit);
-      ranks = all_by (λ c. is_rank_in_range c.rank) (λ c. TooMany) (λ c. c.name.place) t.ctors (empty_second ctors ranks after_limit);
+      leaf = needed (has_leaf t.ctors) NoLeaf t.name.place (empty_first leaf ranks after_ctors);
+      fields = distinct DuplicateName (names_of_fields t.fields) (empty_first fields (sorted ++ (field_limit t.fields ++ (ctors ++ (leaf ++ ranks)))) e);
+      sorts = all_by (λ f. is_some (sort_named f.sort.text)) (λ f. UnknownName) (λ f. f.sort.place) t.fields (empty_first sorted (field_limit t.fields ++ (ctors ++ (leaf ++ ranks))) after_fields);
+      few_fields = few_fields t.fields (empty_first (field_limit t.fields) (ctors ++ (leaf ++ ranks)) after_sorts);
+      ctors = distinct DuplicateName (names_of_ctors t.ctors) (empty_first ctors (leaf ++ ranks) after_limit);
+      ranks = all_by (λ c. is_rank_in_range c.rank) (λ c. TooMany) (λ c. c.name.place) t.ctors (empty_second leaf ranks after_ctors);
     }
 
 -- ---- labels

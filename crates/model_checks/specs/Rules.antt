@@ -1,28 +1,25 @@
 -- What may fail in the rules of languages and transformations.
-use Rattle.std.specs.Prelude.{ℕ, suc, ◌==◌, ◌||◌, Bool, false, List, [], ◌++◌, Option, Some, None, find, is_some, slice_get, length, not}
+use Rattle.std.specs.Prelude.{ℕ, suc, ◌==◌, ◌||◌, Bool, false, List, [], ◌++◌, Option, Some, None, is_some, slice_get, length, not}
 use Rattle.std.specs.List.{flat_map}
 use Rattle.std.specs.Option.{option_map, option_map_or}
 use Rattle.fast_fault.specs.declared.code.Code.TheVariants.{UnknownName, WrongKind, WrongType, WrongRank, DuplicateVariable, TooMany}
 use Rattle.fast_fault.specs.declared.refusal.Refusal.{Refusal}
 use Rattle.model_tree.specs.Limits.{most_rules}
 use Rattle.model_tree.specs.Signature.{truths}
-use Rattle.model_program.specs.Syntax.{Name, FieldItem, CtorItem, TypeItem, Demand}
+use Rattle.model_program.specs.Syntax.{Name, FieldItem, TypeItem, Demand}
 use Rattle.model_grammar.specs.Syntax.{Expr, Rule, OutRule, Out, child, call, node, Outs, no_out, and_out, LangItem, TransItem, Body, sorts, tree, lang, trans, def, assertion, Item}
 use Rattle.model_names.specs.Declared.{same_text, find_type, find_item}
 use Rattle.model_names.specs.Kinds.{declared_type}
 use Rattle.model_checks.specs.Failures.{failure, fails_if}
 use Rattle.model_checks.specs.Sorts.{Scope}
 use Rattle.model_checks.specs.Labels.{sorted_failures, labels_failures}
-use Rattle.model_checks.specs.Types.{is_among, is_rank, repeated}
+use Rattle.model_checks.specs.Types.{is_among, is_rank, repeated, find_ctor}
 
 -- whether two types are known to differ
 abbrev pub differ : Option (List ℕ) → Option (List ℕ) → Bool
 differ None b = false
 differ (Some a) None = false
 differ (Some a) (Some b) = not (same_text a b)
-
-abbrev pub find_ctor : List CtorItem → List ℕ → Option CtorItem
-find_ctor ctors name = find (λ c. same_text c.name.text name) ctors
 
 -- A constructor of a type has as many children as its rank says.
 abbrev pub constructor_failures : Option TypeItem → Name → ℕ → List Refusal

@@ -10,8 +10,8 @@ use Rattle.model_checks.specs.Failures.{is_empty}
 use Rattle.model_names.specs.Sorts.{sort_named}
 use Rattle.model_checks.specs.Sorts.{sort_of}
 use Rattle.model_checks.specs.Labels.{label_failures}
-use Rattle.model_checks.specs.Types.{is_among, is_rank, is_rank_in_range}
-use Rattle.model_checks.specs.Rules.{find_ctor, out_failures}
+use Rattle.model_checks.specs.Types.{is_among, is_rank, is_rank_in_range, find_ctor, has_leaf}
+use Rattle.model_checks.specs.Rules.{out_failures}
 use Rattle.model_checks.specs.Programs.{body_failures, is_well_formed}
 
 -- no two of the names are the same
@@ -28,7 +28,7 @@ names_of_ctors ctors = map (λ c. c.name) ctors
 -- A type has a constructor of rank 0, different fields of known sorts, 8 at most, and different constructors with ranks
 -- up to 8.
 pub record IsSoundType (t : TypeItem) : Type 0 where
-  pub leaf : list_any (λ c. is_rank 0 c.rank) t.ctors ≡ true
+  pub leaf : has_leaf t.ctors ≡ true
   pub fields : are_distinct (names_of_fields t.fields) ≡ true
   pub sorts : list_all (λ f. is_some (sort_named f.sort.text)) t.fields ≡ true
   pub few_fields : length t.fields ≤ most_fields

@@ -1,5 +1,5 @@
 -- What may fail in a type.
-use Rattle.std.specs.Prelude.{ℕ, ℤ, pos, negsuc, Bool, false, ◌==◌, List, [], ◌∷◌, ◌++◌, map, is_some, nat_le, slice_get, not}
+use Rattle.std.specs.Prelude.{ℕ, ℤ, pos, negsuc, Bool, false, ◌==◌, List, [], ◌∷◌, ◌++◌, Option, map, find, is_some, nat_le, slice_get, not}
 use Rattle.std.specs.List.{list_any, flat_map}
 use Rattle.std.specs.Option.{option_map_or}
 use Rattle.model_tree.specs.Limits.{most_fields, most_children}
@@ -45,12 +45,23 @@ ctor_failures c = fails_if (not (is_rank_in_range c.rank)) TooMany c.name.place
 abbrev pub field_limit : List FieldItem → List Refusal
 field_limit fields = option_map_or (λ f. failure TooMany f.name.place) (slice_get fields most_fields) []
 
--- A type has a constructor of rank 0, different fields of known sorts, and different constructors.
+-- the constructor of a name is the one that is declared first
+abbrev pub find_ctor : List CtorItem → List ℕ → Option CtorItem
+find_ctor ctors name = find (λ c. same_text c.name.text name) ctors
+
+-- the constructor of this name has no children
+abbrev pub is_leaf : List CtorItem → List ℕ → Bool
+is_leaf ctors name = option_map_or (λ c. is_rank 0 c.rank) (find_ctor ctors name) false
+
+abbrev pub has_leaf : List CtorItem → Bool
+has_leaf ctors = list_any (λ c. is_leaf ctors c.name.text) ctors
+
+-- A type has different fields of known sorts, different constructors, and one of them without children.
 abbrev pub type_failures : TypeItem → List Refusal
 type_failures t =
-    fails_if (not (list_any (λ c. is_rank 0 c.rank) t.ctors)) NoLeaf t.name.place
-    ++ (repeated DuplicateName (map (λ f. f.name) t.fields)
+    repeated DuplicateName (map (λ f. f.name) t.fields)
     ++ (flat_map field_failures t.fields
     ++ (field_limit t.fields
     ++ (repeated DuplicateName (map (λ c. c.name) t.ctors)
+    ++ (fails_if (not (has_leaf t.ctors)) NoLeaf t.name.place
     ++ flat_map ctor_failures t.ctors))))

@@ -1,6 +1,5 @@
 pub mod Noting
 pub mod Repeating
-pub mod Mapped
 pub mod FieldLookup
 pub mod FieldNumber
 pub mod Places

@@ -1,7 +1,7 @@
 -- Items that are numbered, and items that are looked at, one after another.
 use Rattle.std.proofs.Common.{◌≡◌, ℕ, zero, suc, ◌+◌, ◌<◌, ◌≤◌, Bool, true, false, cond, List, [], ◌∷◌, ◌++◌, length, map, take, drop, get_or, Option, Some, None, refl, sym, ap, ap₂, ◌∙◌, subst, arith}
 use Rattle.std.specs.Option.{option_map}
-use Rattle.std.proofs.lemmas.List.{take_all, get_or-map, length-map, length-take-le, map-append}
+use Rattle.std.proofs.lemmas.List.{take_more, take_all, get_or-map, length-map, length-take-le, map-append}
 use Rattle.fast_fault.specs.declared.refusal.Refusal.{Refusal}
 use Rattle.model_checks.specs.Failures.{first_among}
 use Rattle.model_checks.specs.Programs.{body_failures, failures_behind}
@@ -14,7 +14,9 @@ use Rattle.model_names.specs.Declared.{declares}
 use Rattle.program_check.specs.Naming.{place_in, or_else, Grows}
 use Rattle.program_check.specs.Numbered.{place_by, declares_type, own_ctors, ctor_place, AreNumbered}
 use Rattle.program_check.proofs.Noting.{first_among-append}
-use Rattle.program_check.proofs.Repeating.{take_at}
+
+pub take_at : {A : Type 0} (xs : List A) (i : ℕ) (x : A) → i < length xs → x ≡ get_or xs i x → take (i + 1) xs ≡ take i xs ++ x ∷ []
+take_at xs i x low is = take_more xs i x low ∙ ap (λ y. take i xs ++ y ∷ []) (sym is)
 
 moved : (a : Option ℕ) (b : Bool) (n : ℕ) → option_map (λ k. suc k) (or_else a (cond b (Some n) None)) ≡ or_else (option_map (λ k. suc k) a) (cond b (Some (suc n)) None)
 moved None true n = refl
@@ -34,7 +36,7 @@ place_behind p (y ∷ xs) x = by (p y) (ap (option_map (λ k. suc k)) (place_beh
 pub take_mapped : {A B : Type 0} (plain : A → B) (xs : List A) (i : ℕ) (x : A) → i < length xs → x ≡ get_or xs i x → take (i + 1) (map plain xs) ≡ take i (map plain xs) ++ plain x ∷ []
 take_mapped plain xs i x low is = take_at (map plain xs) i (plain x) (rw length-map low) (ap plain is ∙ sym (get_or-map plain xs i x (plain x) low))
 
-length_taken : {A : Type 0} (xs : List A) (i : ℕ) → i ≤ length xs → length (take i xs) ≡ i
+pub length_taken : {A : Type 0} (xs : List A) (i : ℕ) → i ≤ length xs → length (take i xs) ≡ i
 length_taken xs i low = length-take-le i xs low
 
 -- the names so far

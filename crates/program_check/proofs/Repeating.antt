@@ -1,10 +1,10 @@
 -- Names that are added one by one, while each that stood before is noted.
-use Rattle.std.proofs.Common.{◌≡◌, ℕ, ◌+◌, ◌<◌, ◌≤◌, Bool, true, false, ◌||◌, cond, List, [], ◌∷◌, ◌++◌, length, map, take, drop, get_or, Option, Some, None, refl, sym, ap, ap₂, ◌∙◌, subst}
+use Rattle.std.proofs.Common.{◌≡◌, ℕ, suc, ◌+◌, ◌<◌, ◌≤◌, Bool, true, false, ◌||◌, cond, List, [], ◌∷◌, ◌++◌, length, map, take, drop, get_or, Option, Some, None, refl, sym, ap, ap₂, ◌∙◌, subst, arith}
 use Rattle.std.specs.Prelude.{is_some}
-use Rattle.std.proofs.lemmas.List.{take_more, take_all, drop_all, map-append}
-use Rattle.std.proofs.lemmas.List.Folds.{list_any-append}
+use Rattle.std.specs.Option.{option_map}
+use Rattle.std.proofs.lemmas.List.{take_all, drop_all, length-map, map-append}
 use Rattle.fast_fault.specs.declared.code.Code.{Code}
-use Rattle.model_program.specs.Syntax.{Name}
+use Rattle.model_program.specs.Syntax.{Name, CtorItem}
 use Rattle.model_names.specs.Declared.{same_text}
 use Rattle.model_checks.specs.Failures.{fails_if}
 use Rattle.model_checks.specs.Types.{is_among, repeated_behind, repeated}
@@ -12,35 +12,40 @@ use Rattle.fast_syntax.proofs.Appending.{drop_at}
 use Rattle.program_check.specs.declared.names.Names.{Names}
 use Rattle.program_check.specs.Notes.{Notes, Left}
 use Rattle.program_check.specs.Naming.{place_in, or_else, Adds}
+use Rattle.program_check.specs.Numbered.{name_place, ctor_place}
 use Rattle.program_check.specs.declared.checker.Checker.{Checker}
 use Rattle.program_check.proofs.Noting.{more, done}
 use Rattle.program_check.proofs.Noting.{at_first as nothing_yet}
+use Rattle.program_check.proofs.Numbering.{take_at, place_behind, length_taken}
 
-pub take_at : {A : Type 0} (xs : List A) (i : ℕ) (x : A) → i < length xs → x ≡ get_or xs i x → take (i + 1) xs ≡ take i xs ++ x ∷ []
-take_at xs i x low is = take_more xs i x low ∙ ap (λ y. take i xs ++ y ∷ []) (sym is)
+-- a name has a number exactly where it is among them
+some_place : (b : Bool) (o : Option ℕ) → is_some (cond b (Some 0) (option_map (λ n. suc n) o)) ≡ (b || is_some o)
+some_place true o = refl
+some_place false None = refl
+some_place false (Some n) = refl
 
-some_of : (a b : Option ℕ) → is_some (or_else a b) ≡ (is_some a || is_some b)
-some_of None b = refl
-some_of (Some n) b = refl
+placed_among : (names : List Name) (text : List ℕ) → is_some (name_place names text) ≡ is_among names text
+placed_among [] text = refl
+placed_among (n ∷ names) text = some_place (same_text n.text text) (name_place names text) ∙ ap (λ b. same_text n.text text || b) (placed_among names text)
 
-some_if : (b : Bool) (n : ℕ) → is_some (cond b (Some n) None) ≡ (b || false)
-some_if true n = refl
-some_if false n = refl
+-- the number of a constructor is that of its name
+pub placed_ctors : (ctors : List CtorItem) (name : List ℕ) → name_place (map (λ c. c.name) ctors) name ≡ ctor_place ctors name
+placed_ctors [] name = refl
+placed_ctors (c ∷ ctors) name = ap (λ o. cond (same_text c.name.text name) (Some 0) (option_map (λ n. suc n) o)) (placed_ctors ctors name)
 
--- which names are there, after one more
-pub among_more : (names : List Name) (n : Name) (old new : Names) (place : ℕ) → Adds old new n.text place → ((text : List ℕ) → is_some (place_in old text) ≡ is_among names text) → (text : List ℕ) → is_some (place_in new text) ≡ is_among (names ++ n ∷ []) text
-among_more names n old new place adds there text =
-    ap is_some (adds.same text) ∙ some_of (place_in old text) (cond (same_text n.text text) (Some place) None)
-    ∙ ap₂ (λ a b. a || b) (there text) (some_if (same_text n.text text) place)
-    ∙ sym (list_any-append (λ m. same_text m.text text) names (n ∷ []))
+-- their numbers, after one more
+places_more : (names : List Name) (n : Name) (old new : Names) (place : ℕ) → length names ≡ place → Adds old new n.text place → ((text : List ℕ) → place_in old text ≡ name_place names text) → (text : List ℕ) → place_in new text ≡ name_place (names ++ n ∷ []) text
+places_more names n old new place many adds there text =
+    adds.same text ∙ ap₂ (λ o k. or_else o (cond (same_text n.text text) (Some k) None)) (there text) (sym many)
+    ∙ sym (place_behind (λ m. same_text m.text text) names n)
 
 -- what is so before the element of this number
 pub record SoFar {A : Type 0} (f : A → Name) (code : Code) (all : List A) (i : ℕ) (start now : Checker) (names : Names) : Type 0 where
   pub noted : Left start now (repeated code (map f all)) (repeated_behind code (map f (take i all)) (map f (drop i all)))
-  pub there : (text : List ℕ) → is_some (place_in names text) ≡ is_among (map f (take i all)) text
+  pub there : (text : List ℕ) → place_in names text ≡ name_place (map f (take i all)) text
 
 pub at_first : {A : Type 0} (f : A → Name) (code : Code) (all : List A) (start : Checker) (names : Names) → ((text : List ℕ) → place_in names text ≡ None) → SoFar f code all 0 start start names
-at_first f code all start names none = record { noted = nothing_yet start (repeated code (map f all)); there = λ text. ap is_some (none text) }
+at_first f code all start names none = record { noted = nothing_yet start (repeated code (map f all)); there = none }
 
 one_more_of : {A : Type 0} (f : A → Name) (code : Code) (all : List A) (i : ℕ) (x : A) (start a b : Checker) (old new : Names) → i < length all → x ≡ get_or all i x
     → Notes a b (fails_if (is_some (place_in old (f x).text)) code (f x).place) → Adds old new (f x).text i → SoFar f code all i start a old → SoFar f code all (i + 1) start b new
@@ -49,8 +54,8 @@ one_more_of f code all i x start a b old new low is noted adds so_far =
     record {
       noted = more (λ _. fails_if (is_some (place_in old (f x).text)) code (f x).place) (repeated_behind code (map f (take (i + 1) all)) (map f (drop (i + 1) all))) noted
           (ap (λ xs. repeated_behind code (map f (take i all)) (map f xs)) (drop_at all i x low is)
-          ∙ ap₂ (λ b xs. fails_if b code (f x).place ++ repeated_behind code xs (map f (drop (i + 1) all))) (sym (so_far.there (f x).text)) (sym before)) so_far.noted;
-      there = λ text. among_more (map f (take i all)) (f x) old new i adds so_far.there text ∙ ap (λ names. is_among names text) (sym before);
+          ∙ ap₂ (λ b xs. fails_if b code (f x).place ++ repeated_behind code xs (map f (drop (i + 1) all))) (sym (ap is_some (so_far.there (f x).text) ∙ placed_among (map f (take i all)) (f x).text)) (sym before)) so_far.noted;
+      there = λ text. places_more (map f (take i all)) (f x) old new i (length-map (take i all) f ∙ length_taken all i (omega (arith, low))) adds so_far.there text ∙ ap (λ names. name_place names text) (sym before);
     }
 
 pub one_more : {A : Type 0} (f : A → Name) (code : Code) (all : List A) (i : ℕ) (x : A) (n : Name) (start a b : Checker) (old new : Names) → i < length all → x ≡ get_or all i x → n ≡ f x
@@ -62,5 +67,8 @@ pub all_noted : {A : Type 0} (f : A → Name) (code : Code) (all : List A) (i : 
 all_noted f code all i start known names end so_far =
     done (ap (λ xs. repeated_behind code (map f (take i all)) (map f xs)) (drop_all i all end)) so_far.noted
 
+pub all_placed : {A : Type 0} (f : A → Name) (code : Code) (all : List A) (i : ℕ) (start known : Checker) (names : Names) → length all ≤ i → SoFar f code all i start known names → (text : List ℕ) → place_in names text ≡ name_place (map f all) text
+all_placed f code all i start known names end so_far text = so_far.there text ∙ ap (λ xs. name_place (map f xs) text) (take_all i all end)
+
 pub all_there : {A : Type 0} (f : A → Name) (code : Code) (all : List A) (i : ℕ) (start known : Checker) (names : Names) → length all ≤ i → SoFar f code all i start known names → (text : List ℕ) → is_some (place_in names text) ≡ is_among (map f all) text
-all_there f code all i start known names end so_far text = so_far.there text ∙ ap (λ xs. is_among (map f xs) text) (take_all i all end)
+all_there f code all i start known names end so_far text = ap is_some (all_placed f code all i start known names end so_far text) ∙ placed_among (map f all) text

@@ -1,7 +1,7 @@
 -- Declarations with numbers, as the code keeps them.
 use Rattle.std.specs.Prelude.{◌≡◌, ℕ, suc, Bool, false, List, [], ◌∷◌, Option, Some, None, map, nat_lt, cond, slice_get}
 use Rattle.std.specs.Option.{option_map, option_map_or, option_and_then}
-use Rattle.model_program.specs.Syntax.{CtorItem, TypeItem}
+use Rattle.model_program.specs.Syntax.{Name, CtorItem, TypeItem}
 use Rattle.model_grammar.specs.Syntax.{Body, sorts, tree, lang, trans, def, assertion, Item}
 use Rattle.model_names.specs.Declared.{same_text, declares}
 use Rattle.program_check.specs.declared.names.Names.{Names}
@@ -24,6 +24,10 @@ own_type_item (assertion a) = None
 -- whether an item is a type of this name
 abbrev pub declares_type : List ℕ → Item → Bool
 declares_type name item = option_map_or (λ t. same_text t.name.text name) (own_type_item item.body) false
+
+-- the number of the first of these names that is this text
+abbrev pub name_place : List Name → List ℕ → Option ℕ
+name_place names text = place_by (λ n. same_text n.text text) names
 
 -- whether a constructor has this name
 abbrev pub is_ctor : List ℕ → CtorItem → Bool

@@ -4,10 +4,11 @@ ghost use Rattle.std.specs.Prelude.{◌≡◌, ℕ, List, Some, None, MatchOptio
 ghost use Rattle.std.specs.Option.{option_map, option_and_then};
 ghost use Rattle.std.proofs.Props.{props};
 ghost use Rattle.fast_syntax.specs.View.{plain_ctor};
-ghost use Rattle.model_checks.specs.Rules.{find_ctor};
+ghost use Rattle.model_checks.specs.Types.{find_ctor, is_leaf, has_leaf};
 ghost use Rattle.program_check.specs.Numbered.{HasCtors};
 
 use crate::names::Names;
+use crate::types::is_rank;
 use fast_fault::Text;
 use fast_syntax::{CtorItem, TypeItem};
 
@@ -28,6 +29,28 @@ impl<'p> DeclaredType<'p> {
             Some(place) => ctor_at(&self.item.ctors, place),
             None => None,
         }
+    }
+
+    /// The constructor of this name has no children.
+    fn is_leaf(&self, name: &Text) -> bool
+        ensures { result ≡ is_leaf (map plain_ctor self.now.item.now.ctors.items) name.now }
+    {
+        match self.ctor(name) {
+            Some(ctor) => is_rank(0, ctor.rank),
+            None => false,
+        }
+    }
+
+    /// There is a constructor without children.
+    pub(crate) fn has_leaf(&self) -> bool
+        ensures { result ≡ has_leaf (map plain_ctor self.now.item.now.ctors.items) }
+    {
+        'ctors: for ctor in &self.item.ctors {
+            if self.is_leaf(&ctor.name.text) {
+                return true;
+            }
+        }
+        false
     }
 }
 

@@ -7,6 +7,7 @@ ghost use Rattle.model_checks.specs.Failures.{fails_if};
 ghost use Rattle.model_checks.specs.Types.{is_among, repeated};
 ghost use Rattle.program_check.specs.Notes.{Notes};
 ghost use Rattle.program_check.specs.Naming.{place_in, Adds};
+ghost use Rattle.program_check.specs.Numbered.{name_place};
 
 use crate::checker::Checker;
 use crate::names::Names;
@@ -75,6 +76,7 @@ impl Checker<'_> {
     ) -> Result<Names, Memory>
         ensures noted { OnOk result (Notes self.old self.new (repeated code (map N.name_of all.now))) }
         ensures names { IfOk result (λ names. (text : List ℕ) → is_some (place_in names text) ≡ is_among (map N.name_of all.now) text) }
+        ensures places { IfOk result (λ names. (text : List ℕ) → place_in names text ≡ name_place (map N.name_of all.now) text) }
     {
         let mut names = Names::new(self.alloc);
         'all: for (place, one) in all.iter().enumerate() {

@@ -14,8 +14,8 @@ ghost use Rattle.fast_syntax.specs.Plain.{plain_expr, plain_guard, plain_rule, p
 ghost use Rattle.fast_syntax.specs.Slices.{plain_outputs};
 ghost use Rattle.model_checks.specs.Failures.{failure, fails_if};
 ghost use Rattle.model_checks.specs.Labels.{labels_failures, label_failures, needs_sort_of};
-ghost use Rattle.model_checks.specs.Types.{is_among, repeated};
-ghost use Rattle.model_checks.specs.Rules.{differ, find_ctor, constructor_failures, label_count_failures, scope_of, fields_of, variable_failures, guard_failures, own_lang, own_trans, rule_limit, type_at, type_name_failures, language_failures, transformation_failures, demand_failures, rule_failures, count_outs, out_failures, outs_failures, out_rule_failures};
+ghost use Rattle.model_checks.specs.Types.{is_among, repeated, find_ctor};
+ghost use Rattle.model_checks.specs.Rules.{differ, constructor_failures, label_count_failures, scope_of, fields_of, variable_failures, guard_failures, own_lang, own_trans, rule_limit, type_at, type_name_failures, language_failures, transformation_failures, demand_failures, rule_failures, count_outs, out_failures, outs_failures, out_rule_failures};
 ghost use Rattle.program_check.specs.Notes.{Notes};
 ghost use Rattle.program_check.specs.Typed.{plain_of, plain_option, type_name};
 ghost use Rattle.program_check.specs.Contexts.{items_of};

@@ -2,7 +2,7 @@
 //! and children that are too great.
 
 ghost use Rattle.std.specs.Prelude.{◌≡◌, OnOk, map, not, is_some};
-ghost use Rattle.std.specs.List.{list_any, flat_map};
+ghost use Rattle.std.specs.List.{flat_map};
 ghost use Rattle.std.specs.Option.{option_map};
 ghost use Rattle.fast_tree.specs.Signatures.{plain_sort};
 ghost use Rattle.fast_syntax.specs.View.{plain_name, plain_field, plain_ctor, plain_type};
@@ -12,6 +12,7 @@ ghost use Rattle.fast_fault.specs.declared.code.Code.TheVariants as code;
 ghost use Rattle.program_check.specs.Notes.{Notes};
 
 use crate::checker::Checker;
+use crate::declared_type::DeclaredType;
 use crate::limits::{MOST_CHILDREN, MOST_FIELDS};
 use fast_fault::{Code, Memory, Text};
 use fast_syntax::{CtorItem, FieldItem, TypeItem};
@@ -38,19 +39,6 @@ pub(crate) fn is_rank(count: usize, rank: i128) -> bool
     ensures { result ≡ is_rank count rank }
 {
     rank == count as i128
-}
-
-fn is_leaf(ctor: &CtorItem) -> bool
-    ensures { result ≡ is_rank 0 ctor.now.rank }
-{
-    is_rank(0, ctor.rank)
-}
-
-/// There is a constructor without children.
-fn has_leaf(item: &TypeItem) -> bool
-    ensures { result ≡ list_any (λ c. is_rank 0 c.rank) item.now.ctors.items }
-{
-    item.ctors.iter().any(is_leaf)
 }
 
 fn is_rank_in_range(rank: i128) -> bool
@@ -104,11 +92,15 @@ impl Checker<'_> {
     pub(crate) fn check_type(&mut self, item: &TypeItem) -> Result<(), Memory>
         ensures { OnOk result (Notes self.old self.new (type_failures (plain_type item.now))) }
     {
-        self.note_if(!has_leaf(item), Code::NoLeaf, item.name.place);
         self.check_repeated(Code::DuplicateName, &item.fields)?;
         self.check_own_sorts(item);
         self.check_field_limit(item);
-        self.check_repeated(Code::DuplicateName, &item.ctors)?;
+        let ctors = self.check_repeated(Code::DuplicateName, &item.ctors)?;
+        let declared = DeclaredType {
+            item,
+            ctors: &ctors,
+        };
+        self.note_if(!declared.has_leaf(), Code::NoLeaf, item.name.place);
         self.check_ranks(item);
         Ok(())
     }

@@ -19,7 +19,8 @@ use Rattle.model_meaning.specs.Outputs.{number_named}
 use Rattle.model_meaning.proofs.Named.{input_type_of_name}
 use Rattle.model_checks.specs.Failures.{is_empty}
 use Rattle.model_checks.specs.Labels.{labels_failures}
-use Rattle.model_checks.specs.Rules.{differ, find_ctor, constructor_failures, label_count_failures, type_name_failures, fields_of}
+use Rattle.model_checks.specs.Types.{find_ctor}
+use Rattle.model_checks.specs.Rules.{differ, constructor_failures, label_count_failures, type_name_failures, fields_of}
 use Rattle.model_checks.specs.Expressions.{is_known_later, nesting_failures, count_xs, type_called, type_as, needs_be, wanted_second, x_failures, xs_failures, whole_failures}
 use Rattle.model_checks.specs.Programs.{name_again, body_failures, claim_failures}
 use Rattle.model_checks.specs.Sound.{IsSound, StandsIn, IsSoundType}

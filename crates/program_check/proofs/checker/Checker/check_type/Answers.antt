@@ -7,14 +7,17 @@ use Rattle.program_check.proofs.Noting.{next, same}
 use Rattle.std.proofs.lemmas.Simd.{map-map}
 use Rattle.fast_fault.specs.declared.code.Code.TheVariants.{DuplicateName, NoLeaf}
 use Rattle.model_program.specs.Syntax as plain
-use Rattle.model_checks.specs.Types.{is_rank}
-use Rattle.program_check.proofs.Mapped.{list_any_map}
+use Rattle.program_check.specs.Numbered.{name_place}
+use Rattle.program_check.proofs.Repeating.{placed_ctors}
 use Rattle.program_check.proofs.checker.Checker.check_type.Goals as goal
+
+pub invariant_of-declared : goal.invariant_of-declared
+invariant_of-declared c = record { numbered = λ name. c.in_ok-ctors.ensures.places name ∙ ap (λ names. name_place names name) (ap (map (λ c. plain_name c.name)) c.deref-2.ensures.value ∙ sym (map-map (λ (c : plain.CtorItem). c.name) plain_ctor c.args.item.now.ctors.items)) ∙ placed_ctors (map plain_ctor c.args.item.now.ctors.items) name }
 
 pub returns : goal.returns
 returns c =
     let item = c.args.item.now in
-    let leaf = same (ap (λ b. fails_if (not b) NoLeaf item.name.place) (c.has_leaf.ensures ∙ sym (list_any_map (λ (c : plain.CtorItem). is_rank 0 c.rank) plain_ctor item.ctors.items))) c.note_if.ensures in
     let fields = same (ap (repeated DuplicateName) (ap (map (λ f. plain_name f.name)) c.deref.ensures.value ∙ sym (map-map (λ (f : plain.FieldItem). f.name) plain_field item.fields.items))) c.in_ok-check_repeated.ensures.noted in
-    let ctors = same (ap (repeated DuplicateName) (ap (map (λ c. plain_name c.name)) c.deref-2.ensures.value ∙ sym (map-map (λ (c : plain.CtorItem). c.name) plain_ctor item.ctors.items))) c.in_ok-check_repeated-2.ensures.noted in
-    next leaf (next fields (next c.check_own_sorts.ensures (next c.check_field_limit.ensures (next ctors c.check_ranks.ensures))))
+    let ctors = same (ap (repeated DuplicateName) (ap (map (λ c. plain_name c.name)) c.deref-2.ensures.value ∙ sym (map-map (λ (c : plain.CtorItem). c.name) plain_ctor item.ctors.items))) c.in_ok-ctors.ensures.noted in
+    let leaf = same (ap (λ b. fails_if (not b) NoLeaf item.name.place) c.has_leaf.ensures) c.note_if.ensures in
+    next fields (next c.check_own_sorts.ensures (next c.check_field_limit.ensures (next ctors (next leaf c.check_ranks.ensures))))
