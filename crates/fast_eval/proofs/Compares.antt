@@ -1,20 +1,26 @@
 -- The comparisons of whole numbers among the atoms of guards.
-use Rattle.std.proofs.Common.{◌≡◌, inl, inr, ◌⊎◌, IsTrue, Bool, true, false, ◌||◌, List, [], ◌∷◌, ◌++◌, map, get_or, All, Contains, append_assoc, refl, sym, ap, subst, ◌∙◌}
+use Rattle.std.proofs.Common.{◌≡◌, inl, inr, ◌⊎◌, IsTrue, Bool, true, false, ◌||◌, ◌&&◌, List, [], ◌∷◌, ◌++◌, map, get_or, All, Contains, append_assoc, refl, sym, ap, ap₂, subst, ◌∙◌}
+use Rattle.std.specs.Bool.{beq}
+use Rattle.std.proofs.lemmas.Bool.{both_ways}
 use Rattle.std.proofs.lemmas.List.{map-append}
 use Rattle.std.proofs.lemmas.List.Elements.{All-map, All-weaker}
 use Rattle.model_tree.specs.Formula.{Formula}
 use Rattle.model_form.proofs.Equals.{same_laws}
 use Rattle.model_chain.specs.Literals as plain
-use Rattle.model_run.specs.Seen.{IsSameCompare}
+use Rattle.model_run.specs.Seen.{IsSameCompare, IsSameLiteral}
 use Rattle.model_layers.specs.Compared.{IsOneOf, AreOfBoth}
 use Rattle.label_core.specs.Atoms.{has_equal, EachHasEqual}
 use Rattle.label_core.specs.Formula.{atoms_in}
 use Rattle.label_core.specs.Pair.{lefts}
 use Rattle.label_core.specs.declared.pair.PairAtom.{PairAtom}
 use Rattle.label_core.specs.declared.pair.PairAtom.TheVariants.{Left, Right}
+use Rattle.label_core.specs.declared.theory.Lit.{Lit}
 use Rattle.lin_solve.specs.declared.compare.Compare.{Compare}
-use Rattle.lin_solve.specs.Plain.{plain_compare, plain_relation}
-use Rattle.lin_solve.proofs.Alike.{parts_of_equal}
+use Rattle.lin_solve.specs.declared.compare.Relation.{Relation}
+use Rattle.lin_solve.specs.declared.compare.Relation.TheVariants.{Less, AtMost, Equal}
+use Rattle.lin_solve.specs.Kept.{is_same}
+use Rattle.lin_solve.specs.Plain.{plain_compare, plain_relation, plain_literal}
+use Rattle.lin_solve.proofs.Alike.{parts_of_equal, equal_of_parts}
 use Rattle.sta_core.specs.Machine.{Machine}
 use Rattle.sta_classes.specs.Guards.{all_guards, atoms_of_all}
 use Rattle.sta_theory.proofs.Lists.{first_in, later_in, append_member, in_map}
@@ -36,6 +42,30 @@ same_compare : (a b : Compare) → same_compares a b ≡ true → IsSameCompare 
 same_compare a b e =
     let parts = parts_of_equal a b e in
     (ap (λ r. plain_relation r) (sym parts.1), same_laws.symm b.left a.left ∙ parts.0, same_laws.symm b.right a.right ∙ parts.2)
+
+same_relation : (r s : Relation) → plain_relation r ≡ plain_relation s → r ≡ s
+same_relation Less Less e = refl
+same_relation Less AtMost e = cc
+same_relation Less Equal e = cc
+same_relation AtMost Less e = cc
+same_relation AtMost AtMost e = refl
+same_relation AtMost Equal e = cc
+same_relation Equal Less e = cc
+same_relation Equal AtMost e = cc
+same_relation Equal Equal e = refl
+
+same_sign : (a b : Bool) → a ≡ b → beq a b ≡ true
+same_sign true true e = refl
+same_sign true false e = cc
+same_sign false true e = cc
+same_sign false false e = refl
+
+-- literals that differ are of two signs or over two comparisons
+pub not_same : (l m : Lit Compare) → is_same same_compares l m ≡ false → ¬ (IsSameLiteral (plain_literal l) (plain_literal m))
+not_same l m differ is =
+    let one : is_same same_compares l m ≡ true =
+    ap₂ (λ a b. a && b) (same_sign l.sign m.sign is.0) (equal_of_parts l.atom m.atom is.1.1 (same_relation l.atom.relation m.atom.relation is.1.0) is.1.2) in
+    both_ways (is_same same_compares l m) differ one
 
 -- comparisons that have equal ones among others are the same as one of these
 pub one_of : (cs ds : List Compare) → EachHasEqual same_compares cs ds → All (λ c. IsOneOf (map plain_compare ds) (plain_compare c)) cs

@@ -17,6 +17,7 @@ use Rattle.model_chain.specs.Chains as chains
 use Rattle.model_chain.specs.Chains.{Passes, IsFar}
 use Rattle.model_chain.specs.Literals as plain
 use Rattle.model_chain.specs.Literals.{Literal}
+use Rattle.model_run.specs.Seen.{IsSameLiteral}
 use Rattle.model_layers.specs.Carries.{IsTyped}
 use Rattle.model_layers.specs.Compared.{IsOneOf, IsWideOver}
 use Rattle.model_layers.proofs.Told.{trees_go_up}
@@ -48,7 +49,7 @@ use Rattle.record_label.specs.Rows.{RowAtom, row_holds, KeepsSorts}
 use Rattle.record_label.proofs.ChainFacts.{compares_over}
 use Rattle.fast_eval.specs.Built.{compares_of, compares_in, IsBuiltOf}
 use Rattle.fast_eval.specs.Stops.{IsStopOf, by_classes}
-use Rattle.fast_eval.proofs.Compares.{one_of, compares_joined}
+use Rattle.fast_eval.proofs.Compares.{one_of, compares_joined, not_same}
 use Rattle.fast_eval.proofs.Typed.{fits_if_kept, type_from_fits}
 
 -- ---- guards
@@ -104,7 +105,7 @@ module _ (items : List Item) (type : List ℕ) (sorts : List Sort) (is : sorts �
         record {
           chain = plain_chain c;
           over = over c both.0;
-          once = plain_different same_compares compares_laws c.literals.items both.1;
+          once = plain_different same_compares compares_laws IsSameLiteral not_same c.literals.items both.1;
           passes = passes;
           far = λ narrow. subst (λ s. HasFar (HasSorts s) is_kept_label Agree) is (far_of sorts gs Agree to (unkept (narrow_is_far (bits_of c.width) (plain_chain c) passes narrow)));
         }

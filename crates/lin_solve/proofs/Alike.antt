@@ -11,7 +11,7 @@ use Rattle.lin_solve.specs.Kept.{is_same}
 use Rattle.lin_solve.specs.Plain.{plain_compare, plain_literals}
 use Rattle.lin_solve.specs.Sought.{NeverHoldAll}
 use Rattle.lin_solve.specs.Wholes.{wholes_label}
-use Rattle.lin_solve.specs.Equal.{IsRelationEq, IsCompareEq, equal_parts, wholes_back, compare_laws, equal_hold}
+use Rattle.lin_solve.specs.Equal.{IsRelationEq, IsCompareEq, equal_parts, equal_by_parts, wholes_back, compare_laws, equal_hold}
 use Rattle.lin_solve.proofs.Once.{hold_among}
 use Rattle.lin_solve.specs.contracts.compare.ComparePartialEq.TheImpl.{ghosts as compares}
 use Rattle.lin_solve.specs.contracts.compare.RelationPartialEq.TheImpl.{ghosts as relations}
@@ -28,6 +28,9 @@ laws_of_equality = compare_laws relations.eq relations_apart compares.eq by_part
 -- equal comparisons are so part by part
 pub parts_of_equal : (a b : Compare) → compares.eq a b ≡ true → (same_form a.left b.left ≡ true) × (a.relation ≡ b.relation) × (same_form a.right b.right ≡ true)
 parts_of_equal = equal_parts relations.eq relations_apart compares.eq by_parts
+
+pub equal_of_parts : (a b : Compare) → same_form a.left b.left ≡ true → a.relation ≡ b.relation → same_form a.right b.right ≡ true → compares.eq a b ≡ true
+equal_of_parts = equal_by_parts relations.eq relations_apart compares.eq by_parts
 
 pub copy_equal : (a b : Compare) → a ≡ b → compares.eq a b ≡ true
 copy_equal a b e = subst (λ c. compares.eq c b ≡ true) (sym e) (laws_of_equality.refl b)

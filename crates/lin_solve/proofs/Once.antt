@@ -19,34 +19,11 @@ use Rattle.label_core.specs.declared.theory.Lit.{Lit}
 use Rattle.label_core.specs.declared.theory.Verdict.{Verdict}
 use Rattle.label_core.specs.declared.theory.Verdict.TheVariants.{Sat, Unsat, Wide}
 use Rattle.lin_solve.specs.declared.compare.Compare.{Compare}
-use Rattle.lin_solve.specs.declared.compare.Relation.{Relation}
-use Rattle.lin_solve.specs.declared.compare.Relation.TheVariants.{Less, AtMost, Equal}
 use Rattle.lin_solve.specs.declared.chain.Chain.{Chain}
-use Rattle.lin_solve.specs.Plain.{plain_compare, plain_relation, plain_literal, plain_literals}
+use Rattle.lin_solve.specs.Plain.{plain_compare, plain_literal, plain_literals}
 use Rattle.lin_solve.specs.Shown.{Answers}
 use Rattle.lin_solve.specs.Equal.{among_own}
 use Rattle.lin_solve.specs.Kept.{is_same, AreDifferent, AreKept, Keeps}
-
--- ---- a literal by its plain form
-
-abbrev relation_of : chain.Relation → Relation
-relation_of chain.less = Less
-relation_of chain.at_most = AtMost
-relation_of chain.equal = Equal
-
-abbrev literal_of : chain.Literal → Lit Compare
-literal_of l = record { atom = record { left = l.compare.left; relation = relation_of l.compare.relation; right = l.compare.right }; sign = l.positive }
-
-relation_back : (r : Relation) → relation_of (plain_relation r) ≡ r
-relation_back Less = refl
-relation_back AtMost = refl
-relation_back Equal = refl
-
-literal_back : (l : Lit Compare) → literal_of (plain_literal l) ≡ l
-literal_back l = λ i. record { atom = record { left = l.atom.left; relation = relation_back l.atom.relation i; right = l.atom.right }; sign = l.sign }
-
-one_literal : (l m : Lit Compare) → plain_literal l ≡ plain_literal m → l ≡ m
-one_literal l m e = sym (literal_back l) ∙ ap literal_of e ∙ literal_back m
 
 pub apart : (a b : Bool) → beq a b ≡ false → a ≡ b → ⊥
 apart true true e f = cc
@@ -93,13 +70,12 @@ module _ (E : Compare → Compare → Bool) (laws : IsEquivalence E) where
   pub atoms_among : (ks ls : List (Lit Compare)) → EachHasEqual (is_same E) ks ls → EachHasEqual E (atoms_of ks) (atoms_of ls)
   atoms_among ks ls h = All-map (λ a. list_any (E a) (atoms_of ls) ≡ true) (λ l. l.atom) ks (All-weaker (λ l. list_any (is_same E l) ls ≡ true) (λ l. list_any (E l.atom) (atoms_of ls) ≡ true) (λ l. same_atom l ls) ks h)
 
-  differ : (l m : Lit Compare) → is_same E l m ≡ false → ¬ (plain_literal l ≡ plain_literal m)
-  differ l m other e = both_ways (is_same E l m) other (subst (λ n. is_same E l n ≡ true) (one_literal l m e) (literal_laws.refl l))
-
-  pub plain_different : (ks : List (Lit Compare)) → AreDifferent E ks → EachTwo (λ l m. ¬ (l ≡ m)) (plain_literals ks)
-  plain_different [] h = tt
-  plain_different (k ∷ ks) h =
-      (All-map (λ m. ¬ (plain_literal k ≡ m)) plain_literal ks (All-weaker (λ m. is_same E k m ≡ false) (λ m. ¬ (plain_literal k ≡ plain_literal m)) (differ k) ks h.0), plain_different ks h.1)
+  -- where different literals are never the same in this sense, no two of them are
+  pub plain_different : (Same : chain.Literal → chain.Literal → Type 0) → ((l m : Lit Compare) → is_same E l m ≡ false → ¬ (Same (plain_literal l) (plain_literal m))) → (ks : List (Lit Compare)) → AreDifferent E ks → EachTwo (λ l m. ¬ (Same l m)) (plain_literals ks)
+  plain_different Same differ [] h = tt
+  plain_different Same differ (k ∷ ks) h =
+      let Other : Lit Compare → Type 0 = λ m. ¬ (Same (plain_literal k) (plain_literal m)) in
+      (All-map (λ m. ¬ (Same (plain_literal k) m)) plain_literal ks (All-weaker (λ m. is_same E k m ≡ false) Other (differ k) ks h.0), plain_different Same differ ks h.1)
 
   module _ (us : List ℤ) (alike : (a b : Compare) → E a b ≡ true → compare_holds (plain_compare a) us ≡ compare_holds (plain_compare b) us) where
     abbrev Holds : Lit Compare → Type 0

@@ -123,6 +123,10 @@ module _ (R : Relation → Relation → Bool) (apart : IsRelationEq R) (E : Comp
       let inner = both_true (R a.relation b.relation) (same_form a.right b.right) outer.1 in
       (outer.0, one_relation R apart a.relation b.relation inner.0, inner.1)
 
+  pub equal_by_parts : (a b : Compare) → same_form a.left b.left ≡ true → a.relation ≡ b.relation → same_form a.right b.right ≡ true → E a b ≡ true
+  equal_by_parts a b left relation right =
+      is.parts a b ∙ (λ i. left i && ((ap (λ r. R r b.relation) relation ∙ (relation_laws R apart).refl b.relation) i && right i))
+
   pub equal_hold : (a b : Compare) (l : Label) → E a b ≡ true → compare_at a l ≡ compare_at b l
   equal_hold a b l e =
       let p = equal_parts a b e in λ i. related (plain_relation (p.1 i)) (same_value a.left b.left (wholes_of l) p.0 i) (same_value a.right b.right (wholes_of l) p.2 i)

@@ -1,7 +1,7 @@
 //! Conjunctions of comparisons of forms, decided by Cooper's method.
 //!
-//! Its promise: `decide` gives values that satisfy the literals, or says that no whole numbers do, or shows a chain of
-//! the literals, each of them once, that passes its width.
+//! Its promise: `decide` gives values that satisfy the literals, says that no whole numbers do, or shows a chain of the
+//! literals, none of them twice, that passes its width.
 #![tactic(auto)]
 
 mod apart;

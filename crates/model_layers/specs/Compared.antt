@@ -25,7 +25,7 @@ use Rattle.model_grammar.specs.Syntax.{X, named, two, Item}
 use Rattle.model_names.specs.Kinds.{output_of}
 use Rattle.model_meaning.specs.Reached.{Opens}
 use Rattle.model_run.specs.Parts.{operands, LooksBack}
-use Rattle.model_run.specs.Seen.{LabelList, list_forms, IsLabelList, IsCompare, IsFormOf, IsSameCompare, IsLabelOf}
+use Rattle.model_run.specs.Seen.{LabelList, list_forms, IsLabelList, IsCompare, IsFormOf, IsSameCompare, IsSameLiteral, IsLabelOf}
 use Rattle.model_run.specs.Causes.{IsTooWide}
 use Rattle.model_layers.specs.Seen.{IsSeen, IsSeenTrans}
 
@@ -112,7 +112,7 @@ pub record NumbersGoUp (items : List Item) : Type 0 where
 pub record IsWideOver (items : List Item) (type : List ℕ) (cs : List Compare) (Agree : Label → Label → Type 0) (width : ℕ) : Type 0 where
   pub chain : Chain
   pub over : All (λ l. IsOneOf cs l.compare) chain.literals
-  pub once : EachTwo (λ l m. ¬ (l ≡ m)) chain.literals
+  pub once : EachTwo (λ l m. ¬ (IsSameLiteral l m)) chain.literals
   pub passes : Passes width chain
   pub far : width ≡ 64 → HasFar (IsLabelOf items type) is_kept_label Agree
 

@@ -17,7 +17,7 @@ use Rattle.model_meaning.specs.Meaning.{IsRelated, IsTreeOf, input_type, output_
 use Rattle.model_meaning.specs.Values.{Printed, IsValue}
 use Rattle.model_meaning.specs.Truth.{Shows}
 use Rattle.model_run.specs.Parts.{RelationPart, RelatesByPart, IsRelationPart, HasMoreTrees}
-use Rattle.model_run.specs.Seen.{IsCompare, IsSameCompare, HasFarLabel, IsFormOf}
+use Rattle.model_run.specs.Seen.{IsCompare, IsSameCompare, IsSameLiteral, HasFarLabel, IsFormOf}
 use Rattle.model_run.specs.Plain.{ReachesSome, Meet, Copies, is_before}
 use Rattle.model_run.specs.Items.{judged, TellsApart, IsComposedInItem, OfItem, OfClaim, Finds, IsApplied}
 use Rattle.model_sta.specs.Loads.{Load, IsTooMuch, IsSubtree}
@@ -61,7 +61,7 @@ pub record IsTooWide (items : List Item) (es : List X) (width : ℕ) : Type 0 wh
   pub type : List ℕ
   pub chain : Chain
   pub over : All (λ l. (e : X) × Contains es e × (c : Compare) × IsCompare items e type c × IsSameCompare c l.compare) chain.literals
-  pub once : EachTwo (λ l m. ¬ (l ≡ m)) chain.literals
+  pub once : EachTwo (λ l m. ¬ (IsSameLiteral l m)) chain.literals
   pub passes : Passes width chain
   pub far : width ≡ 64 → HasFarLabel items es type
 
@@ -74,7 +74,7 @@ pub record AreAllLarge (Right : LabelTree → Type 0) : Type 0 where
 abbrev pub IsLarge : LabelTree → Type 0
 IsLarge t = (most_nodes < node_count t) ⊎ (greatest_depth < depth t)
 
--- At a tree that is given to a transformation: an output has a number without 64 bits; one of the relations of which the
+-- At a tree that is given to a transformation: an output has a number outside 64 bits; one of the relations of which the
 -- transformation is made has too much at a part of the tree.
 abbrev pub HasFarOutput : List Item → ℤ → X → LabelTree → Type 0
 HasFarOutput items n f t = (u : LabelTree) × IsRelated items f t u × IsFarNumberOf n u

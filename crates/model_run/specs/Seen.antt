@@ -13,7 +13,7 @@ use Rattle.model_names.specs.Kinds.{type_of, output_of}
 use Rattle.model_form.specs.Form.{Form, form, Remainders, no_remainders, remainder}
 use Rattle.model_form.specs.Sums.{subst_form}
 use Rattle.model_form.specs.Same.{same_form}
-use Rattle.model_chain.specs.Literals.{Compare}
+use Rattle.model_chain.specs.Literals.{Compare, Literal}
 use Rattle.model_label.specs.Meaning.{is_true}
 use Rattle.model_meaning.specs.Types.{values_of}
 use Rattle.model_meaning.specs.Outputs.{made_label}
@@ -186,3 +186,7 @@ pub data IsFormOf (items : List Item) : X → Form → Type 0 where
 -- two comparisons of equal forms, of the same kind
 abbrev pub IsSameCompare : Compare → Compare → Type 0
 IsSameCompare c d = (c.relation ≡ d.relation) × (same_form c.left d.left ≡ true) × (same_form c.right d.right ≡ true)
+
+-- two literals of one sign over the same comparison
+abbrev pub IsSameLiteral : Literal → Literal → Type 0
+IsSameLiteral l m = (l.positive ≡ m.positive) × IsSameCompare l.compare m.compare
