@@ -3,7 +3,7 @@
 ghost use Rattle.std.specs.Prelude.{◌≡◌, IfOk, map};
 ghost use Rattle.label_core.specs.Formula.{plain_formula};
 
-use crate::formula::{Formula, conjunction, disjunction, negation};
+use crate::formula::{DEEPEST, Formula, conjunction, disjunction, negation};
 use fast_fault::Memory;
 use std::alloc::Global;
 
@@ -15,33 +15,44 @@ pub trait Duplicate {
 }
 
 impl<A: Duplicate + Drop> Formula<A> {
-    /// The same formula again.
-    #[cycle(copies)]
+    /// The same formula again. One that nests deeper than [`DEEPEST`] is told as want of memory.
     pub fn copy(&self, alloc: Global) -> Result<Formula<A>, Memory>
         ensures { IfOk result (λ copy. plain_formula copy ≡ plain_formula self.now) }
     {
+        self.copy_within(alloc, DEEPEST)
+    }
+
+    /// The same formula again, if it nests no deeper.
+    #[cycle(copies)]
+    fn copy_within(&self, alloc: Global, most: usize) -> Result<Formula<A>, Memory>
+        ensures { IfOk result (λ copy. plain_formula copy ≡ plain_formula self.now) }
+    {
+        if most == 0 {
+            return Err(Memory);
+        }
         match self {
             Formula::Yes => Ok(Formula::Yes),
             Formula::No => Ok(Formula::No),
             Formula::Atom(atom) => Ok(Formula::Atom(atom.duplicate(alloc)?)),
-            Formula::Not(inner) => negation(alloc, inner.copy(alloc)?),
-            Formula::And(parts) => Ok(conjunction(copy_each(alloc, parts)?)),
-            Formula::Or(parts) => Ok(disjunction(copy_each(alloc, parts)?)),
+            Formula::Not(inner) => negation(alloc, inner.copy_within(alloc, most - 1)?),
+            Formula::And(parts) => Ok(conjunction(copy_each(alloc, parts, most - 1)?)),
+            Formula::Or(parts) => Ok(disjunction(copy_each(alloc, parts, most - 1)?)),
         }
     }
 }
 
-/// The same formulas again, in order.
+/// The same formulas again, in order, if they nest no deeper.
 #[cycle(copies)]
 fn copy_each<A: Duplicate + Drop>(
     alloc: Global,
     parts: &[Formula<A>],
+    most: usize,
 ) -> Result<Vec<Formula<A>>, Memory>
     ensures { IfOk result (λ copies. map plain_formula copies.items ≡ map plain_formula parts.now) }
 {
     let mut copies = Vec::new(alloc);
     for part in parts {
-        copies.push(part.copy(alloc)?)?;
+        copies.push(part.copy_within(alloc, most)?)?;
     }
     Ok(copies)
 }

@@ -10,6 +10,10 @@ use crate::theory::Theory;
 use fast_fault::Memory;
 use std::alloc::Global;
 
+/// How many formulas in one another are copied, or gone through to put a map's entries into them. Each call that goes over
+/// them takes of the stack; what is made of two such formulas nests up to twice as deep, for which there is room.
+pub const DEEPEST: usize = 2_048;
+
 /// A formula over atoms.
 #[derive(Drop)]
 pub enum Formula<A> {

@@ -13,7 +13,7 @@ mod same;
 mod theory;
 
 pub use copies::Duplicate;
-pub use formula::{Formula, conjunction, disjunction, negation};
+pub use formula::{DEEPEST, Formula, conjunction, disjunction, negation};
 pub use labels::{Applied, Labels, Put, PutMap};
 pub use pair::{Pair, PairAtom, PairChain, PairValue};
 pub use puts::put_formula;

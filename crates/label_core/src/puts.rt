@@ -6,12 +6,13 @@ ghost use Rattle.label_core.specs.Formula.{plain_formula};
 ghost use Rattle.label_core.specs.Maps.{IsPut};
 ghost use Rattle.label_core.specs.Puts.{IsOverMade, OfSome};
 
-use crate::formula::{Formula, conjunction, disjunction, negation};
+use crate::formula::{DEEPEST, Formula, conjunction, disjunction, negation};
 use crate::labels::{Labels, Put};
 use fast_fault::Memory;
 use std::alloc::Global;
 
-/// What a formula over the labels that the map makes says of the labels that it makes them of.
+/// What a formula over the labels that the map makes says of the labels that it makes them of. One that nests deeper than
+/// [`DEEPEST`] is told as want of memory.
 pub fn put_formula<L: Labels>(
     labels: &L,
     alloc: Global,
@@ -22,18 +23,36 @@ pub fn put_formula<L: Labels>(
     requires formula_fits { IsOverMade (λ made. L.map_makes made map.now) L.atom_fits (plain_formula formula.now) }
     ensures { IfOk result (IsPut (L.meaning labels.now) (L.atom_fits labels.now) (OfSome (L.is_put map.now) (plain_formula formula.now)) (OfSome (L.put_outside map.now) (plain_formula formula.now)) (λ l. formula_holds (λ a. L.atom_holds a (L.make map.now l)) (plain_formula formula.now))) }
 {
+    put_within(labels, alloc, map, formula, DEEPEST)
+}
+
+/// The same, if the formula nests no deeper.
+fn put_within<L: Labels>(
+    labels: &L,
+    alloc: Global,
+    map: &L::Map,
+    formula: &Formula<L::Atom>,
+    most: usize,
+) -> Result<Put<L::Atom>, Memory>
+    requires map_fits { L.map_fits labels.now map.now }
+    requires formula_fits { IsOverMade (λ made. L.map_makes made map.now) L.atom_fits (plain_formula formula.now) }
+    ensures { IfOk result (IsPut (L.meaning labels.now) (L.atom_fits labels.now) (OfSome (L.is_put map.now) (plain_formula formula.now)) (OfSome (L.put_outside map.now) (plain_formula formula.now)) (λ l. formula_holds (λ a. L.atom_holds a (L.make map.now l)) (plain_formula formula.now))) }
+{
+    if most == 0 {
+        return Err(Memory);
+    }
     match formula {
         Formula::Yes => Ok(Put::Formula(Formula::Yes)),
         Formula::No => Ok(Put::Formula(Formula::No)),
         Formula::Atom(atom) => labels.subst(alloc, map, atom),
-        Formula::Not(inner) => match put_formula(labels, alloc, map, inner)? {
+        Formula::Not(inner) => match put_within(labels, alloc, map, inner, most - 1)? {
             Put::Formula(made) => Ok(Put::Formula(negation(alloc, made)?)),
             Put::Range(number) => Ok(Put::Range(number)),
         },
         Formula::And(parts) => {
             let mut made = Vec::new(alloc);
             'every: for part in parts {
-                match put_formula(labels, alloc, map, part)? {
+                match put_within(labels, alloc, map, part, most - 1)? {
                     Put::Formula(formula) => made.push(formula)?,
                     Put::Range(number) => return Ok(Put::Range(number)),
                 }
@@ -43,7 +62,7 @@ pub fn put_formula<L: Labels>(
         Formula::Or(parts) => {
             let mut made = Vec::new(alloc);
             'some: for part in parts {
-                match put_formula(labels, alloc, map, part)? {
+                match put_within(labels, alloc, map, part, most - 1)? {
                     Put::Formula(formula) => made.push(formula)?,
                     Put::Range(number) => return Ok(Put::Range(number)),
                 }

@@ -14,7 +14,7 @@ use crate::maps::{RowEntry, RowMap};
 use crate::rows::RowAtom;
 use fast_fault::{Memory, Text};
 use flat_label::{TextAtom, TextSide};
-use label_core::{Formula, PairAtom, conjunction, disjunction, negation};
+use label_core::{DEEPEST, Formula, PairAtom, conjunction, disjunction, negation};
 use lin_form::{Form, FormStop};
 use lin_solve::Compare;
 use std::alloc::Global;
@@ -82,7 +82,7 @@ fn put_side(alloc: Global, side: &TextSide, entries: &[RowEntry]) -> Result<Text
         TextSide::Field(number) => match side_at(entries, *number) {
             Some(side) => side.copy(alloc),
             None => Ok(TextSide::Constant(Text::of(alloc, "")?)),
-        },
+        }
         TextSide::Constant(_) => side.copy(alloc),
     }
 }
@@ -109,7 +109,7 @@ fn are_one(left: TextSide, right: TextSide) -> Formula<RowAtom>
                 }
                 Formula::No
             }
-        },
+        }
     }
 }
 
@@ -159,41 +159,52 @@ pub fn put_atom(
     }
 }
 
-/// What a formula says with the entries put for the fields.
+/// What a formula says with the entries put for the fields, if it nests no deeper.
 #[cycle(puts)]
 fn put_formula(
     alloc: Global,
     formula: &Formula<RowAtom>,
     entries: &[RowEntry],
     forms: &[Form],
+    most: usize,
 ) -> Result<Formula<RowAtom>, FormStop>
     requires { forms.now ≡ forms_of (map plain_entry entries.now) }
     ensures { Gives plain_formula (put_formula (map plain_entry entries.now) (plain_formula formula.now)) (IsOutsideOf (map plain_entry entries.now) (plain_formula formula.now)) result }
 {
+    if most == 0 {
+        return Err(FormStop::Memory);
+    }
     match formula {
         Formula::Yes => Ok(Formula::Yes),
         Formula::No => Ok(Formula::No),
         Formula::Atom(atom) => put_atom(alloc, atom, entries, forms),
-        Formula::Not(inner) => Ok(negation(alloc, put_formula(alloc, inner, entries, forms)?)?),
-        Formula::And(parts) => Ok(conjunction(put_formulas(alloc, parts, entries, forms)?)),
-        Formula::Or(parts) => Ok(disjunction(put_formulas(alloc, parts, entries, forms)?)),
+        Formula::Not(inner) => {
+            Ok(negation(alloc, put_formula(alloc, inner, entries, forms, most - 1)?)?)
+        }
+        Formula::And(parts) => {
+            Ok(conjunction(put_formulas(alloc, parts, entries, forms, most - 1)?))
+        }
+        Formula::Or(parts) => {
+            Ok(disjunction(put_formulas(alloc, parts, entries, forms, most - 1)?))
+        }
     }
 }
 
-/// What formulas say with the entries put for the fields.
+/// What formulas say with the entries put for the fields, if they nest no deeper.
 #[cycle(puts)]
 fn put_formulas(
     alloc: Global,
     parts: &[Formula<RowAtom>],
     entries: &[RowEntry],
     forms: &[Form],
+    most: usize,
 ) -> Result<Vec<Formula<RowAtom>>, FormStop>
     requires { forms.now ≡ forms_of (map plain_entry entries.now) }
     ensures { Gives (λ made. map plain_formula made.items) (map (put_formula (map plain_entry entries.now)) (map plain_formula parts.now)) (SomeOutside (IsOutsideOf (map plain_entry entries.now)) (map plain_formula parts.now)) result }
 {
     let mut made = Vec::new(alloc);
     for part in parts {
-        made.push(put_formula(alloc, part, entries, forms)?)?;
+        made.push(put_formula(alloc, part, entries, forms, most)?)?;
     }
     Ok(made)
 }
@@ -211,7 +222,7 @@ fn put_entry(
     match entry {
         RowEntry::Number(form) => Ok(RowEntry::Number(form.subst(alloc, forms)?)),
         RowEntry::Truth(formula) => {
-            let made = put_formula(alloc, formula, entries, forms)?;
+            let made = put_formula(alloc, formula, entries, forms, DEEPEST)?;
             Ok(RowEntry::Truth(made))
         }
         RowEntry::Text(side) => Ok(RowEntry::Text(put_side(alloc, side, entries)?)),

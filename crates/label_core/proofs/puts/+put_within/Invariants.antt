@@ -2,7 +2,7 @@ use Rattle.std.proofs.Common.{All, take}
 use Rattle.label_core.specs.Formula.{plain_formula}
 use Rattle.label_core.specs.Puts.{IsOverMade, AreEachPut}
 use Rattle.label_core.proofs.Joined.{weight}
-use Rattle.label_core.proofs.puts.+put_formula.Given as goal
+use Rattle.label_core.proofs.puts.+put_within.Given as goal
 
 abbrev pub invariant-every : goal.invariant-every
 invariant-every g l = record {
@@ -16,5 +16,5 @@ invariant-some g l = record {
   put : AreEachPut (g.L.Theory.meaning l.labels) (g.L.Theory.atom_fits l.labels) (g.L.Labels.is_put l.map) (g.L.Labels.put_outside l.map) (λ a k. g.L.Theory.atom_holds a (g.L.Labels.make l.map k)) l.part-items (take l.part-index l.part-items) l.made.items;
 }
 
-abbrev pub decreases-put_formula : goal.decreases-put_formula
-decreases-put_formula g l = weight (plain_formula l.formula.now)
+abbrev pub decreases-put_within : goal.decreases-put_within
+decreases-put_within g l = weight (plain_formula l.formula.now)

@@ -10,10 +10,10 @@ use Rattle.label_core.specs.Puts.{IsOverMade, OfSome, AreEachPut}
 use Rattle.label_core.specs.declared.labels.Put.TheVariants as put
 use Rattle.label_core.proofs.Formulas.{plain_and, plain_or}
 use Rattle.label_core.proofs.Joined.{weight, lighter_and, lighter_or, over_and, over_or, none_put, more_put, outside_part, put_all, put_some, put_not, put_atom, put_as, IsPutFor}
-use Rattle.label_core.proofs.puts.+put_formula.Goals as goal
+use Rattle.label_core.proofs.puts.+put_within.Goals as goal
 
-pub put_formula-requires-in-every : goal.put_formula-requires-in-every
-put_formula-requires-in-every g t c κs within =
+pub put_within-requires-in-every : goal.put_within-requires-in-every
+put_within-requires-in-every g t c κs within =
     let before = c.decreases in
     let low : weight (plain_formula c.part-item.result) < weight (plain_formula c.args.formula.now) = lighter_and c.args.formula.now c.in-And.parts c.deref-part-items.result.now c.every.part-index c.part-item.result c.in-And.is c.deref-part-items.ensures.value c.every-test.true c.part-item.is in
     (omega arith, (within.0, (within.1.0, (within.1.1.0, (within.1.1.1.0, (within.1.1.1.1, (c.requires.map_fits, subst (λ f. IsOverMade (λ made. g.L.Labels.map_makes made c.args.map.now) g.L.Theory.atom_fits (plain_formula f)) (sym c.part-item.is) (c.every.invariant.over c.every.part-index c.part-item.result c.every-test.true))))))))
@@ -24,8 +24,8 @@ every-init g t c = record {
   put = subst (AreEachPut (g.L.Theory.meaning c.args.labels.now) (g.L.Theory.atom_fits c.args.labels.now) (g.L.Labels.is_put c.args.map.now) (g.L.Labels.put_outside c.args.map.now) (λ a l. g.L.Theory.atom_holds a (g.L.Labels.make c.args.map.now l)) c.deref-part-items.result.now []) (sym c.new-made.ensures.items) (none_put (g.L.Theory.meaning c.args.labels.now) (g.L.Theory.atom_fits c.args.labels.now) (g.L.Labels.is_put c.args.map.now) (g.L.Labels.put_outside c.args.map.now) (λ a l. g.L.Theory.atom_holds a (g.L.Labels.make c.args.map.now l)) c.deref-part-items.result.now);
 }
 
-pub put_formula-requires-in-some : goal.put_formula-requires-in-some
-put_formula-requires-in-some g t c κs within =
+pub put_within-requires-in-some : goal.put_within-requires-in-some
+put_within-requires-in-some g t c κs within =
     let before = c.decreases in
     let low : weight (plain_formula c.part-item-in-some.result) < weight (plain_formula c.args.formula.now) = lighter_or c.args.formula.now c.in-Or.parts c.deref-part-items-in-Or.result.now c.some.part-index c.part-item-in-some.result c.in-Or.is c.deref-part-items-in-Or.ensures.value c.some-test.true c.part-item-in-some.is in
     (omega arith, (within.0, (within.1.0, (within.1.1.0, (within.1.1.1.0, (within.1.1.1.1, (c.requires.map_fits, subst (λ f. IsOverMade (λ made. g.L.Labels.map_makes made c.args.map.now) g.L.Theory.atom_fits (plain_formula f)) (sym c.part-item-in-some.is) (c.some.invariant.over c.some.part-index c.part-item-in-some.result c.some-test.true))))))))
