@@ -1,5 +1,5 @@
 -- Verdicts on statements, and why there is none.
-use Rattle.std.proofs.Common.{◌≡◌, inl, inr, ℕ, Bool, true, false, not, List, ◌∷◌, Some, None, refl, sym, ap, subst, ◌∙◌}
+use Rattle.std.proofs.Common.{◌≡◌, inl, inr, ℕ, Bool, true, false, not, List, ◌∷◌, Some, None, refl, sym, ap, subst, ◌∙◌, arith}
 use Rattle.model_tree.specs.Tree.{Tree, LabelTree, relabel}
 use Rattle.model_tree.specs.Signature.{HasType}
 use Rattle.fast_tree.specs.Entries.{label_meaning}
@@ -9,6 +9,7 @@ use Rattle.model_meaning.specs.Meaning.{input_type, signature_named}
 use Rattle.model_names.specs.Kinds.{type_of}
 use Rattle.model_meaning.specs.Values.{Printed}
 use Rattle.model_meaning.specs.Truth.{IsTrue, Shows}
+use Rattle.model_meaning.proofs.Laws.{shown_is_false}
 use Rattle.model_run.specs.Causes.{AreAllLarge, HasCause, too_large}
 use Rattle.model_run.specs.Items.{judged_claim, claim_has_classes, IsComposable}
 use Rattle.model_run.specs.Outcomes.{Outcome, true_verdict, tree_verdict, claim_type, trees_in, IsShownWith, IsVerdict, IsOutcomeOf}
@@ -30,9 +31,10 @@ use Rattle.fast_session.specs.declared.items.Kept.{Kept}
 use Rattle.fast_session.specs.declared.verdicts.Verdict.{Verdict}
 use Rattle.fast_session.specs.Answers.{stopped_by, verdict_on}
 use Rattle.fast_session.specs.Kept.{items_in}
-use Rattle.fast_session.specs.Items.{HaveScalars, IsTyped, IsBuiltMore, IsDone, IsStoppedAt, is_member, spoken_of, verdict_outcome, IsVerdictOn}
+use Rattle.fast_session.specs.Items.{HaveScalars, IsTyped, IsUnowed, IsClaimUnowed, IsBuiltMore, IsDone, IsStoppedAt, is_member, spoken_of, verdict_outcome, IsVerdictOn}
 use Rattle.fast_session.proofs.Keeping.{kept_built}
 use Rattle.fast_session.proofs.Silent.{no_tree}
+use Rattle.fast_session.proofs.Unowed.{item_unowed}
 
 -- what stops the search for classes is a cause
 pub stopped_cause : (items : List Item) (limit : ℕ) (item : Item) (old : Kept) (s : EvalStop)
@@ -79,16 +81,24 @@ module _ (items : List Item) (limit : ℕ) where
   shows_typed (empty x) t shows = shows.0
   shows_typed (type_check x f y) t shows = shows.0
 
-  pub true_of : (line : ℕ) (s : AssertItem) (old : Kept) (v : Verdict) → v.passes ≡ s.wanted → v.shown ≡ None → IsTrue items s.claim → IsVerdictOn items line s old v
-  true_of line s old v passes none is =
+  -- no tree expression stands in it
+  claim_unowed : (trees : List Printed) (claim : Claim) → is_member claim ≡ false → ¬ (AreAllLarge (Shows items claim)) → IsClaimUnowed items trees claim
+  claim_unowed trees (equal x y) of small = record { inside = λ code owed. owed; shown = small }
+  claim_unowed trees (member x y) of small = absurd (cc)
+  claim_unowed trees (empty x) of small = record { inside = λ code owed. owed; shown = small }
+  claim_unowed trees (type_check x f y) of small = record { inside = λ code owed. owed; shown = small }
+
+  pub true_of : (line : ℕ) (s : AssertItem) (old : Kept) (v : Verdict) → is_member s.claim ≡ false → v.passes ≡ s.wanted → v.shown ≡ None → IsTrue items s.claim → IsVerdictOn items line s old v
+  true_of line s old v of passes none is =
       let o : verdict_outcome items line s v ≡ true_verdict line v.passes = ap (verdict_on line v.passes (claim_type items s.claim)) none in
       record {
         may = λ done told scalars. subst (IsVerdict items (trees_in done) line s) (sym o) (refl, passes, is);
+        unowed = λ done told. claim_unowed (trees_in done) s.claim of (λ large. shown_is_false items s.claim large.tree large.right is);
         typed = subst IsTyped (sym o) tt;
       }
 
-  pub shown_of : (line : ℕ) (s : AssertItem) (old : Kept) (v : Verdict) (t : Tree Label) → v.passes ≡ not s.wanted → v.shown ≡ Some t → Shows items s.claim (relabel label_meaning t) → IsInLimits (relabel label_meaning t) → IsVerdictOn items line s old v
-  shown_of line s old v t passes some shows limits =
+  pub shown_of : (line : ℕ) (s : AssertItem) (old : Kept) (v : Verdict) (t : Tree Label) → is_member s.claim ≡ false → v.passes ≡ not s.wanted → v.shown ≡ Some t → Shows items s.claim (relabel label_meaning t) → IsInLimits (relabel label_meaning t) → IsVerdictOn items line s old v
+  shown_of line s old v t of passes some shows limits =
       let o : verdict_outcome items line s v ≡ tree_verdict line v.passes (claim_type items s.claim) (relabel label_meaning t) = ap (verdict_on line v.passes (claim_type items s.claim)) some in
       record {
         may = λ done told scalars. subst (IsVerdict items (trees_in done) line s) (sym o) (
@@ -97,6 +107,7 @@ module _ (items : List Item) (limit : ℕ) where
           subst (λ p. IsShownWith items (trees_in done) s.claim s.wanted p (relabel label_meaning t)) (sym passes) (shows_with (trees_in done) s.claim s.wanted (relabel label_meaning t) shows),
           printable (relabel label_meaning t) limits (subst HaveScalars o scalars),
         );
+        unowed = λ done told. claim_unowed (trees_in done) s.claim of (λ large. let more = large.large (relabel label_meaning t) shows in omega (arith, more, limits.small));
         typed = subst IsTyped (sym o) (shows_typed s.claim (relabel label_meaning t) shows);
       }
 
@@ -124,6 +135,9 @@ module _ (a : Around) (item : Item) (old new : Kept) (s : AssertItem) (is : item
           composable = composable;
           is = subst (λ b. IsOutcomeOf (items_in a) (trees_in done) item.place.line b o) (sym is) (subst (IsVerdict (items_in a) (trees_in done) item.place.line s) (sym same) (verdict.may done told (subst HaveScalars same scalars)));
         };
+        unowed = λ done told.
+            (let none = verdict.unowed done told in
+            subst (IsUnowed (items_in a) (trees_in done)) (sym is) (item_unowed (items_in a) (trees_in done) (assertion s) (subst (IsComposable (items_in a)) is composable) none.inside none.shown));
         typed = subst IsTyped (sym same) verdict.typed;
         told = λ done told. subst (Tells new.trees) (sym (untold done)) (subst (λ (ts : Trees). Tells ts (trees_in done)) (sym more.trees) told);
         kept = λ before was. kept_built before item (items_in a) old new more was

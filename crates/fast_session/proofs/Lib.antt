@@ -1,5 +1,6 @@
 pub mod Keeping
 pub mod Ready
+pub mod Unowed
 pub mod Silent
 pub mod Judging
 pub mod Printing

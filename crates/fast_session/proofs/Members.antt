@@ -1,5 +1,6 @@
 -- Verdicts on statements that a tree is in a language.
-use Rattle.std.proofs.Common.{◌≡◌, inl, ℕ, true, false, not, ◌&&◌, List, [], ◌∷◌, Some, refl, sym, ap, subst}
+use Rattle.std.proofs.Common.{◌≡◌, inl, ℕ, Bool, true, false, not, ◌&&◌, List, [], ◌∷◌, Some, refl, sym, ap, subst}
+use Rattle.std.specs.Bool.{beq}
 use Rattle.model_tree.specs.Signature.{HasType}
 use Rattle.model_grammar.specs.Syntax.{X, Claim, equal, member, empty, type_check, AssertItem, assertion, Item}
 use Rattle.model_meaning.specs.Meaning.{input_type}
@@ -14,6 +15,7 @@ use Rattle.tree_values.specs.declared.members.Membership.{Membership}
 use Rattle.tree_values.specs.declared.stops.ValueStop.{ValueStop}
 use Rattle.tree_values.specs.Forms.{IsTreeOn, IsTreeKnown}
 use Rattle.tree_values.specs.Members.{IsMember, IsMemberStop}
+use Rattle.tree_values.specs.Owed.{OwesNothing}
 use Rattle.tree_values.specs.Stops.{IsStopTyped, IsCauseOf}
 use Rattle.tree_values.specs.Trees.{meant, Tells}
 use Rattle.tree_values.proofs.Outcomes.{member_cause, member_shown}
@@ -23,7 +25,7 @@ use Rattle.fast_session.specs.declared.items.Kept.{Kept}
 use Rattle.fast_session.specs.declared.verdicts.Verdict.{Verdict}
 use Rattle.fast_session.specs.Answers.{stopped_value, verdict_on}
 use Rattle.fast_session.specs.Kept.{items_in, IsReady}
-use Rattle.fast_session.specs.Items.{HaveScalars, IsTyped, IsStoppedAt, is_member, spoken_of, verdict_outcome, IsVerdictOn}
+use Rattle.fast_session.specs.Items.{HaveScalars, IsTyped, IsClaimUnowed, IsStoppedAt, is_member, spoken_of, verdict_outcome, IsVerdictOn}
 use Rattle.tree_values.proofs.Stopped.{printable}
 use Rattle.fast_session.proofs.Printing.{stopped_value_cause}
 use Rattle.fast_session.proofs.Ready.{whole, claim_built, claim_can, IsClaimReady, assertion_ready}
@@ -61,8 +63,9 @@ module _ (a : Around) (item : Item) (old : Kept) (ready : IsReady a item old) (c
   member_stops stop cause typed = stopped_value_cause (items_in a) a.limit item old stop (λ done told. subst (λ b. IsCauseOf (items_in a) a.limit (trees_in done) b stop) (sym is) (member_cause (items_in a) a.limit (trees_in done) s x y same stop (cause done told))) typed
 
   pub member_verdict : (line : ℕ) (v : Verdict) (m : Membership) → (m.inside ≡ true → v.passes ≡ s.wanted) → (m.inside ≡ false → v.passes ≡ not s.wanted) → v.shown ≡ Some m.tree
-      → ((done : List Outcome) → Tells old.trees (trees_in done) → IsMember (items_in a) (trees_in done) x y m) → HasType (input_type (items_in a) y) (meant m.tree) → IsInLimits (meant m.tree) → IsVerdictOn (items_in a) line s old v
-  member_verdict line v m where_inside where_outside some told_of typed limits =
+      → ((done : List Outcome) → Tells old.trees (trees_in done) → IsMember (items_in a) (trees_in done) x y m)
+      → ((done : List Outcome) → Tells old.trees (trees_in done) → OwesNothing (items_in a) (trees_in done) (input_type (items_in a) y) x) → HasType (input_type (items_in a) y) (meant m.tree) → IsInLimits (meant m.tree) → IsVerdictOn (items_in a) line s old v
+  member_verdict line v m where_inside where_outside some told_of owes typed limits =
       let o : verdict_outcome (items_in a) line s v ≡ tree_verdict line v.passes (claim_type (items_in a) s.claim) (meant m.tree) = ap (verdict_on line v.passes (claim_type (items_in a) s.claim)) some in
       let type_is : claim_type (items_in a) s.claim ≡ input_type (items_in a) y = ap (claim_type (items_in a)) same in
       record {
@@ -72,8 +75,20 @@ module _ (a : Around) (item : Item) (old : Kept) (ready : IsReady a item old) (c
           subst (λ c. IsShownWith (items_in a) (trees_in done) c s.wanted v.passes (meant m.tree)) (sym same) (member_shown (items_in a) (trees_in done) x y m s.wanted v.passes (told_of done told) where_inside where_outside),
           printable (meant m.tree) limits (subst HaveScalars o scalars),
         );
+        unowed = λ done told. subst (IsClaimUnowed (items_in a) (trees_in done)) (sym same) (record { inside = (owes done told).none; shown = λ large. large.right });
         typed = subst IsTyped (sym o) (subst (λ t. HasType t (meant m.tree)) (sym type_is) typed);
       }
+
+-- the assertion passes where what is told is what is wanted
+pub passes_inside : (inside wanted : Bool) → inside ≡ true → beq inside wanted ≡ wanted
+passes_inside true true e = refl
+passes_inside true false e = refl
+passes_inside false wanted e = absurd (cc)
+
+pub passes_outside : (inside wanted : Bool) → inside ≡ false → beq inside wanted ≡ not wanted
+passes_outside false true e = refl
+passes_outside false false e = refl
+passes_outside true wanted e = absurd (cc)
 
 -- ---- statements of both kinds
 

@@ -20,6 +20,7 @@ use Rattle.tree_values.specs.declared.stops.ValueStop.{ValueStop}
 use Rattle.tree_values.specs.declared.stops.ValueStop.TheVariants.{Stopped, NoTree, TooLarge, LabelRange, Outputs, NoOutput, SeveralOutputs}
 use Rattle.tree_values.specs.declared.trees.Trees.{Trees}
 use Rattle.tree_values.specs.Forms.{IsTreeOn, IsTreeKnown}
+use Rattle.tree_values.specs.Owed.{OwesNothing}
 use Rattle.tree_values.specs.Stops.{IsValueStop, IsStopTyped, IsCauseOf}
 use Rattle.tree_values.specs.Trees.{tree_at, Adds, Tells}
 use Rattle.tree_values.proofs.Outcomes.{tree_cause}
@@ -28,10 +29,11 @@ use Rattle.fast_session.specs.declared.items.Around.{Around}
 use Rattle.fast_session.specs.declared.items.Kept.{Kept}
 use Rattle.fast_session.specs.Answers.{stopped_value}
 use Rattle.fast_session.specs.Kept.{items_in, IsKept, IsReady}
-use Rattle.fast_session.specs.Items.{IsBuiltMore, IsDone, IsStoppedAt}
+use Rattle.fast_session.specs.Items.{IsUnowed, IsBuiltMore, IsDone, IsStoppedAt}
 use Rattle.tree_values.proofs.Stopped.{printable}
 use Rattle.fast_session.proofs.Keeping.{defined_more, printed_more, still_there, own_there, typed_more}
 use Rattle.fast_session.proofs.Ready.{whole}
+use Rattle.fast_session.proofs.Unowed.{item_unowed}
 
 -- two facts of a refusal together
 pub if_err_both : {T E : Type 0} (r : Result T E) (P Q R : E → Type 0) → ((e : E) → P e → Q e → R e) → IfErr r P → IfErr r Q → IfErr r R
@@ -98,12 +100,14 @@ module _ (a : Around) (item : Item) (old : Kept) (ready : IsReady a item old) (c
           (λ u other. subst (λ (w : TreeItem). is_some (tree_at new.trees w.name.text) ≡ true) (own_tree u other) (own_there old.trees new.trees t.name.text v added_to_old (same_itself t.name.text)));
     }
 
-    pub done_tree : (o : Outcome) → o ≡ tree_line t.name.text type v → ((done : List Outcome) → Tells old.trees (trees_in done) → IsValue (items_in a) (trees_in done) type t.value v) → HasType type v → IsInLimits v → IsDone (items_in a) item old new o
-    done_tree o same value typed limits = subst (IsDone (items_in a) item old new) (sym same) (record {
+    pub done_tree : (o : Outcome) → o ≡ tree_line t.name.text type v → ((done : List Outcome) → Tells old.trees (trees_in done) → IsValue (items_in a) (trees_in done) type t.value v)
+        → ((done : List Outcome) → Tells old.trees (trees_in done) → OwesNothing (items_in a) (trees_in done) type t.value) → HasType type v → IsInLimits v → IsDone (items_in a) item old new o
+    done_tree o same value owes typed limits = subst (IsDone (items_in a) item old new) (sym same) (record {
       may = λ done told scalars. record {
         composable = composable;
         is = subst (λ b. IsOutcomeOf (items_in a) (trees_in done) item.place.line b (tree_line t.name.text type v)) (sym is) (refl, refl, value done told, printable v limits scalars);
       };
+      unowed = λ done told. subst (IsUnowed (items_in a) (trees_in done)) (sym is) (item_unowed (items_in a) (trees_in done) (tree t) (subst (IsComposable (items_in a)) is composable) (owes done told).none (λ large. large));
       typed = typed;
       told = told_more old.trees new.trees t.name.text type v added_to_old;
       kept = kept_tree typed limits;

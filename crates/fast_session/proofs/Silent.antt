@@ -18,8 +18,9 @@ use Rattle.fast_session.specs.declared.items.Around.{Around}
 use Rattle.fast_session.specs.declared.items.Kept.{Kept}
 use Rattle.fast_session.specs.Answers.{verdict_on}
 use Rattle.fast_session.specs.Kept.{items_in, IsReady}
-use Rattle.fast_session.specs.Items.{IsTyped, IsBuiltMore, IsDone}
+use Rattle.fast_session.specs.Items.{IsTyped, IsUnowed, IsBuiltMore, IsDone}
 use Rattle.fast_session.proofs.Keeping.{kept_built}
+use Rattle.fast_session.proofs.Unowed.{item_unowed}
 use Rattle.fast_session.proofs.Ready.{def_form}
 
 -- a verdict is no tree that has a name
@@ -33,10 +34,11 @@ nothing_more items k built = record { built = built; grown = none_more k.built; 
 
 module _ (items : List Item) (item : Item) where
   -- an item without a line
-  done_bare : (k : Kept) → IsComposable items item.body → ((trees : List Printed) → IsOutcomeOf items trees item.place.line item.body silent)
+  done_bare : (k : Kept) → IsComposable items item.body → ((trees : List Printed) → IsOutcomeOf items trees item.place.line item.body silent) → ((trees : List Printed) → IsUnowed items trees item.body)
       → ((d : DefItem) → ¬ (item.body ≡ def d)) → ((t : TreeItem) → ¬ (item.body ≡ tree t)) → IsDone items item k k silent
-  done_bare k composable is no_def no_tree = record {
+  done_bare k composable is unowed no_def no_tree = record {
     may = λ done told scalars. record { composable = composable; is = is (trees_in done) };
+    unowed = λ done told. unowed (trees_in done);
     typed = tt;
     told = λ done told. told;
     kept = λ before was. kept_built before item items k k (nothing_more items k was.built) was (λ d is. absurd (no_def d is)) no_tree;
@@ -46,18 +48,21 @@ module _ (items : List Item) (item : Item) where
   pub done_sorts : (k : Kept) → IsComposable items item.body → (t : _) → item.body ≡ sorts t → IsDone items item k k silent
   done_sorts k composable t is = done_bare k composable
       (λ trees. subst (λ b. IsOutcomeOf items trees item.place.line b silent) (sym is) refl)
+      (λ trees. subst (IsUnowed items trees) (sym is) (item_unowed items trees (sorts t) (subst (IsComposable items) is composable) (λ code owed. owed) (λ large. large)))
       (λ d other. let no : sorts t ≡ def d = sym is ∙ other in cc)
       (λ u other. let no : sorts t ≡ tree u = sym is ∙ other in cc)
 
   pub done_lang : (k : Kept) → IsComposable items item.body → (l : _) → item.body ≡ lang l → IsDone items item k k silent
   done_lang k composable l is = done_bare k composable
       (λ trees. subst (λ b. IsOutcomeOf items trees item.place.line b silent) (sym is) refl)
+      (λ trees. subst (IsUnowed items trees) (sym is) (item_unowed items trees (lang l) (subst (IsComposable items) is composable) (λ code owed. owed) (λ large. large)))
       (λ d other. let no : lang l ≡ def d = sym is ∙ other in cc)
       (λ u other. let no : lang l ≡ tree u = sym is ∙ other in cc)
 
   pub done_trans : (k : Kept) → IsComposable items item.body → (t : _) → item.body ≡ trans t → IsDone items item k k silent
   done_trans k composable t is = done_bare k composable
       (λ trees. subst (λ b. IsOutcomeOf items trees item.place.line b silent) (sym is) refl)
+      (λ trees. subst (IsUnowed items trees) (sym is) (item_unowed items trees (trans t) (subst (IsComposable items) is composable) (λ code owed. owed) (λ large. large)))
       (λ d other. let no : trans t ≡ def d = sym is ∙ other in cc)
       (λ u other. let no : trans t ≡ tree u = sym is ∙ other in cc)
 
@@ -81,6 +86,7 @@ module _ (a : Around) (item : Item) (old new : Kept) (ready : IsReady a item old
       composable = composable;
       is = subst (λ b. IsOutcomeOf (items_in a) (trees_in done) item.place.line b (outcome_of d.name.text count)) (sym is) (def_outcome (items_in a) (trees_in done) d d.value (def_form a item old ready composable d is) count counted);
     };
+    unowed = λ done told. subst (IsUnowed (items_in a) (trees_in done)) (sym is) (item_unowed (items_in a) (trees_in done) (def d) (subst (IsComposable (items_in a)) is composable) (λ code owed. owed) (λ large. large));
     typed = counted_typed d.name.text count;
     told = λ done told. subst (λ (outcomes : List Printed). Tells new.trees outcomes) (sym (counted_tells d.name.text count done)) (subst (λ (ts : Trees). Tells ts (trees_in done)) (sym more.trees) told);
     kept = λ before was. kept_built before item (items_in a) old new more was

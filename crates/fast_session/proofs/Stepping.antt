@@ -48,7 +48,7 @@ module _ (old : Session) (done : List Outcome) (at : IsAt old done) (item : Item
     }
 
     next_is : (o : Outcome) → IsDone (items_in old) item old.kept new.kept o → IsNext old new done o
-    next_is o did = record { item = item; is = here; may = did.may done at.told; typed = did.typed; at = at_next o did }
+    next_is o did = record { item = item; is = here; may = did.may done at.told; unowed = did.unowed done at.told; typed = did.typed; at = at_next o did }
 
     pub step_is : (line : Option Line) → IsDone (items_in old) item old.kept new.kept (given (items_in old) line) → IsStep old new done (step_of line)
     step_is None did = next_is (given (items_in old) None) did

@@ -2,11 +2,16 @@
 use Rattle.std.specs.Prelude.{◌≡◌, ℕ, Bool, true, false, List, [], ◌∷◌, ◌++◌}
 use Rattle.model_tree.specs.Scalars.{has_scalars}
 use Rattle.model_tree.specs.Signature.{HasType}
-use Rattle.model_grammar.specs.Syntax.{X, Claim, equal, member, empty, type_check, AssertItem, Item}
+use Rattle.fast_fault.specs.declared.code.Code.{Code}
+use Rattle.model_grammar.specs.Syntax.{X, Claim, equal, member, empty, type_check, AssertItem, Body, Item}
 use Rattle.model_meaning.specs.Values.{Printed}
-use Rattle.model_run.specs.Causes.{HasCause}
+use Rattle.model_meaning.specs.Truth.{Shows}
+use Rattle.model_run.specs.Items.{OfSomeTreeOf}
+use Rattle.model_run.specs.Causes.{AreAllLarge, HasCause}
+use Rattle.model_run.specs.Owed.{IsOwed}
 use Rattle.model_run.specs.Outcomes.{Outcome, silent, tree_line, minimal_line, true_verdict, tree_verdict, claim_type, trees_in, IsOutcome, IsVerdict}
 use Rattle.fast_eval.specs.Table.{AreBuilt, IsGrown}
+use Rattle.tree_values.specs.Owed.{IsOwedFor}
 use Rattle.tree_values.specs.Trees.{Tells}
 use Rattle.fast_session.specs.declared.answers.Stopped.{Stopped}
 use Rattle.fast_session.specs.declared.answers.Stopped.TheVariants.{By, Memory}
@@ -31,9 +36,14 @@ IsTyped (minimal_line name n) = Unit {0}
 IsTyped (true_verdict n passes) = Unit {0}
 IsTyped (tree_verdict n passes signature t) = HasType signature t
 
+-- no refusal is owed of the item
+abbrev pub IsUnowed : List Item → List Printed → Body → Type 0
+IsUnowed items trees body = (code : Code) → ¬ (IsOwed items trees body code)
+
 -- The item may have the outcome, whatever outcomes those before it had with which these trees were printed; and it is kept.
 pub record IsDone (items : List Item) (item : Item) (old new : Kept) (o : Outcome) : Type 0 where
   pub may : (done : List Outcome) → Tells old.trees (trees_in done) → HaveScalars o → IsOutcome items (trees_in done) item o
+  pub unowed : (done : List Outcome) → Tells old.trees (trees_in done) → IsUnowed items (trees_in done) item.body
   pub typed : IsTyped o
   pub told : (done : List Outcome) → Tells old.trees (trees_in done) → Tells new.trees (trees_in (o ∷ done))
   pub kept : (before : List Item) → IsKept items before old → IsKept items (before ++ item ∷ []) new
@@ -61,9 +71,15 @@ pub record IsBuiltMore (items : List Item) (old new : Kept) : Type 0 where
 abbrev pub verdict_outcome : List Item → ℕ → AssertItem → Verdict → Outcome
 verdict_outcome items line a v = verdict_on line v.passes (claim_type items a.claim) v.shown
 
+-- no refusal is owed for the tree expressions in a statement, nor for the trees that show that it is false
+pub record IsClaimUnowed (items : List Item) (trees : List Printed) (claim : Claim) : Type 0 where
+  pub inside : (code : Code) → ¬ (OfSomeTreeOf items (IsOwedFor items trees code) claim)
+  pub shown : ¬ (AreAllLarge (Shows items claim))
+
 -- the assertion may have the verdict
 pub record IsVerdictOn (items : List Item) (line : ℕ) (a : AssertItem) (old : Kept) (v : Verdict) : Type 0 where
   pub may : (done : List Outcome) → Tells old.trees (trees_in done) → HaveScalars (verdict_outcome items line a v) → IsVerdict items (trees_in done) line a (verdict_outcome items line a v)
+  pub unowed : (done : List Outcome) → Tells old.trees (trees_in done) → IsClaimUnowed items (trees_in done) a.claim
   pub typed : IsTyped (verdict_outcome items line a v)
 
 -- that a tree is in a language

@@ -16,7 +16,7 @@ use Rattle.fast_session.specs.declared.answers.Halt.TheVariants as halt
 use Rattle.fast_session.specs.declared.session.Session.{Session}
 use Rattle.fast_session.specs.Answers.{plain_cause, CanBeShown, IsCauseTyped, line_outcome}
 use Rattle.fast_session.specs.Kept.{IsKept}
-use Rattle.fast_session.specs.Items.{HaveScalars, IsTyped}
+use Rattle.fast_session.specs.Items.{HaveScalars, IsTyped, IsUnowed}
 
 -- the items of its program
 abbrev pub items_in : Session → List Item
@@ -58,11 +58,12 @@ pub record IsSameProgram (old new : Session) : Type 0 where
 abbrev pub IsItemAt : List Item → ℕ → Item → Type 0
 IsItemAt items n item = (n < length items) × (item ≡ get_or items n item)
 
--- the next item is done, and may have the outcome
+-- the next item is done, and may have the outcome, and no refusal is owed of it
 pub record IsNext (old new : Session) (done : List Outcome) (o : Outcome) : Type 0 where
   pub item : Item
   pub is : IsItemAt (items_in old) (length done) item
   pub may : HaveScalars o → IsOutcome (items_in old) (trees_in done) item o
+  pub unowed : IsUnowed (items_in old) (trees_in done) item.body
   pub typed : IsTyped o
   pub at : IsAt new (o ∷ done)
 

@@ -9,6 +9,7 @@ ghost use Rattle.model_meaning.specs.Meaning.{signature_named};
 ghost use Rattle.model_meaning.specs.Values.{IsValue};
 ghost use Rattle.model_run.specs.Outcomes.{Outcome, tree_line, trees_in};
 ghost use Rattle.fast_eval.specs.Found.{IsInLimits};
+ghost use Rattle.tree_values.specs.Owed.{OwesNothing};
 ghost use Rattle.tree_values.specs.Trees.{meant, Adds, Tells};
 ghost use Rattle.fast_session.specs.Answers.{line_outcome, stopped_value};
 ghost use Rattle.fast_session.specs.Kept.{items_in, IsReady};
@@ -36,6 +37,7 @@ fn value_of(
     requires is { (plain_item item.now).body ≡ plain.tree (plain_tree own.now) }
     ensures more { IsBuiltMore (items_in around.now) kept.old kept.new }
     ensures value { IfOk result (λ t. (done : List Outcome) → Tells kept.old.trees (trees_in done) → IsValue (items_in around.now) (trees_in done) (signature_named (items_in around.now) (Some own.now.of.text)) (plain_x own.now.value) (meant t)) }
+    ensures owed { IfOk result (λ _. (done : List Outcome) → Tells kept.old.trees (trees_in done) → OwesNothing (items_in around.now) (trees_in done) (signature_named (items_in around.now) (Some own.now.of.text)) (plain_x own.now.value)) }
     ensures typed { IfOk result (λ t. HasType (signature_named (items_in around.now) (Some own.now.of.text)) (meant t)) }
     ensures limits { IfOk result (λ t. IsInLimits (meant t)) }
     ensures stop { IfErr result (λ s. IsStoppedAt (items_in around.now) around.now.limit (plain_item item.now) kept.old (stopped_value around.now.limit s)) }

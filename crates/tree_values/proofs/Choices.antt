@@ -1,5 +1,5 @@
 -- The value of a transformation that is applied to a tree.
-use Rattle.std.proofs.Common.{◌≡◌, inl, inr, ap, ◌∙◌, ℕ, true, List, [], ◌∷◌, Option, Some, None, All, Contains, refl, sym, subst}
+use Rattle.std.proofs.Common.{◌≡◌, inl, inr, ap, ◌∙◌, ℕ, List, [], ◌∷◌, Option, Some, All, Contains, refl, sym, subst}
 use Rattle.std.proofs.lemmas.List.Elements.{All-head, All-tail}
 use Rattle.fast_fault.specs.declared.place.Pos.{Pos}
 use Rattle.model_tree.specs.Tree.{LabelTree}
@@ -10,8 +10,8 @@ use Rattle.fast_eval.specs.Forms.{IsMadeFrom}
 use Rattle.fast_eval.proofs.Claims.{made_from}
 use Rattle.tree_values.specs.Forms.{IsTreeOn}
 use Rattle.model_grammar.specs.Syntax.{X, two, Item}
-use Rattle.model_meaning.specs.Meaning.{IsRelated, input_type, output_type, signature_named}
-use Rattle.model_meaning.specs.Values.{Printed, IsValue, IsOnlyOutput}
+use Rattle.model_meaning.specs.Meaning.{input_type, output_type, signature_named}
+use Rattle.model_meaning.specs.Values.{Printed, IsValue}
 use Rattle.model_meaning.proofs.Members.{one_of, none_of}
 use Rattle.model_run.specs.Causes.{HasNoOutput, HasTwoOutputs}
 use Rattle.sta_theory.proofs.Lists.{first_in, later_in}
@@ -29,9 +29,11 @@ use Rattle.tree_values.specs.declared.stops.TypedTree.{TypedTree}
 use Rattle.tree_values.specs.declared.stops.TwoOutputs.{TwoOutputs}
 use Rattle.tree_values.specs.declared.stops.ValueStop.TheVariants as stops
 use Rattle.tree_values.specs.Applied.{stop_of, IsChoice, IsChosen, HasOutput, IsOutputStop}
+use Rattle.tree_values.specs.Owed.{OwesNothing}
 use Rattle.tree_values.specs.Stops.{type_of_tree}
 use Rattle.tree_values.specs.Trees.{meant}
 use Rattle.tree_values.specs.Values.{IsHeld, HasValue}
+use Rattle.tree_values.proofs.Owed.{application_owes}
 
 module _ (items : List Item) (most : ℕ) (f : X) (t : LabelTree) where
   -- why there is no list of outputs
@@ -51,7 +53,7 @@ module _ (items : List Item) (most : ℕ) (f : X) (t : LabelTree) where
           tree = u;
           is = record { is = are.outputs u there; only = λ w related. alone w (subst (λ ws. Contains ws w) is (are.all w related)) };
           typed = All-head (HasType (output_type items f)) u [] (subst (All (HasType (output_type items f))) is are.typed);
-          kept = (All-head IsInLimits u [] (subst (All IsInLimits) is are.limits)).kept;
+          limits = All-head IsInLimits u [] (subst (All IsInLimits) is are.limits);
           held = held;
         }
       where
@@ -100,8 +102,15 @@ module _ (items : List Item) (most : ℕ) (f : X) (t : LabelTree) where
 
 -- the value of the whole, by one of the tree that the transformation is applied to
 module _ (items : List Item) (printed : List Printed) (signature : PlainSignature) (place : Pos) (f x : X) where
-  pub applied_value : (t : LabelTree) (room : ℕ) (v : Option Measured) → IsValue items printed (input_type items f) x t → HasOutput items f t room v → signature ≡ output_type items f → HasValue items printed signature (two Apply place f x) room v
-  applied_value t room v is has of = record { tree = has.tree; is = (t, is, has.is); typed = subst (λ s. HasType s has.tree) (sym of) has.typed; kept = has.kept; held = has.held }
+  pub applied_value : (t : LabelTree) (room : ℕ) (v : Option Measured) → IsValue items printed (input_type items f) x t → OwesNothing items printed (input_type items f) x → HasOutput items f t room v → signature ≡ output_type items f → HasValue items printed signature (two Apply place f x) room v
+  applied_value t room v is unowed has of = record {
+    tree = has.tree;
+    is = (t, is, has.is);
+    unowed = application_owes items printed signature place f x t has.tree is unowed has.is has.limits;
+    typed = subst (λ s. HasType s has.tree) (sym of) has.typed;
+    kept = has.limits.kept;
+    held = has.held;
+  }
 
 -- ---- the names of the types of a transformation
 

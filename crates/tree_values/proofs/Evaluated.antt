@@ -28,6 +28,7 @@ use Rattle.tree_values.specs.Stops.{IsValueStop}
 use Rattle.tree_values.specs.Trees.{meant, tree_at, Tells, AreTypedTrees}
 use Rattle.tree_values.specs.Values.{IsHeld, IsAbove, HasValue, HaveValues, HasLeast}
 use Rattle.tree_values.proofs.Closed.{label_sorted}
+use Rattle.tree_values.proofs.Owed.{name_owes, find_owes, literal_owes}
 
 module _ (items : List Item) (type : List ℕ) where
   abbrev signature : PlainSignature
@@ -43,6 +44,7 @@ module _ (items : List Item) (type : List ℕ) where
       record {
         tree = found.0;
         is = sym (told n.text) ∙ found.1;
+        unowed = name_owes items printed signature n;
         typed = subst (λ s. HasType s found.0) on own.0;
         kept = own.1.kept;
         held = held found.0 found.1;
@@ -61,8 +63,9 @@ module _ (items : List Item) (type : List ℕ) where
   found_value place x made room v least printed = record {
     tree = least.tree;
     is = least.is;
+    unowed = find_owes items printed signature place x least.tree least.is least.limits;
     typed = subst (λ o. HasType (signature_named items o) least.tree) (made_on items type x made).1 least.is.is.typed;
-    kept = least.kept;
+    kept = least.limits.kept;
     held = least.held;
   }
 
@@ -89,6 +92,7 @@ module _ (items : List Item) (type : List ℕ) where
     literal_value b have v held = record {
       tree = above b have;
       is = above_is b have;
+      unowed = literal_owes items printed signature name labels xs have.unowed;
       typed = (is.low, count_is printed xs (trees_of have.trees) have.are ∙ is.rank, label_sorted (sorts_of signature) labels is.closed.sorted, have.typed);
       kept = ap₂ (λ p q. p && q) is.closed.kept have.kept;
       held = held;

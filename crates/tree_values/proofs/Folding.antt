@@ -15,16 +15,18 @@ use Rattle.tree_values.specs.declared.sizes.Below.{Below}
 use Rattle.tree_values.specs.Forms.{IsTreeKnown, AreTreesKnown}
 use Rattle.tree_values.specs.Nodes.{SoFar}
 use Rattle.tree_values.specs.Values.{IsHeld, AreHeld, left_of, IsJoined, HasValue, HaveValues}
+use Rattle.tree_values.proofs.Owed.{none_owe, more_owe}
 use Rattle.tree_values.proofs.Sized.{held_one_more, kept_one_more, typed_one_more}
 
 module _ (items : List Item) (printed : List Printed) (signature : PlainSignature) where
   pub so_far_none : (all : Xs) (room : ℕ) (b : Option Below) → AreHeld room [] b → SoFar items printed signature all all room b
-  so_far_none all room b held = record { trees = []; whole = λ us are. are; typed = tt; kept = refl; held = held }
+  so_far_none all room b held = record { trees = []; whole = λ us are. are; unowed = λ none. none; typed = tt; kept = refl; held = held }
 
   pub so_far_more : (x : X) (rest all : Xs) (room : ℕ) (b : Option Below) (v : Option Measured) (c : Option Below) → SoFar items printed signature (and_x x rest) all room b → HasValue items printed signature x (left_of room b) v → IsJoined b v c → SoFar items printed signature rest all room c
   so_far_more x rest all room b v c s value is = record {
     trees = s.trees ++ value.tree ∷ [];
     whole = λ us are. subst (λ ts. AreValues items printed signature all (trees_of ts)) (sym (append_assoc s.trees (value.tree ∷ []) us)) (s.whole (value.tree ∷ us) (value.is, are));
+    unowed = λ others. s.unowed (more_owe items printed signature x rest value.unowed others);
     typed = typed_one_more signature s.trees value.tree s.typed value.typed;
     kept = kept_one_more s.trees value.tree s.kept value.kept;
     held = held_one_more room s.trees value.tree b v c s.held value.held is;
@@ -34,6 +36,7 @@ module _ (items : List Item) (printed : List Printed) (signature : PlainSignatur
   so_far_all all room b s = record {
     trees = s.trees;
     are = subst (λ ts. AreValues items printed signature all (trees_of ts)) (append-nil s.trees) (s.whole [] tt);
+    unowed = s.unowed (none_owe items printed signature);
     typed = s.typed;
     kept = s.kept;
     held = s.held;

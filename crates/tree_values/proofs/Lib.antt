@@ -5,6 +5,7 @@ pub mod Closed
 pub mod Labelled
 pub mod Numbers
 pub mod Stopped
+pub mod Owed
 pub mod Folding
 pub mod Evaluated
 pub mod Nesting

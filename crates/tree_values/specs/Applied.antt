@@ -1,7 +1,6 @@
 -- Transformations that are applied to values.
-use Rattle.std.specs.Prelude.{◌≡◌, ℕ, true, List, [], ◌∷◌, Option, Some}
+use Rattle.std.specs.Prelude.{◌≡◌, ℕ, List, [], ◌∷◌, Option, Some}
 use Rattle.model_tree.specs.Tree.{LabelTree}
-use Rattle.model_tree.specs.Kept.{is_kept}
 use Rattle.model_tree.specs.Signature.{HasType}
 use Rattle.model_grammar.specs.Syntax.{X, Item}
 use Rattle.model_meaning.specs.Meaning.{input_type, output_type, signature_named}
@@ -40,12 +39,12 @@ pub record IsChosen (items : List Item) (f : X) (t : LabelTree) (room : ℕ) (c 
   pub are : AreOutputsOf items f t trees
   pub choice : IsChoice room trees c
 
--- the only output, which is held where there is room for it
+-- the only output, within the limits, which is held where there is room for it
 pub record HasOutput (items : List Item) (f : X) (t : LabelTree) (room : ℕ) (v : Option Measured) : Type 0 where
   pub tree : LabelTree
   pub is : IsOnlyOutput items f t tree
   pub typed : HasType (output_type items f) tree
-  pub kept : is_kept tree ≡ true
+  pub limits : IsInLimits tree
   pub held : IsHeld room tree v
 
 -- why there is none

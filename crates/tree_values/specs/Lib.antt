@@ -1,6 +1,7 @@
 pub mod Trees
 pub mod Forms
 pub mod Stops
+pub mod Owed
 pub mod Values
 pub mod Nodes
 pub mod Applied

@@ -18,6 +18,7 @@ use Rattle.tree_values.specs.declared.sizes.Measured.{Measured}
 use Rattle.tree_values.specs.declared.stops.ValueStop.{ValueStop}
 use Rattle.tree_values.specs.declared.stops.ValueStop.TheVariants.{Stopped, TooLarge}
 use Rattle.tree_values.specs.declared.values.Given.{Given}
+use Rattle.tree_values.specs.Owed.{OweNothing}
 use Rattle.tree_values.specs.Trees.{Tells}
 use Rattle.tree_values.specs.Values.{items_in, type_in, AreHeld, left_of, IsJoined, IsAbove, HasValue}
 
@@ -58,10 +59,11 @@ abbrev pub IsEndOf : Xs → Xs → Type 0
 IsEndOf rest no_x = rest ≡ no_x
 IsEndOf rest (and_x x xs) = (rest ≡ and_x x xs) ⊎ IsEndOf rest xs
 
--- values of those before the rest of all
+-- values of those before the rest of all; if no refusal is owed of the rest, none is of all
 pub record SoFar (items : List Item) (printed : List Printed) (signature : PlainSignature) (rest all : Xs) (room : ℕ) (b : Option Below) : Type 0 where
   pub trees : List LabelTree
   pub whole : (us : List LabelTree) → AreValues items printed signature rest (trees_of us) → AreValues items printed signature all (trees_of (trees ++ us))
+  pub unowed : OweNothing items printed signature rest → OweNothing items printed signature all
   pub typed : EachHasType signature (trees_of trees)
   pub kept : are_kept (trees_of trees) ≡ true
   pub held : AreHeld room trees b

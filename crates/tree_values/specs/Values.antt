@@ -11,12 +11,14 @@ use Rattle.model_meaning.specs.Outputs.{number_named, made_label}
 use Rattle.model_meaning.specs.Values.{Printed, IsValue, AreValues, IsLeastOf}
 use Rattle.model_run.specs.Causes.{AreAllLarge}
 use Rattle.fast_build.specs.Items.{items_of}
+use Rattle.fast_eval.specs.Found.{IsInLimits}
 use Rattle.fast_eval.specs.Stops.{IsStopOf}
 use Rattle.tree_values.specs.declared.stops.ValueStop.{ValueStop}
 use Rattle.tree_values.specs.declared.stops.ValueStop.TheVariants.{Stopped, NoTree, TooLarge}
 use Rattle.tree_values.specs.declared.sizes.Measured.{Measured}
 use Rattle.tree_values.specs.declared.sizes.Below.{Below}
 use Rattle.tree_values.specs.declared.values.Given.{Given}
+use Rattle.tree_values.specs.Owed.{OwesNothing, OweNothing}
 use Rattle.tree_values.specs.Trees.{meant, Tells, AreTypedTrees}
 
 -- the items of the program
@@ -77,10 +79,11 @@ pub record IsAbove (s : PlainSignature) (name : List ℕ) (labels : List Expr) (
 
 -- ---- values
 
--- a value of the type, which is held where there is room for it
+-- a value of the type, which is held where there is room for it; no refusal is owed of the expression
 pub record HasValue (items : List Item) (printed : List Printed) (signature : PlainSignature) (x : X) (room : ℕ) (v : Option Measured) : Type 0 where
   pub tree : LabelTree
   pub is : IsValue items printed signature x tree
+  pub unowed : OwesNothing items printed signature x
   pub typed : HasType signature tree
   pub kept : is_kept tree ≡ true
   pub held : IsHeld room tree v
@@ -89,15 +92,16 @@ pub record HasValue (items : List Item) (printed : List Printed) (signature : Pl
 pub record HaveValues (items : List Item) (printed : List Printed) (signature : PlainSignature) (xs : Xs) (room : ℕ) (b : Option Below) : Type 0 where
   pub trees : List LabelTree
   pub are : AreValues items printed signature xs (trees_of trees)
+  pub unowed : OweNothing items printed signature xs
   pub typed : EachHasType signature (trees_of trees)
   pub kept : are_kept (trees_of trees) ≡ true
   pub held : AreHeld room trees b
 
--- a least tree of a language
+-- a least tree of a language, within the limits
 pub record HasLeast (items : List Item) (x : X) (room : ℕ) (v : Option Measured) : Type 0 where
   pub tree : LabelTree
   pub is : IsLeastOf items x tree
-  pub kept : is_kept tree ≡ true
+  pub limits : IsInLimits tree
   pub held : IsHeld room tree v
 
 -- why none is found

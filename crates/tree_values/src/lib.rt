@@ -1,8 +1,8 @@
 //! Values of tree expressions: literals, names of trees that were printed, trees of languages, outputs of transformations;
 //! and whether they are in languages.
 //!
-//! Its promise: the tree that is given is a value of the expression, it has the type and can be shown; and a stop has a
-//! cause in the expression.
+//! Its promise: the tree that is given is a value of the expression, it has the type and can be shown, and no refusal is owed of
+//! the expression; and a stop has a cause in it.
 #![tactic(auto)]
 
 mod applied;

@@ -10,6 +10,7 @@ ghost use Rattle.fast_eval.specs.Found.{IsInLimits};
 ghost use Rattle.fast_eval.specs.Table.{IsGrown, AreBuilt};
 ghost use Rattle.tree_values.specs.Forms.{IsTreeOn, IsTreeKnown};
 ghost use Rattle.tree_values.specs.Members.{IsMember, IsMemberStop};
+ghost use Rattle.tree_values.specs.Owed.{OwesNothing};
 ghost use Rattle.tree_values.specs.Stops.{IsStopTyped};
 ghost use Rattle.tree_values.specs.Trees.{meant, Tells};
 ghost use Rattle.tree_values.specs.Values.{items_in, IsGiven};
@@ -44,6 +45,7 @@ pub fn member(
     ensures built { AreBuilt (items_in given.now) built.new }
     ensures grown { IsGrown built.old built.new }
     ensures member { IfOk result (λ m. (printed : List Printed) → Tells given.now.trees.now printed → IsMember (items_in given.now) printed (plain_x x.now) (plain_x y.now) m) }
+    ensures owed { IfOk result (λ _. (printed : List Printed) → Tells given.now.trees.now printed → OwesNothing (items_in given.now) printed (input_type (items_in given.now) (plain_x y.now)) (plain_x x.now)) }
     ensures typed { IfOk result (λ m. HasType (input_type (items_in given.now) (plain_x y.now)) (meant m.tree)) }
     ensures limits { IfOk result (λ m. IsInLimits (meant m.tree)) }
     ensures stop { IfErr result (λ s. (printed : List Printed) → Tells given.now.trees.now printed → IsMemberStop (items_in given.now) printed given.now.limit (plain_x x.now) (plain_x y.now) s) }

@@ -14,6 +14,7 @@ ghost use Rattle.fast_eval.specs.Found.{IsInLimits};
 ghost use Rattle.fast_eval.specs.Table.{IsGrown, AreBuilt};
 ghost use Rattle.tree_values.specs.Forms.{IsTreeOn, IsTreeKnown};
 ghost use Rattle.tree_values.specs.Nodes.{IsBegun};
+ghost use Rattle.tree_values.specs.Owed.{OwesNothing};
 ghost use Rattle.tree_values.specs.Stops.{IsValueStop, IsStopTyped};
 ghost use Rattle.tree_values.specs.Trees.{meant, tree_at, Tells};
 ghost use Rattle.tree_values.specs.Values.{items_in, type_in, IsGiven, IsHeld, HasLeast, IsFindStop, HasValue};
@@ -195,6 +196,7 @@ pub fn value(
     ensures built { AreBuilt (items_in given.now) built.new }
     ensures grown { IsGrown built.old built.new }
     ensures value { IfOk result (λ t. (printed : List Printed) → Tells given.now.trees.now printed → IsValue (items_in given.now) printed (type_in given.now of.now) (plain_x x.now) (meant t)) }
+    ensures owed { IfOk result (λ _. (printed : List Printed) → Tells given.now.trees.now printed → OwesNothing (items_in given.now) printed (type_in given.now of.now) (plain_x x.now)) }
     ensures typed { IfOk result (λ t. HasType (type_in given.now of.now) (meant t)) }
     ensures limits { IfOk result (λ t. IsInLimits (meant t)) }
     ensures stop { IfErr result (λ s. (printed : List Printed) → Tells given.now.trees.now printed → IsValueStop (items_in given.now) printed given.now.limit (type_in given.now of.now) (plain_x x.now) s) }

@@ -6,6 +6,7 @@ use Rattle.fast_eval.proofs.Keeping.{known_grown, on_err}
 use Rattle.tree_values.specs.declared.stops.ValueStop.TheVariants.{Stopped}
 use Rattle.tree_values.specs.Forms.{IsTreeOn}
 use Rattle.tree_values.specs.Members.{IsMemberStop}
+use Rattle.tree_values.specs.Owed.{OwesNothing}
 use Rattle.tree_values.specs.Trees.{meant, Tells}
 use Rattle.tree_values.specs.Values.{items_in}
 use Rattle.tree_values.proofs.Sided.{type_is, input_is, left_stops, is_member}
@@ -51,6 +52,12 @@ returns-clause-member c = λ printed told.
     (let g = c.args.given.now in
     is_member (items_in g) c.in-Some.of.now c.requires.made.0 (plain_x c.args.y.now) c.requires.made.1 (c.in-Some.ensures c.requires.made.0 (inl c.requires.made.1)) printed (plain_x c.args.x.now)
     (record { tree = c.in_ok-tree.tree; inside = c.in_ok-inside.inside }) (c.in_ok-tree.ensures.value printed told) c.in_ok-inside.ensures.inside)
+
+pub returns-clause-owed : goal.returns-clause-owed
+returns-clause-owed c = λ printed told.
+    (let items = items_in c.args.given.now in
+    let y = plain_x c.args.y.now in
+    subst (λ s. OwesNothing items printed s (plain_x c.args.x.now)) (sym (input_is items c.in-Some.of.now c.requires.made.0 y c.requires.made.1 (c.in-Some.ensures c.requires.made.0 (inl c.requires.made.1)))) (c.in_ok-tree.ensures.owed printed told))
 
 pub returns-clause-typed : goal.returns-clause-typed
 returns-clause-typed c =

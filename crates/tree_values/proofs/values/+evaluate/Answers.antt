@@ -19,6 +19,7 @@ use Rattle.tree_values.specs.declared.nodes.OpenNode.{OpenNode}
 use Rattle.tree_values.specs.declared.stops.ValueStop.TheVariants.{TooLarge}
 use Rattle.tree_values.specs.Forms.{IsTreeOn, IsTreeKnown}
 use Rattle.tree_values.specs.Nodes.{IsFirst, IsBegun, IsReached}
+use Rattle.tree_values.specs.Owed.{OwesNothing}
 use Rattle.tree_values.specs.Stops.{IsValueStop, IsStopTyped}
 use Rattle.tree_values.specs.Applied.{HasOutput, IsOutputStop}
 use Rattle.tree_values.specs.Trees.{meant, Tells}
@@ -393,8 +394,9 @@ apply-returns-clause-value t c =
     let tree = meant c.in-Some.value.tree in
     IfOk-weaker c.only_output.result (HasOutput items f tree c.args.room)
     (λ v. (place : Pos) (signature : PlainSignature) (printed : List Printed) → Tells g.trees.now printed → signature ≡ output_type items f → HasValue items printed signature (two Apply place f x) c.args.room v)
-    (λ v has place signature printed told of. applied_value items printed signature place f x tree c.args.room v
-    (subst (λ k. IsValue items printed k x tree) type_is (value_is items printed own x c.in-Some.value (subst (HasValue items printed own x most_nodes) c.in-Some.is (c.in_ok-value.ensures.value printed told)))) has of)
+    (λ v has place signature printed told of.
+    (let inner = subst (HasValue items printed own x most_nodes) c.in-Some.is (c.in_ok-value.ensures.value printed told) in
+    applied_value items printed signature place f x tree c.args.room v (subst (λ k. IsValue items printed k x tree) type_is (value_is items printed own x c.in-Some.value inner)) (subst (λ k. OwesNothing items printed k x) type_is inner.unowed) has of))
     c.only_output.ensures.output
 
 pub apply-returns-clause-stop : goal.apply-returns-clause-stop

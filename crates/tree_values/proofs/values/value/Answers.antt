@@ -13,6 +13,13 @@ returns-in-Some-clause-value c = λ printed told.
     let x = plain_x c.args.x.now in
     value_is items printed signature x c.in-Some.found (subst (HasValue items printed signature x most_nodes) c.in-Some.is (c.in_ok-found.ensures.value printed told)))
 
+pub returns-in-Some-clause-owed : goal.returns-in-Some-clause-owed
+returns-in-Some-clause-owed c = λ printed told.
+    (let items = items_in c.args.given.now in
+    let signature = type_in c.args.given.now c.args.of.now in
+    let x = plain_x c.args.x.now in
+    (subst (HasValue items printed signature x most_nodes) c.in-Some.is (c.in_ok-found.ensures.value printed told)).unowed)
+
 pub returns-in-Some-clause-typed : goal.returns-in-Some-clause-typed
 returns-in-Some-clause-typed c =
     let g = c.requires.given in
