@@ -32,7 +32,7 @@ is_field_of sort (Some found) = same_sort found sort
 abbrev pub has_field : List PlainField → Sort → List ℕ → Bool
 has_field fields sort name = is_field_of sort (sort_at fields name)
 
--- how many fields of a sort stand before the field with this name
+-- how many fields of a sort stand before the field with this name; all that there are, where there is none
 abbrev pub number_at : List PlainField → Sort → List ℕ → ℕ
 number_at [] sort name = 0
 number_at (f ∷ fs) sort name = cond (same_name f.name name) 0 (cond (same_sort f.sort sort) (suc (number_at fs sort name)) (number_at fs sort name))

@@ -19,8 +19,9 @@ use Rattle.model_meaning.specs.Reached.{IsNamedIn, definition_of, Opens}
 use Rattle.model_meaning.specs.Meaning.{IsOf, Relates, followed, IsInLanguage, IsRelated, HasOutput, Applies, input_type, output_type}
 use Rattle.model_meaning.specs.Truth.{IsTrue, Shows}
 
--- Operations on languages are those on sets of trees. The domain is the pre-image of every language that has all trees. A
--- composition relates exactly where there is a middle tree, and a restriction exactly those pairs whose input or output is in the language.
+-- Operations on languages are those on sets of trees. A domain has the trees that have an output, and a pre-image those that
+-- have one in the language. A composition relates exactly where there is a middle tree, and a restriction exactly those pairs
+-- whose input or output is in the language.
 pub record AreOperations (items : List Item) (place : Pos) (x y : X) : Type 0 where
   pub intersect : (t : LabelTree) → IsInLanguage items (two Intersect place x y) t ↔ (IsInLanguage items x t × IsInLanguage items y t)
   pub union : (t : LabelTree) → IsInLanguage items (two Union place x y) t ↔ (IsInLanguage items x t ⊎ IsInLanguage items y t)
@@ -28,7 +29,7 @@ pub record AreOperations (items : List Item) (place : Pos) (x y : X) : Type 0 wh
   pub complement : (t : LabelTree) → IsInLanguage items (one Complement place x) t ↔ (¬ (IsInLanguage items x t))
   pub minimize : (t : LabelTree) → IsInLanguage items (one Minimize place x) t ↔ IsInLanguage items x t
   pub pre_image : (t : LabelTree) → IsInLanguage items (two PreImage place x y) t ↔ ((u : LabelTree) × IsRelated items x t u × IsInLanguage items y u)
-  pub domain : ((u : LabelTree) → IsInLanguage items y u) → (t : LabelTree) → IsInLanguage items (one Domain place x) t ↔ IsInLanguage items (two PreImage place x y) t
+  pub domain : (t : LabelTree) → IsInLanguage items (one Domain place x) t ↔ ((u : LabelTree) × IsRelated items x t u)
   pub compose : (t w : LabelTree) → IsRelated items (two Compose place x y) t w ↔ ((u : LabelTree) × IsRelated items x t u × IsRelated items y u w)
   pub restrict : (t u : LabelTree) → IsRelated items (two Restrict place x y) t u ↔ (IsRelated items x t u × IsInLanguage items y t)
   pub restrict_out : (t u : LabelTree) → IsRelated items (two RestrictOut place x y) t u ↔ (IsRelated items x t u × IsInLanguage items y u)

@@ -15,8 +15,8 @@ abbrev pub number_named : List (List ℕ) → List ℕ → Option ℕ
 number_named [] name = None
 number_named (n ∷ names) name = cond (same_text n name) (Some 0) (option_map (λ k. suc k) (number_named names name))
 
--- The label that expressions make of a label with the first fields, for a tree whose labels have the second ones. A value
--- of each sort there is today is the same for every field.
+-- The label that expressions make of a label with the first fields, for a tree whose labels have the second ones; these
+-- don't matter, since a value is the same for every field of its sort.
 abbrev pub made_label : List PlainField → List PlainField → List Expr → Label → Label
 made_label fields into labels l = row (map (value_of fields (values_of l)) labels)
 

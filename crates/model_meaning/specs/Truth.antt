@@ -19,8 +19,8 @@ module _ (items : List Item) where
   IsAmong None x t = ⊥
 
   -- Of all trees of the type that the statement speaks of: the same ones are in both languages; none is in the language, or
-  -- has an output; each output of one of the first language is in the second. Of `in` the tree is the one that is printed
-  -- for it.
+  -- has an output; each output of one of the first language is in the second. A statement with
+  -- `in` is told by the tree that is printed for it, and not here.
   abbrev pub IsTrue : Claim → Type 0
   IsTrue (equal x y) = (t : LabelTree) → HasType (input_type items x) t → IsInLanguage items x t ↔ IsInLanguage items y t
   IsTrue (empty x) = (t : LabelTree) → HasType (input_type items x) t → ¬ (IsAmong (kind_of items x) x t)

@@ -172,7 +172,7 @@ guarded e =
     number_type ∷ record { place = here; body = lang (record { name = name (codes "p"); of = name (codes "N"); rules = record { ctor = name (codes "z"); vars = []; guard = Some e; given = [] } ∷ [] }) } ∷ []
 
 pub record AreFar : Type 0 where
-  -- the first number without 64 bits is big, and no kept one is
+  -- the first number outside 64 bits is big, and no kept one is
   pub big : HasFarLabel (guarded is_big) (x (codes "p") ∷ []) (codes "N")
   -- no number is big and negative, so each is as the kept ones
   pub neither : ¬ (HasFarLabel (guarded is_neither) (x (codes "p") ∷ []) (codes "N"))

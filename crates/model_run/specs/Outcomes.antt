@@ -76,7 +76,6 @@ module _ (items : List Item) (trees : List Printed) where
   IsOutcomeOf line (trans t) outcome = outcome ≡ silent
   IsOutcomeOf line (def d) outcome = IsDefLine d d.value outcome
   IsOutcomeOf line (assertion a) outcome = IsVerdict line a outcome
-  -- the item may have the outcome, where these trees were printed before it
 
 -- The item may have the outcome: its transformations can be composed, and the outcome is one of its body.
 pub record IsOutcome (items : List Item) (trees : List Printed) (item : Item) (outcome : Outcome) : Type 0 where

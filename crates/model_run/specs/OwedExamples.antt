@@ -48,7 +48,7 @@ abbrev pub towers : List Item
 towers = type_item (ctor (codes "a") 0 ∷ ctor (codes "c") 1 ∷ ctor (codes "d") 2 ∷ []) ∷ lang_item (level 0) (rule (codes "a") [] [] ∷ []) ∷ levels 20
 
 pub record AreOwed : Type 0 where
-  -- the output has the first number without 64 bits, or 1
+  -- the output has the first number outside 64 bits, or 1
   pub far : IsOwed adding [] (increased 9223372036854775807) LabelRange
   pub near : ¬ (IsOwed adding [] (increased 0) LabelRange)
   -- two rules of the first meet, and the second copies; or no rule of the second copies

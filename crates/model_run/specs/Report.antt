@@ -216,13 +216,14 @@ StatusReport Reported SinkFault report = (report ≡ []) ⊎ Reported unfinished
 StatusReport Reported Memory report = (report ≡ []) ⊎ Reported unfinished report
 StatusReport Reported status report = Reported (whole status) report
 
--- a legal report of these words over what is held; words that are no form are answered by the usage line
+-- of words that are no form: the usage line, or a part of it
 abbrev pub UsageReport : Status → List ℕ → Type 0
 UsageReport Words report = report ≡ usage_line
 UsageReport SinkFault report = (back : List ℕ) × (report ++ back ≡ usage_line)
 UsageReport Memory report = (back : List ℕ) × (report ++ back ≡ usage_line)
 UsageReport status report = ⊥
 
+-- a legal report of these words over what is held
 abbrev pub IsReport : List (List ℕ) → (List ℕ → Option (List ℕ)) → Status → List ℕ → Type 0
 IsReport words held status report =
     ((form : CommandForm) × AreWordsOf words form × StatusReport (CommandReport form held) status report)

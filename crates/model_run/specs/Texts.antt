@@ -63,7 +63,7 @@ abbrev pub file_tree_count : FileTrees → ℕ
 file_tree_count file.no_trees = 0
 file_tree_count (and_tree t ts) = suc (file_tree_count ts)
 
--- of a constant: it isn't of the field's sort; it is a number without 64 bits; it is a text of more than 4,096 bytes
+-- of a constant: it isn't of the field's sort; it is a number outside 64 bits; it is a text of more than 4,096 bytes
 abbrev pub sort_failures : PlainField → Expr → List Refusal
 sort_failures f e = fails_if (not (same_sort (sort_of (value_of [] [] e)) f.sort)) WrongSort (place_of e)
 

@@ -1,4 +1,4 @@
-//! Reports of which only some of what they say is given: texts that no program names, many outputs, and fronts of a program.
+//! Reports of which only some of what they say is given: many outputs, and fronts of a program.
 
 use fast_fault::{Held, SureSink, SureTexts, Text};
 use fast_tool::run;
@@ -21,12 +21,12 @@ fn words(alloc: Global, line: &str) -> Result<Vec<String>, AllocError> {
 }
 
 /// Runs the words over two texts, held under the names F and G.
-fn report_of(alloc: Global, line: &str, program: &[u8], trees: &str) -> Result<Ran, Fail> {
+fn report_of(alloc: Global, line: &str, program: &str, trees: &str) -> Result<Ran, Fail> {
     let mut entries = Vec::new(alloc);
-    for (name, bytes) in [("F", program), ("G", trees.as_bytes())] {
+    for (name, text) in [("F", program), ("G", trees)] {
         entries.push(Held {
             name: Text::of(alloc, name)?,
-            bytes: Vec::from_slice(alloc, bytes)?,
+            bytes: Vec::from_slice(alloc, text.as_bytes())?,
         })?;
     }
     let mut texts = SureTexts::new(entries);
@@ -35,14 +35,6 @@ fn report_of(alloc: Global, line: &str, program: &[u8], trees: &str) -> Result<R
     let code = run(alloc, &words, &mut texts, &mut sink).code();
     let report = String::from_str(alloc, str::from_utf8(sink.bytes())?)?;
     Ok(Ran { code, report })
-}
-
-#[test]
-fn texts_that_cannot_be_read(rt: HostRuntime) -> Result<(), Fail> {
-    let own = report_of(rt.alloc(), "check F", b"type \xff".as_slice(), "")?;
-    assert_eq!(rt; own.code, 3);
-    assert_eq!(rt; own.report.as_str(), "refused 2 NotUtf8 at F:1:6\n");
-    Ok(())
 }
 
 /// The tags of a document: scripts are dropped, quotes are escaped, and a script that is left is asked for.
@@ -63,7 +55,7 @@ assert-true (is-empty bad_inputs)";
 fn texts_end_anywhere(rt: HostRuntime) -> Result<(), Fail> {
     for (end, _) in SANITISER.char_indices() {
         let front = SANITISER.get(..end).ok_or("no front")?;
-        let own = report_of(rt.alloc(), "check F", front.as_bytes(), "")?;
+        let own = report_of(rt.alloc(), "check F", front, "")?;
         let begins = if own.code == 0 {
             "checked "
         } else {
@@ -99,7 +91,7 @@ fn list_of(alloc: Global, number: &str) -> Result<String, AllocError> {
 fn so_many_outputs(rt: HostRuntime) -> Result<(), Fail> {
     let first = list_of(rt.alloc(), "0")?;
     let last = list_of(rt.alloc(), "1")?;
-    let own = report_of(rt.alloc(), "apply F f G", CHOICES.as_bytes(), &first)?;
+    let own = report_of(rt.alloc(), "apply F f G", CHOICES, &first)?;
     let mut lines = own.report.lines();
     assert_eq!(rt; own.code, 0);
     assert_eq!(rt; lines.next(), Some("input 1 outputs 4096"));
@@ -108,37 +100,5 @@ fn so_many_outputs(rt: HostRuntime) -> Result<(), Fail> {
     assert_eq!(rt; one.strip_prefix("output "), Some(first.as_str()));
     let most = own.report.strip_suffix('\n').ok_or("no line")?;
     assert!(rt; most.ends_with(last.as_str()));
-    Ok(())
-}
-
-/// Languages of labels whose two fields are one text, and constants that it is not.
-const FRESH: [(&str, [&str; 3]); 3] = [
-    (
-        "type W[s : String, u : String]{z(0)}\nlang p : W { z() where s != \"a\" and s != \"b\" and s != \"c\" and s = u }\nassert-false (is-empty p)\n",
-        ["a", "b", "c"],
-    ),
-    (
-        "type W[s : String, u : String]{z(0)} tree t : W := (get-witness p)\nlang p : W { z() where s != \"a\" and s != \"b\" and s != \"c\" and s = u }\nassert-true t in p\n",
-        ["a", "b", "c"],
-    ),
-    (
-        "type W[s : String, u : String]{z(0)}\nlang p : W { z() where s = u and u != \"a\" and s != \"aa\" and not s = \"aaa\" }\nassert-false (is-empty p)\n",
-        ["a", "aa", "aaa"],
-    ),
-];
-
-#[test]
-fn fresh_texts(rt: HostRuntime) -> Result<(), Fail> {
-    for (text, others) in FRESH {
-        let own = report_of(rt.alloc(), "run F", text.as_bytes(), "")?;
-        assert_eq!(rt; own.code, 0);
-        let (_, shown) = own
-            .report
-            .split_once("assert 3 pass (z [\"")
-            .ok_or("no verdict")?;
-        let shown = shown.strip_suffix("\"])\n").ok_or("no tree")?;
-        let (first, second) = shown.split_once("\", \"").ok_or("no two texts")?;
-        assert!(rt; first == second && !others.contains(&first));
-    }
     Ok(())
 }
