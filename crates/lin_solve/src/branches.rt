@@ -24,7 +24,7 @@ use crate::found::{Sought, sided, sideless};
 use crate::guess::all_hold;
 use crate::numbering::remainders_of;
 use crate::over::are_over;
-use crate::puts::{forms_with, put_each};
+use crate::puts::{forms_with, put_each, simpler_each};
 use crate::splits::{Split, Values, best_split, split_of};
 use crate::system::{first_system, needs_side};
 use cooper_solve::{Constraint, Relation as Kind};
@@ -438,11 +438,11 @@ impl Branch {
 fn run(alloc: Global, literals: &[Lit<Compare>]) -> Result<Sought, FormStop>
     ensures { IfOk result (TellsSought (plain_literals literals.now)) }
 {
-    let copy = sided(alloc, literals, literals.len(), false)?;
+    let own = simpler_each(alloc, literals)?;
     let mut pending = Vec::new(alloc);
     pending.push(Branch {
         case: Case::all(),
-        literals: equated(alloc, copy)?,
+        literals: equated(alloc, own)?,
     })?;
     for _ in 0..MOST {
         let Some(own) = pending.pop() else {

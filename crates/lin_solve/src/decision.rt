@@ -90,6 +90,7 @@ fn decide_all(
 // Decides them by all that takes more than a look at them.
 fn decide_deeply(
     alloc: Global,
+    memo: &Memo,
     literals: &[Lit<Compare>],
 ) -> Result<Verdict<Vec<LabelInt>, Chain>, Memory>
     ensures { IfOk result (Answers (AreKept ⟦<Compare as PartialEq>⟧.eq literals.now) vec_items literals.now) }
@@ -97,12 +98,15 @@ fn decide_deeply(
     if let Some(values) = guess(alloc, literals, literals.len().saturating_add(8))? {
         return Ok(Verdict::Sat(values));
     }
+    if let Some(values) = mend(alloc, literals, memo.nearest(alloc, literals)?)? {
+        return Ok(Verdict::Sat(values));
+    }
     match seek_cases(alloc, literals)? {
         Sought::Values(values) => return Ok(Verdict::Sat(values)),
         Sought::Never => return Ok(Verdict::Unsat),
         Sought::Open => {}
     }
-    if let Some(values) = mend(alloc, literals)? {
+    if let Some(values) = mend(alloc, literals, [0; 8])? {
         return Ok(Verdict::Sat(values));
     }
     match seek_apart(alloc, literals)? {
@@ -128,9 +132,9 @@ fn decide_and_keep(
 ) -> Result<Verdict<Vec<LabelInt>, Chain>, Memory>
     ensures { IfOk result (Answers (AreKept ⟦<Compare as PartialEq>⟧.eq literals.now) vec_items literals.now) }
 {
-    match decide_deeply(alloc, literals)? {
+    match decide_deeply(alloc, memo, literals)? {
         Verdict::Sat(values) => {
-            memo.keep_values(&values)?;
+            memo.keep_values(alloc, &values)?;
             Ok(Verdict::Sat(values))
         }
         Verdict::Unsat => {

@@ -10,6 +10,7 @@ ghost use Rattle.lin_solve.specs.Equations.{Gives, HoldAlso};
 
 use crate::compare::{Compare, Relation};
 use crate::gaps::less;
+use crate::mend::coefficient;
 use crate::puts::{forms_with, put_literal};
 use crate::repeats::copy_literal;
 use crate::system::has_field;
@@ -34,11 +35,12 @@ fn is_within(form: &Form, field: u32) -> bool {
     false
 }
 
-// A field that the form has once, and not within a remainder.
-fn single_field(form: &Form) -> Option<u32> {
-    for term in form.fields() {
-        if term.coefficient == 1 && !is_within(form, term.field) {
-            return Some(term.field);
+// A field that the first form has once more than the second, and neither within a remainder.
+fn single_field(left: &Form, right: &Form) -> Option<u32> {
+    for field in 0..8 {
+        let times = coefficient(left, field).checked_sub(coefficient(right, field));
+        if times == Some(1) && !is_within(left, field) && !is_within(right, field) {
+            return Some(field);
         }
     }
     None
@@ -48,17 +50,18 @@ fn single_field(form: &Form) -> Option<u32> {
 fn own_of(alloc: Global, left: &Form, right: &Form) -> Result<Option<Own>, FormStop>
     ensures { IfOk result (λ found. IfSome found (λ own. (own.field < 8) × ((us : List ℤ) → value left.now us ≡ value right.now us → value own.form us ≡ slice_index_or us own.field (pos 0)))) }
 {
-    let Some(gap) = less(alloc, left, right)? else {
-        return Ok(None);
-    };
-    let Some(field) = single_field(&gap) else {
+    let Some(field) = single_field(left, right) else {
         return Ok(None);
     };
     if field >= 8 {
         return Ok(None);
     }
     let own = Form::field(alloc, field)?;
-    match less(alloc, &own, &gap)? {
+    // the field is taken away first: the difference of the sides may have a number that is too great
+    let Some(rest) = less(alloc, left, &own)? else {
+        return Ok(None);
+    };
+    match less(alloc, right, &rest)? {
         Some(form) => Ok(Some(Own { field, form })),
         None => Ok(None),
     }

@@ -8,6 +8,7 @@ mod apart;
 mod branches;
 mod cases;
 mod chain;
+mod columns;
 mod compare;
 mod decision;
 mod equations;

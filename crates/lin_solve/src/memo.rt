@@ -11,6 +11,7 @@ ghost use Rattle.lin_solve.specs.Kept.{is_same};
 ghost use Rattle.lin_solve.specs.Plain.{plain_literals};
 ghost use Rattle.lin_solve.specs.Sought.{NeverHoldAll, TellsSought};
 
+use crate::columns::Values;
 use crate::compare::{Compare, Relation};
 use crate::found::Sought;
 use crate::guess::all_hold;
@@ -20,9 +21,7 @@ use label_core::Lit;
 use std::alloc::Global;
 use std::cell::RefCell;
 
-// How many lists of values are kept, and how many lists of literals.
-const MOST_VALUES: usize = 256;
-
+// How many lists of literals are kept.
 const MOST_REFUTED: usize = 4096;
 
 // Where forms are looked at to tell literals apart: equal ones have equal values there, and others hardly ever.
@@ -143,67 +142,54 @@ impl Refuted {
     }
 }
 
-// What is kept. The last values stand before the place where the next ones go, and the first behind it.
+// What is kept.
 #[derive(Drop)]
 struct Known {
-    values: Vec<[LabelInt; 8]>,
-    next: usize,
+    values: Values,
     refuted: Vec<Refuted>,
 }
 
 impl Known {
     // Values at which the literals hold.
     fn values_for(
-        &self,
+        &mut self,
         alloc: Global,
-        literals: &[Lit<Compare>],
+        marked: &Marked<'_>,
     ) -> Result<Option<Vec<LabelInt>>, Memory>
-        ensures { IfOk result (λ found. IfSome found (λ vs. (length vs.items ≡ 8) × HoldsAll (plain_literals literals.now) vs.items)) }
+        ensures { IfOk result (λ found. IfSome found (λ vs. (length vs.items ≡ 8) × HoldsAll (plain_literals marked.now.literals.now) vs.items)) }
     {
-        for values in &self.values {
-            if all_hold(literals, values) {
-                return Ok(Some(Vec::from_slice(alloc, values)?));
-            }
+        let Some(values) = self.values.for_all(marked.literals, &marked.marks) else {
+            return Ok(None);
+        };
+        if !all_hold(marked.literals, &values) {
+            return Ok(None);
         }
-        Ok(None)
+        Ok(Some(Vec::from_slice(alloc, &values)?))
     }
 
     // Whether some that hold nowhere are among the literals.
-    fn refutes(&self, alloc: Global, literals: &[Lit<Compare>]) -> Result<bool, Memory>
-        ensures { IfOk result (λ yes. IsTrue yes → NeverHoldAll (plain_literals literals.now)) }
+    fn refutes(&self, marked: &Marked<'_>) -> bool
+        ensures { IsTrue result → NeverHoldAll (plain_literals marked.now.literals.now) }
     {
-        if self.refuted.is_empty() {
-            return Ok(false);
-        }
-        let own = with_marks(alloc, literals)?;
         for refuted in &self.refuted {
-            if refuted.is_among(&own) {
-                return Ok(true);
+            if refuted.is_among(marked) {
+                return true;
             }
         }
-        Ok(false)
+        false
     }
 
-    fn told(&self, alloc: Global, literals: &[Lit<Compare>]) -> Result<Sought, Memory>
+    fn told(&mut self, alloc: Global, literals: &[Lit<Compare>]) -> Result<Sought, Memory>
         ensures { IfOk result (TellsSought (plain_literals literals.now)) }
     {
-        if let Some(values) = self.values_for(alloc, literals)? {
+        let marked = with_marks(alloc, literals)?;
+        if let Some(values) = self.values_for(alloc, &marked)? {
             return Ok(Sought::Values(values));
         }
-        if self.refutes(alloc, literals)? {
+        if self.refutes(&marked) {
             return Ok(Sought::Never);
         }
         Ok(Sought::Open)
-    }
-
-    fn keep_values(&mut self, values: [LabelInt; 8]) -> Result<(), Memory> {
-        if self.values.len() < MOST_VALUES {
-            self.values.push(values)?;
-        } else if let Some(oldest) = self.values.get_mut(self.next) {
-            *oldest = values;
-            self.next = (self.next + 1) % MOST_VALUES;
-        }
-        Ok(())
     }
 
     fn keep_refuted(&mut self, alloc: Global, literals: &[Lit<Compare>]) -> Result<(), Memory>
@@ -227,8 +213,7 @@ impl Memo {
     pub fn new(alloc: Global) -> Memo {
         Memo {
             known: RefCell::new(Known {
-                values: Vec::new(alloc),
-                next: 0,
+                values: Values::new(alloc),
                 refuted: Vec::new(alloc),
             }),
         }
@@ -238,20 +223,34 @@ impl Memo {
     pub(crate) fn told(&self, alloc: Global, literals: &[Lit<Compare>]) -> Result<Sought, Memory>
         ensures { IfOk result (TellsSought (plain_literals literals.now)) }
     {
-        match self.known.try_borrow() {
-            Ok(known) => known.told(alloc, literals),
+        match self.known.try_borrow_mut() {
+            Ok(mut known) => known.told(alloc, literals),
             Err(_) => Ok(Sought::Open),
         }
     }
 
+    /// Of the values that are kept those at which the most literals hold; else all are 0.
+    pub(crate) fn nearest(
+        &self,
+        alloc: Global,
+        literals: &[Lit<Compare>],
+    ) -> Result<[LabelInt; 8], Memory> {
+        let marked = with_marks(alloc, literals)?;
+        let found = match self.known.try_borrow_mut() {
+            Ok(mut known) => known.values.nearest(literals, &marked.marks),
+            Err(_) => None,
+        };
+        Ok(found.unwrap_or([0; 8]))
+    }
+
     /// Keeps values that were found.
-    pub(crate) fn keep_values(&self, values: &[LabelInt]) -> Result<(), Memory> {
+    pub(crate) fn keep_values(&self, alloc: Global, values: &[LabelInt]) -> Result<(), Memory> {
         let mut own = [0; 8];
         for i in 0..8 {
             own[i] = values.get(i).copied().unwrap_or(0);
         }
         match self.known.try_borrow_mut() {
-            Ok(mut known) => known.keep_values(own),
+            Ok(mut known) => known.values.keep(alloc, own),
             Err(_) => Ok(()),
         }
     }

@@ -81,7 +81,7 @@ fn better(
     }
 }
 
-// The best change of a field that stands within remainders alone.
+// The best change of a field that stands within remainders alone, one way or the other.
 fn best_within(
     literals: &[Lit<Compare>],
     values: &mut Vec<LabelInt>,
@@ -97,6 +97,7 @@ fn best_within(
     let mut best = found;
     for step in 1..FARTHEST {
         best = better(literals, values, place, old + step as i128, best);
+        best = better(literals, values, place, old - step as i128, best);
     }
     best
 }
@@ -168,14 +169,15 @@ fn first_broken<'l>(
     None
 }
 
-/// Values of the eight fields at which the literals hold, if some are found.
+/// Values of the eight fields at which the literals hold, if some are found from those nearby on.
 pub(crate) fn mend(
     alloc: Global,
     literals: &[Lit<Compare>],
+    near: [LabelInt; 8],
 ) -> Result<Option<Vec<LabelInt>>, Memory>
     ensures { IfOk result (λ found. IfSome found (λ values. (length values.items ≡ 8) × HoldsAll (plain_literals literals.now) values.items)) }
 {
-    let mut values = vec![in alloc; 0; 8]?;
+    let mut values = Vec::from_slice(alloc, &near)?;
     let mut from = 0;
     for _ in 0..TURNS {
         if all_hold(literals, &values) {

@@ -6,8 +6,11 @@ ghost use Rattle.model_form.specs.Meaning.{values_of, AreFormsLow};
 ghost use Rattle.model_chain.specs.Literals.{compare_holds};
 ghost use Rattle.lin_solve.specs.Plain.{plain_compare};
 ghost use Rattle.lin_solve.specs.Branches.{ArePut};
+ghost use Rattle.lin_solve.specs.Equations.{HoldAlso};
 
 use crate::compare::Compare;
+use crate::repeats::copy_literal;
+use fast_fault::Memory;
 use label_core::Lit;
 use lin_form::{Form, FormStop};
 use std::alloc::Global;
@@ -38,14 +41,20 @@ pub(crate) fn forms_with(alloc: Global, own: u32, form: &Form) -> Result<Vec<For
     Ok(forms)
 }
 
+fn simpler(alloc: Global, form: &Form) -> Result<Form, FormStop>
+    ensures { IfOk result (λ f. (vs : List ℤ) → value f vs ≡ value form.now vs) }
+{
+    form.constant();
+    form.simpler(alloc)
+}
+
 // The form where these are put for the fields, made simpler.
 fn put(alloc: Global, form: &Form, forms: &[Form]) -> Result<Form, FormStop>
     requires { AreFormsLow forms.now }
     ensures { IfOk result (λ f. (vs : List ℤ) → value f vs ≡ value form.now (values_of forms.now vs)) }
 {
     let put = form.subst(alloc, forms)?;
-    put.constant();
-    put.simpler(alloc)
+    simpler(alloc, &put)
 }
 
 /// The literal where these are put for the fields.
@@ -81,6 +90,44 @@ pub(crate) fn put_each(
     let mut out = Vec::new(alloc);
     for literal in literals {
         out.push(put_literal(alloc, literal, forms)?)?;
+    }
+    Ok(out)
+}
+
+fn simpler_compare(alloc: Global, atom: &Compare) -> Result<Compare, FormStop>
+    ensures { IfOk result (λ c. (vs : List ℤ) → compare_holds (plain_compare c) vs ≡ compare_holds (plain_compare atom.now) vs) }
+{
+    Ok(Compare {
+        left: simpler(alloc, &atom.left)?,
+        relation: atom.relation,
+        right: simpler(alloc, &atom.right)?,
+    })
+}
+
+// The literal made simpler; itself, where its numbers would be too great.
+fn simpler_literal(alloc: Global, literal: &Lit<Compare>) -> Result<Lit<Compare>, Memory>
+    ensures { IfOk result (λ l. (l.sign ≡ literal.now.sign) × ((vs : List ℤ) → compare_holds (plain_compare l.atom) vs ≡ compare_holds (plain_compare literal.now.atom) vs)) }
+{
+    match simpler_compare(alloc, &literal.atom) {
+        Ok(atom) => Ok(Lit {
+            atom,
+            sign: literal.sign,
+        }),
+        Err(FormStop::Range(_)) => copy_literal(alloc, literal),
+        Err(FormStop::Memory) => Err(Memory),
+    }
+}
+
+/// Each literal made simpler.
+pub(crate) fn simpler_each(
+    alloc: Global,
+    literals: &[Lit<Compare>],
+) -> Result<Vec<Lit<Compare>>, Memory>
+    ensures { IfOk result (λ r. HoldAlso literals.now r.items) }
+{
+    let mut out = Vec::new(alloc);
+    for literal in literals {
+        out.push(simpler_literal(alloc, literal)?)?;
     }
     Ok(out)
 }

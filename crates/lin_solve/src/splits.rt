@@ -2,7 +2,7 @@
 //! first. Nothing rests on the choice.
 
 use crate::cases::divisor_in_common;
-use crate::compare::Compare;
+use crate::compare::{Compare, Relation};
 use crate::mend::count_broken;
 use crate::ranges::{Range, ranges_of};
 use fast_fault::LabelInt;
@@ -62,11 +62,31 @@ pub(crate) struct Best {
     pub(crate) part: u32,
 }
 
+fn is_number(form: &Form) -> bool {
+    form.fields().is_empty() && form.remainders().is_empty()
+}
+
+// Whether the literal says which value the field has.
+fn tells(literal: &Lit<Compare>, field: u32) -> bool {
+    let (Relation::Equal, true) = (literal.atom.relation, literal.sign) else {
+        return false;
+    };
+    let left = &literal.atom.left;
+    let is_own = match left.fields().first() {
+        Some(term) => term.field == field && left.fields().len() == 1,
+        None => false,
+    };
+    is_own && left.remainders().is_empty() && is_number(&literal.atom.right)
+}
+
 // The values of a field, if it is better split by them than by its remainders: there are no more than so many times these.
-// Where a value is known nothing of the field is left to be split.
-fn values_for(split: Split, ranges: &[Range]) -> Option<Values> {
+// Where a value is told already, and stands within a remainder since a multiple of it is too great, remainders are left.
+fn values_for(literals: &[Lit<Compare>], split: Split, ranges: &[Range]) -> Option<Values> {
     let range = ranges.get(split.field as usize)?;
     let count = range.count(split.times.saturating_mul(VALUES))?;
+    if count == 1 && literals.iter().any(|own| tells(own, split.field)) {
+        return None;
+    }
     let from = LabelInt::try_from(range.low).ok()?;
     Some(Values {
         from,
@@ -160,7 +180,7 @@ pub(crate) fn best_split(literals: &[Lit<Compare>], values: &[LabelInt]) -> Opti
     for literal in literals {
         if literal.atom.holds(values) != literal.sign {
             if let Some(split) = split_of(literal) {
-                let own = values_for(split, &ranges);
+                let own = values_for(literals, split, &ranges);
                 let is_first = match best {
                     None => true,
                     Some((other, of_other)) => weight(split, own) < weight(other, of_other),

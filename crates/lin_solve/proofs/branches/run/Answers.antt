@@ -1,4 +1,4 @@
-use Rattle.std.proofs.Common.{⊎_elim, sym, subst, arith, Vec, Global}
+use Rattle.std.proofs.Common.{⊎_elim, sym, subst, Vec, Global}
 use Rattle.model_chain.specs.Literals.{HoldsAll}
 use Rattle.lin_solve.specs.declared.branches.Branch.{Branch}
 use Rattle.lin_solve.specs.Plain.{plain_literals}
@@ -9,7 +9,7 @@ use Rattle.lin_solve.proofs.branches.run.Goals.{in-Never, in-Open+in_ok-push_nex
 use Rattle.lin_solve.proofs.branches.run.Goals as goal
 
 pub loop-init : goal.loop-init
-loop-init c = λ h. some_added _ _ _ (c.in_ok-push.ensures {u = tt}).items (record { values = h.values; eight = h.eight; hold = c.in_ok-equated.ensures {u = tt} h.values h.eight (c.in_ok-copy.ensures {u = tt} h.values h.hold (λ d l. absurd (omega arith))) })
+loop-init c = λ h. some_added _ _ _ (c.in_ok-push.ensures {u = tt}).items (record { values = h.values; eight = h.eight; hold = c.in_ok-equated.ensures {u = tt} h.values h.eight (c.in_ok-own.ensures {u = tt} h.values h.eight h.hold) })
 
 pub loop-preserved : goal.loop-preserved
 loop-preserved c = λ h.
