@@ -93,8 +93,8 @@ class Crate:
                 found.update({name: crate, **crate.below})
         return found
 
-    def words(self):
-        """The command that proves and builds the crate over what was built below it."""
+    def words(self, jobs):
+        """The command that proves and builds the crate over what was built below it, by so many processors."""
         words = [f"{KIT}/bin/rattle", "build", "--crate-name", self.name]
         words.append("src/main.rt" if self.is_program else "src/lib.rt")
         for name, crate in {**self.uses, "std": None}.items():
@@ -102,7 +102,7 @@ class Crate:
         for folder in [os.path.dirname(it.made) for it in self.below.values()] + [f"{KIT}/rlibs"]:
             words += ["-L", f"dependency={folder}"]
         words += ["--antt-project", f"{KIT}/rattle/logic/antt-project.json", "--logic-built", f"{KIT}/logic_built"]
-        words += ["--incremental", "out/incremental", "--jobs", "1", "-o", self.made]
+        words += ["--incremental", "out/incremental", "--jobs", str(jobs), "-o", self.made]
         return words + (["--toolchain", f"{KIT}/toolchain"] if self.is_program else [])
 
     def link(self):
@@ -150,13 +150,13 @@ class Build:
         for name, crate in reversed(all_crates.items()):
             self.behind[name] = crate.weight + max((self.behind[it.name] for it in users[name]), default=0)
 
-    def prove(self, crate):
-        """Proves and builds one crate; what is said is kept beside it."""
+    def prove(self, crate, jobs):
+        """Proves and builds one crate by so many processors; what is said is kept beside it."""
         if not crate.is_program:
             shutil.rmtree(os.path.dirname(crate.made), ignore_errors=True)
         os.makedirs(os.path.dirname(crate.made), exist_ok=True)
         with open(crate.log, "w", encoding="utf-8") as log:
-            for words in [crate.words()] + ([crate.link()] if crate.is_program else []):
+            for words in [crate.words(jobs)] + ([crate.link()] if crate.is_program else []):
                 how = {"cwd": crate.folder, "stdin": subprocess.DEVNULL, "stdout": log, "stderr": subprocess.STDOUT}
                 with subprocess.Popen(words, **how) as run:
                     self.runs[crate.name] = run
@@ -184,10 +184,13 @@ class Build:
         with concurrent.futures.ThreadPoolExecutor(at_once) as pool:
             working = set()
             while left or working:
-                for crate in [it for it in left if all(name in self.done for name, use in it.uses.items() if use)]:
-                    if len(working) < at_once:
-                        left.remove(crate)
-                        working.add(pool.submit(self.prove, crate))
+                ready = [it for it in left if all(name in self.done for name, use in it.uses.items() if use)]
+                starts = ready[: at_once - len(working)]
+                # those that are left idle help, which shortens the end, where each crate waits for the one before
+                jobs = (at_once - len(working)) // max(1, len(starts))
+                for crate in starts:
+                    left.remove(crate)
+                    working.add(pool.submit(self.prove, crate, jobs))
                 ended, working = concurrent.futures.wait(working, return_when=concurrent.futures.FIRST_COMPLETED)
                 for name, is_proved in [it.result() for it in ended]:
                     self.runs.pop(name)
