@@ -93,15 +93,15 @@ impl Column {
 
 /// The last 256 lists of values that were found: each stands at the remainder of its number.
 #[derive(Drop)]
-pub(crate) struct Values {
+pub(crate) struct Lists {
     lists: Vec<[LabelInt; 8]>,
     count: usize,
     columns: Vec<Column>,
 }
 
-impl Values {
-    pub(crate) fn new(alloc: Global) -> Values {
-        Values {
+impl Lists {
+    pub(crate) fn new(alloc: Global) -> Lists {
+        Lists {
             lists: Vec::new(alloc),
             count: 0,
             columns: Vec::new(alloc),

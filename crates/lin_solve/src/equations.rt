@@ -1,5 +1,5 @@
-//! Equations that give a field: in all other literals it gives way to what it is equal to, so that fields within remainders
-//! become fewer before remainders are looked at.
+//! Equations that give a field by a number or one other field: in all other literals it gives way to that, so that fields
+//! within remainders become fewer before remainders are looked at.
 
 ghost use Rattle.std.specs.Prelude.{◌≡◌, ◌<◌, ℤ, List, IfOk, IfSome, slice_index_or, pos};
 ghost use Rattle.model_form.specs.Form.{value};
@@ -124,7 +124,8 @@ fn put_others(
     Ok(out)
 }
 
-// Where the literal at this place is an equation that gives a field, the literals where it is put.
+// Where the literal at this place is an equation that gives a field by a number or one other field, the literals where it is
+// put.
 fn put_one(
     alloc: Global,
     literals: &[Lit<Compare>],
@@ -138,11 +139,15 @@ fn put_one(
     let Some(own) = given_by(alloc, &literals[place])? else {
         return Ok(None);
     };
+    // with more fields than it gives, remainders would be split by each of them
+    if own.form.fields().len() > 1 {
+        return Ok(None);
+    }
     let forms = forms_with(alloc, own.field, &own.form)?;
     Ok(Some(put_others(alloc, literals, place, &forms)?))
 }
 
-/// The literals, where each equation that gives a field has been put into the others.
+/// The literals, where each equation that gives a field by a number or one other field has been put into the others.
 pub(crate) fn equated(
     alloc: Global,
     literals: Vec<Lit<Compare>>,

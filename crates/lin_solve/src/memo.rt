@@ -11,7 +11,7 @@ ghost use Rattle.lin_solve.specs.Kept.{is_same};
 ghost use Rattle.lin_solve.specs.Plain.{plain_literals};
 ghost use Rattle.lin_solve.specs.Sought.{NeverHoldAll, TellsSought};
 
-use crate::columns::Values;
+use crate::columns::Lists;
 use crate::compare::{Compare, Relation};
 use crate::found::Sought;
 use crate::guess::all_hold;
@@ -145,7 +145,7 @@ impl Refuted {
 // What is kept.
 #[derive(Drop)]
 struct Known {
-    values: Values,
+    lists: Lists,
     refuted: Vec<Refuted>,
 }
 
@@ -158,7 +158,7 @@ impl Known {
     ) -> Result<Option<Vec<LabelInt>>, Memory>
         ensures { IfOk result (λ found. IfSome found (λ vs. (length vs.items ≡ 8) × HoldsAll (plain_literals marked.now.literals.now) vs.items)) }
     {
-        let Some(values) = self.values.for_all(marked.literals, &marked.marks) else {
+        let Some(values) = self.lists.for_all(marked.literals, &marked.marks) else {
             return Ok(None);
         };
         if !all_hold(marked.literals, &values) {
@@ -213,7 +213,7 @@ impl Memo {
     pub fn new(alloc: Global) -> Memo {
         Memo {
             known: RefCell::new(Known {
-                values: Values::new(alloc),
+                lists: Lists::new(alloc),
                 refuted: Vec::new(alloc),
             }),
         }
@@ -237,7 +237,7 @@ impl Memo {
     ) -> Result<[LabelInt; 8], Memory> {
         let marked = with_marks(alloc, literals)?;
         let found = match self.known.try_borrow_mut() {
-            Ok(mut known) => known.values.nearest(literals, &marked.marks),
+            Ok(mut known) => known.lists.nearest(literals, &marked.marks),
             Err(_) => None,
         };
         Ok(found.unwrap_or([0; 8]))
@@ -250,7 +250,7 @@ impl Memo {
             own[i] = values.get(i).copied().unwrap_or(0);
         }
         match self.known.try_borrow_mut() {
-            Ok(mut known) => known.values.keep(alloc, own),
+            Ok(mut known) => known.lists.keep(alloc, own),
             Err(_) => Ok(()),
         }
     }

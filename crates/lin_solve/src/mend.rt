@@ -81,7 +81,7 @@ fn better(
     }
 }
 
-// The best change of a field that stands within remainders alone, one way or the other.
+// The best change of a field that stands within remainders alone: upwards first, else downwards.
 fn best_within(
     literals: &[Lit<Compare>],
     values: &mut Vec<LabelInt>,
@@ -95,9 +95,13 @@ fn best_within(
     }
     let old = values[place] as i128;
     let mut best = found;
-    for step in 1..FARTHEST {
-        best = better(literals, values, place, old + step as i128, best);
-        best = better(literals, values, place, old - step as i128, best);
+    for number in 0..2 * FARTHEST {
+        let step = if number < FARTHEST {
+            number as i128
+        } else {
+            FARTHEST as i128 - number as i128
+        };
+        best = better(literals, values, place, old + step, best);
     }
     best
 }

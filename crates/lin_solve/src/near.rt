@@ -18,9 +18,9 @@ use std::alloc::Global;
 const TRIES: [(u32, u32); 5] = [
     (1, 1),
     (10_001, 10_001),
-    (121, 14_641),
-    (23, 12_167),
-    (11, 14_641),
+    (301, 90_601),
+    (41, 68_921),
+    (17, 83_521),
 ];
 
 // The first field that a literal gives.
@@ -96,7 +96,7 @@ fn try_near(
     Ok(None)
 }
 
-/// Values near 0 at which the literals hold. Up to 14,641 are tried.
+/// Values near 0 at which the literals hold. Up to 90,601 are tried.
 pub(crate) fn seek_near(
     alloc: Global,
     literals: &[Lit<Compare>],

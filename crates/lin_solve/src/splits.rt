@@ -73,7 +73,7 @@ fn tells(literal: &Lit<Compare>, field: u32) -> bool {
     };
     let left = &literal.atom.left;
     let is_own = match left.fields().first() {
-        Some(term) => term.field == field && left.fields().len() == 1,
+        Some(term) => term.field == field && term.coefficient == 1 && left.fields().len() == 1,
         None => false,
     };
     is_own && left.remainders().is_empty() && is_number(&literal.atom.right)
