@@ -13,6 +13,7 @@ use Rattle.model_meaning.proofs.Laws.{shown_is_false}
 use Rattle.model_run.specs.Causes.{AreAllLarge, HasCause, too_large}
 use Rattle.model_run.specs.Items.{judged_claim, claim_has_classes, IsComposable}
 use Rattle.model_run.specs.Outcomes.{Outcome, true_verdict, tree_verdict, claim_type, trees_in, IsShownWith, IsVerdict, IsOutcomeOf}
+use Rattle.model_run.specs.Owed.{IsUnowed}
 use Rattle.fast_eval.specs.declared.stops.EvalStop.{EvalStop}
 use Rattle.fast_eval.specs.declared.stops.EvalStop.TheVariants.{Classes, Wide, Range, Memory}
 use Rattle.fast_eval.specs.Found.{IsInLimits}
@@ -31,7 +32,7 @@ use Rattle.fast_session.specs.declared.items.Kept.{Kept}
 use Rattle.fast_session.specs.declared.verdicts.Verdict.{Verdict}
 use Rattle.fast_session.specs.Answers.{stopped_by, verdict_on}
 use Rattle.fast_session.specs.Kept.{items_in}
-use Rattle.fast_session.specs.Items.{HaveScalars, IsTyped, IsUnowed, IsClaimUnowed, IsBuiltMore, IsDone, IsStoppedAt, is_member, spoken_of, verdict_outcome, IsVerdictOn}
+use Rattle.fast_session.specs.Items.{HaveScalars, IsTyped, IsClaimUnowed, IsBuiltMore, IsDone, IsStoppedAt, is_member, spoken_of, verdict_outcome, IsVerdictOn}
 use Rattle.fast_session.proofs.Keeping.{kept_built}
 use Rattle.fast_session.proofs.Silent.{no_tree}
 use Rattle.fast_session.proofs.Unowed.{item_unowed}

@@ -12,6 +12,7 @@ use Rattle.meaning_laws.proofs.Shaped.{item_shape}
 use Rattle.meaning_laws.specs.Shapes.{has_body_shape, has_tree_shape}
 use Rattle.model_run.specs.Items.{used_in, expressions_in, AreAllComposable, IsComposable}
 use Rattle.model_run.specs.Outcomes.{Outcome, tree_line, trees_in, IsOutcomeOf}
+use Rattle.model_run.specs.Owed.{IsUnowed}
 use Rattle.fast_eval.specs.Found.{IsInLimits}
 use Rattle.fast_eval.proofs.Outcomes.{each_composable}
 use Rattle.fast_eval.specs.Table.{AreBuilt, IsGrown}
@@ -29,7 +30,7 @@ use Rattle.fast_session.specs.declared.items.Around.{Around}
 use Rattle.fast_session.specs.declared.items.Kept.{Kept}
 use Rattle.fast_session.specs.Answers.{stopped_value}
 use Rattle.fast_session.specs.Kept.{items_in, IsKept, IsReady}
-use Rattle.fast_session.specs.Items.{IsUnowed, IsBuiltMore, IsDone, IsStoppedAt}
+use Rattle.fast_session.specs.Items.{IsBuiltMore, IsDone, IsStoppedAt}
 use Rattle.tree_values.proofs.Stopped.{printable}
 use Rattle.fast_session.proofs.Keeping.{defined_more, printed_more, still_there, own_there, typed_more}
 use Rattle.fast_session.proofs.Ready.{whole}

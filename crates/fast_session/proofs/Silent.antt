@@ -7,6 +7,7 @@ use Rattle.model_grammar.specs.Syntax.{sorts, tree, lang, trans, def, DefItem, T
 use Rattle.model_meaning.specs.Values.{Printed}
 use Rattle.model_run.specs.Items.{IsComposable}
 use Rattle.model_run.specs.Outcomes.{Outcome, silent, trees_in, IsOutcomeOf}
+use Rattle.model_run.specs.Owed.{IsUnowed}
 use Rattle.fast_eval.specs.Counted.{IsCounted, outcome_of}
 use Rattle.fast_eval.specs.Table.{AreBuilt}
 use Rattle.fast_eval.proofs.Outcomes.{def_outcome}
@@ -18,7 +19,7 @@ use Rattle.fast_session.specs.declared.items.Around.{Around}
 use Rattle.fast_session.specs.declared.items.Kept.{Kept}
 use Rattle.fast_session.specs.Answers.{verdict_on}
 use Rattle.fast_session.specs.Kept.{items_in, IsReady}
-use Rattle.fast_session.specs.Items.{IsTyped, IsUnowed, IsBuiltMore, IsDone}
+use Rattle.fast_session.specs.Items.{IsTyped, IsBuiltMore, IsDone}
 use Rattle.fast_session.proofs.Keeping.{kept_built}
 use Rattle.fast_session.proofs.Unowed.{item_unowed}
 use Rattle.fast_session.proofs.Ready.{def_form}

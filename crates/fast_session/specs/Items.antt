@@ -3,12 +3,12 @@ use Rattle.std.specs.Prelude.{◌≡◌, ℕ, Bool, true, false, List, [], ◌�
 use Rattle.model_tree.specs.Scalars.{has_scalars}
 use Rattle.model_tree.specs.Signature.{HasType}
 use Rattle.fast_fault.specs.declared.code.Code.{Code}
-use Rattle.model_grammar.specs.Syntax.{X, Claim, equal, member, empty, type_check, AssertItem, Body, Item}
+use Rattle.model_grammar.specs.Syntax.{X, Claim, equal, member, empty, type_check, AssertItem, Item}
 use Rattle.model_meaning.specs.Values.{Printed}
 use Rattle.model_meaning.specs.Truth.{Shows}
 use Rattle.model_run.specs.Items.{OfSomeTreeOf}
 use Rattle.model_run.specs.Causes.{AreAllLarge, HasCause}
-use Rattle.model_run.specs.Owed.{IsOwed}
+use Rattle.model_run.specs.Owed.{IsUnowed}
 use Rattle.model_run.specs.Outcomes.{Outcome, silent, tree_line, minimal_line, true_verdict, tree_verdict, claim_type, trees_in, IsOutcome, IsVerdict}
 use Rattle.fast_eval.specs.Table.{AreBuilt, IsGrown}
 use Rattle.tree_values.specs.Owed.{IsOwedFor}
@@ -35,10 +35,6 @@ IsTyped (tree_line name signature t) = HasType signature t
 IsTyped (minimal_line name n) = Unit {0}
 IsTyped (true_verdict n passes) = Unit {0}
 IsTyped (tree_verdict n passes signature t) = HasType signature t
-
--- no refusal is owed of the item
-abbrev pub IsUnowed : List Item → List Printed → Body → Type 0
-IsUnowed items trees body = (code : Code) → ¬ (IsOwed items trees body code)
 
 -- The item may have the outcome, whatever outcomes those before it had with which these trees were printed; and it is kept.
 pub record IsDone (items : List Item) (item : Item) (old new : Kept) (o : Outcome) : Type 0 where

@@ -7,6 +7,7 @@ use Rattle.model_names.specs.Kinds.{Kind}
 use Rattle.model_run.specs.Texts.{IsNameOf}
 use Rattle.fast_eval.specs.Forms.{IsReadyName}
 use Rattle.model_run.specs.Outcomes.{Outcome, silent, trees_in, IsOutcome}
+use Rattle.model_run.specs.Owed.{IsUnowed}
 use Rattle.fast_build.specs.Items.{items_of}
 use Rattle.tree_values.specs.Trees.{Tells}
 use Rattle.fast_session.specs.declared.answers.Step.{Step}
@@ -16,7 +17,7 @@ use Rattle.fast_session.specs.declared.answers.Halt.TheVariants as halt
 use Rattle.fast_session.specs.declared.session.Session.{Session}
 use Rattle.fast_session.specs.Answers.{plain_cause, CanBeShown, IsCauseTyped, line_outcome}
 use Rattle.fast_session.specs.Kept.{IsKept}
-use Rattle.fast_session.specs.Items.{HaveScalars, IsTyped, IsUnowed}
+use Rattle.fast_session.specs.Items.{HaveScalars, IsTyped}
 
 -- the items of its program
 abbrev pub items_in : Session → List Item

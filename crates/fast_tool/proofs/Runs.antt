@@ -7,6 +7,7 @@ use Rattle.fast_fault.specs.declared.status.Status.{Status}
 use Rattle.fast_fault.specs.declared.status.Status.TheVariants.{Hold, Fails, RunRefused, Memory}
 use Rattle.model_grammar.specs.Syntax.{Item}
 use Rattle.model_run.specs.Causes.{Stop, HasCause}
+use Rattle.model_run.specs.Owed.{IsUnowed}
 use Rattle.model_run.specs.Outcomes.{Outcome, line_of, trees_in, IsOutcome}
 use Rattle.model_run.specs.Lines.{stop_line}
 use Rattle.model_run.specs.Scripts.{begun, more, unfinished, Writes}
@@ -45,9 +46,9 @@ module _ (file : List ℕ) (items : List Item) (limit : ℕ) where
   left_is : (k : ℕ) (item : Item) → IsItemAt items k item → drop k items ≡ item ∷ drop (k + 1) items
   left_is k item (low, is) = drop-cons items k item low ∙ ap (λ x. x ∷ drop (suc k) items) (sym is) ∙ ap (λ j. item ∷ drop j items) (sym (add-one k))
 
-  pub next_is : (k : ℕ) (outcomes : List Outcome) (item : Item) (outcome : Outcome) (line : List ℕ) → IsItemAt items k item → IsOutcome items (trees_in outcomes) item outcome → line ≡ line_of outcome
+  pub next_is : (k : ℕ) (outcomes : List Outcome) (item : Item) (outcome : Outcome) (line : List ℕ) → IsItemAt items k item → IsOutcome items (trees_in outcomes) item outcome → IsUnowed items (trees_in outcomes) item.body → line ≡ line_of outcome
       → IsItemDone items (record { left = drop k items; done = outcomes }) line (record { left = drop (k + 1) items; done = outcome ∷ outcomes })
-  next_is k outcomes item outcome line is may line_is = record { item = item; left = left_is k item is; outcome = outcome; done = refl; may = may; is = line_is }
+  next_is k outcomes item outcome line is may unowed line_is = record { item = item; left = left_is k item is; outcome = outcome; done = refl; may = may; unowed = unowed; is = line_is }
 
   pub stops_here : (k : ℕ) (outcomes : List Outcome) (item : Item) (stop : Stop) (last : List ℕ) → IsItemAt items k item → HasCause items limit (trees_in outcomes) item.body stop → last ≡ stop_line stop file item.place
       → StopsAtItem items limit file (record { left = drop k items; done = outcomes }) last
@@ -71,7 +72,7 @@ module _ (file : List ℕ) (items : List Item) (limit : ℕ) where
       at = done.at;
       written = past.written ++ line_of done.outcome;
       come = more (record { left = drop k items; done = past.outcomes }) (record { left = drop (k + 1) items; done = done.outcome ∷ past.outcomes }) past.written (line_of done.outcome) past.come
-          (next_is k past.outcomes done.item done.outcome (line_of done.outcome) (here done.item done.is) (subst (λ its. IsOutcome its (trees_in past.outcomes) done.item done.outcome) past.program done.may) refl);
+          (next_is k past.outcomes done.item done.outcome (line_of done.outcome) (here done.item done.is) (subst (λ its. IsOutcome its (trees_in past.outcomes) done.item done.outcome) past.program done.may) (subst (λ its. IsUnowed its (trees_in past.outcomes) done.item.body) past.program done.unowed) refl);
       failed_is = (λ i. sym done.fails_is i || past.failed_is i) ∙ or_other fails failed;
       appended = appends_both before now after past.written (line_of done.outcome) past.appended done.appended;
     }
@@ -82,14 +83,15 @@ module _ (file : List ℕ) (items : List Item) (limit : ℕ) where
 
     cut_off : (after : Option (List ℕ)) (status : Status) (cut : IsCutOff s past.outcomes now after status) → AppendsPrefix now after (line_of cut.outcome) → Reports Reported status before after
     cut_off after status cut (front, back, joined, a) =
-        let may = subst (λ its. IsOutcome its (trees_in past.outcomes) cut.item cut.outcome) past.program cut.may in (
+        let may = subst (λ its. IsOutcome its (trees_in past.outcomes) cut.item cut.outcome) past.program cut.may in
+        let unowed = subst (λ its. IsUnowed its (trees_in past.outcomes) cut.item.body) past.program cut.unowed in (
           past.written ++ front,
           fault_report status (past.written ++ front) cut.fault (
             record { left = drop k items; done = past.outcomes },
             past.written,
             front,
             past.come,
-            inr (inl (back, record { left = drop (k + 1) items; done = cut.outcome ∷ past.outcomes }, next_is k past.outcomes cut.item cut.outcome (front ++ back) (here cut.item cut.is) may joined)),
+            inr (inl (back, record { left = drop (k + 1) items; done = cut.outcome ∷ past.outcomes }, next_is k past.outcomes cut.item cut.outcome (front ++ back) (here cut.item cut.is) may unowed joined)),
             refl,
           ),
           appends_both before now after past.written front past.appended a,

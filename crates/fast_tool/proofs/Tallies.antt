@@ -6,6 +6,7 @@ use Rattle.fast_fault.specs.declared.status.Status.{Status}
 use Rattle.fast_fault.specs.declared.status.Status.TheVariants.{Hold, Fails, RunRefused, Memory}
 use Rattle.model_grammar.specs.Syntax.{Item}
 use Rattle.model_run.specs.Causes.{HasCause}
+use Rattle.model_run.specs.Owed.{IsUnowed}
 use Rattle.model_run.specs.Outcomes.{Outcome, silent, tree_line, minimal_line, true_verdict, tree_verdict, line_of, trees_in, IsOutcome, verdicts, has_failed}
 use Rattle.model_run.specs.Lines.{stop_line, self_line}
 use Rattle.model_run.specs.Scripts.{begun, more, whole}
@@ -74,7 +75,8 @@ module _ (items : List Item) (k : ℕ) (s : Session) (t : Tally) (past : Counted
     at = done.at;
     before = past.before ++ line_of done.outcome;
     come = more work (record { left = drop (k + 1) items; done = done.outcome ∷ past.outcomes }) past.before (line_of done.outcome) past.come
-        (next_is self_name items usual_classes k past.outcomes done.item done.outcome (line_of done.outcome) (next_at items k s past.outcomes past.program past.counted done.item done.is) (subst (λ its. IsOutcome its (trees_in past.outcomes) done.item done.outcome) past.program done.may) refl);
+        (next_is self_name items usual_classes k past.outcomes done.item done.outcome (line_of done.outcome) (next_at items k s past.outcomes past.program past.counted done.item done.is) (subst (λ its. IsOutcome its (trees_in past.outcomes) done.item done.outcome) past.program done.may)
+        (subst (λ its. IsUnowed its (trees_in past.outcomes) done.item.body) past.program done.unowed) refl);
     tally = tally;
   }
 

@@ -5,6 +5,7 @@ use Rattle.fast_fault.specs.declared.status.Status.TheVariants.{RunRefused, Sink
 use Rattle.fast_fault.specs.Written.{Appends, AppendsPrefix}
 use Rattle.model_grammar.specs.Syntax.{Item}
 use Rattle.model_run.specs.Causes.{Stop, HasCause}
+use Rattle.model_run.specs.Owed.{IsUnowed}
 use Rattle.model_run.specs.Outcomes.{Outcome, trees_in, IsOutcome, line_of, says_fail, has_failed}
 use Rattle.model_run.specs.Lines.{stop_line}
 use Rattle.model_run.specs.Scripts.{Comes, Writes}
@@ -39,22 +40,24 @@ IsCutShort o before after status = ((status ≡ Memory) × (after ≡ before)) �
 abbrev pub IsNextItem : Session → List Outcome → Item → Type 0
 IsNextItem s done item = IsItemAt (items_in s) (length done) item
 
--- its line was put, if it has one
+-- its line was put, if it has one, and no refusal is owed of it
 pub record IsDone (old new : Session) (done : List Outcome) (before after : Option (List ℕ)) (fails : Bool) : Type 0 where
   pub item : Item
   pub is : IsNextItem old done item
   pub outcome : Outcome
   pub may : IsOutcome (items_in old) (trees_in done) item outcome
+  pub unowed : IsUnowed (items_in old) (trees_in done) item.body
   pub at : IsAt new (outcome ∷ done)
   pub fails_is : fails ≡ says_fail outcome
   pub appended : Appends before after (line_of outcome)
 
--- a fault or want of memory left a front of its line
+-- a fault or want of memory left a front of its line, and no refusal is owed of it
 pub record IsCutOff (old : Session) (done : List Outcome) (before after : Option (List ℕ)) (status : Status) : Type 0 where
   pub item : Item
   pub is : IsNextItem old done item
   pub outcome : Outcome
   pub may : IsOutcome (items_in old) (trees_in done) item outcome
+  pub unowed : IsUnowed (items_in old) (trees_in done) item.body
   pub front : AppendsPrefix before after (line_of outcome)
   pub fault : IsFault status
 

@@ -4,6 +4,7 @@ use Rattle.model_tree.specs.Limits.{usual_classes}
 use Rattle.fast_fault.specs.declared.status.Status.{Status}
 use Rattle.fast_fault.specs.declared.status.Status.TheVariants.{Hold, Fails, Memory}
 use Rattle.model_grammar.specs.Syntax.{Item}
+use Rattle.model_run.specs.Owed.{IsUnowed}
 use Rattle.model_run.specs.Outcomes.{Outcome, silent, tree_line, minimal_line, true_verdict, tree_verdict, trees_in, IsOutcome, verdicts}
 use Rattle.model_run.specs.Scripts.{Comes}
 use Rattle.model_run.specs.Report.{items_script, self_name}
@@ -38,12 +39,13 @@ status_for (suc n) = Fails
 abbrev pub IsTold : ℕ → ℕ → Tally → Option (List ℕ) → Option (List ℕ) → Status → Type 0
 IsTold n count t before after status = ((status ≡ Memory) × (after ≡ before)) ⊎ EndsWith before after (tally_line n count t) (status_for t.failed) status
 
--- the next item is done, with this verdict
+-- the next item is done, with this verdict, and no refusal is owed of it
 pub record IsCounted (old new : Session) (done : List Outcome) (verdict : Option Bool) : Type 0 where
   pub item : Item
   pub is : IsNextItem old done item
   pub outcome : Outcome
   pub may : IsOutcome (items_in old) (trees_in done) item outcome
+  pub unowed : IsUnowed (items_in old) (trees_in done) item.body
   pub at : IsAt new (outcome ∷ done)
   pub verdict_is : verdict ≡ verdict_in outcome
 

@@ -5,6 +5,7 @@ pub mod Lines
 pub mod Composed
 pub mod Undefined
 pub mod Laws
+pub mod Unowed
 pub mod Ordered
 pub mod Valued
 pub mod Forms

@@ -12,12 +12,17 @@ use Rattle.model_meaning.specs.Meaning.{meaning, IsRelated}
 use Rattle.model_meaning.specs.Reached.{itself}
 use Rattle.model_meaning.proofs.Related.{no_tree, two_rules}
 use Rattle.model_meaning.proofs.Members.{one_of, none_of}
-use Rattle.model_run.specs.Items.{expressions_in}
+use Rattle.model_meaning.specs.Values.{Printed}
+use Rattle.model_meaning.specs.Truth.{Shows}
+use Rattle.model_run.specs.Items.{expressions_in, OfItem, OfClaim, IsComposable}
+use Rattle.model_run.specs.Causes.{AreAllLarge}
+use Rattle.model_run.specs.Owed.{IsUnowed}
 use Rattle.model_run.proofs.Composed.{only_names}
+use Rattle.model_run.proofs.Unowed.{treeless_unowed}
 use Rattle.model_run.specs.Outcomes.{Outcome, silent, true_verdict, IsOutcomeOf, IsOutcome, trees_in, line_of}
 use Rattle.model_run.specs.Scripts.{Script, Comes, begun, more}
 use Rattle.model_run.specs.Report.{items_script}
-use Rattle.model_tree.specs.Signature.{PlainField}
+use Rattle.model_tree.specs.Signature.{PlainField, PlainSignature}
 use Rattle.model_form.specs.Form.{Form, form, no_remainders}
 use Rattle.model_run.specs.Seen.{LabelList, listed, chained, fields_at, IsLabelList, list_of_rule, list_of_both, form_of_list}
 use Rattle.model_run.specs.Printable.{IsPrintable}
@@ -31,27 +36,39 @@ script = items_script demanding 1000 (codes "A")
 
 -- an item that has no expressions and no line
 silent_step : (item : Item) (left : List Item) (done : List Outcome) (written : List ℕ) → ((e : X) → Contains (expressions_in item.body) e → ⊥) → IsOutcomeOf demanding (trees_in done) item.place.line item.body silent
+    → ((P : PlainSignature → X → Type 0) → ¬ (OfItem demanding P item.body)) → ¬ (OfClaim (λ claim. AreAllLarge (Shows demanding claim)) item.body)
     → Comes script (record { left = item ∷ left; done = done }) written → Comes script (record { left = left; done = silent ∷ done }) (written ++ [])
-silent_step item left done written none is come =
-    let may : IsOutcome demanding (trees_in done) item silent = record { composable = only_names demanding item.body (λ e at. absurd (none e at)); is = is } in
-    more _ _ written [] come (record { item = item; left = refl; outcome = silent; done = refl; may = may; is = refl })
+silent_step item left done written none is treeless claimless come =
+    let composable = only_names demanding item.body (λ e at. absurd (none e at)) in
+    let may : IsOutcome demanding (trees_in done) item silent = record { composable = composable; is = is } in
+    let unowed = treeless_unowed demanding item.body composable (trees_in done) treeless claimless in
+    more _ _ written [] come (record { item = item; left = refl; outcome = silent; done = refl; may = may; unowed = unowed; is = refl })
 
 -- the last item
-last_step : (item : Item) (done : List Outcome) (written : List ℕ) (o : Outcome) → IsOutcome demanding (trees_in done) item o
+last_step : (item : Item) (done : List Outcome) (written : List ℕ) (o : Outcome) → IsOutcome demanding (trees_in done) item o → IsUnowed demanding (trees_in done) item.body
     → Comes script (record { left = item ∷ []; done = done }) written → Comes script (record { left = []; done = o ∷ done }) (written ++ line_of o)
-last_step item done written o may come =
-    more _ _ written (line_of o) come (record { item = item; left = refl; outcome = o; done = refl; may = may; is = refl })
+last_step item done written o may unowed come =
+    more _ _ written (line_of o) come (record { item = item; left = refl; outcome = o; done = refl; may = may; unowed = unowed; is = refl })
 
 abbrev the_last : Item
 the_last = assert_item 5 (empty (x (codes "w")))
 
 first_four : Comes script (record { left = the_last ∷ []; done = silent ∷ silent ∷ silent ∷ silent ∷ [] }) []
 first_four =
-    silent_step _ _ _ _ (λ e at. none_of e at) refl (silent_step _ _ _ _ (λ e at. none_of e at) refl (silent_step _ _ _ _ (λ e at. none_of e at) refl (silent_step _ _ _ _ (λ e at. none_of e at) refl begun)))
+    silent_step _ _ _ _ (λ e at. none_of e at) refl (λ P of. of) (λ large. large) (
+    silent_step _ _ _ _ (λ e at. none_of e at) refl (λ P of. of) (λ large. large) (
+    silent_step _ _ _ _ (λ e at. none_of e at) refl (λ P of. of) (λ large. large) (
+    silent_step _ _ _ _ (λ e at. none_of e at) refl (λ P of. of) (λ large. large) begun)))
 
 -- its one expression is a name
 last_names : (e : X) → Contains (expressions_in the_last.body) e → (n : Name) × (e ≡ named n)
 last_names e at = elim (one_of (x (codes "w")) e [] at) [ inl same ↦ (name (codes "w"), sym same) | inr other ↦ absurd (none_of e other) ]
+
+last_composable : IsComposable demanding the_last.body
+last_composable = only_names demanding the_last.body last_names
+
+last_unowed : (trees : List Printed) → IsUnowed demanding trees the_last.body
+last_unowed trees = treeless_unowed demanding the_last.body last_composable trees (λ P of. of) (λ large. no_tree large.tree large.right.0 large.right.1)
 
 pub is_reported : IsReported
 unfolding digits
@@ -59,7 +76,7 @@ is_reported = (
   record { left = []; done = true_verdict 5 true ∷ silent ∷ silent ∷ silent ∷ silent ∷ [] },
   codes "assert 5 pass\n",
   [],
-  last_step the_last (silent ∷ silent ∷ silent ∷ silent ∷ []) [] (true_verdict 5 true) (record { composable = only_names demanding the_last.body last_names; is = (refl, refl, no_tree) }) first_four,
+  last_step the_last (silent ∷ silent ∷ silent ∷ silent ∷ []) [] (true_verdict 5 true) (record { composable = last_composable; is = (refl, refl, no_tree) }) (last_unowed []) first_four,
   (refl, refl, refl),
   refl,
 )

@@ -41,8 +41,8 @@ ClassesAreUnions =
     (items : List Item) (es : List X) (type : List ℕ) (d : LanguagePart) → AreClassesOf items es type d
     → (s t : LabelTree) → IsUntold items es type s t → IsInPart items d s → IsInPart items d t
 
--- A line that is legal owes no refusal for a composition, for a tree of an empty language, or for a number of outputs. Whether outputs that no line shows are
--- too much is no matter of legal lines.
+-- An item that may have an outcome owes no refusal for a composition, for a tree of an empty language, or for a number of outputs. Whether outputs that no line
+-- shows are too much, or have a far number, is no matter of outcomes: reports ask beside that nothing is owed.
 pub record LinesOweNothing : Type 0 where
   pub composition : (items : List Item) (trees : List Printed) (item : Item) (o : Outcome) → IsOutcome items trees item o → ¬ (IsOwed items trees item.body NotComposable)
   pub witness : (items : List Item) (trees : List Printed) (item : Item) (o : Outcome) → IsOutcome items trees item o → ¬ (IsOwed items trees item.body EmptyLanguage)

@@ -31,3 +31,7 @@ IsOwed items trees body OutputCount = OfItem items (IsAppliedToEach items trees 
 IsOwed items trees body Outputs = OfItem items (IsAppliedToEach items trees (IsOwedAt items Outputs)) body
 IsOwed items trees body TreeSize = IsFoundLarge items body
 IsOwed items trees body code = ⊥
+
+-- no refusal is owed of it
+abbrev pub IsUnowed : List Item → List Printed → Body → Type 0
+IsUnowed items trees body = (code : Code) → ¬ (IsOwed items trees body code)

@@ -22,6 +22,7 @@ use Rattle.model_meaning.specs.Meaning.{IsInLanguage, IsRelated, input_type, out
 use Rattle.model_meaning.specs.Reached.{DependsOn}
 use Rattle.model_run.specs.Order.{label_tree_cmp}
 use Rattle.model_run.specs.Causes.{Stop, HasCause, TreeHasCause}
+use Rattle.model_run.specs.Owed.{IsUnowed}
 use Rattle.model_run.specs.Words.{CommandForm, check_form, run_form, apply_form, accepts_form, self_form, AreWordsOf, limit_of, usage_line}
 use Rattle.model_run.specs.Items.{IsComposable}
 use Rattle.model_run.specs.Printable.{IsPrintable}
@@ -38,13 +39,14 @@ pub record Work : Type 0 where
   pub left : List Item
   pub done : List Outcome
 
--- the next item has an outcome, and its line comes next
+-- the next item has an outcome, and no refusal is owed of it; its line comes next
 pub record IsItemDone (items : List Item) (before : Work) (line : List ℕ) (after : Work) : Type 0 where
   pub item : Item
   pub left : before.left ≡ item ∷ after.left
   pub outcome : Outcome
   pub done : after.done ≡ outcome ∷ before.done
   pub may : IsOutcome items (trees_in before.done) item outcome
+  pub unowed : IsUnowed items (trees_in before.done) item.body
   pub is : line ≡ line_of outcome
 
 -- the next item has a cause, and the line of its refusal comes last

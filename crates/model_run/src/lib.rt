@@ -59,7 +59,7 @@ pub fn shown_are_not_composable()
     ensures { ShownAreNotComposable }
 {}
 
-/// A legal line owes no refusal for what it shows.
+/// An item that may have an outcome owes no refusal for what its line shows.
 pub fn legal_lines_owe_nothing()
     ensures { LinesOweNothing }
 {}
