@@ -16,5 +16,6 @@ pub mod Labels
 pub mod Saying
 pub mod Gapped
 pub mod Cased
+pub mod Bounded
 pub mod Branched
 pub mod Among

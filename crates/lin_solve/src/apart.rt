@@ -6,7 +6,7 @@ ghost use Rattle.lin_solve.specs.Equations.{HoldAlso};
 ghost use Rattle.lin_solve.specs.Plain.{plain_literals};
 ghost use Rattle.lin_solve.specs.Sought.{TellsSought};
 
-use crate::branches::seek_branches;
+use crate::branches::{FEW_BRANCHES, SOME_BRANCHES, seek_branches};
 use crate::compare::Compare;
 use crate::found::{Sought, seek};
 use crate::guess::all_hold;
@@ -98,7 +98,11 @@ fn take_found(values: &mut [LabelInt], found: &[LabelInt], fields: u32)
 fn seek_together(alloc: Global, literals: &[Lit<Compare>]) -> Result<Sought, Memory>
     ensures { IfOk result (TellsSought (plain_literals literals.now)) }
 {
-    match seek_branches(alloc, literals)? {
+    match seek_branches(alloc, literals, FEW_BRANCHES)? {
+        Sought::Open => {}
+        found => return Ok(found),
+    }
+    match seek_branches(alloc, literals, SOME_BRANCHES)? {
         Sought::Open => seek(alloc, literals),
         found => Ok(found),
     }

@@ -16,7 +16,9 @@ ghost use Rattle.lin_solve.specs.Plain.{plain_compare, plain_literal, plain_lite
 ghost use Rattle.lin_solve.specs.Sought.{IsSidedAt, TellsExplored, TellsSought};
 ghost use Rattle.lin_reduce.specs.Parts.{TellsNever};
 ghost use Rattle.lin_solve.specs.Branches.{IsHeld, SomeHeld};
+ghost use Rattle.lin_solve.specs.Equations.{HoldAlso};
 
+use crate::bounds::bounded;
 use crate::cases::{Case, Turn, is_lost};
 use crate::compare::{Compare, Relation};
 use crate::equations::equated;
@@ -34,8 +36,12 @@ use lin_form::{Form, FormStop, Signed};
 use lin_reduce::{Explored, clashes, explore};
 use std::alloc::Global;
 
-// How many branches are looked at.
-const MOST: usize = 1000;
+/// How many branches are looked at first, then with bounds, and last where nothing but Cooper's method is left to ask.
+pub(crate) const FEW_BRANCHES: usize = 60;
+
+pub(crate) const SOME_BRANCHES: usize = 1000;
+
+pub(crate) const MANY_BRANCHES: usize = 20_000;
 
 // The values by which a branch is split of which nothing is found.
 const NOUGHTS: [LabelInt; 8] = [0; 8];
@@ -104,8 +110,8 @@ fn explore_sums(
     explore(alloc, &sums, count)
 }
 
-// What is found of literals where negated equalities are left out, and remainders may be any of their divisor's.
-fn explore_loosely(alloc: Global, literals: &[Lit<Compare>]) -> Result<Explored, Memory>
+/// What is found of literals where negated equalities are left out, and remainders may be any of their divisor's.
+pub(crate) fn explore_loosely(alloc: Global, literals: &[Lit<Compare>]) -> Result<Explored, Memory>
     ensures { IfOk result (TellsExplored (plain_literals literals.now)) }
 {
     let own = sideless(alloc, literals)?;
@@ -124,8 +130,8 @@ fn explore_loosely(alloc: Global, literals: &[Lit<Compare>]) -> Result<Explored,
     Ok(Explored::Open)
 }
 
-// How a field stands to a number.
-fn beside(
+/// How a field stands to a number.
+pub(crate) fn beside(
     alloc: Global,
     field: u32,
     relation: Relation,
@@ -145,7 +151,8 @@ fn beside(
     })
 }
 
-fn with_literal(
+/// The literals, and one more.
+pub(crate) fn with_literal(
     alloc: Global,
     literals: &[Lit<Compare>],
     more: Lit<Compare>,
@@ -435,16 +442,43 @@ impl Branch {
     }
 }
 
-fn run(alloc: Global, literals: &[Lit<Compare>]) -> Result<Sought, FormStop>
-    ensures { IfOk result (TellsSought (plain_literals literals.now)) }
+// The literals, with bounds where more than few branches are looked at.
+fn with_bounds(
+    alloc: Global,
+    literals: Vec<Lit<Compare>>,
+    most: usize,
+) -> Result<Vec<Lit<Compare>>, FormStop>
+    ensures { IfOk result (λ r. HoldAlso literals.items r.items) }
+{
+    if most <= FEW_BRANCHES {
+        return Ok(literals);
+    }
+    bounded(alloc, literals)
+}
+
+// The literals of the first branch.
+fn first_literals(
+    alloc: Global,
+    literals: &[Lit<Compare>],
+    most: usize,
+) -> Result<Vec<Lit<Compare>>, FormStop>
+    ensures { IfOk result (λ r. HoldAlso literals.now r.items) }
 {
     let own = simpler_each(alloc, literals)?;
+    let inside = with_bounds(alloc, own, most)?;
+    let put = equated(alloc, inside)?;
+    Ok(put)
+}
+
+fn run(alloc: Global, literals: &[Lit<Compare>], most: usize) -> Result<Sought, FormStop>
+    ensures { IfOk result (TellsSought (plain_literals literals.now)) }
+{
     let mut pending = Vec::new(alloc);
     pending.push(Branch {
         case: Case::all(),
-        literals: equated(alloc, own)?,
+        literals: first_literals(alloc, literals, most)?,
     })?;
-    for _ in 0..MOST {
+    for _ in 0..most {
         let Some(own) = pending.pop() else {
             return Ok(Sought::Never);
         };
@@ -469,11 +503,16 @@ fn run(alloc: Global, literals: &[Lit<Compare>]) -> Result<Sought, FormStop>
     Ok(Sought::Open)
 }
 
-/// Seeks values of the eight fields at which the literals hold, branch by branch.
-pub(crate) fn seek_branches(alloc: Global, literals: &[Lit<Compare>]) -> Result<Sought, Memory>
+/// Seeks values of the eight fields at which the literals hold, branch by branch, and looks at so many; if these are more than
+/// few, bounds of fields are sought first.
+pub(crate) fn seek_branches(
+    alloc: Global,
+    literals: &[Lit<Compare>],
+    most: usize,
+) -> Result<Sought, Memory>
     ensures { IfOk result (TellsSought (plain_literals literals.now)) }
 {
-    match run(alloc, literals) {
+    match run(alloc, literals, most) {
         Ok(found) => Ok(found),
         Err(FormStop::Range(_)) => Ok(Sought::Open),
         Err(FormStop::Memory) => Err(Memory),

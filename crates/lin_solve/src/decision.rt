@@ -7,8 +7,10 @@ ghost use Rattle.cooper_solve.specs.Told.{IsFarOff, puts_of};
 ghost use Rattle.lin_solve.specs.Plain.{plain_literals, AreTheirs};
 ghost use Rattle.lin_solve.specs.Shown.{Answers};
 ghost use Rattle.lin_solve.specs.Kept.{AreKept};
+ghost use Rattle.lin_solve.specs.Sought.{TellsSought};
 
 use crate::apart::seek_apart;
+use crate::branches::{MANY_BRANCHES, seek_branches};
 use crate::cases::seek_cases;
 use crate::chain::{Chain, Width, chain_of};
 use crate::compare::Compare;
@@ -87,6 +89,16 @@ fn decide_all(
     }
 }
 
+// What is tried before Cooper's method: values near 0, and more branches.
+fn seek_at_last(alloc: Global, literals: &[Lit<Compare>]) -> Result<Sought, Memory>
+    ensures { IfOk result (TellsSought (plain_literals literals.now)) }
+{
+    match seek_near(alloc, literals)? {
+        Some(values) => Ok(Sought::Values(values)),
+        None => seek_branches(alloc, literals, MANY_BRANCHES),
+    }
+}
+
 // Decides them by all that takes more than a look at them.
 fn decide_deeply(
     alloc: Global,
@@ -114,8 +126,10 @@ fn decide_deeply(
         Sought::Never => return Ok(Verdict::Unsat),
         Sought::Open => {}
     }
-    if let Some(values) = seek_near(alloc, literals)? {
-        return Ok(Verdict::Sat(values));
+    match seek_at_last(alloc, literals)? {
+        Sought::Values(values) => return Ok(Verdict::Sat(values)),
+        Sought::Never => return Ok(Verdict::Unsat),
+        Sought::Open => {}
     }
     if are_different(literals) && sided_stand_last(literals) {
         return decide_all(alloc, literals);

@@ -5,6 +5,7 @@
 #![tactic(auto)]
 
 mod apart;
+mod bounds;
 mod branches;
 mod cases;
 mod chain;

@@ -33,8 +33,8 @@ fn first_given(alloc: Global, literals: &[Lit<Compare>]) -> Result<Option<Own>, 
     Ok(None)
 }
 
-// The fields of the literals, but for one that is given.
-fn moved_fields(literals: &[Lit<Compare>], given: Option<&Own>) -> u32 {
+/// The fields of the literals, a bit each, but for one that is given.
+pub(crate) fn moved_fields(literals: &[Lit<Compare>], given: Option<&Own>) -> u32 {
     let mut all = 0;
     for literal in literals {
         all |= fields_in(literal);

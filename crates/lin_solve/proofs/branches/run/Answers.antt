@@ -9,12 +9,12 @@ use Rattle.lin_solve.proofs.branches.run.Goals.{in-Never, in-Open+in_ok-push_nex
 use Rattle.lin_solve.proofs.branches.run.Goals as goal
 
 pub loop-init : goal.loop-init
-loop-init c = λ h. some_added _ _ _ (c.in_ok-push.ensures {u = tt}).items (record { values = h.values; eight = h.eight; hold = c.in_ok-equated.ensures {u = tt} h.values h.eight (c.in_ok-own.ensures {u = tt} h.values h.eight h.hold) })
+loop-init c = λ h. some_added _ _ _ (c.in_ok-push.ensures {u = tt}).items (record { values = h.values; eight = h.eight; hold = c.in_ok-first_literals.ensures {u = tt} h.values h.eight h.hold })
 
 pub loop-preserved : goal.loop-preserved
 loop-preserved c = λ h.
     let popped = some_popped _ _ c.in-Some.own (c.in-Some.ensures {u = tt}).items (c.loop.invariant h) in
-    elim c.match-branch-5.branch [
+    elim c.match-branch-4.branch [
       | in-Never w ↦
           let gone = subst (TellsExplored (plain_literals c.deref.result.now)) w.in-Never.is (c.in_ok-explore_loosely.ensures {u = tt}) in
           let after = λ (s : SomeHeld c.pop.new.self.items). subst (λ (v : Vec Branch Global). SomeHeld v.items) (sym w.pending-is) s in
