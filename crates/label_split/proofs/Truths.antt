@@ -1,8 +1,8 @@
 -- What is known of a formula is true, and where all its atoms are known, so is it.
-use Rattle.std.proofs.Common.{◌≡◌, Bool, true, false, not, ◌&&◌, ◌||◌, Option, Some, None, IsSome, IfSome, List, [], ◌∷◌, All, map, length, ℕ, zero, suc, ◌+◌, refl, sym, ap, ap₂, ◌∙◌, arith, get_or, take, ◌++◌, ◌<◌, ◌≤◌, subst}
+use Rattle.std.proofs.Common.{◌≡◌, Bool, true, false, not, ◌&&◌, ◌||◌, Option, Some, None, IsSome, IfSome, List, [], ◌∷◌, All, map, length, ℕ, zero, suc, ◌+◌, refl, sym, ap, ap₂, ◌∙◌, arith, get_or, take, drop, ◌++◌, ◌<◌, ◌≤◌, subst}
 use mathlib.Core.Bool.{beq}
 use Rattle.std.specs.List.{list_all, list_any}
-use Rattle.std.proofs.lemmas.List.{take_more, map-append, take_all}
+use Rattle.std.proofs.lemmas.List.{take_more, at_drop_more, map-append, take_all}
 use Rattle.std.proofs.lemmas.List.Elements.{All-nil, All-cons, All-append}
 use Rattle.model_tree.specs.Formula as plain
 use Rattle.model_tree.specs.Formula.{yes, no, atom, negation, all_of, some_of, no_formulas, formula, formulas_of, formula_holds, all_hold, some_hold, EveryAtom, EveryAtomOfAll}
@@ -165,6 +165,14 @@ pub signs_further : (truths : List Bool) (fs : List (Formula ℕ)) (bs : List Bo
 signs_further truths fs bs i f low same is s h =
     let low' : i < length bs = omega arith in
     ap (map (holds_at truths)) (take_more fs i f low ∙ ap (λ g. take i fs ++ g ∷ []) (sym is)) ∙ map-append (holds_at truths) (take i fs) (f ∷ []) ∙ ap₂ (λ xs x. xs ++ x ∷ []) h s ∙ sym (take_more bs i false low')
+
+-- formulas that have their signs, and the one before them
+pub signs_before : (truths : List Bool) (fs : List (Formula ℕ)) (bs : List Bool) (k i : ℕ) (f : Formula ℕ) → k + 1 ≡ i → i ≤ length fs → length bs ≡ length fs → f ≡ get_or fs k f → holds_at truths f ≡ get_or bs k false → HaveSigns (drop i fs) (drop i bs) truths → HaveSigns (drop k fs) (drop k bs) truths
+signs_before truths fs bs k i f next low same is s h =
+    let here : k < length fs = omega arith in
+    let here' : k < length bs = omega arith in
+    let rest : HaveSigns (drop (k + 1) fs) (drop (k + 1) bs) truths = subst (λ n. HaveSigns (drop n fs) (drop n bs) truths) (sym next) h in
+    ap (map (holds_at truths)) (at_drop_more (λ us. us) fs k f here ∙ ap (λ g. g ∷ drop (k + 1) fs) (sym is)) ∙ ap₂ (λ x xs. x ∷ xs) s rest ∙ sym (at_drop_more (λ us. us) bs k false here')
 
 -- what holds of the first elements and of the next
 pub all_further : {X : Type 0} (P : X → Type 0) (xs : List X) (i : ℕ) (x : X) → i < length xs → x ≡ get_or xs i x → All P (take i xs) → P x → All P (take (i + 1) xs)

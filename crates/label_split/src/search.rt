@@ -122,7 +122,7 @@ fn literals_of<T: Theory>(
     Ok(literals)
 }
 
-/// The first formula that has another sign at the value's label.
+/// The last formula that has another sign at the value's label: those that came last are the likeliest.
 fn wrong<T: Theory>(theory: &T, atoms: &[T::Atom], asked: &Asked, value: &T::Value) -> Option<usize>
     requires asked { AreAsked (length atoms.now) asked.now.formulas.now asked.now.signs.now }
     requires fit { All (T.atom_fits theory.now) atoms.now }
@@ -130,7 +130,7 @@ fn wrong<T: Theory>(theory: &T, atoms: &[T::Atom], asked: &Asked, value: &T::Val
     ensures right { IfNone result (HaveSigns asked.now.formulas.now asked.now.signs.now (truths_at T.atom_holds atoms.now (T.label_of value.now))) }
     ensures wrong { IfSome result (IsWrong asked.now.formulas.now asked.now.signs.now (truths_at T.atom_holds atoms.now (T.label_of value.now))) }
 {
-    for i in 0..asked.formulas.len() {
+    for i in (0..asked.formulas.len()).rev() {
         if holds_of(theory, atoms, &asked.formulas[i], value) != asked.signs[i] {
             return Some(i);
         }

@@ -32,6 +32,7 @@ mod search;
 mod shears;
 mod space;
 mod tableau;
+mod thin;
 
 pub use clash::clashes;
 pub use nodes::{Explored, explore};

@@ -16,6 +16,7 @@ use crate::rows::Rows;
 use crate::search::sketch;
 use crate::shears::{shear_for, sheared_each};
 use crate::space::{Space, cut_of, space_of};
+use crate::thin::some_thin;
 use cooper_solve::{Constraint, is_hopeless, is_refuted};
 use fast_fault::{LabelInt, Memory};
 use std::alloc::Global;
@@ -331,15 +332,31 @@ impl Node {
         }
     }
 
-    // What is found of inequalities alone, of which no variable was cut.
+    // What sums of inequalities tell, if they are asked.
+    fn by_sums_if(&self, alloc: Global, count: usize, asked: bool) -> Result<Look, Stop>
+        ensures { MatchResult result (TellsLook self.now.system.items) (λ _. Unit {0}) }
+    {
+        if asked {
+            return self.by_sums(alloc, count);
+        }
+        Ok(Look::Open)
+    }
+
+    // What is found of inequalities alone, of which no variable was cut. Sums are asked first where they tell: a linear program
+    // leaves the space between two inequalities to cuts without end where rational numbers are in it.
     fn uncut(&self, alloc: Global, count: usize) -> Result<Look, Stop>
         ensures { MatchResult result (TellsLook self.now.system.items) (λ _. Unit {0}) }
     {
+        let thin = some_thin(&self.system);
+        match self.by_sums_if(alloc, count, thin)? {
+            Look::Open => {}
+            found => return Ok(found),
+        }
         match self.by_space(alloc, count, false)? {
             Look::Open => {}
             found => return Ok(found),
         }
-        match self.by_sums(alloc, count)? {
+        match self.by_sums_if(alloc, count, !thin)? {
             Look::Open => {}
             found => return Ok(found),
         }

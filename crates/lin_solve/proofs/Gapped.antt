@@ -1,7 +1,8 @@
 -- The values of the forms that part two sides.
-use Rattle.std.proofs.Common.{◌≡◌, ℕ, zero, suc, ◌<◌, List, [], ◌∷◌, ◌++◌, length, get_or, true, false, Option, Some, None, Result, Ok, Err, refl, ap, sym, ◌∙◌, subst, arith}
+use Rattle.std.proofs.Common.{◌≡◌, ℕ, zero, suc, ◌<◌, List, [], ◌∷◌, ◌++◌, length, ◌==◌, get_or, true, false, Option, Some, None, Result, Ok, Err, refl, ap, sym, ◌∙◌, subst, arith}
 use Rattle.std.specs.Prelude.{IfOk, IfSome}
 use Rattle.std.proofs.Math.IntN.{ℤ, pos, negsuc, ◌+ℤ◌, ◌-ℤ◌, ◌*ℤ◌}
+use Rattle.std.proofs.lemmas.Bool.{eqb-true}
 use Rattle.std.proofs.lemmas.Int.{ints}
 use Rattle.std.proofs.lemmas.List.{map-append, get_or-map, length-map}
 use Rattle.std.proofs.lemmas.List.Elements.{All-append, All-cons, All-nil}
@@ -10,13 +11,16 @@ use Rattle.label_core.specs.declared.theory.Lit.{Lit}
 use Rattle.lin_solve.specs.declared.compare.Compare.{Compare}
 use Rattle.lin_solve.specs.Plain.{plain_compare, plain_literal, plain_literals}
 use Rattle.model_tree.specs.Range.{IsLabelNumber}
-use Rattle.model_form.specs.Form.{Form, form, Term, constant_of, fields_of, value}
+use Rattle.model_form.specs.Form.{Form, form, Remainders, no_remainders, remainder, Term, constant_of, fields_of, remainders_of, value}
 use Rattle.model_form.specs.Sums.{sum_form, number_form}
 use Rattle.model_form.specs.Ranges.{IsForm, AreFields}
 use Rattle.model_form.specs.Meaning.{AreLow, values_of}
 use Rattle.model_form.proofs.Values.{sum_form-value}
+use Rattle.lin_form.specs.declared.form.FieldTerm.{FieldTerm}
+use Rattle.lin_form.specs.declared.form.RemTerm.{RemTerm}
 use Rattle.lin_form.specs.declared.sum.Signed.{Signed}
 use Rattle.lin_form.specs.Gathered.{plain_parts}
+use Rattle.lin_form.specs.Terms.{plain_fields, plain_remainders}
 use Rattle.lin_solve.specs.declared.said.Fact.{Fact}
 use Rattle.lin_solve.specs.Said.{IsSo, AreSo}
 use Rattle.lin_solve.proofs.Saying.{so_more}
@@ -30,6 +34,20 @@ low (form c ts rs) h = low_fields 0 ts h.1
 
 pub constant_range : (f : Form) → IsForm f → IsLabelNumber (constant_of f)
 constant_range (form c ts rs) h = h.0
+
+-- a form without terms
+pub alone_value : (f : Form) (ts : List FieldTerm) (rs : List RemTerm) (us : List ℤ) → plain_fields ts ≡ fields_of f → plain_remainders rs ≡ remainders_of f → (length ts == 0) ≡ true → (length rs == 0) ≡ true → value f us ≡ constant_of f
+alone_value f (t ∷ ts) rs us e g n m = absurd (some (length ts) n)
+  where
+    some : (k : ℕ) → (suc k == 0) ≡ true → ⊥
+    some k h = absurd (omega (arith, eqb-true (suc k) 0 h))
+alone_value f [] (r ∷ rs) us e g n m = absurd (some (length rs) m)
+  where
+    some : (k : ℕ) → (suc k == 0) ≡ true → ⊥
+    some k h = absurd (omega (arith, eqb-true (suc k) 0 h))
+alone_value (form c [] no_remainders) [] [] us e g n m = omega (arith, ints)
+alone_value (form c (v ∷ vs) qs) [] [] us e g n m = cc
+alone_value (form c [] (remainder a f k qs)) [] [] us e g n m = cc
 
 pub number_value : (c : ℤ) (us : List ℤ) → value (number_form c) us ≡ c
 number_value c us = omega (arith, ints)

@@ -1,7 +1,7 @@
 //! Literals as facts on the values of forms, of which equal ones stand once: by them alone some literals can't hold together.
 
 ghost use Rattle.std.specs.Prelude.{◌≡◌, ◌<◌, ℕ, ℤ, ◌-ℤ◌, IfOk, IfSome, MatchOption, IsTrue, List, length, slice_index_or, pos, true};
-ghost use Rattle.model_form.specs.Form.{Form as PlainForm, value};
+ghost use Rattle.model_form.specs.Form.{Form as PlainForm, constant_of, value};
 ghost use Rattle.model_form.specs.Meaning.{values_of};
 ghost use Rattle.model_form.specs.Same.{same_form};
 ghost use Rattle.model_tree.specs.Range.{IsLabelNumber};
@@ -46,6 +46,13 @@ pub(crate) fn less(alloc: Global, left: &Form, right: &Form) -> Result<Option<Fo
     }
 }
 
+/// Whether the form is a number.
+pub(crate) fn is_number(form: &Form) -> bool
+    ensures { IsTrue result → (us : List ℤ) → value form.now us ≡ constant_of form.now }
+{
+    form.fields().is_empty() && form.remainders().is_empty()
+}
+
 // Whether the first of its coefficients is negative.
 fn is_negative(form: &Form) -> bool {
     match form.fields().first() {
@@ -76,8 +83,32 @@ fn rooted(alloc: Global, whole: &Form, minus: bool) -> Result<Option<Gap>, Memor
     }
 }
 
+// The gap between a form without a constant and a number, where the form begins with a coefficient above 0.
+fn gap_to(alloc: Global, form: &Form, number: &Form, minus: bool) -> Result<Option<Gap>, Memory>
+    ensures { IfOk result (λ g. IfSome g (λ g. (g.minus ≡ minus) × IsLabelNumber g.number × ((us : List ℤ) → (value form.now us ≡ value g.form us) × (value number.now us ≡ g.number)))) }
+{
+    if !is_number(number) || form.constant() != 0 || is_negative(form) {
+        return Ok(None);
+    }
+    Ok(Some(Gap {
+        form: form.copy(alloc)?,
+        minus,
+        number: number.constant(),
+    }))
+}
+
+// The gap where one of the sides is a number and the other one has no constant, as in most comparisons.
+fn plain_gap(alloc: Global, left: &Form, right: &Form) -> Result<Option<Gap>, Memory>
+    ensures { IfOk result (λ g. IfSome g (λ g. IsLabelNumber g.number × ((us : List ℤ) → IsParted g.minus g.number (value g.form us) (value left.now us -ℤ value right.now us)))) }
+{
+    match gap_to(alloc, left, right, false)? {
+        Some(gap) => Ok(Some(gap)),
+        None => gap_to(alloc, right, left, true),
+    }
+}
+
 // The gap between the sides of a comparison, whose form begins with a coefficient above 0.
-fn gap_between(alloc: Global, left: &Form, right: &Form) -> Result<Option<Gap>, Memory>
+fn whole_gap(alloc: Global, left: &Form, right: &Form) -> Result<Option<Gap>, Memory>
     ensures { IfOk result (λ g. IfSome g (λ g. IsLabelNumber g.number × ((us : List ℤ) → IsParted g.minus g.number (value g.form us) (value left.now us -ℤ value right.now us)))) }
 {
     let Some(whole) = less(alloc, left, right)? else {
@@ -90,6 +121,15 @@ fn gap_between(alloc: Global, left: &Form, right: &Form) -> Result<Option<Gap>, 
         return Ok(None);
     };
     rooted(alloc, &turned, true)
+}
+
+fn gap_between(alloc: Global, left: &Form, right: &Form) -> Result<Option<Gap>, Memory>
+    ensures { IfOk result (λ g. IfSome g (λ g. IsLabelNumber g.number × ((us : List ℤ) → IsParted g.minus g.number (value g.form us) (value left.now us -ℤ value right.now us)))) }
+{
+    match plain_gap(alloc, left, right)? {
+        Some(gap) => Ok(Some(gap)),
+        None => whole_gap(alloc, left, right),
+    }
 }
 
 fn place_of(form: &Form, forms: &[Form]) -> Option<usize>

@@ -3,6 +3,7 @@
 
 use crate::cases::divisor_in_common;
 use crate::compare::{Compare, Relation};
+use crate::gaps::is_number;
 use crate::mend::count_broken;
 use crate::ranges::{Range, ranges_of};
 use fast_fault::LabelInt;
@@ -62,10 +63,6 @@ pub(crate) struct Best {
     pub(crate) part: u32,
 }
 
-fn is_number(form: &Form) -> bool {
-    form.fields().is_empty() && form.remainders().is_empty()
-}
-
 // Whether the literal says which value the field has.
 fn tells(literal: &Lit<Compare>, field: u32) -> bool {
     let (Relation::Equal, true) = (literal.atom.relation, literal.sign) else {
@@ -111,18 +108,18 @@ fn weight(split: Split, values: Option<Values>) -> u32 {
 
 // Values of the fields, of which one is to be changed.
 #[derive(Clone, Copy)]
-struct Near {
+struct Point {
     values: [LabelInt; 8],
     field: usize,
 }
 
-impl Near {
-    fn of(values: &[LabelInt], field: u32) -> Near {
+impl Point {
+    fn of(values: &[LabelInt], field: u32) -> Point {
         let mut own = [0; 8];
         for i in 0..8 {
             own[i] = values.get(i).copied().unwrap_or(0);
         }
-        Near {
+        Point {
             values: own,
             field: field as usize,
         }
@@ -139,11 +136,11 @@ impl Near {
 }
 
 // The value at which the fewest literals don't hold.
-fn first_value(literals: &[Lit<Compare>], near: &Near, values: Values) -> LabelInt {
+fn first_value(literals: &[Lit<Compare>], point: &Point, values: Values) -> LabelInt {
     let mut first = values.from;
     let mut fewest = usize::MAX;
     for value in values.from..values.to {
-        let broken = near.count_broken(literals, value, fewest);
+        let broken = point.count_broken(literals, value, fewest);
         if broken < fewest {
             fewest = broken;
             first = value;
@@ -153,8 +150,8 @@ fn first_value(literals: &[Lit<Compare>], near: &Near, values: Values) -> LabelI
 }
 
 // The remainder of the field for which, at one of the two values next to the field's own, the fewest literals don't hold.
-fn first_part(literals: &[Lit<Compare>], near: &Near, split: Split) -> u32 {
-    let old = near.values.get(near.field).copied().unwrap_or(0);
+fn first_part(literals: &[Lit<Compare>], point: &Point, split: Split) -> u32 {
+    let old = point.values.get(point.field).copied().unwrap_or(0);
     let times = split.times as LabelInt;
     let mut first = 0;
     let mut fewest = usize::MAX;
@@ -162,7 +159,7 @@ fn first_part(literals: &[Lit<Compare>], near: &Near, split: Split) -> u32 {
         let rest = old.wrapping_sub(part as LabelInt).checked_rem_euclid(times);
         let below = old.saturating_sub(rest.unwrap_or(0));
         for value in [below, below.saturating_add(times)] {
-            let broken = near.count_broken(literals, value, fewest);
+            let broken = point.count_broken(literals, value, fewest);
             if broken < fewest {
                 fewest = broken;
                 first = part;
@@ -192,12 +189,12 @@ pub(crate) fn best_split(literals: &[Lit<Compare>], values: &[LabelInt]) -> Opti
         }
     }
     let (split, found) = best?;
-    let near = Near::of(values, split.field);
+    let point = Point::of(values, split.field);
     Some(match found {
         Some(own) => Best {
             split,
             values: Some(Values {
-                first: first_value(literals, &near, own),
+                first: first_value(literals, &point, own),
                 ..own
             }),
             part: 0,
@@ -205,7 +202,7 @@ pub(crate) fn best_split(literals: &[Lit<Compare>], values: &[LabelInt]) -> Opti
         None => Best {
             split,
             values: None,
-            part: first_part(literals, &near, split),
+            part: first_part(literals, &point, split),
         },
     })
 }

@@ -85,14 +85,3 @@ truth_no_whole fields name e = no_whole_of (sort_at fields name) (inl e)
 
 pub text_no_whole : (fields : List PlainField) (name : List ℕ) → has_field fields texts name ≡ true → has_field fields wholes name ≡ false
 text_no_whole fields name e = no_whole_of (sort_at fields name) (inr e)
-
--- one more value written into a list
-pub one_more : (ws ns : List ℤ) (k : ℕ) (z : ℤ) → length ws ≡ 8 → k < 8 → z ≡ get_or ns k (pos 0) → ((j : ℕ) → j < k → get_or ws j (pos 0) ≡ get_or ns j (pos 0)) → (j : ℕ) → j < k + 1 → get_or (set ws k z) j (pos 0) ≡ get_or ns j (pos 0)
-one_more ws ns k z many low is before j l = by (j == k) refl
-  where
-    by : (b : Bool) → (j == k) ≡ b → get_or (set ws k z) j (pos 0) ≡ get_or ns j (pos 0)
-    by true e = let here : j ≡ k = eqb-true j k e in get_or-set_at ws k j z (pos 0) here (omega (arith, many, low)) ∙ is ∙ ap (λ i. get_or ns i (pos 0)) (sym here)
-    by false e = let other : j ≢ k = λ h. absurd (no h e) in get_or-set_other ws k j z (pos 0) other ∙ before j (grind (arith, nat_tests))
-      where
-        no : j ≡ k → (j == k) ≡ false → ⊥
-        no h f = let g : (k == k) ≡ false = subst (λ i. (i == k) ≡ false) h f in absurd (grind (arith, nat_tests))

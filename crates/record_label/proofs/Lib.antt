@@ -1,6 +1,7 @@
 pub mod RowFacts
 pub mod ExprParts
 pub mod FieldFacts
+pub mod Filling
 pub mod GuardFacts
 pub mod FormFacts
 pub mod FitFacts

@@ -12,29 +12,19 @@ use fast_fault::{LabelInt, Text};
 use fast_tree::Value;
 use flat_label::TextSide;
 
-/// The whole number with this number, or 0.
-fn whole_at(values: &[Value], number: u32) -> LabelInt
-    ensures { result ≡ slice_index_or (wholes_in (map field_of values.now)) number (pos 0) }
-{
-    let mut before = number;
-    for value in values {
-        if let Value::Int(whole) = value {
-            if before == 0 {
-                return *whole;
-            }
-            before -= 1;
-        }
-    }
-    0
-}
-
 /// The first eight whole numbers. Where there are fewer the rest are 0.
 pub fn wholes(values: &[Value]) -> [LabelInt; 8]
     ensures { (k : ℕ) → k < most_fields → slice_index_or result k (pos 0) ≡ slice_index_or (wholes_in (map field_of values.now)) k (pos 0) }
 {
     let mut wholes = [0; 8];
-    for k in 0..8 {
-        wholes[k as usize] = whole_at(values, k);
+    let mut count = 0;
+    for value in values {
+        if let Value::Int(whole) = value {
+            if count < 8 {
+                wholes[count] = *whole;
+                count += 1;
+            }
+        }
     }
     wholes
 }

@@ -1,11 +1,11 @@
-use Rattle.std.proofs.Common.{◌∙◌, sym, ap, get_or, false}
+use Rattle.std.proofs.Common.{◌∙◌, ◌-◌, sym, ap, get_or, false, arith}
 use Rattle.label_split.specs.Known.{holds_at}
 use Rattle.label_split.specs.Numbers.{truths_at}
-use Rattle.label_split.proofs.Truths.{signs_further, not_other}
+use Rattle.label_split.proofs.Truths.{signs_before, not_other}
 use Rattle.label_split.proofs.search.wrong.Goals as goal
 
 pub loop-i-preserved : goal.loop-i-preserved
 loop-i-preserved g c =
-    signs_further (truths_at g.T.Theory.atom_holds c.args.atoms.now (g.T.Theory.label_of c.args.value.now)) c.args.asked.now.formulas.now c.args.asked.now.signs.now c.loop-i.i c.index-asked-i.result c.loop-i-test.true c.requires.asked.lengths c.index-asked-i.is
-    (ap (holds_at (truths_at g.T.Theory.atom_holds c.args.atoms.now (g.T.Theory.label_of c.args.value.now))) c.index-asked-i.is ∙ sym c.holds_of.ensures ∙ not_other c.holds_of.result (get_or c.args.asked.now.signs.now c.loop-i.i false) c.if-holds_of-asked.false)
+    signs_before (truths_at g.T.Theory.atom_holds c.args.atoms.now (g.T.Theory.label_of c.args.value.now)) c.args.asked.now.formulas.now c.args.asked.now.signs.now (c.loop-i.i - 1) c.loop-i.i c.index-asked-i.result (omega (arith, c.loop-i-test.true)) c.loop-i.auto.i c.requires.asked.lengths c.index-asked-i.is
+    (ap (holds_at (truths_at g.T.Theory.atom_holds c.args.atoms.now (g.T.Theory.label_of c.args.value.now))) c.index-asked-i.is ∙ sym c.holds_of.ensures ∙ not_other c.holds_of.result (get_or c.args.asked.now.signs.now (c.loop-i.i - 1) false) c.if-holds_of-asked.false)
     c.loop-i.invariant

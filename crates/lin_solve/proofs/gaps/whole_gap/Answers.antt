@@ -4,7 +4,7 @@ use Rattle.std.proofs.lemmas.Int.{ints}
 use Rattle.model_form.specs.Form.{Form, value}
 use Rattle.lin_solve.specs.Said.{IsParted}
 use Rattle.lin_solve.proofs.Gapped.{weaker}
-use Rattle.lin_solve.proofs.gaps.gap_between.Goals as goal
+use Rattle.lin_solve.proofs.gaps.whole_gap.Goals as goal
 
 pub returns : goal.returns
 returns c =
