@@ -7,9 +7,9 @@ use label_core::Lit;
 use std::alloc::Global;
 
 // How many lists of values are kept, and how many words have a bit for each.
-const MOST_VALUES: usize = 256;
+const MOST_VALUES: usize = 1024;
 
-const WORDS: usize = 4;
+const WORDS: usize = 16;
 
 // Of how many literals it is kept where they hold.
 const COLUMNS: usize = 4096;
@@ -91,7 +91,7 @@ impl Column {
     }
 }
 
-/// The last 256 lists of values that were found: each stands at the remainder of its number.
+/// The last 1,024 lists of values that were found: each stands at the remainder of its number.
 #[derive(Drop)]
 pub(crate) struct Lists {
     lists: Vec<[LabelInt; 8]>,

@@ -202,7 +202,7 @@ impl Known {
     }
 }
 
-/// What was found of literals so far, for answers to later ones. It keeps 256 lists of values and 4,096 of literals.
+/// What was found of literals so far, for answers to later ones. It keeps 1,024 lists of values and 4,096 of literals.
 #[derive(Drop)]
 pub struct Memo {
     known: RefCell<Known>,

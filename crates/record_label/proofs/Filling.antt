@@ -41,10 +41,13 @@ one_further ws ns n z early h = record {
   where
     same : length ns ≡ n
     same = let l = h.low in let m = h.all early in omega arith
+
     past : (k : ℕ) → n < k → get_or ns k (pos 0) ≡ get_or (ns ++ z ∷ []) k (pos 0)
     past k l = let e = length_push ns z in get_or_past ns k (pos 0) (omega (arith, same, l)) ∙ sym (get_or_past (ns ++ z ∷ []) k (pos 0) (omega (arith, same, l)))
+
     before : (k : ℕ) → k < n → get_or ns k (pos 0) ≡ get_or (ns ++ z ∷ []) k (pos 0)
     before k l = sym (get_or_append_left ns (z ∷ []) (pos 0) k (omega (arith, same, l)))
+
     now : (k : ℕ) → k < 8 → (k ≡ n) ⊎ ((k < n) ⊎ (n < k)) → get_or (set ws n z) k (pos 0) ≡ get_or (ns ++ z ∷ []) k (pos 0)
     now k l (inr (inl m)) = get_or-set_other ws n k z (pos 0) (λ q. absurd (omega (arith, m, q))) ∙ h.first k l ∙ before k m
     now k l (inl m) = get_or-set_at ws n k z (pos 0) m (let e = h.eight in omega (arith, early, e)) ∙ sym (get_or_push ns z (pos 0) k (same ∙ sym m))
