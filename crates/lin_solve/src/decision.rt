@@ -1,7 +1,7 @@
 //! The decision.
 
-ghost use Rattle.std.specs.Prelude.{◌≡◌, ◌<◌, ◌^◌, ◌++◌, [], IfOk, Bool, false, vec_items, length};
-ghost use Rattle.model_chain.specs.Literals.{AreLiteralsOver, count_sides};
+ghost use Rattle.std.specs.Prelude.{◌≡◌, ◌<◌, ◌^◌, ◌++◌, [], IfOk, IfSome, Bool, false, vec_items, length};
+ghost use Rattle.model_chain.specs.Literals.{AreLiteralsOver, HoldsAll, count_sides};
 ghost use Rattle.model_chain.specs.Chains.{first_system, count_variables};
 ghost use Rattle.cooper_solve.specs.Told.{IsFarOff, puts_of};
 ghost use Rattle.lin_solve.specs.Plain.{plain_literals, AreTheirs};
@@ -19,7 +19,7 @@ use crate::gaps::is_clear_clash;
 use crate::guess::guess;
 use crate::memo::Memo;
 use crate::mend::mend;
-use crate::near::seek_near;
+use crate::near::{moved_fields, seek_near};
 use crate::numbering::{Remainder, remainders_of};
 use crate::over::are_over;
 use crate::repeats::{are_different, once, sided_stand_last};
@@ -99,6 +99,21 @@ fn seek_at_last(alloc: Global, literals: &[Lit<Compare>]) -> Result<Sought, Memo
     }
 }
 
+// Values at which the literals hold, if some that are kept lead to them. With one field alone cases tell sooner.
+fn mend_kept(
+    alloc: Global,
+    memo: &Memo,
+    literals: &[Lit<Compare>],
+) -> Result<Option<Vec<LabelInt>>, Memory>
+    ensures { IfOk result (λ found. IfSome found (λ values. (length values.items ≡ 8) × HoldsAll (plain_literals literals.now) values.items)) }
+{
+    let fields = moved_fields(literals, None);
+    if fields & fields.wrapping_sub(1) == 0 {
+        return Ok(None);
+    }
+    mend(alloc, literals, memo.nearest(alloc, literals)?)
+}
+
 // Decides them by all that takes more than a look at them.
 fn decide_deeply(
     alloc: Global,
@@ -110,7 +125,7 @@ fn decide_deeply(
     if let Some(values) = guess(alloc, literals, literals.len().saturating_add(8))? {
         return Ok(Verdict::Sat(values));
     }
-    if let Some(values) = mend(alloc, literals, memo.nearest(alloc, literals)?)? {
+    if let Some(values) = mend_kept(alloc, memo, literals)? {
         return Ok(Verdict::Sat(values));
     }
     match seek_cases(alloc, literals)? {
