@@ -1,5 +1,6 @@
 pub mod Members
 pub mod Evaluating
+pub mod Nests
 pub mod Wholes
 pub mod Gathering
 pub mod Joined

@@ -27,7 +27,7 @@ past_end [] k d h = refl
 past_end (x ∷ xs) zero d h = absurd (omega arith)
 past_end (x ∷ xs) (suc k) d h = past_end xs k d (omega arith)
 
-modulo_small : (c : ℤ) (k : ℕ) → 0 < k → k ≤ greatest_divisor → unsigned_abs (modulo c k) ≤ greatest_divisor
+pub modulo_small : (c : ℤ) (k : ℕ) → 0 < k → k ≤ greatest_divisor → unsigned_abs (modulo c k) ≤ greatest_divisor
 modulo_small c k h l = let r = euclid_range c (pos k) (omega (arith, ints)) in let low = r.0 in let high = r.1 in omega (arith, ints)
 
 pub remainder_constant : (f : Form) (k : ℕ) → 0 < k → k ≤ greatest_divisor → unsigned_abs (constant_of (remainder_form f k)) ≤ greatest_divisor

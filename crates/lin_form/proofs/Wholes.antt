@@ -2,7 +2,7 @@
 use Rattle.std.proofs.Common.{◌≡◌, ℕ, zero, suc, ◌<◌, ◌≤◌, List, [], ◌∷◌, length, get_or, Bool, true, false, cond, refl, subst, sym, arith}
 use Rattle.std.proofs.Math.IntN.{ℤ, pos, ◌+ℤ◌, ◌*ℤ◌}
 use Rattle.std.specs.Ordering.{int_eq}
-use Rattle.model_form.specs.Form.{Form, form, Term, Remainders, no_remainders, remainder, heights}
+use Rattle.model_form.specs.Form.{Form, form, Term, Remainders, no_remainders, remainder}
 use Rattle.model_form.specs.Over.{AreBelow, AreOver, AreDivided}
 use Rattle.model_form.specs.Ranges.{AreFields, AreRemainders}
 use Rattle.model_form.specs.Simpler.{reduced_terms}
@@ -11,6 +11,7 @@ use Rattle.lin_form.specs.declared.form.RemTerm.{RemTerm}
 use Rattle.lin_form.specs.declared.sum.Like.{Like}
 use Rattle.lin_form.specs.Terms.{plain_remainders}
 use Rattle.lin_form.specs.Gathered.{plain_likes}
+use Rattle.lin_form.specs.Nest.{depths}
 use Rattle.lin_form.specs.Whole.{IsWhole, IsInner, AreInner, IsSound, deepest}
 
 -- ---- what is so of the form
@@ -27,7 +28,7 @@ inner_divided : (rs : Remainders) → AreRemainders rs → AreInner rs → AreDi
 inner_divided no_remainders h i = tt
 inner_divided (remainder a f k rs) h i = (h.2, i.0.0.divided, inner_divided rs h.4 i.1)
 
-pub inner_low : (rs : Remainders) → AreInner rs → heights rs ≤ deepest
+pub inner_low : (rs : Remainders) → AreInner rs → depths rs ≤ deepest
 inner_low no_remainders i = omega arith
 inner_low (remainder a f k rs) i = let low = i.0.1 in let rest = inner_low rs i.1 in omega arith
 
@@ -44,9 +45,9 @@ pub scaled_inner : (by : ℤ) (rs : Remainders) → AreInner rs → AreInner (sc
 scaled_inner by no_remainders i = tt
 scaled_inner by (remainder a f k rs) i = (i.0, scaled_inner by rs i.1)
 
-pub scaled_heights : (by : ℤ) (rs : Remainders) → heights (scaled_remainders by rs) ≡ heights rs
-scaled_heights by no_remainders = refl
-scaled_heights by (remainder a f k rs) = let e = scaled_heights by rs in omega arith
+pub scaled_depths : (by : ℤ) (rs : Remainders) → depths (scaled_remainders by rs) ≡ depths rs
+scaled_depths by no_remainders = refl
+scaled_depths by (remainder a f k rs) = let e = scaled_depths by rs in omega arith
 
 pub reduced_inner : (m : ℕ) (rs : Remainders) → AreInner rs → AreInner (reduced_terms m rs)
 reduced_inner m no_remainders i = tt

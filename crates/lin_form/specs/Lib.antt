@@ -1,3 +1,4 @@
+pub mod Nest
 pub mod Terms
 pub mod Falls
 pub mod Stops

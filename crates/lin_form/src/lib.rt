@@ -13,6 +13,6 @@ mod subst;
 mod sum;
 mod value;
 
-pub use form::{DEEPEST, FieldTerm, Form, GREATEST_DIVISOR, MOST_PARTS, RemTerm};
+pub use form::{DEEPEST, Dividend, FieldTerm, Form, GREATEST_DIVISOR, MOST_PARTS, RemTerm};
 pub use stop::FormStop;
 pub use sum::Signed;

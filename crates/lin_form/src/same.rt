@@ -5,7 +5,7 @@ ghost use Rattle.model_form.specs.Form.{height};
 ghost use Rattle.model_form.specs.Same.{same_form, ordered, members, IsIn};
 ghost use Rattle.lin_form.specs.Terms.{plain_fields, plain_remainders, member};
 
-use crate::{FieldTerm, Form, RemTerm};
+use crate::{Dividend, FieldTerm, Form, RemTerm};
 use std::hash::{Hash, Hasher};
 
 impl PartialEq for Form {
@@ -66,6 +66,22 @@ impl Form {
         }
         true
     }
+}
+
+impl Dividend {
+    /// Whether they are equal.
+    #[cycle(same)]
+    pub fn is_same(&self, other: &Dividend) -> bool
+        ensures { result ≡ same_form self.now other.now }
+    {
+        same_divisors(&self.divisors, &other.divisors) && self.base.is_same(&other.base)
+    }
+}
+
+fn same_divisors(divisors: &[u32], others: &[u32]) -> bool
+    ensures { IsTrue result ↔ (divisors.now ≡ others.now) }
+{
+    divisors == others
 }
 
 fn same_fields(terms: &[FieldTerm], others: &[FieldTerm]) -> bool

@@ -1,18 +1,20 @@
 //! Forms made simpler.
 
-ghost use Rattle.std.specs.Prelude.{◌≡◌, ℕ, ℤ, pos, ◌+◌, ◌<◌, ◌≤◌, ◌^◌, MatchResult, OnOk, unsigned_abs};
+ghost use Rattle.std.specs.Prelude.{◌≡◌, ℕ, ℤ, pos, ◌+◌, ◌<◌, ◌≤◌, ◌^◌, MatchResult, OnOk, unsigned_abs, length};
 ghost use Rattle.model_tree.specs.Limits.{greatest_divisor};
 ghost use Rattle.model_form.specs.Form.{remainders_of};
+ghost use Rattle.model_form.specs.Sums as model;
 ghost use Rattle.model_form.specs.Sums.{add_form, form_of_sum, remainder_form, started};
 ghost use Rattle.model_form.specs.Ranges.{IsCoefficient, IsForm, IsOutside};
 ghost use Rattle.model_form.specs.Simpler.{add_open, add_term_open, inside, reduced, reduced_terms, reduced_totals, simpler_form, simpler_sum};
 ghost use Rattle.lin_form.specs.Gathered.{plain_likes, plain_sum};
+ghost use Rattle.lin_form.specs.Nest.{base_of, divisors_of, nest_front};
 ghost use Rattle.lin_form.specs.Stops.{StopsAt};
 ghost use Rattle.lin_form.specs.Whole.{IsInner, AreInner};
 ghost use Rattle.lin_form.specs.Within.{IsGathered, IsReduced};
 
 use crate::sum::{Like, Sum, add_fields, add_like};
-use crate::{Form, FormStop};
+use crate::{Dividend, Form, FormStop};
 use fast_fault::Memory;
 use std::alloc::Global;
 use wide_num::rem;
@@ -31,6 +33,7 @@ impl Form {
 }
 
 // The terms outside all remainders, whose inner forms are simpler, in a sum that had none.
+#[cycle(simpler)]
 fn simpler_sum(alloc: Global, sum: &mut Sum, form: &Form) -> Result<(), FormStop>
     requires { plain_sum sum.old ≡ started (pos 0) }
     ensures { MatchResult result (λ _. (plain_sum sum.new ≡ simpler_sum form.now) × ((m : ℕ) × IsGathered m (plain_sum sum.new))) (λ stop. stop ≡ FormStop.Memory) }
@@ -39,8 +42,21 @@ fn simpler_sum(alloc: Global, sum: &mut Sum, form: &Form) -> Result<(), FormStop
     add_fields(&mut sum.totals, 1, &form.fields);
     for term in &form.remainders {
         let mut inner = Sum::of(alloc, 0);
-        simpler_sum(alloc, &mut inner, &term.inner)?;
+        simpler_dividend(alloc, &mut inner, &term.inner)?;
         sum.add_inside(alloc, term.coefficient, &inner, term.divisor)?;
+    }
+    Ok(())
+}
+
+// The same of a form of which a remainder is taken.
+#[cycle(simpler)]
+fn simpler_dividend(alloc: Global, sum: &mut Sum, inner: &Dividend) -> Result<(), FormStop>
+    requires { plain_sum sum.old ≡ started (pos 0) }
+    ensures { MatchResult result (λ _. (plain_sum sum.new ≡ simpler_sum inner.now) × ((m : ℕ) × IsGathered m (plain_sum sum.new))) (λ stop. stop ≡ FormStop.Memory) }
+{
+    simpler_sum(alloc, sum, &inner.base)?;
+    for divisor in &inner.divisors {
+        sum.divide(alloc, *divisor)?;
     }
     Ok(())
 }
@@ -68,6 +84,20 @@ impl Sum {
     {
         let inner = inner.opened(alloc, divisor)?.finish(alloc)?;
         self.add_remainder(alloc, coefficient, inner, divisor)
+    }
+
+    // The remainder of the sum's form, made simpler.
+    fn divide(&mut self, alloc: Global, divisor: u32) -> Result<(), FormStop>
+        requires some { 0 < divisor }
+        requires few { divisor ≤ greatest_divisor }
+        requires gathered { (m : ℕ) × IsGathered m (plain_sum self.old) }
+        ensures sum { MatchResult result (λ _. plain_sum self.new ≡ add_form (pos 1) (remainder_form (form_of_sum (inside divisor (plain_sum self.old))) divisor) (started (pos 0))) (λ stop. stop ≡ FormStop.Memory) }
+        ensures gathered { OnOk result ((m : ℕ) × IsGathered m (plain_sum self.new)) }
+    {
+        let mut next = Sum::of(alloc, 0);
+        next.add_inside(alloc, 1, self, divisor)?;
+        *self = next;
+        Ok(())
     }
 
     // The sum as it stands in a remainder.
@@ -128,7 +158,7 @@ fn add_term_open(
     alloc: Global,
     sum: &mut Sum,
     coefficient: i128,
-    inner: &Form,
+    inner: &Dividend,
     divisor: u32,
     by: u32,
 ) -> Result<(), Memory>
@@ -143,11 +173,57 @@ fn add_term_open(
 {
     let coefficient = rem(coefficient, by as i128);
     if divisor % by == 0 {
-        return add_open(alloc, sum, coefficient, inner, by);
+        return add_dividend(alloc, sum, coefficient, inner, by);
     }
     add_like(alloc, &mut sum.likes, coefficient, inner, divisor)?;
     sum.reduce(by);
     Ok(())
+}
+
+// How many divisors are left where the last ones give way, as far as they are multiples of the number.
+fn count_left(inner: &Dividend, by: u32) -> usize
+    requires { 0 < by }
+    ensures few { result ≤ length (divisors_of inner.now) }
+    ensures same { (c : ℤ) (s : model.Sum) → add_open by c (nest_front result (base_of inner.now) (divisors_of inner.now)) s ≡ add_open by c inner.now s }
+{
+    for i in (0..inner.divisors.len()).rev() {
+        if inner.divisors[i] % by != 0 {
+            return i + 1;
+        }
+    }
+    0
+}
+
+// A coefficient times a form of which a remainder is taken more, in a remainder by a number.
+#[cycle(open)]
+fn add_dividend(
+    alloc: Global,
+    sum: &mut Sum,
+    coefficient: i128,
+    inner: &Dividend,
+    by: u32,
+) -> Result<(), Memory>
+    requires some { 0 < by }
+    requires few { by ≤ greatest_divisor }
+    requires coefficient { unsigned_abs coefficient ≤ greatest_divisor }
+    requires inner { IsInner inner.now }
+    requires sum { IsReduced by (plain_sum sum.old) }
+    ensures sum { OnOk result (plain_sum sum.new ≡ reduced by (add_open by coefficient inner.now (plain_sum sum.old))) }
+    ensures reduced { OnOk result (IsReduced by (plain_sum sum.new)) }
+{
+    let left = count_left(inner, by);
+    if left == 0 {
+        return add_open(alloc, sum, coefficient, &inner.base, by);
+    }
+    let front = inner.front(alloc, left - 1)?;
+    add_term_open(
+        alloc,
+        sum,
+        coefficient,
+        &front,
+        inner.divisors[left - 1],
+        by,
+    )
 }
 
 // A coefficient times a form more, in a remainder by a number.

@@ -9,13 +9,14 @@ ghost use Rattle.lin_form.specs.Gathered.{plain_sum};
 ghost use Rattle.lin_form.specs.Stops.{StopsAt};
 
 use crate::sum::Sum;
-use crate::{FieldTerm, Form, FormStop};
+use crate::{Dividend, FieldTerm, Form, FormStop};
 use fast_fault::Memory;
 use std::alloc::Global;
 
 impl Form {
     /// The form with a form put for each field, by the fields' numbers: it is built anew from the inside out, so a
     /// number outside may be one of an inner form. A field past the list counts as 0.
+    #[cycle(subst)]
     pub fn subst(&self, alloc: Global, forms: &[Form]) -> Result<Form, FormStop>
         ensures form { MatchResult result (λ form. form ≡ subst_form self.now forms.now) (λ stop. StopsAt (IsOutsideAfter self.now forms.now) stop) }
         ensures in_range { MatchResult result (λ _. (n : ℤ) → IsOutsideAfter self.now forms.now n → ⊥) (λ _. Unit {0}) }
@@ -27,6 +28,20 @@ impl Form {
             sum.add_remainder(alloc, term.coefficient, inner, term.divisor)?;
         }
         sum.finish(alloc)
+    }
+}
+
+impl Dividend {
+    #[cycle(subst)]
+    fn subst(&self, alloc: Global, forms: &[Form]) -> Result<Form, FormStop>
+        ensures form { MatchResult result (λ form. form ≡ subst_form self.now forms.now) (λ stop. StopsAt (IsOutsideAfter self.now forms.now) stop) }
+        ensures in_range { MatchResult result (λ _. (n : ℤ) → IsOutsideAfter self.now forms.now n → ⊥) (λ _. Unit {0}) }
+    {
+        let mut form = self.base.subst(alloc, forms)?;
+        for divisor in &self.divisors {
+            form = form.into_remainder(alloc, *divisor)?;
+        }
+        Ok(form)
     }
 }
 

@@ -15,7 +15,7 @@ ghost use Rattle.lin_form.specs.Stops.{StopsAt};
 
 use crate::form::depth_of;
 use crate::stop::{coefficient, constant};
-use crate::{FieldTerm, Form, FormStop, RemTerm};
+use crate::{Dividend, FieldTerm, Form, FormStop, RemTerm};
 use fast_fault::Memory;
 use std::alloc::Global;
 
@@ -30,7 +30,7 @@ pub struct Signed {
 #[derive(Drop)]
 pub(crate) struct Like {
     pub(crate) coefficient: i128,
-    pub(crate) inner: Form,
+    pub(crate) inner: Dividend,
     pub(crate) divisor: u32,
 }
 
@@ -171,7 +171,7 @@ fn add_remainders(
     Ok(())
 }
 
-fn place_of_like(likes: &[Like], inner: &Form, divisor: u32) -> Option<usize>
+fn place_of_like(likes: &[Like], inner: &Dividend, divisor: u32) -> Option<usize>
     ensures before { (k : ℕ) (d : Like) → k < found_or result (length likes.now) → is_like (slice_index_or likes.now k d).inner (slice_index_or likes.now k d).divisor inner.now divisor ≡ false }
     ensures here { MatchOption result (Unit {0}) (λ i. (i < length likes.now) × ((d : Like) → is_like (slice_index_or likes.now i d).inner (slice_index_or likes.now i d).divisor inner.now divisor ≡ true)) }
 {
@@ -187,7 +187,7 @@ pub(crate) fn add_like(
     alloc: Global,
     likes: &mut Vec<Like>,
     coefficient: i128,
-    inner: &Form,
+    inner: &Dividend,
     divisor: u32,
 ) -> Result<(), Memory>
     requires coefficient { IsWithin 1 coefficient }

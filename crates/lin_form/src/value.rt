@@ -6,12 +6,13 @@ ghost use Rattle.model_form.specs.Form.{value, terms_value, modulo};
 ghost use Rattle.model_form.specs.Ranges.{AreFields, IsCoefficient};
 ghost use Rattle.lin_form.specs.Terms.{plain_fields};
 
-use crate::{FieldTerm, Form};
+use crate::{Dividend, FieldTerm, Form};
 use fast_fault::LabelInt;
 use wide_num::rem;
 
 impl Form {
     /// The value at these values of the fields, by the fields' numbers. A field past the list counts as 0.
+    #[cycle(eval)]
     pub fn eval(&self, values: &[LabelInt]) -> i128
         ensures { result ≡ value self.now values.now }
     {
@@ -21,6 +22,19 @@ impl Form {
             sum += remainder_value(term.coefficient, inner, term.divisor);
         }
         sum
+    }
+}
+
+impl Dividend {
+    #[cycle(eval)]
+    fn eval(&self, values: &[LabelInt]) -> i128
+        ensures { result ≡ value self.now values.now }
+    {
+        let mut value = self.base.eval(values);
+        for divisor in &self.divisors {
+            value = rem(value, *divisor as i128);
+        }
+        value
     }
 }
 

@@ -2,12 +2,13 @@ use Rattle.std.proofs.Common.{◌≡◌, ℕ, ◌<◌, ap, sym, ◌∙◌, subst
 use Rattle.std.proofs.lemmas.Int.{ints}
 use Rattle.model_form.proofs.Sorted.{AreIn}
 use Rattle.model_form.specs.Form.{form}
-use Rattle.model_form.specs.Same.{ordered, members, IsIn}
+use Rattle.model_form.specs.Same.{ordered, members, IsIn, same_form}
 use Rattle.model_form.proofs.Equals.{same_out, same_in, differ_in_fields, differ_in_count, differ_in_member, same_by_parts}
 use Rattle.lin_form.specs.Terms.{plain_fields, plain_remainders, member}
 use Rattle.lin_form.specs.declared.form.RemTerm.{RemTerm}
 use Rattle.lin_form.proofs.Hashing.{count-remainders}
 use Rattle.lin_form.proofs.Members.{member_at, place_of, all_members, of_views, get_or-any}
+use Rattle.lin_form.proofs.Nests.{same_bool, differ}
 use Rattle.lin_form.proofs.+same.Goals as goal
 use Rattle.lin_form.proofs.+same.Goals.{same::has-else-term-other-via-then-term-other+then-term-other-2+else-is_same, same::has-else-term-other-via-then-term-other+else-term-other-2, same::has-else-term-other-via-else-term-other}
 
@@ -75,3 +76,17 @@ same::has-loop-other-preserved t c =
 pub same::has-returns : goal.same::has-returns
 same::has-returns t c =
     (λ e. absurd (let z : false ≡ true = e in cc), λ i. let r = place_of c.args.terms.now (member c.args.term.now) c.args.term.now i in let l : r.0 < length c.args.terms.now = r.1 in absurd (c.loop-other.invariant r.0 c.args.term.now (omega arith) r.2))
+
+pub form::Dividend::is_same-returns-then-same_divisors : goal.form::Dividend::is_same-returns-then-same_divisors
+form::Dividend::is_same-returns-then-same_divisors t c =
+    let e = sym c.deref.ensures.value ∙ c.same_divisors.ensures.0 c.if-same_divisors.true ∙ c.deref-2.ensures.value in
+    same_bool c.is_same.result c.self.inside.base c.other.inside.base c.self.inside.divisors.items c.other.inside.divisors.items c.self.invariant.more c.other.invariant.more e c.is_same.ensures
+    ∙ (λ i. same_form (c.self.view_is i) (c.other.view_is i))
+
+pub form::Dividend::is_same-returns-else-same_divisors : goal.form::Dividend::is_same-returns-else-same_divisors
+form::Dividend::is_same-returns-else-same_divisors t c =
+    let n : c.self.inside.divisors.items ≡ c.other.inside.divisors.items → ⊥ = λ e.
+    let h = c.same_divisors.ensures.1 (c.deref.ensures.value ∙ e ∙ sym c.deref-2.ensures.value) in let z : false ≡ true = sym c.if-same_divisors.false ∙ h in cc in
+    c.if-same_divisors.false
+    ∙ differ c.self.inside.base c.other.inside.base c.self.inside.divisors.items c.other.inside.divisors.items c.self.invariant.more c.other.invariant.more n
+    ∙ (λ i. same_form (c.self.view_is i) (c.other.view_is i))

@@ -1,4 +1,4 @@
-use Rattle.std.proofs.Common.{◌≡◌, ◌+◌, ◌*◌, ◌<◌, ◌≤◌, ◌^◌, ap, sym, ◌∙◌, subst, arith, rules, drop, to_z, of_z, unsigned_abs, lit≤}
+use Rattle.std.proofs.Common.{◌≡◌, get_or, length, ◌-◌, ◌+◌, ◌*◌, ◌<◌, ◌≤◌, ◌^◌, ap, sym, ◌∙◌, subst, arith, rules, drop, to_z, of_z, unsigned_abs, lit≤}
 use Rattle.std.specs.Prelude.{pos, ◌*ℤ◌, FitsSigned}
 use Rattle.std.specs.Int.{w128, int_rem_euclid}
 use Rattle.std.proofs.lemmas.Int.{ints, to_z-of_z}
@@ -12,6 +12,10 @@ use Rattle.lin_form.specs.declared.form.RemTerm.{RemTerm}
 use Rattle.lin_form.specs.Terms.{plain_fields, plain_remainders}
 use Rattle.lin_form.specs.Gathered.{plain_likes, plain_sum}
 use Rattle.lin_form.specs.Within.{IsWithin}
+use Rattle.std.proofs.lemmas.List.Elements.{All-get_or}
+use Rattle.lin_form.specs.Nest.{bare, nest, nest_front, base_of, divisors_of}
+use Rattle.lin_form.specs.Whole.{IsInner}
+use Rattle.lin_form.proofs.Nests.{seen_base, seen_divisors, seen_next, open_bare, front_lower, inner_front}
 use Rattle.lin_form.proofs.Evaluating.{remainder_item, small_product, fits_128}
 use Rattle.lin_form.proofs.Likes.{remainders_drop}
 use Rattle.lin_form.proofs.Outside.{has_constant}
@@ -97,9 +101,9 @@ add_term_open-returns-then-divisor-by-eq0-clause-sum t c =
     let by : to_z w128 m ≡ pos m = omega (arith, ints) in
     let value : to_z w128 (of_z w128 c.rem-coefficient.result) ≡ modulo c.args.coefficient m =
     to_z-of_z w128 c.rem-coefficient.result fr ∙ c.rem-coefficient.ensures.value ∙ (λ j. int_rem_euclid (to_z-of_z w128 c.args.coefficient c.ranges.coefficient j) (by j)) in
-    on_ok_weaker c.add_open.result
+    on_ok_weaker c.add_dividend.result
     (λ e. e ∙ opens m c.args.coefficient (to_z w128 (of_z w128 c.rem-coefficient.result)) c.args.inner.now c.args.divisor s c.requires.some value c.requires.sum.same c.if-divisor-by-eq0.true)
-    c.add_open.ensures.sum
+    c.add_dividend.ensures.sum
 
 pub add_term_open-returns-clause-sum : goal.add_term_open-returns-clause-sum
 add_term_open-returns-clause-sum t c =
@@ -137,4 +141,67 @@ add_open-add_term_open-requires t c =
     let view = ap height c.form.view_is in
     let falls = c.decreases in
     let inner = inner_item c.form.inside.remainders.items items c.loop-term.term-index it c.form.invariant.inner c.deref-term-items.ensures.value c.term-item.is c.loop-term-test.true in
-    (let less : 2 * height it.inner + 1 < t = omega arith in less, (c.requires.some, (c.requires.few, (h.1, (h.2, (inner, c.loop-term.invariant.reduced))))))
+    (let less : 3 * height it.inner + 2 < t = omega arith in less, (c.requires.some, (c.requires.few, (h.1, (h.2, (inner, c.loop-term.invariant.reduced))))))
+
+pub add_dividend-returns-then-left-eq0-clause-sum : goal.add_dividend-returns-then-left-eq0-clause-sum
+add_dividend-returns-then-left-eq0-clause-sum t c =
+    let m = c.args.by in
+    let s = plain_sum c.args.sum.now in
+    let back = to_z-of_z w128 c.args.coefficient c.ranges.coefficient in
+    let under = seen_base c.args.inner.now c.inner.inside.base c.inner.inside.divisors.items c.inner.invariant.more c.inner.view_is in
+    let all = divisors_of c.args.inner.now in
+    on_ok_weaker c.add_open.result
+    (λ e. e ∙ (λ i. reduced m (add_open m (back i) (sym under i) s))
+    ∙ ap (λ n. reduced m (add_open m c.args.coefficient (nest_front n (base_of c.args.inner.now) all) s)) (sym c.if-left-eq0.true)
+    ∙ ap (reduced m) (c.count_left-left.ensures.same c.args.coefficient s))
+    c.add_open.ensures.sum
+
+pub add_dividend-index-requires : goal.add_dividend-index-requires
+add_dividend-index-requires t c =
+    let few = c.count_left-left.ensures.few in
+    let n = c.if-left-eq0.false in
+    let l = ap length (seen_divisors c.args.inner.now c.inner.inside.base c.inner.inside.divisors.items c.inner.invariant.more c.inner.view_is) in
+    omega arith
+
+pub add_dividend-add_term_open-requires : goal.add_dividend-add_term_open-requires
+add_dividend-add_term_open-requires t c =
+    let i = c.count_left-left.result - 1 in
+    let inner = c.args.inner.now in
+    let under = base_of inner in
+    let all = divisors_of inner in
+    let is = seen_divisors inner c.inner.inside.base c.inner.inside.divisors.items c.inner.invariant.more c.inner.view_is in
+    let whole : nest under all ≡ inner = (λ j. nest (seen_base inner c.inner.inside.base c.inner.inside.divisors.items c.inner.invariant.more c.inner.view_is j) (is j)) ∙ c.inner.view_is in
+    let front = c.in_ok-front.ensures {u = tt} in
+    let few = c.count_left-left.ensures.few in
+    let n = c.if-left-eq0.false in
+    let l = ap length is in
+    let low : i < length all = omega arith in
+    let lower = front_lower i under all low in
+    let high = ap height whole in
+    let same = ap height front in
+    let falls = c.decreases in
+    let k = c.index.result.now in
+    let range = subst (λ x. (0 < x) × (x ≤ greatest_divisor)) (sym c.index.ensures) (All-get_or (λ x. (0 < x) × (x ≤ greatest_divisor)) c.inner.inside.divisors.items i k (omega arith) c.inner.invariant.divisors) in
+    (let less : 3 * height c.in_ok-front.front + 2 < t = omega arith in less, (c.requires.some, (c.requires.few, (range.0, (range.1, (subst IsInner (sym front) (inner_front i under all (subst IsInner (sym whole) c.requires.inner)), c.requires.sum))))))
+
+pub add_dividend-returns-clause-sum : goal.add_dividend-returns-clause-sum
+add_dividend-returns-clause-sum t c =
+    let m = c.args.by in
+    let s = plain_sum c.args.sum.now in
+    let z = c.args.coefficient in
+    let back = to_z-of_z w128 z c.ranges.coefficient in
+    let i = c.count_left-left.result - 1 in
+    let under = base_of c.args.inner.now in
+    let all = divisors_of c.args.inner.now in
+    let is = seen_divisors c.args.inner.now c.inner.inside.base c.inner.inside.divisors.items c.inner.invariant.more c.inner.view_is in
+    let front = c.in_ok-front.ensures {u = tt} in
+    let few = c.count_left-left.ensures.few in
+    let n = c.if-left-eq0.false in
+    let k = c.index.result.now in
+    let here : k ≡ get_or all i k = c.index.ensures ∙ ap (λ xs. get_or xs i k) (sym is) in
+    let next = seen_next i under all k (omega arith) in
+    let e : i + 1 ≡ c.count_left-left.result = omega arith in
+    on_ok_weaker c.add_term_open.result
+    (λ p. p ∙ (λ j. reduced m (add_term_open m (back j) (front j) k s)) ∙ ap (reduced m) (sym (open_bare m z (nest_front i under all) k s)
+    ∙ (λ j. add_open m z (bare (nest_front i under all) (here j)) s) ∙ ap (λ f. add_open m z f s) (sym next ∙ ap (λ x. nest_front x under all) e) ∙ c.count_left-left.ensures.same z s))
+    c.add_term_open.ensures.sum

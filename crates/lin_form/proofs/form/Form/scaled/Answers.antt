@@ -2,14 +2,15 @@ use Rattle.std.proofs.Common.{◌≡◌, ap, sym, ◌∙◌, subst, rules, to_z,
 use Rattle.std.specs.Prelude.{FitsSigned, pos}
 use Rattle.std.specs.Int.{w128}
 use Rattle.std.proofs.lemmas.Int.{to_z-of_z}
-use Rattle.model_form.specs.Form.{form, heights}
+use Rattle.model_form.specs.Form.{form}
+use Rattle.lin_form.specs.Nest.{depths}
 use Rattle.model_form.specs.Sums.{scaled_fields, scaled_remainders, product_form}
 use Rattle.model_tree.specs.Range.{IsLabelNumber}
 use Rattle.model_form.specs.Ranges.{AreApart}
 use Rattle.lin_form.specs.Terms.{plain_fields, plain_remainders}
 use Rattle.lin_form.specs.Whole.{AreInner}
 use Rattle.lin_form.proofs.Joined.{scaled_apart}
-use Rattle.lin_form.proofs.Wholes.{scaled_inner, scaled_heights}
+use Rattle.lin_form.proofs.Wholes.{scaled_inner, scaled_depths}
 use Rattle.lin_form.proofs.Outside.{none_outside, held_constant, product_is}
 use Rattle.lin_form.proofs.form.Form.scaled.Goals as goal
 
@@ -26,7 +27,7 @@ invariant_of-result c =
     record {
       form = (subst IsLabelNumber (sym (number ∙ k.0)) k.1, f.1, r.1, subst AreApart (sym made) (scaled_apart by rs c.self.invariant.form.3));
       inner = subst AreInner (sym made) (scaled_inner by rs c.self.invariant.inner);
-      depth = c.self.invariant.depth ∙ sym (ap heights made ∙ scaled_heights by rs);
+      depth = c.self.invariant.depth ∙ sym (ap depths made ∙ scaled_depths by rs);
     }
 
 pub returns-clause-form : goal.returns-clause-form

@@ -2,7 +2,7 @@ use Rattle.std.proofs.Common.{ap, sym, ◌∙◌, subst, rules}
 use Rattle.std.specs.Prelude.{FitsSigned}
 use Rattle.std.specs.Int.{w128}
 use Rattle.std.proofs.lemmas.Int.{to_z-of_z}
-use Rattle.model_form.specs.Form.{heights}
+use Rattle.lin_form.specs.Nest.{depths}
 use Rattle.model_tree.specs.Range.{IsLabelNumber}
 use Rattle.model_form.specs.Ranges.{AreApart}
 use Rattle.form_laws.proofs.Coefficients.{without_zeros_apart}
@@ -22,7 +22,7 @@ invariant_of-result c =
     record {
       form = (subst IsLabelNumber (sym (to_z-of_z w128 c.in_ok-constant.constant fits ∙ k.0)) k.1, f.1, r.1, subst AreApart (sym r.0) (without_zeros_apart likes (c.requires.1).apart));
       inner = subst AreInner (sym r.0) (without_zeros_inner likes (c.requires.1).inner);
-      depth = c.depth_of.ensures ∙ ap (λ ts. heights (plain_remainders ts)) c.deref.ensures.value;
+      depth = c.depth_of.ensures ∙ ap (λ ts. depths (plain_remainders ts)) c.deref.ensures.value;
     }
 
 pub returns-clause-in_range : goal.returns-clause-in_range

@@ -1,4 +1,4 @@
-use Rattle.std.proofs.Common.{suc, ◌≡◌, ap, sym, ◌∙◌, subst, arith, drop, to_z, of_z, ◌+◌, ◌*◌, ◌<◌, ◌≤◌, ◌^◌, inl, inr, unsigned_abs}
+use Rattle.std.proofs.Common.{suc, get_or, ◌≡◌, ap, sym, ◌∙◌, subst, arith, drop, to_z, of_z, ◌+◌, ◌*◌, ◌<◌, ◌≤◌, ◌^◌, inl, inr, unsigned_abs}
 use Rattle.std.specs.Prelude.{ℤ}
 use Rattle.std.specs.Int.{w128}
 use Rattle.std.proofs.lemmas.Int.{ints}
@@ -7,6 +7,7 @@ use Rattle.std.proofs.lemmas.Result.{err_from_is_err_and}
 use Rattle.model_form.specs.Form.{Form, form, constant_of, remainder, remainders_of}
 use Rattle.model_form.specs.Sums.{form_of_sum, started, put_fields, put_remainders, add_form, remainder_form, subst_form}
 use Rattle.model_form.specs.Sums as model
+use Rattle.model_tree.specs.Limits.{greatest_divisor}
 use Rattle.model_tree.specs.Range.{IsLabelNumber}
 use Rattle.model_form.specs.Ranges.{IsCoefficient, IsForm, IsOutside, IsOutsideAfter, IsOutsideWithin}
 use Rattle.lin_form.specs.Whole.{AreInner}
@@ -15,14 +16,17 @@ use Rattle.lin_form.proofs.Gathering.{gathered_more}
 use Rattle.lin_form.specs.Terms.{plain_fields, plain_remainders}
 use Rattle.lin_form.specs.Gathered.{plain_sum}
 use Rattle.lin_form.specs.declared.form.RemTerm.{RemTerm}
+use Rattle.std.proofs.lemmas.List.Elements.{All-get_or}
+use Rattle.lin_form.specs.Nest.{nest_front, base_of, AreDivisors}
+use Rattle.lin_form.proofs.Nests.{seen_base, seen_next, seen_whole, subst_bare, none_bare, outside_nest, remainder_inside}
 use Rattle.lin_form.proofs.Evaluating.{remainder_item}
 use Rattle.lin_form.proofs.Likes.{remainders_drop, held_64}
 use Rattle.lin_form.proofs.Outside.{constant_after, none_outside}
 use Rattle.lin_form.proofs.Putting.{stops_weaker, within_at, after_within, both_of, constant_grows, remainder_constant}
-use Rattle.lin_form.proofs.form.Form.+subst.Goals as goal
+use Rattle.lin_form.proofs.form.+subst.Goals as goal
 
-pub returns-in_err-inner-clause-form : goal.returns-in_err-inner-clause-form
-returns-in_err-inner-clause-form t c =
+pub Form::subst-returns-in_err-inner-clause-form : goal.Form::subst-returns-in_err-inner-clause-form
+Form::subst-returns-in_err-inner-clause-form t c =
     let p = err_from_is_err_and c.from_residual-in_err-inner.result c.from_residual-in_err-inner.ensures.1 in
     let h = (c.in_err-inner.ensures {u = tt}).form in
     let gs = c.args.forms.now in
@@ -32,19 +36,19 @@ returns-in_err-inner-clause-form t c =
     (subst (λ ts. IsOutsideWithin (plain_remainders ts) gs n) c.deref-term-items.ensures.value (within_at items c.loop-term.term-index c.term-item.result gs n c.loop-term-test.true (subst (λ (x : RemTerm). IsOutsideAfter x.inner gs n) c.term-item.is o))) in
     rw (p.1, p.2) (stops_weaker (IsOutsideAfter c.term-item.result.inner gs) (IsOutsideAfter c.args.self.now gs) c.in_err-inner.field-0.0 out h)
 
-pub add_remainder-requires-clause-some : goal.add_remainder-requires-clause-some
-add_remainder-requires-clause-some t c = (remainder_item c.self.inside.remainders.items c.deref-term-items.result.now c.loop-term.term-index c.term-item.result c.self.invariant.form.2 c.deref-term-items.ensures.value c.term-item.is c.loop-term-test.true).1
+pub Form::subst-add_remainder-requires-clause-some : goal.Form::subst-add_remainder-requires-clause-some
+Form::subst-add_remainder-requires-clause-some t c = (remainder_item c.self.inside.remainders.items c.deref-term-items.result.now c.loop-term.term-index c.term-item.result c.self.invariant.form.2 c.deref-term-items.ensures.value c.term-item.is c.loop-term-test.true).1
 
-pub add_remainder-requires-clause-few : goal.add_remainder-requires-clause-few
-add_remainder-requires-clause-few t c = (remainder_item c.self.inside.remainders.items c.deref-term-items.result.now c.loop-term.term-index c.term-item.result c.self.invariant.form.2 c.deref-term-items.ensures.value c.term-item.is c.loop-term-test.true).2
+pub Form::subst-add_remainder-requires-clause-few : goal.Form::subst-add_remainder-requires-clause-few
+Form::subst-add_remainder-requires-clause-few t c = (remainder_item c.self.inside.remainders.items c.deref-term-items.result.now c.loop-term.term-index c.term-item.result c.self.invariant.form.2 c.deref-term-items.ensures.value c.term-item.is c.loop-term-test.true).2
 
-pub add_remainder-requires-clause-coefficient : goal.add_remainder-requires-clause-coefficient
-add_remainder-requires-clause-coefficient t c =
+pub Form::subst-add_remainder-requires-clause-coefficient : goal.Form::subst-add_remainder-requires-clause-coefficient
+Form::subst-add_remainder-requires-clause-coefficient t c =
     let h = (remainder_item c.self.inside.remainders.items c.deref-term-items.result.now c.loop-term.term-index c.term-item.result c.self.invariant.form.2 c.deref-term-items.ensures.value c.term-item.is c.loop-term-test.true).0 in
     subst IsCoefficient (sym (held_64 c.term-item.result.coefficient h)) h
 
-pub loop-term-preserved : goal.loop-term-preserved
-loop-term-preserved t c =
+pub Form::subst-loop-term-preserved : goal.Form::subst-loop-term-preserved
+Form::subst-loop-term-preserved t c =
     let i = c.loop-term.term-index in
     let it = c.term-item.result in
     let gs = c.args.forms.now in
@@ -69,8 +73,8 @@ loop-term-preserved t c =
       within = λ n o. elim (subst (λ rs. IsOutsideWithin rs gs n) here (c.loop-term.invariant.within n o)) as (λ _. IsOutsideWithin rest gs n) [ inl x ↦ absurd (inner.in_range n x) | inr x ↦ x ];
     }
 
-pub returns-clause-in_range : goal.returns-clause-in_range
-returns-clause-in_range t c =
+pub Form::subst-returns-clause-in_range : goal.Form::subst-returns-clause-in_range
+Form::subst-returns-clause-in_range t c =
     let gs = c.args.forms.now in
     let items = c.deref-term-items.result.now in
     let past = drop_all c.loop-term.term-index items c.loop-term-test.false in
@@ -85,3 +89,41 @@ returns-clause-in_range t c =
       | inl x ↦ none_outside f h n (subst (λ g. IsOutside g n) (sym (is ∙ e)) x)
       | inr x ↦ subst (λ ts. IsOutsideWithin (plain_remainders ts) gs n → ⊥) (sym past) (λ y. y) (c.loop-term.invariant.within n (subst (λ ts. IsOutsideWithin (plain_remainders ts) gs n) (sym c.deref-term-items.ensures.value) x))
     ])
+
+pub Dividend::subst-loop-divisor-init : goal.Dividend::subst-loop-divisor-init
+Dividend::subst-loop-divisor-init t c =
+    let under = seen_base c.args.self.now c.self.inside.base c.self.inside.divisors.items c.self.invariant.more c.self.view_is in
+    let made = c.in_ok-form.ensures {u = tt} in
+    record {
+      value = made.form ∙ ap (λ f. subst_form f c.args.forms.now) (sym under);
+      within = λ n o. made.in_range n (subst (λ f. IsOutsideAfter f c.args.forms.now n) under o);
+    }
+
+pub Dividend::subst-loop-divisor-preserved : goal.Dividend::subst-loop-divisor-preserved
+Dividend::subst-loop-divisor-preserved t c =
+    let i = c.loop-divisor.divisor-index in
+    let items = c.deref-divisor-items.result.now in
+    let f = nest_front i (base_of c.args.self.now) items in
+    let k = get_or items i 0 in
+    let next = seen_next i (base_of c.args.self.now) items 0 c.loop-divisor-test.true in
+    let gs = c.args.forms.now in
+    let range = All-get_or (λ n. (0 < n) × (n ≤ greatest_divisor)) items i 0 c.loop-divisor-test.true (subst AreDivisors (sym c.deref-divisor-items.ensures.value) c.self.invariant.divisors) in
+    record {
+      value = (c.in_ok-form-2.ensures {u = tt}) ∙ ap (λ g. remainder_form g k) c.loop-divisor.invariant.value ∙ sym (subst_bare f k gs) ∙ ap (λ g. subst_form g gs) (sym next);
+      within = λ n o. none_bare f k gs c.loop-divisor.invariant.within (remainder_inside (subst_form f gs) k range.0 range.1) n (subst (λ g. IsOutsideAfter g gs n) next o);
+    }
+
+pub Dividend::subst-returns-in_err-form-clause-form : goal.Dividend::subst-returns-in_err-form-clause-form
+Dividend::subst-returns-in_err-form-clause-form t c =
+    let p = err_from_is_err_and c.from_residual.result c.from_residual.ensures.1 in
+    let gs = c.args.forms.now in
+    let out : (n : ℤ) → IsOutsideAfter c.self.inside.base gs n → IsOutsideAfter c.args.self.now gs n = λ n o.
+    subst (λ f. IsOutsideAfter f gs n) c.self.view_is (outside_nest c.self.inside.base c.self.inside.divisors.items gs n o) in
+    rw (p.1, p.2) (stops_weaker (IsOutsideAfter c.self.inside.base gs) (IsOutsideAfter c.args.self.now gs) c.in_err-form.field-0.0 out (c.in_err-form.ensures {u = tt}).form)
+
+pub Dividend::subst-returns-clause-form : goal.Dividend::subst-returns-clause-form
+Dividend::subst-returns-clause-form t c = c.loop-divisor.invariant.value ∙ ap (λ f. subst_form f c.args.forms.now) (seen_whole c.loop-divisor.divisor-index c.args.self.now c.self.inside.base c.self.inside.divisors.items c.deref-divisor-items.result.now c.self.invariant.more c.self.view_is c.deref-divisor-items.ensures.value c.loop-divisor-test.false)
+
+pub Dividend::subst-returns-clause-in_range : goal.Dividend::subst-returns-clause-in_range
+Dividend::subst-returns-clause-in_range t c =
+    λ n o. c.loop-divisor.invariant.within n (subst (λ f. IsOutsideAfter f c.args.forms.now n) (sym (seen_whole c.loop-divisor.divisor-index c.args.self.now c.self.inside.base c.self.inside.divisors.items c.deref-divisor-items.result.now c.self.invariant.more c.self.view_is c.deref-divisor-items.ensures.value c.loop-divisor-test.false)) o)

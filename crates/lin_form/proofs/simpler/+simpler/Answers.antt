@@ -1,4 +1,4 @@
-use Rattle.std.proofs.Common.{suc, ◌≡◌, ap, sym, ◌∙◌, subst, arith, drop, to_z, of_z, ◌+◌, ◌*◌, ◌<◌, ◌≤◌, ◌^◌, unsigned_abs, refl}
+use Rattle.std.proofs.Common.{suc, get_or, ◌≡◌, ap, sym, ◌∙◌, subst, arith, drop, to_z, of_z, ◌+◌, ◌*◌, ◌<◌, ◌≤◌, ◌^◌, unsigned_abs, refl}
 use Rattle.std.specs.Prelude.{pos, ◌+ℤ◌, ◌*ℤ◌}
 use Rattle.std.specs.Int.{w128}
 use Rattle.std.proofs.lemmas.Int.{ints}
@@ -15,14 +15,16 @@ use Rattle.lin_form.specs.Terms.{plain_fields, plain_remainders}
 use Rattle.lin_form.specs.Gathered.{plain_sum}
 use Rattle.lin_form.specs.declared.form.RemTerm.{RemTerm}
 use Rattle.model_form.proofs.Values.{length-add_fields}
+use Rattle.lin_form.specs.Nest.{nest_front, base_of}
+use Rattle.lin_form.proofs.Nests.{seen_base, seen_next, seen_whole, simpler_bare}
 use Rattle.lin_form.proofs.Evaluating.{remainder_item}
 use Rattle.lin_form.proofs.Likes.{remainders_drop, held_64}
 use Rattle.lin_form.proofs.Outside.{constant_after}
 use Rattle.lin_form.proofs.Putting.{constant_grows, remainder_constant}
-use Rattle.lin_form.proofs.simpler.+simpler_sum.Goals as goal
+use Rattle.lin_form.proofs.simpler.+simpler.Goals as goal
 
-pub loop-term-init : goal.loop-term-init
-loop-term-init t c =
+pub simpler_sum-loop-term-init : goal.simpler_sum-loop-term-init
+simpler_sum-loop-term-init t c =
     let n = c.form.inside.constant in
     let ts = plain_fields c.form.inside.fields.items in
     let constant : to_z w128 (of_z w128 n) ≡ n = (let f : IsLabelNumber n = c.form.invariant.form.0 in omega (arith, ints)) in
@@ -46,19 +48,19 @@ loop-term-init t c =
       constant = subst (λ z. unsigned_abs z ≤ 2 ^ 98) (sym constant) (let f : IsLabelNumber n = c.form.invariant.form.0 in omega (arith, ints));
     }
 
-pub add_inside-requires-clause-coefficient : goal.add_inside-requires-clause-coefficient
-add_inside-requires-clause-coefficient t c =
+pub simpler_sum-add_inside-requires-clause-coefficient : goal.simpler_sum-add_inside-requires-clause-coefficient
+simpler_sum-add_inside-requires-clause-coefficient t c =
     let h = (remainder_item c.form.inside.remainders.items c.deref-term-items.result.now c.loop-term.term-index c.term-item.result c.form.invariant.form.2 c.deref-term-items.ensures.value c.term-item.is c.loop-term-test.true).0 in
     subst IsCoefficient (sym (held_64 c.term-item.result.coefficient h)) h
 
-pub add_inside-requires-clause-some : goal.add_inside-requires-clause-some
-add_inside-requires-clause-some t c = (remainder_item c.form.inside.remainders.items c.deref-term-items.result.now c.loop-term.term-index c.term-item.result c.form.invariant.form.2 c.deref-term-items.ensures.value c.term-item.is c.loop-term-test.true).1
+pub simpler_sum-add_inside-requires-clause-some : goal.simpler_sum-add_inside-requires-clause-some
+simpler_sum-add_inside-requires-clause-some t c = (remainder_item c.form.inside.remainders.items c.deref-term-items.result.now c.loop-term.term-index c.term-item.result c.form.invariant.form.2 c.deref-term-items.ensures.value c.term-item.is c.loop-term-test.true).1
 
-pub add_inside-requires-clause-few : goal.add_inside-requires-clause-few
-add_inside-requires-clause-few t c = (remainder_item c.form.inside.remainders.items c.deref-term-items.result.now c.loop-term.term-index c.term-item.result c.form.invariant.form.2 c.deref-term-items.ensures.value c.term-item.is c.loop-term-test.true).2
+pub simpler_sum-add_inside-requires-clause-few : goal.simpler_sum-add_inside-requires-clause-few
+simpler_sum-add_inside-requires-clause-few t c = (remainder_item c.form.inside.remainders.items c.deref-term-items.result.now c.loop-term.term-index c.term-item.result c.form.invariant.form.2 c.deref-term-items.ensures.value c.term-item.is c.loop-term-test.true).2
 
-pub loop-term-preserved : goal.loop-term-preserved
-loop-term-preserved t c =
+pub simpler_sum-loop-term-preserved : goal.simpler_sum-loop-term-preserved
+simpler_sum-loop-term-preserved t c =
     let i = c.loop-term.term-index in
     let it = c.term-item.result in
     let items = c.deref-term-items.result.now in
@@ -68,7 +70,7 @@ loop-term-preserved t c =
     let done = c.in_ok-add_inside.ensures {u = tt} in
     let f = form_of_sum (inside it.divisor (simpler_sum it.inner)) in
     let g = remainder_form f it.divisor in
-    let made : remainder_form (form_of_sum (inside it.divisor (plain_sum c.simpler_sum.new.sum))) it.divisor ≡ g = ap (λ x. remainder_form (form_of_sum (inside it.divisor x)) it.divisor) (c.in_ok-simpler_sum.ensures {u = tt}).0 in
+    let made : remainder_form (form_of_sum (inside it.divisor (plain_sum c.simpler_dividend.new.sum))) it.divisor ≡ g = ap (λ x. remainder_form (form_of_sum (inside it.divisor x)) it.divisor) (c.in_ok-simpler_dividend.ensures {u = tt}).0 in
     let added : plain_sum c.add_inside.new.self ≡ add_form it.coefficient g s = done.sum ∙ (λ j. add_form (held_64 it.coefficient h.0 j) (made j) s) in
     let rest = plain_remainders (drop (i + 1) items) in
     let here : plain_remainders (drop i items) ≡ remainder it.coefficient it.inner it.divisor rest =
@@ -81,3 +83,24 @@ loop-term-preserved t c =
       gathered = subst (λ n. IsGathered n (plain_sum c.add_inside.new.self)) e (subst (IsGathered (suc (8 + i))) (sym added) (gathered_more (8 + i) it.coefficient g s b is inner c.loop-term.invariant.gathered));
       constant = subst (λ z. unsigned_abs z ≤ 2 ^ 98 + (i + 1) * 2 ^ 43) (sym (ap (λ (x : model.Sum). x.constant) added ∙ constant_after it.coefficient g s)) (constant_grows i c.loop-term.sum.constant it.coefficient (constant_of g) h.0 (remainder_constant f it.divisor h.1 h.2) c.loop-term.invariant.constant);
     }
+
+pub simpler_dividend-loop-divisor-init : goal.simpler_dividend-loop-divisor-init
+simpler_dividend-loop-divisor-init t c =
+    let made = c.in_ok-simpler_sum.ensures {u = tt} in
+    record { value = made.0 ∙ ap simpler_sum (sym (seen_base c.args.inner.now c.inner.inside.base c.inner.inside.divisors.items c.inner.invariant.more c.inner.view_is)); gathered = made.1 }
+
+pub simpler_dividend-loop-divisor-preserved : goal.simpler_dividend-loop-divisor-preserved
+simpler_dividend-loop-divisor-preserved t c =
+    let i = c.loop-divisor.divisor-index in
+    let items = c.deref-divisor-items.result.now in
+    let f = nest_front i (base_of c.args.inner.now) items in
+    let k = get_or items i 0 in
+    let next = seen_next i (base_of c.args.inner.now) items 0 c.loop-divisor-test.true in
+    let made = c.in_ok-divide.ensures {u = tt} in
+    record {
+      value = made.sum ∙ ap (λ x. add_form (pos 1) (remainder_form (form_of_sum (inside k x)) k) (started (pos 0))) c.loop-divisor.invariant.value ∙ sym (simpler_bare f k) ∙ ap simpler_sum (sym next);
+      gathered = made.gathered;
+    }
+
+pub simpler_dividend-returns : goal.simpler_dividend-returns
+simpler_dividend-returns t c = (c.loop-divisor.invariant.value ∙ ap simpler_sum (seen_whole c.loop-divisor.divisor-index c.args.inner.now c.inner.inside.base c.inner.inside.divisors.items c.deref-divisor-items.result.now c.inner.invariant.more c.inner.view_is c.deref-divisor-items.ensures.value c.loop-divisor-test.false), c.loop-divisor.invariant.gathered)
