@@ -326,3 +326,50 @@ sound_over n (form c ts rs) k s e l h g =
       inner = ((sound_whole n f s, omega arith), tt);
       depth = omega arith;
     }
+
+-- ---- a form by its parts
+
+pub parts_nest : (f : Form) → nest (base_of f) (divisors_of f) ≡ f
+parts_nest (form c (t ∷ ts) rs) = refl
+parts_nest (form c [] no_remainders) = refl
+parts_nest (form c [] (remainder a f k (remainder b g m rs))) = refl
+parts_nest (form c [] (remainder a f k no_remainders)) = by (int_eq c (pos 0) && int_eq a (pos 1)) refl (parts_nest f)
+  where
+    whole : Form
+    whole = form c [] (remainder a f k no_remainders)
+
+    by : (b : Bool) → (int_eq c (pos 0) && int_eq a (pos 1)) ≡ b → nest (base_of f) (divisors_of f) ≡ f → nest (cond b (base_of f) whole) (cond b (divisors_of f ++ (k ∷ [])) []) ≡ whole
+    by false e h = refl
+    by true e h =
+        let p = both_out (int_eq c (pos 0)) (int_eq a (pos 1)) e in
+        let first = int_eq-out c (pos 0) p.0 in
+        let second = int_eq-out a (pos 1) p.1 in
+        nest_end (base_of f) (divisors_of f) k ∙ (λ i. form (sym first i) [] (remainder (sym second i) (h i) k no_remainders))
+
+pub base_lower : (f : Form) → height (base_of f) ≤ height f
+base_lower f = let low = base_falls (base_of f) (divisors_of f) in let same = ap height (parts_nest f) in omega arith
+
+pub alone_base : (f : Form) → divisors_of f ≡ [] → base_of f ≡ f
+alone_base f e = sym (ap (λ ks. nest (base_of f) ks) e) ∙ parts_nest f
+
+-- the last divisor, and what its remainder is taken of
+pub last_part : (f : Form) (i d : ℕ) → i + 1 ≡ length (divisors_of f) → bare (nest_front i (base_of f) (divisors_of f)) (get_or (divisors_of f) i d) ≡ f
+last_part f i d e = sym (seen_next i (base_of f) (divisors_of f) d (omega arith)) ∙ front_all (i + 1) (base_of f) (divisors_of f) (omega arith) ∙ parts_nest f
+
+-- what is the same of a form and of a remainder of it is the same of what is under
+module _ {X : Type 0} (v : Form → X) (over : (f : Form) (k : ℕ) → v (bare f k) ≡ v f) where
+  under_nest : (f : Form) (ks : List ℕ) → v (nest f ks) ≡ v f
+  under_nest f [] = refl
+  under_nest f (k ∷ ks) = under_nest (bare f k) ks ∙ over f k
+
+  pub of_base : (f : Form) → v (base_of f) ≡ v f
+  of_base f = sym (under_nest (base_of f) (divisors_of f)) ∙ ap v (parts_nest f)
+
+-- the same where it depends on the divisor that a remainder is taken by, for the first divisor
+module _ {X : Type 0} (v : ℕ → Form → X) (over : (m : ℕ) (f : Form) (k : ℕ) → v m (bare f k) ≡ v k f) where
+  first_nest : (m : ℕ) (f : Form) (ks : List ℕ) → v m (nest f ks) ≡ v (get_or ks 0 m) f
+  first_nest m f [] = refl
+  first_nest m f (k ∷ ks) = first_nest m (bare f k) ks ∙ over (get_or ks 0 m) f k
+
+  pub of_first : (m : ℕ) (f : Form) → v (get_or (divisors_of f) 0 m) (base_of f) ≡ v m f
+  of_first m f = sym (first_nest m (base_of f) (divisors_of f)) ∙ ap (v m) (parts_nest f)

@@ -1,6 +1,6 @@
 //! Forms and their readers.
 
-ghost use Rattle.std.specs.Prelude.{◌≡◌, ℤ, ◌<◌, ◌≤◌, map, IfOk, length};
+ghost use Rattle.std.specs.Prelude.{◌≡◌, ℤ, ◌<◌, ◌≤◌, map, IfOk, length, slice_index_or};
 ghost use Rattle.model_form.specs.Form.{constant_of, fields_of, remainders_of};
 ghost use Rattle.model_form.specs.Sums.{number_form, field_form};
 ghost use Rattle.model_tree.specs.Limits.{most_fields};
@@ -189,6 +189,17 @@ impl Form {
             remainders,
             depth: self.depth,
         })
+    }
+}
+
+impl RemTerm {
+    /// The form of which the innermost remainder is taken, and its divisor.
+    pub fn innermost(&self) -> (&Form, u32)
+        ensures form { result.0.now ≡ base_of self.now.inner }
+        ensures divisor { result.1 ≡ slice_index_or (divisors_of self.now.inner) 0 self.now.divisor }
+    {
+        let (base, divisors) = self.inner.parts();
+        (base, divisors.first().copied().unwrap_or(self.divisor))
     }
 }
 

@@ -16,7 +16,9 @@ use Rattle.lin_form.specs.declared.form.FieldTerm.{FieldTerm}
 use Rattle.lin_form.specs.declared.form.RemTerm.{RemTerm}
 use Rattle.lin_form.specs.Terms.{plain_fields, plain_remainders}
 use Rattle.lin_form.proofs.Evaluating.{fields_few, coefficient_at, remainder_at}
-use Rattle.lin_solve.specs.Plain.{plain_term, Within}
+use Rattle.lin_form.specs.Nest.{base_of, divisors_of}
+use Rattle.lin_form.proofs.Nests.{alone_base, last_part}
+use Rattle.lin_solve.specs.Plain.{plain_term, front_remainder, Within}
 
 -- ---- one place
 
@@ -105,3 +107,12 @@ grown b k start row next before more h = within_step b k next (more (b + k * 2 ^
 
 pub few_terms : (ts : List FieldTerm) → AreFields 0 (plain_fields ts) → length ts ≤ 8
 few_terms ts h = let k = fields_few 0 ts (omega arith) h in omega arith
+
+-- ---- what a remainder is taken of
+
+pub alone_is : (f g : Form) (ks : List ℕ) → g ≡ base_of f → ks ≡ divisors_of f → length ks ≡ 0 → g ≡ f
+alone_is f g [] e d l = e ∙ alone_base f (sym d)
+alone_is f g (k ∷ ks) e d l = absurd (omega arith)
+
+pub last_is : (R : List plain.Remainder) (f : Form) (i : ℕ) (r : plain.Remainder) (row : List ℤ) → i + 1 ≡ length (divisors_of f) → r ≡ front_remainder i f → plain.add_at (8 + plain.place r R) (pos 1) row ≡ plain.add_terms R (pos 1) f row
+last_is R f i r row e is = ap (λ s. plain.add_at (8 + plain.place s R) (pos 1) row) is ∙ ap (λ g. plain.add_terms R (pos 1) g row) (last_part f i 0 e)

@@ -1,20 +1,25 @@
 -- The steps of numbering.
 use Rattle.std.proofs.Common.{◌≡◌, ℕ, suc, ◌+◌, ◌<◌, ◌≤◌, List, [], ◌∷◌, ◌++◌, length, drop, get_or, Bool, true, false, cond, ◌||◌, refl, ap, sym, ◌∙◌, subst, arith}
+use Rattle.std.specs.Prelude.{Some}
+use Rattle.std.specs.List.{slice_get}
 use Rattle.std.proofs.lemmas.List.{at_drop_more, at_drop_all, map-append, length-map}
 use Rattle.std.proofs.lemmas.List.Elements.{All-push}
 use Rattle.model_form.specs.Form.{Form, form, remainders_of, heights, height}
 use Rattle.model_form.specs.Ranges.{AreRemainders, IsForm}
 use Rattle.model_chain.specs.Literals as plain
-use Rattle.model_chain.specs.Literals.{is_same, is_in, place, with_one, seen, seen_all, seen_in}
+use Rattle.model_chain.specs.Literals.{is_same, is_in, place, with_one, seen, seen_all, seen_in, has_field}
 use Rattle.model_chain.proofs.Places.{place_in}
 use Rattle.label_core.specs.declared.theory.Lit.{Lit}
 use Rattle.lin_form.specs.declared.form.RemTerm.{RemTerm}
 use Rattle.lin_form.specs.Terms.{plain_remainders}
+use Rattle.lin_form.specs.Nest.{nest_front, base_of, divisors_of}
+use Rattle.lin_form.proofs.Nests.{seen_next as front_next, front_all, parts_nest, base_lower, of_base, of_first}
 use Rattle.lin_form.proofs.Evaluating.{remainder_at}
 use Rattle.lin_form.proofs.Reducing.{inner_lower}
 use Rattle.lin_solve.specs.declared.compare.Compare.{Compare}
 use Rattle.lin_solve.specs.declared.numbering.Remainder.{Remainder}
-use Rattle.lin_solve.specs.Plain.{plain_literals, plain_remainder, plain_known, plain_term, ArePositive}
+use Rattle.lin_solve.specs.Plain.{plain_literals, plain_remainder, plain_known, plain_term, front_remainder, ArePositive}
+use Rattle.lin_solve.specs.Cases.{is_open}
 
 -- ---- one remainder
 
@@ -78,3 +83,36 @@ literals_end ls k R l = at_drop_all (λ us. seen_in (plain_literals us) R) ls k 
 
 pub known_length : (R : List Remainder) → length (plain_known R) ≡ length R
 known_length R = length-map R plain_remainder
+
+-- ---- remainders of nothing but a remainder
+
+pub seen_next : (i : ℕ) (f : Form) (R S : List plain.Remainder) (r : plain.Remainder) → i < length (divisors_of f) → r ≡ front_remainder i f → S ≡ seen (nest_front i (base_of f) (divisors_of f)) R
+    → with_one r S ≡ seen (nest_front (i + 1) (base_of f) (divisors_of f)) R
+seen_next i f R S r h e s = (λ j. with_one (e j) (s j)) ∙ ap (λ g. seen g R) (sym (front_next i (base_of f) (divisors_of f) 0 h))
+
+pub seen_whole : (i : ℕ) (f : Form) (R : List plain.Remainder) → length (divisors_of f) ≤ i → seen (nest_front i (base_of f) (divisors_of f)) R ≡ seen f R
+seen_whole i f R h = ap (λ g. seen g R) (front_all i (base_of f) (divisors_of f) h ∙ parts_nest f)
+
+pub within_lower : (f : Form) (ts : List RemTerm) (k : ℕ) (t : RemTerm) (g : Form) → plain_remainders ts ≡ remainders_of f → k < length ts → t ≡ get_or ts k t → g ≡ base_of t.inner → height g < height f
+within_lower f ts k t g e l is same = let low = item_lower f ts k t e l is in let under = base_lower t.inner in let h = ap height same in omega arith
+
+pub under_lower : (f g : Form) → g ≡ base_of f → height g ≤ height f
+under_lower f g same = let under = base_lower f in let h = ap height same in omega arith
+
+pub field_within : (n : ℕ) (f : Form) → has_field n (base_of f) ≡ has_field n f
+field_within n = of_base (has_field n) (λ f k. either (has_field n f))
+  where
+    either : (b : Bool) → (b || false) ≡ b
+    either true = refl
+    either false = refl
+
+pub open_within : (steps : List ℕ) (m : ℕ) (f : Form) → is_open steps (get_or (divisors_of f) 0 m) (base_of f) ≡ is_open steps m f
+open_within steps = of_first (is_open steps) (λ m f k. either (is_open steps k f))
+  where
+    either : (b : Bool) → (b || false) ≡ b
+    either true = refl
+    either false = refl
+
+pub first_lower : (f : Form) (ts : List RemTerm) (t : RemTerm) (g : Form) → plain_remainders ts ≡ remainders_of f → Some t ≡ slice_get ts 0 → g ≡ base_of t.inner → height g < height f
+first_lower f [] t g e s same = cc
+first_lower f (x ∷ ts) t g e s same = let own : t ≡ x = cc in within_lower f (x ∷ ts) 0 t g e (omega arith) own same

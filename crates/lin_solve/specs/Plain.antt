@@ -1,12 +1,14 @@
 -- Comparisons, literals and remainders as plain data.
-use Rattle.std.specs.Prelude.{◌≡◌, ℕ, ℤ, ◌<◌, ◌≤◌, List, map, unsigned_abs, Bool}
+use Rattle.std.specs.Prelude.{◌≡◌, ℕ, ℤ, ◌<◌, ◌≤◌, List, map, unsigned_abs, slice_index_or, Bool}
 use Rattle.std.specs.List.{All}
 use Rattle.math_cooper.specs.Line.{AtLeastZero}
 use Rattle.math_cooper.specs.System.{Condition}
+use Rattle.model_form.specs.Form.{Form}
 use Rattle.model_form.specs.Sums.{sign}
 use Rattle.model_chain.specs.Literals as plain
 use Rattle.label_core.specs.declared.theory.Lit.{Lit}
 use Rattle.lin_form.specs.declared.form.RemTerm.{RemTerm}
+use Rattle.lin_form.specs.Nest.{nest_front, base_of, divisors_of}
 use Rattle.lin_solve.specs.declared.compare.Relation.{Relation}
 use Rattle.lin_solve.specs.declared.compare.Relation.TheVariants.{Less, AtMost, Equal}
 use Rattle.lin_solve.specs.declared.compare.Compare.{Compare}
@@ -34,6 +36,10 @@ plain_known rs = map plain_remainder rs
 
 abbrev pub plain_term : RemTerm → plain.Remainder
 plain_term t = record { inner = t.inner; divisor = t.divisor }
+
+-- the remainder by the divisor with this number, of those that the form is nothing but, the innermost first
+abbrev pub front_remainder : ℕ → Form → plain.Remainder
+front_remainder i f = record { inner = nest_front i (base_of f) (divisors_of f); divisor = slice_index_or (divisors_of f) i 0 }
 
 abbrev pub ArePositive : List Remainder → Type 0
 ArePositive rs = All (λ r. 0 < r.divisor) rs

@@ -16,7 +16,7 @@ use crate::found::Sought;
 use crate::guess::{all_hold, repair_each};
 use fast_fault::{LabelInt, Memory};
 use label_core::Lit;
-use lin_form::Form;
+use lin_form::{Form, RemTerm};
 use std::alloc::Global;
 
 // How many cases are made in all.
@@ -54,6 +54,7 @@ fn is_loose(steps: &[u64], field: u32, by: u32) -> bool
 
 // Whether the step of a field outside remainders is no multiple of the number, or of one within of its divisor. So with 0
 // a form that isn't open has one value in the whole case.
+#[cycle(open)]
 fn is_open(form: &Form, by: u32, steps: &[u64]) -> bool
     ensures { result ≡ is_open steps.now by form.now }
 {
@@ -63,11 +64,20 @@ fn is_open(form: &Form, by: u32, steps: &[u64]) -> bool
         }
     }
     'inner: for term in form.remainders() {
-        if is_open(&term.inner, term.divisor, steps) {
+        if is_open_within(term, steps) {
             return true;
         }
     }
     false
+}
+
+// The same of what the remainder is taken of, by its divisor.
+#[cycle(open)]
+fn is_open_within(term: &RemTerm, steps: &[u64]) -> bool
+    ensures { result ≡ is_open steps.now term.now.divisor term.now.inner }
+{
+    let (form, by) = term.innermost();
+    is_open(form, by, steps)
 }
 
 /// Whether the literal holds at no values of the case. None may hold although it isn't found.
@@ -178,6 +188,7 @@ pub(crate) fn divisor_in_common(first: u64, second: u64) -> u64 {
 }
 
 // How the first field outside remainders whose step is no multiple of the number is turned, or the first within one.
+#[cycle(turn)]
 fn turn_for(form: &Form, by: u32, steps: &[u64; 8]) -> Option<Turn> {
     'fields: for term in form.fields() {
         let field = term.field as usize;
@@ -189,18 +200,15 @@ fn turn_for(form: &Form, by: u32, steps: &[u64; 8]) -> Option<Turn> {
             });
         }
     }
-    'inner: for term in form.remainders() {
-        if let Some(turn) = turn_for(&term.inner, term.divisor, steps) {
-            return Some(turn);
-        }
-    }
-    None
+    turn_within(form, steps)
 }
 
 // The same of the fields within remainders.
+#[cycle(turn)]
 fn turn_within(form: &Form, steps: &[u64; 8]) -> Option<Turn> {
     for term in form.remainders() {
-        if let Some(turn) = turn_for(&term.inner, term.divisor, steps) {
+        let (inner, by) = term.innermost();
+        if let Some(turn) = turn_for(inner, by, steps) {
             return Some(turn);
         }
     }

@@ -13,7 +13,7 @@ use crate::gaps::less;
 use crate::mend::coefficient;
 use crate::puts::{forms_with, put_literal};
 use crate::repeats::copy_literal;
-use crate::system::has_field;
+use crate::system::is_within;
 use fast_fault::Memory;
 use label_core::Lit;
 use lin_form::{Form, FormStop};
@@ -26,9 +26,9 @@ pub(crate) struct Own {
     pub(crate) form: Form,
 }
 
-fn is_within(form: &Form, field: u32) -> bool {
+fn some_within(form: &Form, field: u32) -> bool {
     for term in form.remainders() {
-        if has_field(&term.inner, field) {
+        if is_within(term, field) {
             return true;
         }
     }
@@ -39,7 +39,7 @@ fn is_within(form: &Form, field: u32) -> bool {
 fn single_field(left: &Form, right: &Form) -> Option<u32> {
     for field in 0..8 {
         let times = coefficient(left, field).checked_sub(coefficient(right, field));
-        if times == Some(1) && !is_within(left, field) && !is_within(right, field) {
+        if times == Some(1) && !some_within(left, field) && !some_within(right, field) {
             return Some(field);
         }
     }

@@ -29,7 +29,7 @@ fn first_term(form: &Form) -> Option<FieldTerm> {
         return Some(*term);
     }
     match form.remainders().first() {
-        Some(remainder) => match first_term(&remainder.inner) {
+        Some(remainder) => match first_term(remainder.innermost().0) {
             Some(term) => Some(FieldTerm {
                 field: term.field,
                 coefficient: 0,

@@ -1,16 +1,17 @@
 //! Forms as rows of coefficients.
 
 ghost use Rattle.std.specs.Prelude.{◌≡◌, ◌+◌, ◌*◌, ◌^◌, ◌<◌, ◌≤◌, ◌⊎◌, ◌*ℤ◌, pos, negsuc, ℕ, ℤ, IfOk, All, length, unsigned_abs, vec_len};
+ghost use Rattle.model_form.specs.Form.{constant_of};
 ghost use Rattle.model_form.specs.Sums.{sign, add_fields as with_fields};
 ghost use Rattle.model_form.specs.Ranges.{IsCoefficient, AreFields, AreRemainders};
 ghost use Rattle.model_chain.specs.Literals.{add_at as with_at, add_places as with_places, add_terms, over as condition_over, zeros as nothing};
 ghost use Rattle.lin_form.specs.Terms.{plain_fields, plain_remainders};
 ghost use Rattle.lin_solve.specs.Plain.{plain_known, Within};
 
-use crate::numbering::{Remainder, place_of};
+use crate::numbering::{Remainder, front_term, place_of};
 use cooper_solve::{Constraint, Relation, zeros};
 use fast_fault::Memory;
-use lin_form::{FieldTerm, Form, RemTerm};
+use lin_form::{Dividend, FieldTerm, Form, RemTerm};
 use std::alloc::Global;
 
 fn signed(minus: bool, coefficient: i64) -> i128
@@ -68,6 +69,37 @@ pub(crate) fn add_form(row: &mut Vec<i128>, minus: bool, form: &Form, known: &[R
 {
     add_fields(row, minus, form.fields());
     add_places(row, minus, form.remainders(), known);
+}
+
+/// The coefficients of what a remainder is taken of, in a new row.
+pub(crate) fn dividend_row(
+    alloc: Global,
+    inner: &Dividend,
+    known: &[Remainder],
+) -> Result<Vec<i128>, Memory>
+    ensures { IfOk result (λ r. (r.items ≡ add_terms (plain_known known.now) (pos 1) inner.now (nothing (plain_known known.now))) × Within (2 ^ 100) r.items) }
+{
+    let mut row = empty_row(alloc, known)?;
+    let (base, divisors) = inner.parts();
+    if divisors.is_empty() {
+        add_form(&mut row, false, base, known);
+        return Ok(row);
+    }
+    let term = front_term(alloc, inner, divisors.len() - 1)?;
+    add_at(&mut row, 8 + place_of(&term, known), 1);
+    Ok(row)
+}
+
+/// The constant of what a remainder is taken of.
+pub(crate) fn dividend_constant(inner: &Dividend) -> i128
+    ensures { result ≡ constant_of inner.now }
+{
+    let (base, divisors) = inner.parts();
+    if divisors.is_empty() {
+        base.constant()
+    } else {
+        0
+    }
 }
 
 /// So many zeros.

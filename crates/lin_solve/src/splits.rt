@@ -23,12 +23,13 @@ pub(crate) struct Split {
 // How a field within a remainder of the form is split, the innermost first.
 fn split_in(form: &Form) -> Option<Split> {
     for term in form.remainders() {
-        if let Some(split) = split_in(&term.inner) {
+        let (inner, divisor) = term.innermost();
+        if let Some(split) = split_in(inner) {
             return Some(split);
         }
-        if let Some(own) = term.inner.fields().first() {
-            let shared = divisor_in_common(term.divisor as u64, own.coefficient.unsigned_abs());
-            let times = (term.divisor as u64).checked_div(shared)?;
+        if let Some(own) = inner.fields().first() {
+            let shared = divisor_in_common(divisor as u64, own.coefficient.unsigned_abs());
+            let times = (divisor as u64).checked_div(shared)?;
             return Some(Split {
                 field: own.field,
                 times: u32::try_from(times).ok()?,

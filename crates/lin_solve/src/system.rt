@@ -8,11 +8,11 @@ ghost use Rattle.lin_solve.specs.Plain.{plain_known, plain_remainder, plain_lite
 
 use crate::compare::{Compare, Relation};
 use crate::numbering::Remainder;
-use crate::rows::{add_at, add_form, empty_row, over as row_over};
+use crate::rows::{add_at, dividend_constant, dividend_row, empty_row, over as row_over};
 use cooper_solve::{Constraint, Relation as Kind};
 use fast_fault::Memory;
 use label_core::Lit;
-use lin_form::Form;
+use lin_form::{Form, RemTerm};
 use std::alloc::Global;
 
 // That the first form less the second, with the offset, is at least 0, at the end.
@@ -160,12 +160,11 @@ fn push_remainder(
     let divisor = remainder.divisor as i128;
     out.push(one_at(alloc, known, variable, false, 0)?)?;
     out.push(one_at(alloc, known, variable, true, divisor - 1)?)?;
-    let mut coefficients = empty_row(alloc, known)?;
-    add_form(&mut coefficients, false, &remainder.inner, known);
+    let mut coefficients = dividend_row(alloc, &remainder.inner, known)?;
     add_at(&mut coefficients, variable, -1);
     out.push(Constraint {
         relation: Kind::Divided(divisor),
-        constant: remainder.inner.constant(),
+        constant: dividend_constant(&remainder.inner),
         coefficients,
     })?;
     Ok(())
@@ -186,6 +185,7 @@ fn push_remainders(
 }
 
 // Whether the field is in the form, or in an inner one.
+#[cycle(field)]
 pub(crate) fn has_field(form: &Form, field: u32) -> bool
     ensures { result ≡ field_in_form field form.now }
 {
@@ -195,11 +195,19 @@ pub(crate) fn has_field(form: &Form, field: u32) -> bool
         }
     }
     'inner: for term in form.remainders() {
-        if has_field(&term.inner, field) {
+        if is_within(term, field) {
             return true;
         }
     }
     false
+}
+
+// Whether the field is in what the remainder is taken of.
+#[cycle(field)]
+pub(crate) fn is_within(term: &RemTerm, field: u32) -> bool
+    ensures { result ≡ field_in_form field term.now.inner }
+{
+    has_field(term.innermost().0, field)
 }
 
 fn is_in_literals(literals: &[Lit<Compare>], field: u32) -> bool

@@ -41,6 +41,15 @@ fn chain(alloc: Global, count: u32) -> Result<Form, FormStop> {
     Ok(form)
 }
 
+/// Three times a field's remainder by 2, of that the same and so on, so many in one another.
+fn tower(alloc: Global, count: u32) -> Result<Form, FormStop> {
+    let mut form = Form::field(alloc, 0)?;
+    for _step in 0..count {
+        form = form.into_remainder(alloc, 2)?.scaled(alloc, 3)?;
+    }
+    Ok(form)
+}
+
 /// The divisor of the first remainder, or 0.
 fn first_divisor(form: &Form) -> u32 {
     match form.remainders().first() {
@@ -186,15 +195,31 @@ fn opens_remainders_by_multiples(rt: HostRuntime) -> Result<(), Fail> {
 #[test]
 fn nests_no_deeper_than_the_deepest(rt: HostRuntime) -> Result<(), Fail> {
     let alloc = rt.alloc();
-    let (Ok(deepest), x) = (chain(alloc, DEEPEST), Form::field(alloc, 0)?) else {
+    let Ok(deepest) = tower(alloc, DEEPEST) else {
         panic!(rt; "no form");
     };
-    assert!(rt; deepest.eval(&[7]) == 1);
-    let Ok(sum) = both(alloc, &deepest, &x, false) else {
-        panic!(rt; "no sum");
-    };
-    assert!(rt; sum.eval(&[7]) == 8);
-    assert!(rt; matches!(sum.into_remainder(alloc, 2), Err(FormStop::Memory)));
+    assert!(rt; deepest.eval(&[7]) == 3);
     assert!(rt; matches!(deepest.into_remainder(alloc, 2), Err(FormStop::Memory)));
+    Ok(())
+}
+
+#[test]
+fn takes_any_number_of_remainders_of_remainders(rt: HostRuntime) -> Result<(), Fail> {
+    let alloc = rt.alloc();
+    let (Ok(form), Ok(shorter)) = (chain(alloc, 200_000), chain(alloc, 199_999)) else {
+        panic!(rt; "no form");
+    };
+    assert!(rt; form.eval(&[7]) == 1);
+    let same = form.copy(alloc)?;
+    assert!(rt; same == form);
+    assert!(rt; shorter != form);
+    let (Ok(simpler), Ok(once)) = (form.simpler(alloc), chain(alloc, 1)) else {
+        panic!(rt; "no simpler form");
+    };
+    assert!(rt; simpler == once);
+    let Ok(put) = form.subst(alloc, &[once]) else {
+        panic!(rt; "no form");
+    };
+    assert!(rt; put.eval(&[8]) == 0);
     Ok(())
 }

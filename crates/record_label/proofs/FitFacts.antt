@@ -1,11 +1,13 @@
 -- Forms over the first fields, term by term.
-use Rattle.std.proofs.Common.{◌≡◌, ◌↔◌, ℕ, ◌+◌, ◌<◌, ◌≤◌, List, length, drop, get_or, sym, subst, arith}
+use Rattle.std.proofs.Common.{◌≡◌, ◌↔◌, ℕ, ◌+◌, ◌<◌, ◌≤◌, List, [], ◌∷◌, length, drop, get_or, sym, subst, arith}
 use Rattle.std.proofs.lemmas.List.{at_drop_more, at_drop_all}
 use Rattle.model_form.specs.Form.{Form, form, fields_of, remainders_of}
 use Rattle.model_form.specs.Over.{IsOver, AreBelow, AreOver}
 use Rattle.lin_form.specs.declared.form.FieldTerm.{FieldTerm}
 use Rattle.lin_form.specs.declared.form.RemTerm.{RemTerm}
 use Rattle.lin_form.specs.Terms.{plain_fields, plain_remainders}
+use Rattle.lin_form.specs.Nest.{bare, nest, base_of, divisors_of}
+use Rattle.lin_form.proofs.Nests.{parts_nest}
 use Rattle.fast_tree.proofs.Printing.{drop_at}
 
 module _ (n : ℕ) where
@@ -43,3 +45,15 @@ module _ (n : ℕ) where
 
   pub over_rest : (f : Form) (rs : List RemTerm) → plain_remainders rs ≡ remainders_of f → IsOver n f → Over rs
   over_rest (form c us qs) rs g o = subst (AreOver n) (sym g) o.1
+
+  -- ---- a form, and what is under its remainders
+
+  nest_over : (f : Form) (ks : List ℕ) → IsOver n (nest f ks) ↔ IsOver n f
+  nest_over f [] = (λ o. o, λ o. o)
+  nest_over f (k ∷ ks) = let later = nest_over (bare f k) ks in (λ o. (later.0 o).1.0, λ o. later.1 (tt, (o, tt)))
+
+  pub over_under : (f : Form) → IsOver n f → IsOver n (base_of f)
+  over_under f o = (nest_over (base_of f) (divisors_of f)).0 (subst (IsOver n) (sym (parts_nest f)) o)
+
+  pub over_up : (f : Form) → IsOver n (base_of f) → IsOver n f
+  over_up f o = subst (IsOver n) (parts_nest f) ((nest_over (base_of f) (divisors_of f)).1 o)

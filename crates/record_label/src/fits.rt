@@ -6,7 +6,7 @@ ghost use Rattle.model_form.specs.Over.{AreBelow, IsOver};
 ghost use Rattle.lin_form.specs.Terms.{plain_fields};
 ghost use Rattle.lin_solve.specs.Wholes.{CompareFits};
 
-use lin_form::{FieldTerm, Form};
+use lin_form::{FieldTerm, Form, RemTerm};
 use lin_solve::Compare;
 
 /// Whether the terms are of the first so many fields.
@@ -22,6 +22,7 @@ fn are_below(terms: &[FieldTerm], fields: u32) -> bool
 }
 
 /// Whether the form is over the first so many fields.
+#[cycle(over)]
 fn is_over(form: &Form, fields: u32) -> bool
     ensures { IsTrue result ↔ IsOver fields form.now }
 {
@@ -29,11 +30,19 @@ fn is_over(form: &Form, fields: u32) -> bool
         return false;
     }
     for term in form.remainders() {
-        if !is_over(&term.inner, fields) {
+        if !is_over_within(term, fields) {
             return false;
         }
     }
     true
+}
+
+/// Whether what the remainder is taken of is.
+#[cycle(over)]
+fn is_over_within(term: &RemTerm, fields: u32) -> bool
+    ensures { IsTrue result ↔ IsOver fields term.now.inner }
+{
+    is_over(term.innermost().0, fields)
 }
 
 /// Whether both sides of the comparison are.
