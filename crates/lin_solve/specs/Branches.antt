@@ -25,3 +25,7 @@ SomeHeld branches = SomeOf IsHeld branches
 -- where the first literals hold at the values of the forms, the others hold
 abbrev pub ArePut : List (Lit Compare) → List Form → List (Lit Compare) → Type 0
 ArePut ls gs ms = (vs : List ℤ) → HoldsAll (plain_literals ls) (values_of gs vs) → HoldsAll (plain_literals ms) vs
+
+-- the literals hold at no values of the forms
+abbrev pub NeverPut : List (Lit Compare) → List Form → Type 0
+NeverPut ls gs = (vs : List ℤ) → length vs ≡ 8 → HoldsAll (plain_literals ls) (values_of gs vs) → ⊥

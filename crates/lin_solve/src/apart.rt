@@ -27,7 +27,8 @@ pub(crate) fn fields_in(literal: &Lit<Compare>) -> u32 {
     fields
 }
 
-fn fields_of_each(alloc: Global, literals: &[Lit<Compare>]) -> Result<Vec<u32>, Memory> {
+/// The fields of each literal, a bit each.
+pub(crate) fn fields_of_each(alloc: Global, literals: &[Lit<Compare>]) -> Result<Vec<u32>, Memory> {
     let mut fields = Vec::new(alloc);
     for literal in literals {
         fields.push(fields_in(literal))?;

@@ -24,11 +24,12 @@ use crate::compare::{Compare, Relation};
 use crate::equations::equated;
 use crate::found::{Sought, sided, sideless};
 use crate::guess::all_hold;
+use crate::mend::coefficient;
 use crate::numbering::remainders_of;
 use crate::over::are_over;
-use crate::puts::{forms_with, put_each, simpler_each};
+use crate::puts::{forms_with, put_unless_lost, simpler_each};
 use crate::splits::{Split, Values, best_split, split_of};
-use crate::system::{first_system, needs_side};
+use crate::system::{first_system, has_field, needs_side};
 use cooper_solve::{Constraint, Relation as Kind};
 use fast_fault::{LabelInt, Memory};
 use label_core::Lit;
@@ -190,6 +191,44 @@ fn some_never_holds(literals: &[Lit<Compare>]) -> bool
     false
 }
 
+// Whether remainders are taken in it, and it has the field.
+fn takes(literal: &Lit<Compare>, field: u32) -> bool {
+    let (left, right) = (&literal.atom.left, &literal.atom.right);
+    let some = !left.remainders().is_empty() || !right.remainders().is_empty();
+    some && (has_field(left, field) || has_field(right, field))
+}
+
+// Whether the literal at this place is an equation that may give a field which others with remainders have.
+fn may_give(literals: &[Lit<Compare>], place: usize, literal: &Lit<Compare>) -> bool {
+    let (Relation::Equal, true) = (literal.atom.relation, literal.sign) else {
+        return false;
+    };
+    for field in 0..8 {
+        let left = coefficient(&literal.atom.left, field);
+        let times = left.saturating_sub(coefficient(&literal.atom.right, field));
+        if times == 1 || times == -1 {
+            for (i, other) in literals.iter().enumerate() {
+                if i != place && takes(other, field) {
+                    return true;
+                }
+            }
+        }
+    }
+    false
+}
+
+// The literals, where equations that give a field have been put into the others, if some may be.
+fn equated_if(alloc: Global, literals: Vec<Lit<Compare>>) -> Result<Vec<Lit<Compare>>, FormStop>
+    ensures { IfOk result (λ r. HoldAlso literals.items r.items) }
+{
+    for (place, literal) in literals.iter().enumerate() {
+        if may_give(&literals, place, literal) {
+            return equated(alloc, literals);
+        }
+    }
+    Ok(literals)
+}
+
 // The branch at the end, unless one of its literals never holds.
 fn push_branch(
     alloc: Global,
@@ -203,7 +242,7 @@ fn push_branch(
     if some_never_holds(&literals) {
         return Ok(());
     }
-    let own = equated(alloc, literals)?;
+    let own = equated_if(alloc, literals)?;
     if some_never_holds(&own) {
         return Ok(());
     }
@@ -235,7 +274,9 @@ impl Branch {
             return Ok(false);
         };
         let forms = forms_for(alloc, split, number)?;
-        let put = put_each(alloc, &self.literals, &forms)?;
+        let Some(put) = put_unless_lost(alloc, &self.literals, &forms)? else {
+            return Ok(true);
+        };
         push_branch(alloc, case, put, pending)?;
         Ok(true)
     }

@@ -59,6 +59,15 @@ impl Places {
         }
     }
 
+    // How many of them the others don't have.
+    fn count_without(&self, other: &Places) -> u32 {
+        let mut count = 0u32;
+        for i in 0..WORDS {
+            count = count.saturating_add((self.words[i] & !other.words[i]).count_ones());
+        }
+        count
+    }
+
     fn first(&self) -> Option<usize> {
         for i in 0..WORDS {
             let own = self.words[i];
@@ -71,6 +80,20 @@ impl Places {
         }
         None
     }
+}
+
+// The one of these that leaves the fewest of the places, if it leaves fewer than there are.
+fn most_breaking(columns: &[Places], places: &Places) -> Option<usize> {
+    let mut best = None;
+    let mut most = 0;
+    for (i, own) in columns.iter().enumerate() {
+        let count = places.count_without(own);
+        if count > most {
+            most = count;
+            best = Some(i);
+        }
+    }
+    best
 }
 
 // Where the literal with this mark holds, as far as so many lists have been looked at.
@@ -174,5 +197,33 @@ impl Lists {
             }
         }
         self.lists.get(best).copied()
+    }
+
+    /// Places of literals, which have these marks: at each list of values one of these doesn't hold.
+    pub(crate) fn breaking(
+        &mut self,
+        alloc: Global,
+        literals: &[Lit<Compare>],
+        marks: &[u64],
+    ) -> Result<Vec<usize>, Memory> {
+        let mut columns = Vec::new(alloc);
+        for (literal, mark) in literals.iter().zip(marks) {
+            columns.push(self.places_of(literal, *mark))?;
+        }
+        let mut left = Places::none();
+        for place in 0..self.lists.len() {
+            left.set(place, true);
+        }
+        let mut chosen = Vec::new(alloc);
+        for _ in 0..columns.len() {
+            let Some(place) = most_breaking(&columns, &left) else {
+                return Ok(chosen);
+            };
+            if let Some(own) = columns.get(place) {
+                left.keep_those_of(own);
+            }
+            chosen.push(place)?;
+        }
+        Ok(chosen)
     }
 }

@@ -14,6 +14,7 @@ use crate::branches::{MANY_BRANCHES, seek_branches};
 use crate::cases::seek_cases;
 use crate::chain::{Chain, Width, chain_of};
 use crate::compare::Compare;
+use crate::cores::core_of;
 use crate::found::Sought;
 use crate::gaps::is_clear_clash;
 use crate::guess::guess;
@@ -167,7 +168,8 @@ fn decide_and_keep(
             Ok(Verdict::Sat(values))
         }
         Verdict::Unsat => {
-            memo.keep_refuted(alloc, literals)?;
+            let core = core_of(alloc, memo, literals)?;
+            memo.keep_refuted(alloc, &core)?;
             Ok(Verdict::Unsat)
         }
         Verdict::Wide(chain) => Ok(Verdict::Wide(chain)),

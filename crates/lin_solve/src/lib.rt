@@ -11,6 +11,7 @@ mod cases;
 mod chain;
 mod columns;
 mod compare;
+mod cores;
 mod decision;
 mod equations;
 mod found;

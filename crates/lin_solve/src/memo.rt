@@ -24,6 +24,10 @@ use std::cell::RefCell;
 // How many lists of literals are kept.
 const MOST_REFUTED: usize = 4096;
 
+// How many are kept before fewer literals are sought that are refuted: that takes longer than it saves where few questions
+// are asked.
+const FEW_REFUTED: usize = 128;
+
 // Where forms are looked at to tell literals apart: equal ones have equal values there, and others hardly ever.
 const POINT: [LabelInt; 8] = [
     7919,
@@ -103,7 +107,8 @@ struct Refuted {
     ghost never: { NeverHoldAll (plain_literals literals.items) },
 }
 
-fn copies(alloc: Global, literals: &[Lit<Compare>]) -> Result<Vec<Lit<Compare>>, Memory>
+/// Equal literals.
+pub(crate) fn copies(alloc: Global, literals: &[Lit<Compare>]) -> Result<Vec<Lit<Compare>>, Memory>
     ensures { IfOk result (λ made. made.items ≡ literals.now) }
 {
     let mut made = Vec::new(alloc);
@@ -192,6 +197,14 @@ impl Known {
         Ok(Sought::Open)
     }
 
+    fn breaking(&mut self, alloc: Global, literals: &[Lit<Compare>]) -> Result<Vec<usize>, Memory> {
+        if self.refuted.len() < FEW_REFUTED {
+            return Ok(Vec::new(alloc));
+        }
+        let marked = with_marks(alloc, literals)?;
+        self.lists.breaking(alloc, literals, &marked.marks)
+    }
+
     fn keep_refuted(&mut self, alloc: Global, literals: &[Lit<Compare>]) -> Result<(), Memory>
         requires { NeverHoldAll (plain_literals literals.now) }
     {
@@ -241,6 +254,18 @@ impl Memo {
             Err(_) => None,
         };
         Ok(found.unwrap_or([0; 8]))
+    }
+
+    /// Places of literals: at each list of values that is kept one of these doesn't hold. None, while few are refuted.
+    pub(crate) fn breaking(
+        &self,
+        alloc: Global,
+        literals: &[Lit<Compare>],
+    ) -> Result<Vec<usize>, Memory> {
+        match self.known.try_borrow_mut() {
+            Ok(mut known) => known.breaking(alloc, literals),
+            Err(_) => Ok(Vec::new(alloc)),
+        }
     }
 
     /// Keeps values that were found.

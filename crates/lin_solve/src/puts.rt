@@ -1,13 +1,14 @@
 //! Forms that are put for the fields of literals.
 
-ghost use Rattle.std.specs.Prelude.{◌≡◌, ◌<◌, ℤ, List, IfOk, length, slice_index_or, slice_set, pos};
+ghost use Rattle.std.specs.Prelude.{◌≡◌, ◌<◌, ℤ, List, IfOk, MatchOption, length, slice_index_or, slice_set, pos};
 ghost use Rattle.model_form.specs.Form.{value};
 ghost use Rattle.model_form.specs.Meaning.{values_of, AreFormsLow};
 ghost use Rattle.model_chain.specs.Literals.{compare_holds};
 ghost use Rattle.lin_solve.specs.Plain.{plain_compare};
-ghost use Rattle.lin_solve.specs.Branches.{ArePut};
+ghost use Rattle.lin_solve.specs.Branches.{ArePut, NeverPut};
 ghost use Rattle.lin_solve.specs.Equations.{HoldAlso};
 
+use crate::cases::{Case, is_lost};
 use crate::compare::Compare;
 use crate::repeats::copy_literal;
 use fast_fault::Memory;
@@ -78,20 +79,25 @@ pub(crate) fn put_literal(
     })
 }
 
-/// Each literal where these are put for the fields.
-pub(crate) fn put_each(
+/// Each literal where these are put for the fields, unless one of them never holds then.
+pub(crate) fn put_unless_lost(
     alloc: Global,
     literals: &[Lit<Compare>],
     forms: &[Form],
-) -> Result<Vec<Lit<Compare>>, FormStop>
+) -> Result<Option<Vec<Lit<Compare>>>, FormStop>
     requires { AreFormsLow forms.now }
-    ensures { IfOk result (λ r. ArePut literals.now forms.now r.items) }
+    ensures { IfOk result (λ found. MatchOption found (NeverPut literals.now forms.now) (λ r. ArePut literals.now forms.now r.items)) }
 {
+    let all = Case::all();
     let mut out = Vec::new(alloc);
     for literal in literals {
-        out.push(put_literal(alloc, literal, forms)?)?;
+        let own = put_literal(alloc, literal, forms)?;
+        if is_lost(&own, &all) {
+            return Ok(None);
+        }
+        out.push(own)?;
     }
-    Ok(out)
+    Ok(Some(out))
 }
 
 fn simpler_compare(alloc: Global, atom: &Compare) -> Result<Compare, FormStop>
