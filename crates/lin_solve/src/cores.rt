@@ -18,7 +18,7 @@ use label_core::Lit;
 use std::alloc::Global;
 
 // How often values are sought.
-const TURNS: usize = 6;
+const TURNS: usize = 4;
 
 // The literals at these places.
 fn those_at(
