@@ -1,8 +1,8 @@
 #!/usr/bin/env bash
 # Measures the decision of conjunctions over whole numbers, each the guard of one rule: K fields with small coefficients,
-# a remainder by K, remainders by 4096 nested K deep, K values that a field is not, an equation with the coefficient
-# K, an equation beside three remainders by K, with no numbers that meet them and with some, and 24 half-spaces of K fields:
-# with no numbers in them, with some, and with few.
+# a remainder by K, remainders by 4096 nested K deep, a chain of K remainders, K values that a field is not, an equation
+# with the coefficient K, an equation beside three remainders by K, with no numbers that meet them and with some, and 24
+# half-spaces of K fields: with no numbers in them, with some, and with few.
 . "$(dirname "${BASH_SOURCE[0]}")/common.sh"
 
 # A program that asks whether a label of these many fields satisfies the guard.
@@ -40,6 +40,17 @@ nested() {
     for (own = 0; own < count; own++) printf " + 1) %% 4096"
     printf " = 5 and x1 > 0"
   }')"
+}
+
+# K remainders of nothing but a remainder, which the field has at 1.
+chain() {
+  echo "type N[x1 : Int]{z(0)}"
+  awk -v count="$1" 'BEGIN {
+    printf "lang p : N { z() where x1"
+    for (own = 0; own < count; own++) printf "%%%d", 2 + own % 7
+    print " = 1 }"
+  }'
+  echo "assert-true (is-empty p)"
 }
 
 unequal() {
@@ -85,6 +96,7 @@ table run fields 2 3 4 5 6 7 8
 table run met 2 3 4 5 6 7 8
 table run remainder 16 64 256 1024 4096
 table run nested 1 2 3
+table run chain 25000 50000 100000 200000
 table run unequal 2 4 8 16
 table run halved 100 200 400 800 1600 3200
 table run halved_met 100 200 400 800 1600 3200

@@ -8,7 +8,7 @@ use Rattle.lin_form.specs.Nest.{is_bare, depth, depths, depth_over, AreDivisors}
 
 -- how many remainders may stand in one another
 abbrev pub deepest : ℕ
-deepest = 4096
+deepest = 2048
 
 -- over the eight fields, by divisors that are at least 1, and not too many remainders stand in one another
 pub record IsWhole (f : Form) : Type 0 where

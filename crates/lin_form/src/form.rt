@@ -22,7 +22,7 @@ pub const MOST_PARTS: usize = 1_048_576;
 
 /// The most remainders that may stand in one another in a form, where remainders of nothing but a remainder count as one
 /// with it. A form that would nest deeper is told as want of memory, since going over it takes as much of the stack.
-pub const DEEPEST: u32 = 4096;
+pub const DEEPEST: u32 = 2_048;
 
 /// A coefficient of the field with this number.
 #[derive(Clone, Copy, Debug, PartialEq, Eq)]
