@@ -59,6 +59,7 @@ def as_rust(text):
     text = text.replace("Box::new(", "shim::boxed(").replace("Box::into_inner(", "shim::unboxed(")
     text = re.sub(r"\bstd::(alloc|marker|rt|fs|io|env|collections)\b", r"shim::\1", text)
     text = text.replace("use std::{", "use shim::{").replace("use indexmap::", "use shim::")
+    text = text.replace("FoldHasher", "DefaultHasher")
     text = re.sub(r"(derive\(.*?)(?:, )?\bDrop\)", r"\1)", text)
     text = re.sub(r"^ *///.*\n", "", text, flags=re.MULTILINE)
     text = re.sub(r"^(pub trait \w+) \{", r"\1: Sized {", text, flags=re.MULTILINE)

@@ -17,6 +17,7 @@ pub mod Offers
 pub mod Takes
 pub mod Offered
 pub mod Told
+pub mod SameGuards
 pub mod Turns
 pub mod Firsts
 pub mod Opens

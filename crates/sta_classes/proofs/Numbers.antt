@@ -4,8 +4,7 @@ use Rattle.std.proofs.lemmas.Bool.{cases_lt, cases_eq}
 use Rattle.std.proofs.lemmas.List.{get_or-set_same, get_or-set_other}
 use Rattle.model_sta.specs.Sets.{Row, has}
 use Rattle.model_sta.proofs.Reached.{same_default}
-use Rattle.sta_classes.specs.Applying.{chosen, IsFired}
-use Rattle.sta_classes.specs.declared.rules.Owned.{Owned}
+use Rattle.sta_classes.specs.Applying.{chosen, IsTakenTo}
 
 module _ {X Y : Type 0} (f : X → Y) where
   chosen_step : (bs : List Bool) (xs : List X) (i : ℕ) (x : X) → i < length xs → get_or xs i x ≡ x → chosen (take (suc i) bs) (map f (take (suc i) xs)) ≡ chosen (take i bs) (map f (take i xs)) ++ cond (get_or bs i false) (f x ∷ []) []
@@ -53,47 +52,47 @@ module _ {X Y : Type 0} (f : X → Y) where
       mapped [] = refl
       mapped (z ∷ zs) = ap suc (mapped zs)
 
--- a rule with one of the numbers below n is of the state
-abbrev pub IsFiredBelow : {A : Type 0} → ℕ → List (Owned A) → Row → ℕ → Type 0
-IsFiredBelow {A} n list numbers s = (i : ℕ) × (i < n) × (i < length list) × (has numbers i ≡ true) × (x : Owned A) × (get_or list i x ≡ x) × (x.state ≡ s)
+-- an element with one of the numbers below n is taken to the number
+abbrev pub IsTakenBelow : {X : Type 0} → (X → ℕ) → ℕ → List X → Row → ℕ → Type 0
+IsTakenBelow {X} to n list numbers s = (i : ℕ) × (i < n) × (i < length list) × (has numbers i ≡ true) × (x : X) × (get_or list i x ≡ x) × (to x ≡ s)
 
 none_there : (n s : ℕ) → get_or (replicate n false) s false ≡ false
 none_there zero s = refl
 none_there (suc n) zero = refl
 none_there (suc n) (suc s) = none_there n s
 
-module _ {A : Type 0} (list : List (Owned A)) (numbers : Row) where
-  pub fired_first : (row : Row) (states n : ℕ) → row ≡ replicate states false → ((i : ℕ) → 0 ≤ i → i < n → has numbers i ≡ false) → (s : ℕ) → has row s ≡ true ↔ IsFiredBelow n list numbers s
+module _ {X : Type 0} (to : X → ℕ) (list : List X) (numbers : Row) where
+  pub fired_first : (row : Row) (states n : ℕ) → row ≡ replicate states false → ((i : ℕ) → 0 ≤ i → i < n → has numbers i ≡ false) → (s : ℕ) → has row s ≡ true ↔ IsTakenBelow to n list numbers s
   fired_first row states n e none s = (
     (λ h. absurd (true≢false (sym h ∙ ap (λ r. has r s) e ∙ none_there states s))),
-    (λ w. let (i, below, low, is, x, at, state) = w in absurd (true≢false (sym is ∙ none i (omega arith) below))),
+    (λ w. let (i, below, low, is, x, at, there) = w in absurd (true≢false (sym is ∙ none i (omega arith) below))),
   )
 
-  pub fired_more : (old new : Row) (i n : ℕ) (x : Owned A) → x.state < length old → i < length list → x ≡ get_or list i x → has numbers i ≡ true → new ≡ set old x.state true → i + 1 ≤ n → ((k : ℕ) → i + 1 ≤ k → k < n → has numbers k ≡ false)
-      → ((s : ℕ) → has old s ≡ true ↔ IsFiredBelow i list numbers s) → (s : ℕ) → has new s ≡ true ↔ IsFiredBelow n list numbers s
-  fired_more old new i n x state_low low at is e after none h s = (
-    (λ k. elim (cases_eq s x.state) [
+  pub fired_more : (old new : Row) (i n : ℕ) (x : X) → to x < length old → i < length list → x ≡ get_or list i x → has numbers i ≡ true → new ≡ set old (to x) true → i + 1 ≤ n → ((k : ℕ) → i + 1 ≤ k → k < n → has numbers k ≡ false)
+      → ((s : ℕ) → has old s ≡ true ↔ IsTakenBelow to i list numbers s) → (s : ℕ) → has new s ≡ true ↔ IsTakenBelow to n list numbers s
+  fired_more old new i n x to_low low at is e after none h s = (
+    (λ k. elim (cases_eq s (to x)) [
       | inl same ↦ (i, omega (arith, after), low, is, x, sym at, sym same)
       | inr other ↦
-          let (j, below, j_low, j_is, y, y_at, y_state) = (h s).0 (sym (ap (λ r. has r s) e ∙ get_or-set_other old x.state s true false other) ∙ k) in
-          (j, omega (arith, below, after), j_low, j_is, y, y_at, y_state)
+          let (j, below, j_low, j_is, y, y_at, y_to) = (h s).0 (sym (ap (λ r. has r s) e ∙ get_or-set_other old (to x) s true false other) ∙ k) in
+          (j, omega (arith, below, after), j_low, j_is, y, y_at, y_to)
     ]),
     (λ w.
-        let (j, below, j_low, j_is, y, y_at, y_state) = w in
-        elim (cases_eq s x.state) [
-          | inl same ↦ ap (λ r. has r s) e ∙ ap (λ k. has (set old x.state true) k) same ∙ get_or-set_same old x.state true false state_low
+        let (j, below, j_low, j_is, y, y_at, y_to) = w in
+        elim (cases_eq s (to x)) [
+          | inl same ↦ ap (λ r. has r s) e ∙ ap (λ k. has (set old (to x) true) k) same ∙ get_or-set_same old (to x) true false to_low
           | inr other ↦ elim (cases_lt j i) [
-            | inl before ↦ ap (λ r. has r s) e ∙ get_or-set_other old x.state s true false other ∙ (h s).1 (j, before, j_low, j_is, y, y_at, y_state)
+            | inl before ↦ ap (λ r. has r s) e ∙ get_or-set_other old (to x) s true false other ∙ (h s).1 (j, before, j_low, j_is, y, y_at, y_to)
             | inr past ↦ elim (cases_eq j i) [
-              | inl here ↦ absurd (other (sym y_state ∙ ap (λ z. z.state) (sym y_at ∙ ap (λ k. get_or list k y) here ∙ same_default list i y x low ∙ sym at)))
+              | inl here ↦ absurd (other (sym y_to ∙ ap to (sym y_at ∙ ap (λ k. get_or list k y) here ∙ same_default list i y x low ∙ sym at)))
               | inr later ↦ absurd (true≢false (sym j_is ∙ none j (omega (arith, past, later)) below))
             ]
           ]
         ]),
   )
 
-  pub fired_last : (row : Row) (n : ℕ) → length list ≤ n → ((s : ℕ) → has row s ≡ true ↔ IsFiredBelow n list numbers s) → (s : ℕ) → has row s ≡ true ↔ IsFired list numbers s
+  pub fired_last : (row : Row) (n : ℕ) → length list ≤ n → ((s : ℕ) → has row s ≡ true ↔ IsTakenBelow to n list numbers s) → (s : ℕ) → has row s ≡ true ↔ IsTakenTo to list numbers s
   fired_last row n high h s = (
-    (λ k. let (i, below, low, is, x, at, state) = (h s).0 k in (i, low, is, x, at, state)),
-    (λ w. let (i, low, is, x, at, state) = w in (h s).1 (i, omega (arith, low, high), low, is, x, at, state)),
+    (λ k. let (i, below, low, is, x, at, there) = (h s).0 k in (i, low, is, x, at, there)),
+    (λ w. let (i, low, is, x, at, there) = w in (h s).1 (i, omega (arith, low, high), low, is, x, at, there)),
   )

@@ -34,7 +34,7 @@ use Rattle.sta_classes.proofs.Firsts.{listed_low}
 pub all_by_place : (P : ℕ → Type 0) (ks : List ℕ) → ((j : ℕ) → j < length ks → P (get_or ks j 0)) → All P ks
 all_by_place P ks h i d low = subst P (same_default ks i 0 d low) (h i low)
 
-module _ {A V W G : Type 0} {label_of : V → Label} {holds : A → Label → Bool} (M : Meaning label_of holds W) (ranks : List ℕ) (rules : List (Vec (StaRule A) G)) (found : List (Class V)) (c : ℕ) (R : Rules A) (is : IsRules rules c R) (ks : List ℕ) (key : Row) (told : List (Told V)) (are : IsTold M R (class_rows_at found ks) key told) where
+module _ {A V W G : Type 0} {label_of : V → Label} {holds : A → Label → Bool} (M : Meaning label_of holds W) (ranks : List ℕ) (rules : List (Vec (StaRule A) G)) (found : List (Class V)) (c : ℕ) (R : Rules A) {eq : A → A → Bool} (is : IsRules eq rules c R) (ks : List ℕ) (key : Row) (told : List (Told V)) (are : IsTold M R (class_rows_at found ks) key told) where
   abbrev meets : Owned A → Bool
   meets x = rows_meet (class_rows_at found ks) (plain_rule x.rule.now).demands
 

@@ -1,9 +1,10 @@
 -- The rules of one constructor, numbered, and sets of their numbers.
-use Rattle.std.specs.Prelude.{ℕ, ◌≡◌, ◌<◌, ◌↔◌, Bool, true, false, not, ◌&&◌, List, [], ◌∷◌, map, get_or, length, Contains, Vec}
+use Rattle.std.specs.Prelude.{ℕ, ◌≡◌, ◌<◌, ◌↔◌, Bool, true, false, not, ◌&&◌, List, [], ◌∷◌, map, get_or, length, All, Contains, Vec}
 use Rattle.std.specs.List.{list_all}
 use Rattle.model_tree.specs.Label.{Label}
 use Rattle.model_tree.specs.Formula.{Formula, yes, no, atom, negation, all_of, some_of, Formulas, no_formulas, formula, formula_holds}
 use Rattle.model_sta.specs.Sets.{Row, has}
+use Rattle.label_core.specs.SameFormula.{same_formula}
 use Rattle.sta_core.specs.Machine.{PlainRule, plain_rule}
 use Rattle.sta_core.specs.declared.StaRule.{StaRule}
 use Rattle.sta_classes.specs.declared.rules.Owned.{Owned}
@@ -54,12 +55,35 @@ module _ {A : Type 0} where
   abbrev pub AreOwned : {G : Type 0} → List (Vec (StaRule A) G) → ℕ → List (Owned A) → Type 0
   AreOwned {G} rules c list = (p : ℕ × PlainRule A) → Contains (map plain_owned list) p ↔ ((s : ℕ) × (s < length rules) × (those : Vec (StaRule A) G) × (get_or rules s those ≡ those) × (r : StaRule A) × Contains those.items r × IsOwned c s r p)
 
-  -- the numbers of all of them, and of those with a guard
-  pub record IsRules {G : Type 0} (rules : List (Vec (StaRule A) G)) (c : ℕ) (own : Rules A) : Type 0 where
+  -- the other rule has the same guard
+  abbrev pub IsLike : (A → A → Bool) → List (Owned A) → ℕ → ℕ → Type 0
+  IsLike eq list i j = (j < length list) × (same_formula eq (get_or (guards_in list) j yes) (get_or (guards_in list) i yes) ≡ true)
+
+  -- for each rule the number of one with the same guard
+  pub record AreLike (eq : A → A → Bool) (list : List (Owned A)) (likes : List ℕ) : Type 0 where
+    pub many : length likes ≡ length list
+    pub each : (i : ℕ) → i < length list → IsLike eq list i (get_or likes i 0)
+
+  -- the numbers of all of them, of those with a guard, and of others with the same guard
+  pub record IsRules {G : Type 0} (eq : A → A → Bool) (rules : List (Vec (StaRule A) G)) (c : ℕ) (own : Rules A) : Type 0 where
     pub owned : AreOwned rules c own.list.items
     pub all_are : own.all ≡ map (λ x. true) own.list.items
     pub guarded_are : own.guarded ≡ map (λ x. not (is_fixed (plain_rule x.rule.now).guard)) own.list.items
+    pub alike : AreLike eq own.list.items own.likes.items
 
-  -- a rule with one of the numbers is of the state
-  abbrev pub IsFired : List (Owned A) → Row → ℕ → Type 0
-  IsFired list numbers s = (i : ℕ) × (i < length list) × (has numbers i ≡ true) × (x : Owned A) × (get_or list i x ≡ x) × (x.state ≡ s)
+-- an element with one of the numbers is taken to the number
+abbrev pub IsTakenTo : {X : Type 0} → (X → ℕ) → List X → Row → ℕ → Type 0
+IsTakenTo {X} to list numbers s = (i : ℕ) × (i < length list) × (has numbers i ≡ true) × (x : X) × (get_or list i x ≡ x) × (to x ≡ s)
+
+-- a rule with one of the numbers is of the state
+abbrev pub IsFired : {A : Type 0} → List (Owned A) → Row → ℕ → Type 0
+IsFired list = IsTakenTo (λ x. x.state) list
+
+-- numbers below the length of the list
+abbrev pub AreLow : List ℕ → Type 0
+AreLow likes = All (λ like. like < length likes) likes
+
+-- exactly the numbers that the list has at these numbers
+pub record AreLikes (likes : List ℕ) (numbers : Row) (row : Row) : Type 0 where
+  pub many : length row ≡ length likes
+  pub each : (s : ℕ) → has row s ≡ true ↔ IsTakenTo (λ like. like) likes numbers s

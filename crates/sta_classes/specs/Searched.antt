@@ -25,11 +25,11 @@ use Rattle.sta_classes.specs.declared.splits.Splits.{Splits}
 use Rattle.sta_classes.specs.declared.splits.Told.{Told}
 
 -- the guards fit, and the rules of each constructor are there
-pub record IsReady {A G : Type 0} (fits : A → Type 0) (ranks : List ℕ) (rules : List (Vec (StaRule A) G)) (own : List (Rules A)) : Type 0 where
+pub record IsReady {A G : Type 0} (eq : A → A → Bool) (fits : A → Type 0) (ranks : List ℕ) (rules : List (Vec (StaRule A) G)) (own : List (Rules A)) : Type 0 where
   pub fit : GuardsFit fits (plain_rules rules)
   pub few : length ranks < 2 ^ 32
   pub many : length own ≡ length ranks
-  pub own_are : (c : ℕ) (R : Rules A) → c < length own → get_or own c R ≡ R → IsRules rules c R
+  pub own_are : (c : ℕ) (R : Rules A) → c < length own → get_or own c R ≡ R → IsRules eq rules c R
 
 module _ {A V W : Type 0} {label_of : V → Label} {holds : A → Label → Bool} (M : Meaning label_of holds W) where
   -- these are the rules whose demands children with these sets meet, and labels that tell the guards of these rules apart

@@ -8,6 +8,7 @@ mod class;
 mod formula;
 mod keep;
 mod known;
+mod likes;
 mod lists;
 mod pending;
 mod place;

@@ -7,17 +7,19 @@ ghost use Rattle.model_tree.specs.Formula.{EveryAtom};
 ghost use Rattle.label_core.specs.Formula.{plain_formula};
 ghost use Rattle.label_core.specs.Meaning.{KeepsValue};
 ghost use Rattle.sta_core.specs.Machine.{plain_rule};
-ghost use Rattle.sta_classes.specs.Applying.{plain_owned, is_fixed, meets_at, truth_at, chosen, guards_in, IsOwned, AreOwned, IsRules, IsFired};
+ghost use Rattle.sta_classes.specs.Applying.{plain_owned, is_fixed, meets_at, truth_at, chosen, guards_in, IsOwned, AreOwned, AreLow, AreLikes, IsRules, IsFired};
 ghost use Rattle.sta_classes.specs.Bits.{both};
 ghost use Rattle.sta_classes.specs.declared.rules.Rules.{Rules};
 ghost use Rattle.sta_classes.specs.Grow.{Grown, Some};
 
 use crate::class::row_has_each;
+use crate::likes::{likes_among, likes_of};
 use crate::row::Row;
 use fast_fault::Memory;
 use label_core::{Duplicate, Formula, Theory};
 use sta_core::StaRule;
 use std::alloc::Global;
+use std::hash::Hash;
 
 /// A rule, and the state that it is of.
 #[derive(Drop)]
@@ -34,6 +36,8 @@ pub struct Rules<'a, A> {
     pub all: Row,
     /// The numbers of those with a guard that isn't left out.
     pub guarded: Row,
+    /// For each of them, the number of one with the same guard.
+    pub likes: Vec<usize>,
 }
 
 /// Adds the rule, if it has the constructor.
@@ -211,19 +215,40 @@ fn states_of<A>(
     Ok(row)
 }
 
-impl<'a, A> Rules<'a, A> {
+impl<'a, A: Eq + Hash> Rules<'a, A> {
     /// The rules of all states that have the constructor.
     pub fn new(
         alloc: Global,
         rules: &'a [Vec<StaRule<A>>],
         constructor: u32,
     ) -> Result<Rules<'a, A>, Memory>
-        ensures { IfOk result (IsRules rules.now constructor) }
+        ensures { IfOk result (IsRules A.eq rules.now constructor) }
     {
         let list = rules_at(alloc, rules, constructor)?;
         let all = all_of(alloc, &list)?;
         let guarded = guarded_of(alloc, &list)?;
-        Ok(Rules { list, all, guarded })
+        let likes = likes_of(alloc, &list)?;
+        Ok(Rules {
+            list,
+            all,
+            guarded,
+            likes,
+        })
+    }
+}
+
+impl<A> Rules<'_, A> {
+    /// The numbers of rules with the guards that are left open where the demands of the rules with these numbers are met,
+    /// each guard by one of the rules that have it.
+    pub fn open_guards(&self, alloc: Global, met: &Row) -> Result<Row, Memory>
+        requires many { length met.now ≡ length self.now.guarded }
+        requires low { AreLow self.now.likes.items }
+        requires likes { length self.now.likes.items ≡ length self.now.guarded }
+        ensures { IfOk result (AreLikes self.now.likes.items (both self.now.guarded met.now)) }
+    {
+        let mut wanted = self.guarded.copy(alloc)?;
+        wanted.meet(met);
+        likes_among(alloc, &self.likes, &wanted)
     }
 
     /// The states of the rules whose demands are met and whose guards hold.
@@ -241,13 +266,13 @@ impl<'a, A> Rules<'a, A> {
 }
 
 /// The rules of each constructor.
-pub fn each_rules<'a, A>(
+pub fn each_rules<'a, A: Eq + Hash>(
     alloc: Global,
     rules: &'a [Vec<StaRule<A>>],
     constructors: u32,
 ) -> Result<Vec<Rules<'a, A>>, Memory>
     ensures many { IfOk result (λ each. length each.items ≡ constructors) }
-    ensures are { IfOk result (λ each. (c : ℕ) (own : Rules A) → c < length each.items → get_or each.items c own ≡ own → IsRules rules.now c own) }
+    ensures are { IfOk result (λ each. (c : ℕ) (own : Rules A) → c < length each.items → get_or each.items c own ≡ own → IsRules A.eq rules.now c own) }
 {
     let mut each = Vec::new(alloc);
     'constructors: for constructor in 0..constructors {

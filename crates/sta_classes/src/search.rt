@@ -59,7 +59,7 @@ impl<T: Theory> Search<'_, T> {
         splits: &mut Vec<Splits<T::Value>>,
         over: &Over<'_>,
     ) -> Result<(Row, usize), ClassStop<T::Chain>>
-        requires ready { IsReady (T.atom_fits self.now.theory.now) self.now.ranks.now self.now.rules.now self.now.own.now }
+        requires ready { IsReady T.Atom.eq (T.atom_fits self.now.theory.now) self.now.ranks.now self.now.rules.now self.now.own.now }
         requires low { over.now.constructor < length self.now.ranks.now }
         requires wide { length over.now.children.now ≡ get_or self.now.ranks.now over.now.constructor 0 }
         requires children { All (λ k. k < length known.now.classes.items) over.now.children.now }
@@ -84,7 +84,7 @@ impl<T: Theory> Search<'_, T> {
         key: &Row,
         told: &[Told<T::Value>],
     ) -> Result<(), Memory>
-        requires ready { IsReady (T.atom_fits self.now.theory.now) self.now.ranks.now self.now.rules.now self.now.own.now }
+        requires ready { IsReady T.Atom.eq (T.atom_fits self.now.theory.now) self.now.ranks.now self.now.rules.now self.now.own.now }
         requires low { over.now.constructor < length self.now.ranks.now }
         requires wide { length over.now.children.now ≡ get_or self.now.ranks.now over.now.constructor 0 }
         requires children { All (λ k. k < length known.now.classes.items) over.now.children.now }
@@ -112,7 +112,7 @@ impl<T: Theory> Search<'_, T> {
         splits: &mut Vec<Splits<T::Value>>,
         over: &Over<'_>,
     ) -> Result<(), ClassStop<T::Chain>>
-        requires ready { IsReady (T.atom_fits self.now.theory.now) self.now.ranks.now self.now.rules.now self.now.own.now }
+        requires ready { IsReady T.Atom.eq (T.atom_fits self.now.theory.now) self.now.ranks.now self.now.rules.now self.now.own.now }
         requires low { over.now.constructor < length self.now.ranks.now }
         requires wide { length over.now.children.now ≡ get_or self.now.ranks.now over.now.constructor 0 }
         requires children { All (λ k. k < length known.now.classes.items) over.now.children.now }
@@ -141,7 +141,7 @@ impl<T: Theory> Search<'_, T> {
         constructor: usize,
         children: &[usize],
     ) -> Result<(), ClassStop<T::Chain>>
-        requires ready { IsReady (T.atom_fits self.now.theory.now) self.now.ranks.now self.now.rules.now self.now.own.now }
+        requires ready { IsReady T.Atom.eq (T.atom_fits self.now.theory.now) self.now.ranks.now self.now.rules.now self.now.own.now }
         requires low { constructor < length self.now.ranks.now }
         requires wide { length children.now ≡ get_or self.now.ranks.now constructor 0 }
         requires children { All (λ k. k < length known.now.classes.items) children.now }
@@ -176,7 +176,7 @@ impl<T: Theory> Search<'_, T> {
         pending: &mut Pending<T::Value>,
         splits: &mut Vec<Splits<T::Value>>,
     ) -> Result<(), ClassStop<T::Chain>>
-        requires ready { IsReady (T.atom_fits self.now.theory.now) self.now.ranks.now self.now.rules.now self.now.own.now }
+        requires ready { IsReady T.Atom.eq (T.atom_fits self.now.theory.now) self.now.ranks.now self.now.rules.now self.now.own.now }
         requires none { known.now.classes.items ≡ [] }
         requires sound { IsSound self.now.ranks.now (T.meaning self.now.theory.now).has (T.meaning self.now.theory.now).keeps (meaning_of T.atom_holds (plain_rules self.now.rules.now)) T.label_of known.now.classes.items pending.old }
         requires few { length pending.old.sets.keys ≤ self.now.most }
@@ -204,7 +204,7 @@ impl<T: Theory> Search<'_, T> {
         constructor: usize,
         place: usize,
     ) -> Result<(), ClassStop<T::Chain>>
-        requires ready { IsReady (T.atom_fits self.now.theory.now) self.now.ranks.now self.now.rules.now self.now.own.now }
+        requires ready { IsReady T.Atom.eq (T.atom_fits self.now.theory.now) self.now.ranks.now self.now.rules.now self.now.own.now }
         requires kinds { AreKinds self.now.ranks.now self.now.rules.now known.now.classes.items known.now.places.items }
         requires some { 0 < length known.now.classes.items }
         requires low { constructor < length self.now.ranks.now }
@@ -235,7 +235,7 @@ impl<T: Theory> Search<'_, T> {
         splits: &mut Vec<Splits<T::Value>>,
         constructor: usize,
     ) -> Result<(), ClassStop<T::Chain>>
-        requires ready { IsReady (T.atom_fits self.now.theory.now) self.now.ranks.now self.now.rules.now self.now.own.now }
+        requires ready { IsReady T.Atom.eq (T.atom_fits self.now.theory.now) self.now.ranks.now self.now.rules.now self.now.own.now }
         requires kinds { AreKinds self.now.ranks.now self.now.rules.now known.now.classes.items known.now.places.items }
         requires some { 0 < length known.now.classes.items }
         requires low { constructor < length self.now.ranks.now }
@@ -265,7 +265,7 @@ impl<T: Theory> Search<'_, T> {
         pending: &mut Pending<T::Value>,
         splits: &mut Vec<Splits<T::Value>>,
     ) -> Result<(), ClassStop<T::Chain>>
-        requires ready { IsReady (T.atom_fits self.now.theory.now) self.now.ranks.now self.now.rules.now self.now.own.now }
+        requires ready { IsReady T.Atom.eq (T.atom_fits self.now.theory.now) self.now.ranks.now self.now.rules.now self.now.own.now }
         requires kinds { AreKinds self.now.ranks.now self.now.rules.now known.now.classes.items known.now.places.items }
         requires some { 0 < length known.now.classes.items }
         requires sound { IsSound self.now.ranks.now (T.meaning self.now.theory.now).has (T.meaning self.now.theory.now).keeps (meaning_of T.atom_holds (plain_rules self.now.rules.now)) T.label_of known.now.classes.items pending.old }
@@ -297,7 +297,7 @@ impl<T: Theory> Search<'_, T> {
 
     /// Tells which rules of each constructor a child of one more class meets.
     fn add_to_splits(&self, splits: &mut Vec<Splits<T::Value>>, row: &Row) -> Result<(), Memory>
-        requires ready { IsReady (T.atom_fits self.now.theory.now) self.now.ranks.now self.now.rules.now self.now.own.now }
+        requires ready { IsReady T.Atom.eq (T.atom_fits self.now.theory.now) self.now.ranks.now self.now.rules.now self.now.own.now }
         requires many { length splits.old.items ≡ length self.now.ranks.now }
         ensures { OnOk result ((rows : List (List Bool)) → AreSplit (T.meaning self.now.theory.now) self.now.ranks.now self.now.own.now rows splits.old.items → AreSplit (T.meaning self.now.theory.now) self.now.ranks.now self.now.own.now (rows ++ row.now ∷ []) splits.new.items) }
     {
@@ -311,7 +311,7 @@ impl<T: Theory> Search<'_, T> {
 
     /// No class is found yet, and no tree is offered.
     fn begin(&self) -> Result<Course<T::Value>, Memory>
-        requires ready { IsReady (T.atom_fits self.now.theory.now) self.now.ranks.now self.now.rules.now self.now.own.now }
+        requires ready { IsReady T.Atom.eq (T.atom_fits self.now.theory.now) self.now.ranks.now self.now.rules.now self.now.own.now }
         ensures none { IfOk result (λ course. course.known.classes.items ≡ []) }
         ensures kinds { IfOk result (λ course. AreKinds self.now.ranks.now self.now.rules.now course.known.classes.items course.known.places.items) }
         ensures sound { IfOk result (λ course. IsSound self.now.ranks.now (T.meaning self.now.theory.now).has (T.meaning self.now.theory.now).keeps (meaning_of T.atom_holds (plain_rules self.now.rules.now)) T.label_of course.known.classes.items course.pending) }
@@ -334,7 +334,7 @@ impl<T: Theory> Search<'_, T> {
         course: &mut Course<T::Value>,
         class: Class<T::Value>,
     ) -> Result<(), ClassStop<T::Chain>>
-        requires ready { IsReady (T.atom_fits self.now.theory.now) self.now.ranks.now self.now.rules.now self.now.own.now }
+        requires ready { IsReady T.Atom.eq (T.atom_fits self.now.theory.now) self.now.ranks.now self.now.rules.now self.now.own.now }
         requires kept { AreKept course.old.pending }
         requires taken { (before : Pending T.Value) × IsGoing (T.meaning self.now.theory.now) self.now.ranks.now self.now.rules.now self.now.own.now self.now.most course.old.known before course.old.splits.items × IsTaken before course.old.pending class }
         ensures going { OnOk result (IsGoing (T.meaning self.now.theory.now) self.now.ranks.now self.now.rules.now self.now.own.now self.now.most course.new.known course.new.pending course.new.splits.items) }
@@ -349,7 +349,7 @@ impl<T: Theory> Search<'_, T> {
 
     /// Offers the trees of no children, and takes turns until no candidate is left.
     fn go_on(&self, course: &mut Course<T::Value>) -> Result<(), ClassStop<T::Chain>>
-        requires ready { IsReady (T.atom_fits self.now.theory.now) self.now.ranks.now self.now.rules.now self.now.own.now }
+        requires ready { IsReady T.Atom.eq (T.atom_fits self.now.theory.now) self.now.ranks.now self.now.rules.now self.now.own.now }
         requires none { course.old.known.classes.items ≡ [] }
         requires kinds { AreKinds self.now.ranks.now self.now.rules.now course.old.known.classes.items course.old.known.places.items }
         requires sound { IsSound self.now.ranks.now (T.meaning self.now.theory.now).has (T.meaning self.now.theory.now).keeps (meaning_of T.atom_holds (plain_rules self.now.rules.now)) T.label_of course.old.known.classes.items course.old.pending }
@@ -370,7 +370,7 @@ impl<T: Theory> Search<'_, T> {
 
     /// All classes, where there are not more than `most`.
     pub fn run(&self) -> Result<Known<T::Value>, ClassStop<T::Chain>>
-        requires ready { IsReady (T.atom_fits self.now.theory.now) self.now.ranks.now self.now.rules.now self.now.own.now }
+        requires ready { IsReady T.Atom.eq (T.atom_fits self.now.theory.now) self.now.ranks.now self.now.rules.now self.now.own.now }
         ensures classes { IfOk result (λ known. AreFound (T.meaning self.now.theory.now) CAP self.now.ranks.now (plain_rules self.now.rules.now) known.classes.items) }
         ensures complete { IfOk result (λ known. AreAllFound (T.meaning self.now.theory.now) CAP self.now.ranks.now (plain_rules self.now.rules.now) known.classes.items) }
         ensures kinds { IfOk result (λ known. AreKinds self.now.ranks.now self.now.rules.now known.classes.items known.places.items) }

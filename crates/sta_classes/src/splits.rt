@@ -5,7 +5,7 @@ ghost use Rattle.model_sta.specs.Sets.{rows_meet};
 ghost use Rattle.model_tree.specs.Formula.{EveryAtom};
 ghost use Rattle.label_split.specs.Split.{SplitsInto};
 ghost use Rattle.sta_core.specs.Machine.{plain_rule};
-ghost use Rattle.sta_classes.specs.Applying.{chosen, guards_in, truth_at};
+ghost use Rattle.sta_classes.specs.Applying.{chosen, guards_in, truth_at, AreLike};
 ghost use Rattle.sta_classes.specs.Bits.{both};
 ghost use Rattle.sta_classes.specs.Guards.{truths};
 ghost use Rattle.sta_classes.specs.Rows.{lists_of};
@@ -33,7 +33,7 @@ pub struct Told<V> {
 pub struct Splits<V> {
     /// For each class, at each place, the numbers of the rules whose demands it meets there.
     pub met: Vec<Vec<Row>>,
-    /// The sets of rules with guards that children have let fire so far.
+    /// The sets of guards that children have left open so far, each guard by the number of a rule.
     pub sets: IndexSet<Row>,
     /// For each such set, labels that tell the guards apart.
     pub told: Vec<Vec<Told<V>>>,
@@ -176,15 +176,16 @@ impl<V: Drop> Splits<V> {
     ) -> Result<usize, ClassStop<T::Chain>>
         requires fit { All (λ x. EveryAtom (T.atom_fits theory.now) (plain_rule x.rule.now).guard) own.now.list.items }
         requires many { length key.now ≡ length own.now.guarded }
+        requires likes { AreLike T.Atom.eq own.now.list.items own.now.likes.items }
+        requires guarded { length own.now.guarded ≡ length own.now.list.items }
         requires told { AreAllTold (T.meaning theory.now) own.now.list.items self.old }
         ensures told { OnOk result (AreAllTold (T.meaning theory.now) own.now.list.items self.new) }
         ensures met { OnOk result (self.new.met ≡ self.old.met) }
         ensures number { IfOk result (λ n. (n < length self.new.told.items) × AreTold (T.meaning theory.now) own.now.list.items (both own.now.guarded key.now) (get_or (lists_of self.new.told.items) n [])) }
         ensures stop { IfErr result (ClassStopsFor (T.meaning theory.now) ⊥ (guards_in own.now.list.items)) }
     {
-        let mut wanted = own.guarded.copy(alloc)?;
-        wanted.meet(key);
-        let (number, new) = self.sets.insert_full(wanted)?;
+        let open = own.open_guards(alloc, key)?;
+        let (number, new) = self.sets.insert_full(open)?;
         if new {
             let told = told_of(theory, alloc, &own.list, &self.sets.as_slice()[number])?;
             self.told.push(told)?;

@@ -7,5 +7,5 @@ use Rattle.sta_classes.proofs.rules.each_rules.Goals as goal
 pub constructors-preserved : goal.constructors-preserved
 constructors-preserved g c = record {
   many = ap length c.in_ok-push.ensures.items ∙ length_push c.constructors.each.items c.in_ok-new.field-0 ∙ ap (λ n. n + 1) c.constructors.invariant.many;
-  are = element_pushed (λ n own. IsRules c.args.rules.now n own) c.constructors.each.items c.push.new.self.items c.in_ok-new.field-0 c.in_ok-push.ensures.items (subst (λ n. IsRules c.args.rules.now n c.in_ok-new.field-0) (sym c.constructors.invariant.many) c.in_ok-new.ensures) c.constructors.invariant.are;
+  are = element_pushed (λ n own. IsRules g.A.PartialEq.eq c.args.rules.now n own) c.constructors.each.items c.push.new.self.items c.in_ok-new.field-0 c.in_ok-push.ensures.items (subst (λ n. IsRules g.A.PartialEq.eq c.args.rules.now n c.in_ok-new.field-0) (sym c.constructors.invariant.many) c.in_ok-new.ensures) c.constructors.invariant.are;
 }

@@ -9,12 +9,12 @@ numbers-preserved g c =
     let put = c.insert.ensures ∙ ap (λ x. set c.numbers.row x.state true) (sym c.index-list-i.is) in
     record {
       many = ap length put ∙ length-set c.numbers.row c.index-list-i.result.state true ∙ c.numbers.invariant.many;
-      fired = fired_more c.args.list.now c.args.numbers.now c.numbers.row c.insert.new.self c.numbers.i c.next-i-in-numbers.result c.index-list-i.result (omega (arith, state_low, c.numbers.invariant.many)) c.numbers-test.true c.index-list-i.is (c.numbers.invariant.here (omega (arith, c.numbers-test.true, c.requires.many))) put c.next-i-in-numbers.ensures.from c.next-i-in-numbers.ensures.none c.numbers.invariant.fired;
+      fired = fired_more (λ x. x.state) c.args.list.now c.args.numbers.now c.numbers.row c.insert.new.self c.numbers.i c.next-i-in-numbers.result c.index-list-i.result (omega (arith, state_low, c.numbers.invariant.many)) c.numbers-test.true c.index-list-i.is (c.numbers.invariant.here (omega (arith, c.numbers-test.true, c.requires.many))) put c.next-i-in-numbers.ensures.from c.next-i-in-numbers.ensures.none c.numbers.invariant.fired;
       here = c.next-i-in-numbers.ensures.some;
     }
 
 pub returns-clause-fired : goal.returns-clause-fired
-returns-clause-fired g c = fired_last c.args.list.now c.args.numbers.now c.numbers.row c.numbers.i (omega (arith, c.numbers-test.false)) c.numbers.invariant.fired
+returns-clause-fired g c = fired_last (λ x. x.state) c.args.list.now c.args.numbers.now c.numbers.row c.numbers.i (omega (arith, c.numbers-test.false)) c.numbers.invariant.fired
 
 pub insert-requires : goal.insert-requires
 insert-requires g c = omega (arith, c.requires.low c.numbers.i c.index-list-i.result c.numbers-test.true, c.numbers.invariant.many)

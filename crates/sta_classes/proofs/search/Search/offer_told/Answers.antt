@@ -16,12 +16,12 @@ use Rattle.sta_classes.proofs.search.Search.offer_told.Goals as goal
 
 pub set-requires-clause-low : goal.set-requires-clause-low
 set-requires-clause-low g c =
-    let is : IsRules c.args.self.now.rules.now c.args.over.now.constructor c.index-self-over.result = c.requires.ready.own_are c.args.over.now.constructor c.index-self-over.result (omega (arith, c.requires.low, c.requires.ready.many)) (sym c.index-self-over.is) in
+    let is : IsRules g.T.Atom.PartialEq.eq c.args.self.now.rules.now c.args.over.now.constructor c.index-self-over.result = c.requires.ready.own_are c.args.over.now.constructor c.index-self-over.result (omega (arith, c.requires.low, c.requires.ready.many)) (sym c.index-self-over.is) in
     subst (λ R. All (λ x. x.state < length c.args.self.now.rules.now) R.list.items) c.index-self-over.is (states_low c.args.self.now.rules.now c.args.over.now.constructor c.index-self-over.result.list.items is.owned)
 
 pub labels-preserved : goal.labels-preserved
 labels-preserved g c =
-    let is : IsRules c.args.self.now.rules.now c.args.over.now.constructor c.index-self-over.result = c.requires.ready.own_are c.args.over.now.constructor c.index-self-over.result (omega (arith, c.requires.low, c.requires.ready.many)) (sym c.index-self-over.is) in
+    let is : IsRules g.T.Atom.PartialEq.eq c.args.self.now.rules.now c.args.over.now.constructor c.index-self-over.result = c.requires.ready.own_are c.args.over.now.constructor c.index-self-over.result (omega (arith, c.requires.low, c.requires.ready.many)) (sym c.index-self-over.is) in
     let are = c.requires.told c.index-self-over.result (sym c.index-self-over.is) in
     let there : Contains c.args.told.now c.label-item.result = (c.labels.label-index, c.labels-test.true, sym c.label-item.is) in
     let fired : (s : ℕ) → has c.in_ok-row.row s ≡ true ↔ IsFired c.index-self-over.result.list.items (both c.args.key.now c.label-item.result.holds) s =
@@ -43,7 +43,7 @@ labels-preserved g c =
 
 pub returns-clause-opened : goal.returns-clause-opened
 returns-clause-opened g c =
-    let is : IsRules c.args.self.now.rules.now c.args.over.now.constructor c.index-self-over.result = c.requires.ready.own_are c.args.over.now.constructor c.index-self-over.result (omega (arith, c.requires.low, c.requires.ready.many)) (sym c.index-self-over.is) in
+    let is : IsRules g.T.Atom.PartialEq.eq c.args.self.now.rules.now c.args.over.now.constructor c.index-self-over.result = c.requires.ready.own_are c.args.over.now.constructor c.index-self-over.result (omega (arith, c.requires.low, c.requires.ready.many)) (sym c.index-self-over.is) in
     opened_by (g.T.Theory.meaning c.args.self.now.theory.now) c.args.self.now.ranks.now c.args.self.now.rules.now c.args.known.now.classes.items c.args.over.now.constructor c.index-self-over.result is c.args.over.now.children.now c.args.key.now c.args.told.now (c.requires.told c.index-self-over.result (sym c.index-self-over.is)) c.labels.pending c.args.over.now.nodes c.requires.nodes
     (λ i t low at. c.labels.invariant.met i t (omega (arith, low, c.labels-test.false)) low at)
 

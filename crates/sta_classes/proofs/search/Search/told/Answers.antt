@@ -4,7 +4,7 @@ use Rattle.std.proofs.lemmas.Result.{err_from_is_err_and}
 use Rattle.model_tree.specs.Formula.{EveryAtom}
 use Rattle.model_sta.proofs.Reached.{same_default}
 use Rattle.sta_core.specs.Machine.{plain_rule}
-use Rattle.sta_classes.specs.Applying.{guards_in, IsRules}
+use Rattle.sta_classes.specs.Applying.{guards_in, AreLike, IsRules}
 use Rattle.sta_classes.specs.Guards.{all_guards}
 use Rattle.sta_classes.specs.Meant.{HasMoreClasses}
 use Rattle.sta_classes.specs.Rows.{class_rows}
@@ -17,13 +17,13 @@ use Rattle.sta_classes.proofs.search.Search.told.Goals as goal
 
 pub number-requires-clause-fit : goal.number-requires-clause-fit
 number-requires-clause-fit g c =
-    let is : IsRules c.args.self.now.rules.now c.args.over.now.constructor c.index-self-over.result = c.requires.ready.own_are c.args.over.now.constructor c.index-self-over.result (omega (arith, c.requires.low, c.requires.ready.many)) (sym c.index-self-over.is) in
+    let is : IsRules g.T.Atom.PartialEq.eq c.args.self.now.rules.now c.args.over.now.constructor c.index-self-over.result = c.requires.ready.own_are c.args.over.now.constructor c.index-self-over.result (omega (arith, c.requires.low, c.requires.ready.many)) (sym c.index-self-over.is) in
     subst (λ R. All (λ x. EveryAtom (g.T.Theory.atom_fits c.args.self.now.theory.now) (plain_rule x.rule.now).guard) R.list.items) c.index-self-over.is
     (guards_fit c.args.self.now.rules.now c.args.over.now.constructor c.index-self-over.result.list.items is.owned (g.T.Theory.atom_fits c.args.self.now.theory.now) c.requires.ready.fit)
 
 pub returns-in_err-number-clause-stop : goal.returns-in_err-number-clause-stop
 returns-in_err-number-clause-stop g c =
-    let is : IsRules c.args.self.now.rules.now c.args.over.now.constructor c.index-self-over.result = c.requires.ready.own_are c.args.over.now.constructor c.index-self-over.result (omega (arith, c.requires.low, c.requires.ready.many)) (sym c.index-self-over.is) in
+    let is : IsRules g.T.Atom.PartialEq.eq c.args.self.now.rules.now c.args.over.now.constructor c.index-self-over.result = c.requires.ready.own_are c.args.over.now.constructor c.index-self-over.result (omega (arith, c.requires.low, c.requires.ready.many)) (sym c.index-self-over.is) in
     let got = err_from_is_err_and c.from_residual-in_err-number.result c.from_residual-in_err-number.ensures.1 in
     rw (got.1, got.2) (stop_within (guards_in c.index-self-over.result.list.items) (all_guards (plain_rules c.args.self.now.rules.now)) (λ P h. guards_of_all c.args.self.now.rules.now c.args.over.now.constructor c.index-self-over.result.list.items is.owned P h) (g.T.Theory.meaning c.args.self.now.theory.now) g.T.Atom.PartialEq.eq (g.met.T.Theory.equal_is_own c.args.self.now.theory.now) g.met.T.Atom.Eq.laws (HasMoreClasses (g.T.Theory.meaning c.args.self.now.theory.now) (record { ranks = c.args.self.now.ranks.now; rules = plain_rules c.args.self.now.rules.now }) c.args.self.now.most) c.in_err-number.field-0.0
     (subst (λ R. ClassStopsFor (g.T.Theory.meaning c.args.self.now.theory.now) ⊥ (guards_in R.list.items) c.in_err-number.field-0.0) (sym c.index-self-over.is) c.in_err-number.ensures.stop))
@@ -43,7 +43,7 @@ returns-clause-splits g c =
 
 pub key-requires-clause-all : goal.key-requires-clause-all
 key-requires-clause-all g c =
-    let is : IsRules c.args.self.now.rules.now c.args.over.now.constructor c.index-self-over.result = c.requires.ready.own_are c.args.over.now.constructor c.index-self-over.result (omega (arith, c.requires.low, c.requires.ready.many)) (sym c.index-self-over.is) in
+    let is : IsRules g.T.Atom.PartialEq.eq c.args.self.now.rules.now c.args.over.now.constructor c.index-self-over.result = c.requires.ready.own_are c.args.over.now.constructor c.index-self-over.result (omega (arith, c.requires.low, c.requires.ready.many)) (sym c.index-self-over.is) in
     subst (λ R. R.all ≡ map (λ x. true) R.list.items) c.index-self-over.is is.all_are
 
 pub key-requires-clause-known : goal.key-requires-clause-known
@@ -56,7 +56,7 @@ key-requires-clause-met g c = (class_rows c.args.known.now.classes.items, met_at
 
 pub number-requires-clause-many : goal.number-requires-clause-many
 number-requires-clause-many g c =
-    let is : IsRules c.args.self.now.rules.now c.args.over.now.constructor c.index-self-over.result = c.requires.ready.own_are c.args.over.now.constructor c.index-self-over.result (omega (arith, c.requires.low, c.requires.ready.many)) (sym c.index-self-over.is) in
+    let is : IsRules g.T.Atom.PartialEq.eq c.args.self.now.rules.now c.args.over.now.constructor c.index-self-over.result = c.requires.ready.own_are c.args.over.now.constructor c.index-self-over.result (omega (arith, c.requires.low, c.requires.ready.many)) (sym c.index-self-over.is) in
     let met = met_at (g.T.Theory.meaning c.args.self.now.theory.now) c.args.self.now.ranks.now c.args.self.now.own.now (class_rows c.args.known.now.classes.items) c.args.splits.now.items c.requires.splits c.args.over.now.constructor c.index-self-over.result c.index_mut-split.result.now (omega (arith, c.requires.low, c.requires.ready.many)) (omega (arith, c.requires.low, c.requires.splits.many)) c.index_mut-split.ensures.value (length c.args.over.now.children.now) c.requires.wide in
     ap length (c.in_ok-key.ensures (class_rows c.args.known.now.classes.items) met) ∙ length-map _ _ ∙ sym (subst (λ R. length R.guarded ≡ length R.list.items) c.index-self-over.is (ap length is.guarded_are ∙ length-map _ _))
 
@@ -71,3 +71,13 @@ returns-clause-found g c R s of at =
 
 pub returns-in_err-key-clause-stop : goal.returns-in_err-key-clause-stop
 returns-in_err-key-clause-stop g c = let got = err_from_is_err_and c.from_residual.result c.from_residual.ensures.1 in rw (got.1, got.2) tt
+
+pub number-requires-clause-likes : goal.number-requires-clause-likes
+number-requires-clause-likes g c =
+    let is : IsRules g.T.Atom.PartialEq.eq c.args.self.now.rules.now c.args.over.now.constructor c.index-self-over.result = c.requires.ready.own_are c.args.over.now.constructor c.index-self-over.result (omega (arith, c.requires.low, c.requires.ready.many)) (sym c.index-self-over.is) in
+    subst (λ R. AreLike g.T.Atom.PartialEq.eq R.list.items R.likes.items) c.index-self-over.is is.alike
+
+pub number-requires-clause-guarded : goal.number-requires-clause-guarded
+number-requires-clause-guarded g c =
+    let is : IsRules g.T.Atom.PartialEq.eq c.args.self.now.rules.now c.args.over.now.constructor c.index-self-over.result = c.requires.ready.own_are c.args.over.now.constructor c.index-self-over.result (omega (arith, c.requires.low, c.requires.ready.many)) (sym c.index-self-over.is) in
+    subst (λ R. length R.guarded ≡ length R.list.items) c.index-self-over.is (ap length is.guarded_are ∙ length-map _ _)

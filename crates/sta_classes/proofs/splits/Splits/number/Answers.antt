@@ -3,46 +3,56 @@ use Rattle.std.proofs.Common.{◌≡◌, ◌<◌, ◌∙◌, [], length, get_or,
 use Rattle.std.proofs.lemmas.Option.{slice_get_within}
 use Rattle.model_sta.proofs.Reached.{same_default}
 use Rattle.sta_classes.specs.Bits.{both}
+use Rattle.sta_classes.specs.Rows.{lists_of}
 use Rattle.sta_classes.specs.Splits.{AreTold, AreAllTold}
 use Rattle.sta_classes.proofs.Keys.{all_told_more, all_told_same, told_numbered}
+use Rattle.sta_classes.proofs.Meet.{both_length}
 use Rattle.sta_classes.proofs.Offered.{row_at, is_new, was_there}
+use Rattle.sta_classes.proofs.SameGuards.{told_likes, likes_low}
 use Rattle.sta_classes.proofs.splits.Splits.number.Goals as goal
 use Rattle.sta_classes.proofs.splits.Splits.number.Goals.{then-new+in_ok-told+in_ok-push, else-new}
 
 pub returns-clause-told : goal.returns-clause-told
 returns-clause-told g c = elim c.if-new.branch [
   | then-new+in_ok-told+in_ok-push w ↦
-      let at : w.index-as_slice-number.result ≡ c.meet.new.self =
+      let at : w.index-as_slice-number.result ≡ c.in_ok-open.open =
       w.index-as_slice-number.is ∙ ap (λ k. get_or k c.in_ok-number.number w.index-as_slice-number.result) w.as_slice.ensures.keys
       ∙ same_default c.insert_full.new.self.keys c.in_ok-number.number w.index-as_slice-number.result [] (slice_get_within c.insert_full.new.self.keys c.in_ok-number.number c.in_ok-number.ensures.stored.0 c.in_ok-number.ensures.stored.1)
-      ∙ row_at c.args.self.now.sets.keys c.insert_full.new.self.keys c.meet.new.self c.in_ok-number.number c.in_ok-number.new c.in_ok-number.ensures.added c.in_ok-number.ensures.keys c.in_ok-number.ensures.stored in
-      let told : AreTold (g.T.Theory.meaning c.args.theory.now) c.args.own.now.list.items c.meet.new.self w.in_ok-told.told.items =
-      subst (λ z. AreTold (g.T.Theory.meaning c.args.theory.now) z c.meet.new.self w.in_ok-told.told.items) w.deref.ensures.value (subst (λ z. AreTold (g.T.Theory.meaning c.args.theory.now) w.deref.result.now z w.in_ok-told.told.items) at w.in_ok-told.ensures.told) in
+      ∙ row_at c.args.self.now.sets.keys c.insert_full.new.self.keys c.in_ok-open.open c.in_ok-number.number c.in_ok-number.new c.in_ok-number.ensures.added c.in_ok-number.ensures.keys c.in_ok-number.ensures.stored in
+      let told : AreTold (g.T.Theory.meaning c.args.theory.now) c.args.own.now.list.items c.in_ok-open.open w.in_ok-told.told.items =
+      subst (λ z. AreTold (g.T.Theory.meaning c.args.theory.now) z c.in_ok-open.open w.in_ok-told.told.items) w.deref.ensures.value (subst (λ z. AreTold (g.T.Theory.meaning c.args.theory.now) w.deref.result.now z w.in_ok-told.told.items) at w.in_ok-told.ensures.told) in
       subst (AreAllTold (g.T.Theory.meaning c.args.theory.now) c.args.own.now.list.items) (sym w.self-is)
-      (all_told_more (g.T.Theory.meaning c.args.theory.now) c.args.own.now.list.items c.args.self.now _ c.meet.new.self w.in_ok-told.told
-      (is_new c.args.self.now.sets.keys c.insert_full.new.self.keys c.meet.new.self c.in_ok-number.number c.in_ok-number.new c.in_ok-number.ensures.added c.in_ok-number.ensures.keys c.in_ok-number.ensures.stored w.if-new.true) w.in_ok-push.ensures.items told c.requires.told)
+      (all_told_more (g.T.Theory.meaning c.args.theory.now) c.args.own.now.list.items c.args.self.now _ c.in_ok-open.open w.in_ok-told.told
+      (is_new c.args.self.now.sets.keys c.insert_full.new.self.keys c.in_ok-open.open c.in_ok-number.number c.in_ok-number.new c.in_ok-number.ensures.added c.in_ok-number.ensures.keys c.in_ok-number.ensures.stored w.if-new.true) w.in_ok-push.ensures.items told c.requires.told)
   | else-new w ↦
       subst (AreAllTold (g.T.Theory.meaning c.args.theory.now) c.args.own.now.list.items) (sym w.self-is)
       (all_told_same (g.T.Theory.meaning c.args.theory.now) c.args.own.now.list.items c.args.self.now _
-      (was_there c.args.self.now.sets.keys c.insert_full.new.self.keys c.meet.new.self c.in_ok-number.number c.in_ok-number.new c.in_ok-number.ensures.added c.in_ok-number.ensures.keys c.in_ok-number.ensures.stored w.if-new.false) refl c.requires.told)
+      (was_there c.args.self.now.sets.keys c.insert_full.new.self.keys c.in_ok-open.open c.in_ok-number.number c.in_ok-number.new c.in_ok-number.ensures.added c.in_ok-number.ensures.keys c.in_ok-number.ensures.stored w.if-new.false) refl c.requires.told)
 ]
 
 pub returns-clause-number : goal.returns-clause-number
 returns-clause-number g c =
     let keys : c.if-new.self.sets ≡ c.insert_full.new.self = elim c.if-new.branch [ then-new+in_ok-told+in_ok-push w ↦ ap (λ s. s.sets) w.self-is | else-new w ↦ ap (λ s. s.sets) w.self-is ] in
-    told_numbered (g.T.Theory.meaning c.args.theory.now) c.args.own.now.list.items c.if-new.self (returns-clause-told g c) c.in_ok-number.number (both c.args.own.now.guarded c.args.key.now)
+    let numbered =
+    told_numbered (g.T.Theory.meaning c.args.theory.now) c.args.own.now.list.items c.if-new.self (returns-clause-told g c) c.in_ok-number.number c.in_ok-open.open
     (subst (λ z. c.in_ok-number.number < length z.keys) (sym keys) (slice_get_within c.insert_full.new.self.keys c.in_ok-number.number c.in_ok-number.ensures.stored.0 c.in_ok-number.ensures.stored.1))
-    (ap (λ z. get_or z.keys c.in_ok-number.number []) keys ∙ row_at c.args.self.now.sets.keys c.insert_full.new.self.keys c.meet.new.self c.in_ok-number.number c.in_ok-number.new c.in_ok-number.ensures.added c.in_ok-number.ensures.keys c.in_ok-number.ensures.stored
-    ∙ c.meet.ensures ∙ ap (λ z. both z c.args.key.now) c.in_ok-wanted.ensures)
+    (ap (λ z. get_or z.keys c.in_ok-number.number []) keys ∙ row_at c.args.self.now.sets.keys c.insert_full.new.self.keys c.in_ok-open.open c.in_ok-number.number c.in_ok-number.new c.in_ok-number.ensures.added c.in_ok-number.ensures.keys c.in_ok-number.ensures.stored) in (
+      numbered.0,
+      told_likes (g.T.Theory.meaning c.args.theory.now) g.T.Atom.PartialEq.eq g.met.T.Theory.equal_atoms c.args.own.now.list.items c.args.own.now.likes.items c.requires.likes (both c.args.own.now.guarded c.args.key.now) c.in_ok-open.open (both_length c.args.own.now.guarded c.args.key.now c.requires.many ∙ c.requires.guarded) c.in_ok-open.ensures (get_or (lists_of c.if-new.self.told.items) c.in_ok-number.number []) numbered.1,
+    )
 
-pub meet-requires : goal.meet-requires
-meet-requires g c = c.requires.many ∙ sym (ap length c.in_ok-wanted.ensures)
+pub open_guards-requires : goal.open_guards-requires
+open_guards-requires g c = record {
+  many = c.requires.many;
+  low = likes_low c.args.own.now.list.items g.T.Atom.PartialEq.eq c.args.own.now.likes.items c.requires.likes;
+  likes = c.requires.likes.many ∙ sym c.requires.guarded;
+}
 
 pub returns-clause-met : goal.returns-clause-met
 returns-clause-met g c = elim c.if-new.branch [ then-new+in_ok-told+in_ok-push w ↦ ap (λ s. s.met) w.self-is | else-new w ↦ ap (λ s. s.met) w.self-is ]
 
-pub returns-in_err-wanted-clause-stop : goal.returns-in_err-wanted-clause-stop
-returns-in_err-wanted-clause-stop g c = let got = err_from_is_err_and c.from_residual.result c.from_residual.ensures.1 in rw (got.1, got.2) tt
+pub returns-in_err-open-clause-stop : goal.returns-in_err-open-clause-stop
+returns-in_err-open-clause-stop g c = let got = err_from_is_err_and c.from_residual.result c.from_residual.ensures.1 in rw (got.1, got.2) tt
 
 pub returns-in_err-number-clause-stop : goal.returns-in_err-number-clause-stop
 returns-in_err-number-clause-stop g c = let got = err_from_is_err_and c.from_residual-in_err-number.result c.from_residual-in_err-number.ensures.1 in rw (got.1, got.2) tt
