@@ -5,9 +5,10 @@ use Rattle.model_tree.specs.Tree.{LabelTree, relabel}
 use Rattle.fast_tree.specs.Entries.{label_meaning}
 use Rattle.model_tree.specs.Signature.{Sort, HasType, sorts_of}
 use Rattle.fast_tree.specs.declared.label.Label.{Label}
+use Rattle.fast_fault.specs.declared.place.Pos.{Pos}
 use Rattle.model_grammar.specs.declared.Op1.TheVariants.{Domain}
 use Rattle.model_grammar.specs.Places.{nowhere}
-use Rattle.model_grammar.specs.Syntax.{X, one, equal, empty, type_check, Item}
+use Rattle.model_grammar.specs.Syntax.{X, one, empty, type_check, Item}
 use Rattle.model_names.specs.Kinds.{language, transformation, kind_of, type_of}
 use Rattle.model_meaning.specs.Truth.{IsAmong, IsTrue, Shows}
 use Rattle.meaning_laws.proofs.Kinded.{through}
@@ -18,7 +19,8 @@ use Rattle.lin_solve.specs.declared.chain.Chain.{Chain}
 use Rattle.sta_core.specs.declared.Lang.{Lang}
 use Rattle.sta_classes.specs.Meant.{StopsClasses}
 use Rattle.sta_classes.specs.declared.stop.ClassStop.{ClassStop}
-use Rattle.sta_ops.specs.Empty.{in_one, IsEmptyAnswer, IsEqualAnswer}
+use Rattle.sta_ops.specs.Empty.{in_wanted, IsEmptyAnswer, IsCompared}
+use Rattle.sta_ops.specs.declared.emptiness.Wanted.{Wanted}
 use Rattle.sta_ops.specs.Empty.{StopsEither}
 use Rattle.sta_ops.specs.declared.emptiness.Found.{Found}
 use Rattle.sta_ops.specs.declared.emptiness.Found.TheVariants.{Absent, Shown, TooBig}
@@ -27,9 +29,9 @@ use Rattle.fast_eval.specs.Scopes.{AreDecided}
 use Rattle.record_label.specs.Meaning.{row_meaning}
 use Rattle.record_label.specs.Rows.{RowAtom}
 use Rattle.fast_eval.specs.Built.{IsBuiltOf}
-use Rattle.fast_eval.specs.Found.{IsFoundOf}
+use Rattle.fast_eval.specs.Found.{IsFoundOf, wanted_claim}
 use Rattle.fast_eval.specs.Stops.{IsStopOf, by_classes}
-use Rattle.fast_eval.proofs.Answered.{accepts, empty_test, equal_test, found_of}
+use Rattle.fast_eval.proofs.Answered.{accepts, empty_test, wanted_test, found_of}
 use Rattle.fast_eval.proofs.Claims.{empty_stops}
 use Rattle.fast_eval.proofs.Stopped.{stops_one, stops_two}
 
@@ -41,8 +43,8 @@ module _ (items : List Item) (type : List ℕ) (sorts : List Sort) (labels : sor
   stopped_empty s stop = empty_stops items most x built.carries.is_on.0 (by_classes s) (stops_one items type sorts labels x a built most s stop)
 
   module _ (y : X) (b : Lang RowAtom) (also : IsBuiltOf items y type b) where
-    pub found_equal : most ≤ most_classes → (f : Found Label) → IsEqualAnswer (row_meaning sorts) a b most f → IsFoundOf items (equal x y) f
-    found_equal low f answer = found_of items (equal x y) type a.sta.ranks sorts built.ranks labels (in_one (row_meaning sorts) a b) (equal_test items type x y a b built also sorts) most low f answer
+    pub found_wanted : (wanted : Wanted) (place : Pos) → most ≤ most_classes → (f : Found Label) → IsCompared (row_meaning sorts) wanted a b most f → IsFoundOf items (wanted_claim wanted place x y) f
+    found_wanted wanted place low f answer = found_of items (wanted_claim wanted place x y) type a.sta.ranks sorts built.ranks labels (in_wanted (row_meaning sorts) wanted a b) (wanted_test items type x y a b built also sorts wanted place) most low f answer
 
     pub stopped_equal : (s : ClassStop Chain) → StopsEither (row_meaning sorts) a b most s → IsStopOf items (x ∷ y ∷ []) most (by_classes s)
     stopped_equal s stop = stops_two items type sorts labels x a built y b also most s stop

@@ -10,7 +10,7 @@ use flat_label::{BoolAtom, Bools, Never};
 use sta_classes::ClassStop;
 use sta_core::{Lang, StaRule, accepts};
 use sta_min::{Minimal, minimize};
-use sta_ops::{Found, complement, difference, empty, equal, union};
+use sta_ops::{Found, Wanted, compare, complement, difference, empty, union};
 use sta_tests::checked;
 use std::alloc::Global;
 use std::test::Fail;
@@ -136,6 +136,24 @@ impl Alphabet {
         Ok(empty(&theory, self.alloc, a, MANY).ok().ok_or("no answer")?)
     }
 
+    /// What is found of the trees that are wanted of the languages.
+    pub(crate) fn compared(
+        &self,
+        wanted: Wanted,
+        a: &Lang<BoolAtom>,
+        b: &Lang<BoolAtom>,
+    ) -> Result<Found<Vec<bool>>, Fail>
+        requires first { IsOver self.now.ranks.items self.now.fields a.now }
+        requires second { IsOver self.now.ranks.items self.now.fields b.now }
+        ensures { IfOk result (Shows (HasFields self.now.fields)) }
+    {
+        let theory = Bools::new(self.fields);
+        match compare(&theory, self.alloc, wanted, a, b, MANY) {
+            Ok(found) => Ok(found),
+            Err(_) => Err("no answer".into()),
+        }
+    }
+
     /// What is found of the trees in exactly one of the languages.
     pub(crate) fn telling(
         &self,
@@ -146,11 +164,7 @@ impl Alphabet {
         requires second { IsOver self.now.ranks.items self.now.fields b.now }
         ensures { IfOk result (Shows (HasFields self.now.fields)) }
     {
-        let theory = Bools::new(self.fields);
-        match equal(&theory, self.alloc, a, b, MANY) {
-            Ok(found) => Ok(found),
-            Err(_) => Err("no answer".into()),
-        }
+        self.compared(Wanted::One, a, b)
     }
 
     pub(crate) fn accepts(&self, a: &Lang<BoolAtom>, tree: &Tree<Vec<bool>>) -> bool

@@ -9,7 +9,7 @@ use crate::rules::add_rule;
 use flat_label::BoolAtom;
 use sta_classes::ClassStop;
 use sta_core::Lang;
-use sta_ops::Found;
+use sta_ops::{Found, Wanted};
 use std::alloc::Global;
 use std::test::Fail;
 
@@ -73,6 +73,10 @@ fn differences_of_all_and_some(rt: HostRuntime) -> Result<(), Fail> {
     assert!(rt; matches!(alphabet.member(&same)?, Found::Absent));
     assert!(rt; matches!(alphabet.member(&less)?, Found::Absent));
     assert_eq!(rt; nodes(&alphabet.member(&more)?), Some(3));
+    let without = alphabet.compared(Wanted::First, &all, &some)?;
+    assert!(rt; matches!(without, Found::Absent));
+    let with = alphabet.compared(Wanted::First, &some, &all)?;
+    assert_eq!(rt; nodes(&with), Some(3));
     match alphabet.telling(&all, &some)? {
         Found::Shown(tree) => {
             assert_eq!(rt; tree.nodes_up_to(9), Some(3));

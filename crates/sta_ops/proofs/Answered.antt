@@ -13,9 +13,10 @@ use Rattle.sta_core.specs.Machine.{Machine, PlainRule}
 use Rattle.sta_core.specs.Sta.{automaton_of, AtomsFit, rule_meaning}
 use Rattle.sta_core.specs.declared.Lang.{Lang}
 use Rattle.sta_ops.specs.declared.emptiness.Found.{Found}
-use Rattle.sta_ops.specs.declared.emptiness.Asked.TheVariants.{Has, Differs}
-use Rattle.sta_ops.specs.Asked.{differ, has_asked, IsAnswer}
-use Rattle.sta_ops.specs.Empty.{IsEmptyAnswer, IsEqualAnswer, side_by_side}
+use Rattle.sta_ops.specs.declared.emptiness.Asked.TheVariants.{Has, Two}
+use Rattle.sta_ops.specs.declared.emptiness.Wanted.{Wanted}
+use Rattle.sta_ops.specs.Asked.{is_wanted, has_asked, IsAnswer}
+use Rattle.sta_ops.specs.Empty.{IsEmptyAnswer, IsCompared, side_by_side}
 use Rattle.sta_ops.specs.Rules.{beside}
 use Rattle.sta_ops.proofs.EachRule.{EachRule, each_beside}
 use Rattle.sta_ops.proofs.Fitting.{PlainFits, own_of}
@@ -52,7 +53,7 @@ module _ {A V W : Type 0} {label_of : V → Label} {holds : A → Label → Bool
         ∙ ap (is_accepted (automaton_of holds (side_by_side a b)) t) (at ∙ ap (λ n. n + b.state) (sym (length-map a.sta.rules (map (rule_meaning holds)))))
         ∙ second_accepts (automaton_of holds a.sta) (automaton_of holds b.sta) (automaton_of holds (side_by_side a b)) (own_of holds a.sta fit_a) (own_of holds b.sta fit_b) is_beside t b.state (omega (arith, low_b, length-map b.sta.rules (map (rule_meaning holds))))
 
-    pub equal_from : (m : Machine A) (other most : ℕ) (found : Found V) → m ≡ side_by_side a b → other ≡ length a.sta.rules + b.state → IsAnswer M m.ranks (λ t. has_asked (Differs a.state other) (set_of (automaton_of holds m) t)) most found → IsEqualAnswer M a b most found
-    equal_from m other most found same at answer =
-        subst (λ member. IsAnswer M a.sta.ranks member most found) (λ i t. differ (first_has t i) (second_has other at t i))
-        (subst (λ k. IsAnswer M k.ranks (λ t. differ (has (set_of (automaton_of holds k) t) a.state) (has (set_of (automaton_of holds k) t) other)) most found) same answer)
+    pub compared_from : (wanted : Wanted) (m : Machine A) (other most : ℕ) (found : Found V) → m ≡ side_by_side a b → other ≡ length a.sta.rules + b.state → IsAnswer M m.ranks (λ t. has_asked (Two wanted a.state other) (set_of (automaton_of holds m) t)) most found → IsCompared M wanted a b most found
+    compared_from wanted m other most found same at answer =
+        subst (λ member. IsAnswer M a.sta.ranks member most found) (λ i t. is_wanted wanted (first_has t i) (second_has other at t i))
+        (subst (λ k. IsAnswer M k.ranks (λ t. is_wanted wanted (has (set_of (automaton_of holds k) t) a.state) (has (set_of (automaton_of holds k) t) other)) most found) same answer)

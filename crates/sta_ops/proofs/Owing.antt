@@ -1,9 +1,7 @@
 -- What stops an equality, told by the states and guards of both languages.
-use Rattle.std.proofs.Common.{ℕ, ◌≡◌, ◌<◌, ◌+◌, Bool, List, [], ◌∷◌, ◌++◌, map, length, All, refl, sym, ap, ap₂, subst, ◌∙◌, append_assoc}
-use Rattle.std.proofs.lemmas.List.{map-append}
+use Rattle.std.proofs.Common.{ℕ, ◌≡◌, ◌<◌, Bool, List, [], ◌∷◌, ◌++◌, map, length, refl, sym, ap, ap₂, subst, ◌∙◌, append_assoc}
 use Rattle.std.proofs.lemmas.Simd.{map-map}
 use Rattle.model_tree.specs.Label.{Label}
-use Rattle.model_tree.specs.Tree.{LabelTree}
 use Rattle.model_tree.specs.Formula.{Formula}
 use Rattle.model_sta.specs.Sets.{Fits}
 use Rattle.model_sta.specs.Told.{HasMoreApart, AreTold, AreToldByEither}

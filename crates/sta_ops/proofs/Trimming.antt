@@ -1,5 +1,5 @@
 -- Parts of automata accept what they did, and are made of the same.
-use Rattle.std.proofs.Common.{ℕ, zero, suc, ◌+◌, ◌≡◌, ◌<◌, ◌≤◌, ◌==◌, inl, inr, Bool, true, false, true≢false, if◌then◌else◌, List, [], ◌∷◌, ◌++◌, map, take, get_or, length, All, Contains, Vec, refl, sym, ap, ap₂, subst, ◌∙◌, arith, eqb-true, eq-eqb, append-nil, append_assoc}
+use Rattle.std.proofs.Common.{ℕ, zero, suc, ◌+◌, ◌≡◌, ◌<◌, ◌≤◌, inl, inr, Bool, true, false, true≢false, if◌then◌else◌, List, [], ◌∷◌, ◌++◌, map, take, get_or, length, All, Contains, Vec, refl, sym, ap, ap₂, subst, ◌∙◌, arith, eqb-true, eq-eqb, append-nil, append_assoc}
 use Rattle.std.specs.Cmp.{IsEquivalence}
 use Rattle.std.specs.List.{list_any, IsDistinct}
 use Rattle.std.proofs.lemmas.Bool.{cases_lt}

@@ -1,12 +1,14 @@
 -- What is said of trees that are asked for.
-use Rattle.std.specs.Prelude.{◌≡◌, ℕ, ◌≤◌, ◌<◌, Bool, true, not, cond, List}
+use Rattle.std.specs.Prelude.{◌≡◌, ℕ, ◌≤◌, ◌<◌, Bool, true, not, cond, ◌&&◌, List}
 use Rattle.model_tree.specs.Limits.{most_nodes}
 use Rattle.model_tree.specs.Label.{Label}
 use Rattle.model_tree.specs.Tree.{LabelTree, relabel, node_count, depth}
 use Rattle.model_sta.specs.Sets.{Row, has, Fits}
 use Rattle.label_core.specs.Meaning.{Meaning}
 use Rattle.sta_ops.specs.declared.emptiness.Asked.{Asked}
-use Rattle.sta_ops.specs.declared.emptiness.Asked.TheVariants.{Has, Differs}
+use Rattle.sta_ops.specs.declared.emptiness.Asked.TheVariants.{Has, Two}
+use Rattle.sta_ops.specs.declared.emptiness.Wanted.{Wanted}
+use Rattle.sta_ops.specs.declared.emptiness.Wanted.TheVariants.{One, First, Both}
 use Rattle.sta_ops.specs.declared.emptiness.Found.{Found}
 use Rattle.sta_ops.specs.declared.emptiness.Found.TheVariants.{Absent, Shown, TooBig}
 
@@ -14,10 +16,16 @@ use Rattle.sta_ops.specs.declared.emptiness.Found.TheVariants.{Absent, Shown, To
 abbrev pub differ : Bool → Bool → Bool
 differ a b = cond a (not b) b
 
--- whether a set of states has what is asked: a state, or exactly one of two
+-- whether a tree that the first of two has or lacks, and the second, is wanted: in exactly one, in the first alone, or in both
+abbrev pub is_wanted : Wanted → Bool → Bool → Bool
+is_wanted One a b = differ a b
+is_wanted First a b = a && not b
+is_wanted Both a b = a && b
+
+-- whether a set of states has what is asked: a state, or what is wanted of two
 abbrev pub has_asked : Asked → Row → Bool
 has_asked (Has s) q = has q s
-has_asked (Differs s t) q = differ (has q s) (has q t)
+has_asked (Two wanted s t) q = is_wanted wanted (has q s) (has q t)
 
 module _ (ranks : List ℕ) (D keeps : Label → Type 0) (member : LabelTree → Bool) where
   -- a tree that is asked for, over all labels of the meaning

@@ -1,4 +1,4 @@
--- What is said of a language that is asked for a tree, and of two that are asked for a tree in exactly one of them.
+-- What is said of a language that is asked for a tree, and of two that are asked for a tree that is wanted of them.
 use Rattle.std.specs.Prelude.{ℕ, ◌++◌, Bool, List}
 use Rattle.model_tree.specs.Label.{Label}
 use Rattle.model_tree.specs.Tree.{LabelTree}
@@ -13,7 +13,8 @@ use Rattle.sta_classes.specs.declared.stop.ClassStop.{ClassStop}
 use Rattle.sta_classes.specs.Guards.{all_guards}
 use Rattle.sta_classes.specs.Stop.{ClassStopsFor}
 use Rattle.sta_ops.specs.declared.emptiness.Found.{Found}
-use Rattle.sta_ops.specs.Asked.{differ, IsAskedTree, IsLeastAsked, HasBigAsked, IsAnswer}
+use Rattle.sta_ops.specs.declared.emptiness.Wanted.{Wanted}
+use Rattle.sta_ops.specs.Asked.{is_wanted, IsAskedTree, IsLeastAsked, HasBigAsked, IsAnswer}
 use Rattle.sta_ops.specs.Rules.{beside}
 
 module _ (ranks : List ℕ) (D keeps : Label → Type 0) (rules : List (List (Rule Label))) (state : ℕ) where
@@ -34,13 +35,13 @@ module _ {A V W : Type 0} {label_of : V → Label} {holds : A → Label → Bool
   abbrev pub IsEmptyAnswer : Machine A → ℕ → ℕ → Found V → Type 0
   IsEmptyAnswer sta state most = IsAnswer M sta.ranks (λ t. is_accepted (automaton_of holds sta) t state) most
 
-  -- the tree is in exactly one of the languages
-  abbrev pub in_one : Lang A → Lang A → LabelTree → Bool
-  in_one a b t = differ (is_accepted (automaton_of holds a.sta) t a.state) (is_accepted (automaton_of holds b.sta) t b.state)
+  -- the tree is wanted of the languages
+  abbrev pub in_wanted : Wanted → Lang A → Lang A → LabelTree → Bool
+  in_wanted wanted a b t = is_wanted wanted (is_accepted (automaton_of holds a.sta) t a.state) (is_accepted (automaton_of holds b.sta) t b.state)
 
   -- what is answered of two
-  abbrev pub IsEqualAnswer : Lang A → Lang A → ℕ → Found V → Type 0
-  IsEqualAnswer a b most = IsAnswer M a.sta.ranks (in_one a b) most
+  abbrev pub IsCompared : Wanted → Lang A → Lang A → ℕ → Found V → Type 0
+  IsCompared wanted a b most = IsAnswer M a.sta.ranks (in_wanted wanted a b) most
 
   -- states of the two tell more than so many trees over kept labels apart, or a chain over the guards of both is too wide
   abbrev pub StopsEither : Lang A → Lang A → ℕ → ClassStop W → Type 0

@@ -1,5 +1,5 @@
 -- Parts of automata: the states that one state reaches, under numbers in the order in which they are met.
-use Rattle.std.specs.Prelude.{ℕ, nat_eq, ◌≡◌, ◌<◌, List, [], ◌∷◌, ◌++◌, map, get_or, length, All, Contains}
+use Rattle.std.specs.Prelude.{ℕ, nat_eq, ◌≡◌, ◌<◌, List, [], ◌∷◌, ◌++◌, map, get_or, length, Contains}
 use Rattle.std.specs.List.{IsDistinct}
 use Rattle.sta_core.specs.Machine.{PlainRule}
 use Rattle.sta_core.specs.declared.Lang.{Lang}

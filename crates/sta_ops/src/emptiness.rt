@@ -7,7 +7,7 @@ ghost use Rattle.sta_core.specs.Sta.{automaton_of, AtomsFit};
 ghost use Rattle.sta_classes.specs.Meant.{StopsClasses, IsTableOf, IsBuilt};
 ghost use Rattle.sta_classes.specs.Plain.{class_row};
 ghost use Rattle.sta_classes.specs.declared.class.TheConstants.{CAP};
-ghost use Rattle.sta_ops.specs.Asked.{has_asked, IsAnswer};
+ghost use Rattle.sta_ops.specs.Asked.{is_wanted, has_asked, IsAnswer};
 ghost use Rattle.sta_ops.specs.Empty.{IsEmptyAnswer};
 ghost use Rattle.sta_ops.specs.LeastClass.{is_better, HasNoClass, IsLeastClass};
 
@@ -26,11 +26,31 @@ pub enum Found<V> {
     TooBig,
 }
 
-/// What the states that accept a tree are asked for: one, or exactly one of two.
+/// Which trees are wanted of two languages: those in exactly one of them, in the first one alone, or in both.
+#[derive(Clone, Copy)]
+pub enum Wanted {
+    One,
+    First,
+    Both,
+}
+
+impl Wanted {
+    fn holds(self, first: bool, second: bool) -> bool
+        ensures { result ≡ is_wanted self first second }
+    {
+        match self {
+            Wanted::One => first != second,
+            Wanted::First => first && !second,
+            Wanted::Both => first && second,
+        }
+    }
+}
+
+/// What the states that accept a tree are asked for: one, or what is wanted of two.
 #[derive(Clone, Copy)]
 pub enum Asked {
     Has(u64),
-    Differs(u64, u64),
+    Two(Wanted, u64, u64),
 }
 
 /// Whether the trees of the class have what is asked.
@@ -40,11 +60,8 @@ fn is_asked<A, V>(table: &Table<A, V>, class: u32, asked: Asked) -> bool
 {
     match asked {
         Asked::Has(state) => table.has(class, state),
-        Asked::Differs(one, other) => {
-            if table.has(class, one) {
-                return !table.has(class, other);
-            }
-            table.has(class, other)
+        Asked::Two(wanted, first, second) => {
+            wanted.holds(table.has(class, first), table.has(class, second))
         }
     }
 }

@@ -4,18 +4,18 @@
 #![tactic(auto)]
 
 mod begun;
+mod comparison;
 mod complements;
 mod copies;
 mod doubled;
 mod emptiness;
-mod equality;
 mod joins;
 mod numbers;
 mod opposites;
 mod pairs;
 mod trim;
 
+pub use comparison::compare;
 pub use complements::{complement, difference};
-pub use emptiness::{Found, empty};
-pub use equality::equal;
+pub use emptiness::{Found, Wanted, empty};
 pub use joins::{intersect, union};

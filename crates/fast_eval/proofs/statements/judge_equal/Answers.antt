@@ -1,15 +1,17 @@
 use Rattle.std.proofs.Common.{[], ◌∷◌}
+use Rattle.model_grammar.specs.Places.{nowhere}
 use Rattle.fast_syntax.specs.Plain.{plain_x}
+use Rattle.sta_ops.specs.declared.emptiness.Wanted.TheVariants.{One}
 use Rattle.fast_eval.specs.Scopes.{items_in, type_in}
 use Rattle.fast_eval.specs.Stops.{IsStopOf, by_classes}
 use Rattle.fast_eval.proofs.Claims.{first_side_stops, second_side_stops}
-use Rattle.fast_eval.proofs.Judged.{found_equal, stopped_equal}
+use Rattle.fast_eval.proofs.Judged.{found_wanted, stopped_equal}
 use Rattle.fast_eval.proofs.Keeping.{on_err}
 use Rattle.fast_eval.proofs.Ready.{operand_built, atoms_fit, same_ranks, start_low}
 use Rattle.fast_eval.proofs.statements.judge_equal.Goals as goal
 
-pub equal-requires : goal.equal-requires
-equal-requires c =
+pub compare-requires : goal.compare-requires
+compare-requires c =
     let s = c.args.scope.now in
     let x = plain_x c.args.x.now in
     let y = plain_x c.args.y.now in
@@ -50,10 +52,10 @@ returns-clause-found c =
     let m = c.lang_of-b.result.now in
     let first = operand_built (items_in s) x (type_in s) s.built.now c.in_ok-a.a l c.in_ok-a.ensures.built c.lang_of-a.ensures in
     let second = operand_built (items_in s) y (type_in s) s.built.now c.in_ok-b.b m c.in_ok-b.ensures.built c.lang_of-b.ensures in
-    found_equal (items_in s) (type_in s) s.theory.now c.requires.scope.labels s.limit x l first y m second c.requires.scope.shallow c.in_ok-equal.field-0 c.in_ok-equal.ensures.found
+    found_wanted (items_in s) (type_in s) s.theory.now c.requires.scope.labels s.limit x l first y m second One nowhere c.requires.scope.shallow c.in_ok-compare.field-0 c.in_ok-compare.ensures.found
 
-pub returns-in_err-equal-clause-stop : goal.returns-in_err-equal-clause-stop
-returns-in_err-equal-clause-stop c =
+pub returns-in_err-compare-clause-stop : goal.returns-in_err-compare-clause-stop
+returns-in_err-compare-clause-stop c =
     let s = c.args.scope.now in
     let x = plain_x c.args.x.now in
     let y = plain_x c.args.y.now in
@@ -61,6 +63,6 @@ returns-in_err-equal-clause-stop c =
     let m = c.lang_of-b.result.now in
     let first = operand_built (items_in s) x (type_in s) s.built.now c.in_ok-a.a l c.in_ok-a.ensures.built c.lang_of-a.ensures in
     let second = operand_built (items_in s) y (type_in s) s.built.now c.in_ok-b.b m c.in_ok-b.ensures.built c.lang_of-b.ensures in
-    let e = c.in_err-equal.field-0.0 in
-    on_err (IsStopOf (items_in s) (x ∷ y ∷ []) s.limit) c.from_residual-in_err-equal.result (by_classes e) c.from_residual-in_err-equal.ensures.1
-    (stopped_equal (items_in s) (type_in s) s.theory.now c.requires.scope.labels s.limit x l first y m second e c.in_err-equal.ensures.stop)
+    let e = c.in_err-compare.field-0.0 in
+    on_err (IsStopOf (items_in s) (x ∷ y ∷ []) s.limit) c.from_residual-in_err-compare.result (by_classes e) c.from_residual-in_err-compare.ensures.1
+    (stopped_equal (items_in s) (type_in s) s.theory.now c.requires.scope.labels s.limit x l first y m second e c.in_err-compare.ensures.stop)

@@ -1,4 +1,4 @@
-use Rattle.std.proofs.Common.{map, length, Contains, refl, sym, ap, subst, ◌∙◌, arith}
+use Rattle.std.proofs.Common.{map, Contains, refl, sym, ap, subst, ◌∙◌, arith}
 use Rattle.std.proofs.lemmas.List.{take_all}
 use Rattle.sta_theory.proofs.Lists.{in_map}
 use Rattle.sta_ops.specs.Trimmed.{states_named, AreNamesOfAll, DemandedBy}

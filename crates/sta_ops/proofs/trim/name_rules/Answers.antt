@@ -1,4 +1,4 @@
-use Rattle.std.proofs.Common.{map, length, refl, sym, ap, subst, arith}
+use Rattle.std.proofs.Common.{map, refl, sym, ap, subst, arith}
 use Rattle.std.proofs.lemmas.List.{take_all}
 use Rattle.sta_core.specs.Machine.{plain_rule}
 use Rattle.sta_theory.proofs.Lists.{in_map}

@@ -6,10 +6,10 @@ use Rattle.sta_core.specs.Sta.{AtomsFit}
 use Rattle.sta_classes.specs.Meant.{IsTableOf, StopsClasses}
 use Rattle.sta_ops.specs.Empty.{side_by_side, StopsEither}
 use Rattle.sta_ops.specs.Rules.{beside}
-use Rattle.sta_ops.proofs.Answered.{both_are, both_fit, equal_from}
+use Rattle.sta_ops.proofs.Answered.{both_are, both_fit, compared_from}
 use Rattle.sta_ops.proofs.Owing.{stops_either}
 use Rattle.sta_ops.proofs.Fitting.{known_fit, machine_fits}
-use Rattle.sta_ops.proofs.equality.equal.Goals as goal
+use Rattle.sta_ops.proofs.comparison.compare.Goals as goal
 
 pub side_by_side-requires-clause-first : goal.side_by_side-requires-clause-first
 side_by_side-requires-clause-first g c = known_fit c.args.a.now.sta c.ranks.result.now c.rules-first.result.now c.ranks.ensures c.rules-first.ensures.rules c.rules-first.ensures.fit
@@ -33,8 +33,8 @@ returns-clause-found g c =
     let b = c.args.b.now in
     let are : c.in_ok-both.both ≡ side_by_side a b = both_are c.in_ok-both.both a b c.ranks.result.now c.in_ok-both.ensures.ranks c.ranks.ensures (c.in_ok-both.ensures.rules ∙ ap₂ beside c.rules-first.ensures.rules c.rules-second.ensures.rules) in
     let many : length c.rules-first.result.now ≡ length a.sta.rules = sym (length-map c.rules-first.result.now (λ those. map plain_rule those.items)) ∙ ap length c.rules-first.ensures.rules in
-    equal_from (g.T.Theory.meaning c.args.theory.now) a b (machine_fits a.sta c.rules-first.result.now c.rules-first.ensures.rules c.rules-first.ensures.fit) (machine_fits b.sta c.rules-second.result.now c.rules-second.ensures.rules c.rules-second.ensures.fit) c.requires.first c.requires.second
-    c.in_ok-table.table.machine c.in-Some.other c.args.most c.in_ok-found.found (c.in_ok-table.ensures.machine ∙ are) (c.in-Some.ensures.1 ∙ ap (λ n. n + b.state) many) c.in_ok-found.ensures
+    compared_from (g.T.Theory.meaning c.args.theory.now) a b (machine_fits a.sta c.rules-first.result.now c.rules-first.ensures.rules c.rules-first.ensures.fit) (machine_fits b.sta c.rules-second.result.now c.rules-second.ensures.rules c.rules-second.ensures.fit) c.requires.first c.requires.second
+    c.args.wanted c.in_ok-table.table.machine c.in-Some.other c.args.most c.in_ok-found.found (c.in_ok-table.ensures.machine ∙ are) (c.in-Some.ensures.1 ∙ ap (λ n. n + b.state) many) c.in_ok-found.ensures
 
 pub returns-in_err-table-clause-stop : goal.returns-in_err-table-clause-stop
 returns-in_err-table-clause-stop g c =

@@ -1,6 +1,6 @@
 use Rattle.flat_label.specs.Bools.{IsBools, bools_label}
 use Rattle.ops_tests.proofs.Shown.{kept_of_shown}
-use Rattle.ops_tests.proofs.alphabet.Alphabet.telling.Goals as goal
+use Rattle.ops_tests.proofs.alphabet.Alphabet.compared.Goals as goal
 
 pub returns-in-Ok : goal.returns-in-Ok
 returns-in-Ok c =

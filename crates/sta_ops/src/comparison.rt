@@ -1,14 +1,14 @@
-//! Whether two languages are the same, and a tree that is in exactly one of them.
+//! Whether trees that are wanted of two languages exist, and a least one, with no language made for it.
 
 ghost use Rattle.std.specs.Prelude.{◌≡◌, ◌<◌, length, IfOk, IfErr};
 ghost use Rattle.sta_core.specs.Fits.{RulesFit};
 ghost use Rattle.sta_core.specs.Sta.{AtomsFit};
 ghost use Rattle.sta_classes.specs.Rules.{plain_rules};
-ghost use Rattle.sta_ops.specs.Empty.{IsEqualAnswer, StopsEither};
+ghost use Rattle.sta_ops.specs.Empty.{IsCompared, StopsEither};
 ghost use Rattle.sta_ops.specs.Rules.{beside};
 
 use crate::copies::beside;
-use crate::emptiness::{Asked, Found, least_tree};
+use crate::emptiness::{Asked, Found, Wanted, least_tree};
 use fast_fault::Memory;
 use label_core::{Duplicate, Theory};
 use sta_classes::{ClassStop, classes};
@@ -32,10 +32,11 @@ fn side_by_side<A: Duplicate + Drop>(
     Ok(Sta::new(ranks, rules))
 }
 
-/// A least tree that is in exactly one of the two languages, if there is one. It has a depth of at most `most`.
-pub fn equal<T: Theory>(
+/// A least tree that is wanted of the two languages, if there is one. It has a depth of at most `most`.
+pub fn compare<T: Theory>(
     theory: &T,
     alloc: Global,
+    wanted: Wanted,
     a: &Lang<T::Atom>,
     b: &Lang<T::Atom>,
     most: u32,
@@ -45,7 +46,7 @@ pub fn equal<T: Theory>(
     requires second { b.now.state < length b.now.sta.rules }
     requires first_fit { AtomsFit (T.atom_fits theory.now) a.now.sta }
     requires second_fit { AtomsFit (T.atom_fits theory.now) b.now.sta }
-    ensures found { IfOk result (IsEqualAnswer (T.meaning theory.now) a.now b.now most) }
+    ensures found { IfOk result (IsCompared (T.meaning theory.now) wanted a.now b.now most) }
     ensures stop { IfErr result (StopsEither (T.meaning theory.now) a.now b.now most) }
 {
     let first = a.sta.rules();
@@ -56,6 +57,7 @@ pub fn equal<T: Theory>(
     let Some(other) = (first.len() as u64).checked_add(b.state) else {
         return Err(ClassStop::Memory);
     };
-    let found = least_tree(theory, alloc, &table, Asked::Differs(a.state, other), most)?;
+    let asked = Asked::Two(wanted, a.state, other);
+    let found = least_tree(theory, alloc, &table, asked, most)?;
     Ok(found)
 }
