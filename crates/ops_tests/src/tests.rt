@@ -77,6 +77,10 @@ fn differences_of_all_and_some(rt: HostRuntime) -> Result<(), Fail> {
     assert!(rt; matches!(without, Found::Absent));
     let with = alphabet.compared(Wanted::First, &some, &all)?;
     assert_eq!(rt; nodes(&with), Some(3));
+    let shared = alphabet.compared(Wanted::Both, &all, &some)?;
+    assert_eq!(rt; nodes(&shared), Some(1));
+    let none = alphabet.compared(Wanted::Both, &more, &all)?;
+    assert!(rt; matches!(none, Found::Absent));
     match alphabet.telling(&all, &some)? {
         Found::Shown(tree) => {
             assert_eq!(rt; tree.nodes_up_to(9), Some(3));
