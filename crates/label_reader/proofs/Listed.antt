@@ -1,6 +1,5 @@
 -- What was read of lists of items: one lemma for each list, whatever stands between its items.
 use Rattle.std.proofs.Common.{◌≡◌, ◌≤◌, List, [], ◌∷◌, ◌++◌, length, refl, sym, ap, ◌∙◌, subst, arith, Option, Some, Result, Ok, Err, ◌⊎◌, inl, inr}
-use Rattle.std.proofs.lemmas.List.{length-map}
 use Rattle.model_program.specs.declared.Word.{Word}
 use Rattle.model_program.specs.declared.Word.TheVariants as word
 use Rattle.model_program.specs.Lexeme.{Lexeme}
@@ -11,11 +10,10 @@ use Rattle.read_forms.specs.Reads.{IsRead, IsRefused, Fails, StartsIn, closed}
 use Rattle.read_forms.specs.Parts.{Ends, HasSample, AllStartIn, other_than}
 use Rattle.read_forms.proofs.Forms.{Makes, as_read, as_refused, as_fails, then_read, then_fails, first_fails, first_refused as refused_first, sample_as, sample_pair, remade, alternative, elsewhere, ends_closed, ends_starting, starts_joined, starts_append, starts_wider, stops_other, stops_other_than}
 use Rattle.read_forms.proofs.Words.{sign_starts, sample_sign, sign_makes, word_read, word_refused, next_of, word_other, comma_stands, comma_left_out}
-use Rattle.fast_lex.specs.declared.Token.{Token}
 use Rattle.label_reader.specs.declared.stop.Stop.{Stop}
 use Rattle.label_reader.specs.declared.lists.Between.{Between}
 use Rattle.label_reader.specs.declared.lists.Between.TheVariants as gap
-use Rattle.label_reader.specs.Results.{lexemes, bad_of, Reads}
+use Rattle.label_reader.specs.Results.{bad_of, Reads}
 use Rattle.label_reader.specs.Lists.{IsTaken, SkipsTo, IsMissing, Listed, NotEmpty, ListedSome, AnyTo, SomeTo, IsItem, later_of, Without, closing_of}
 use Rattle.read_forms.proofs.Lists.{IsPartWay, to_left, to_right, skip_nothing, put_nothing, opened, opened_read, opened_fails}
 use Rattle.label_reader.proofs.Joins.{without_read, without_fails}
@@ -234,9 +232,9 @@ pub items_end : {A : Type 0} {form : A → List Lexeme → Type 0} {goes_on : Wo
 items_end {form = form} {rest = rest} {after} between close all item so_far is = closing_read (later_of between form) close (λ xs. xs) all (closable between close item) so_far (next_of close is.0 rest after is.1 is.2) (taken close rest after is)
 
 -- A list behind its opening sign.
-pub opened_reads : {A X : Type 0} (open_word : Word) (form : A → List Lexeme → Type 0) (tokens start : List Token) (view : X → A × List Lexeme) (r : Result X Stop) → IsRead (IsSign open_word) closed (lexemes tokens) tt (lexemes start) → Reads form closed start view r → Reads (opened open_word form) closed tokens view r
-opened_reads open_word form tokens start view (Ok x) first read = opened_read open_word form first read
-opened_reads open_word form tokens start view (Err e) first fails = opened_fails open_word form (bad_of e) first fails
+pub opened_reads : {A X : Type 0} (open_word : Word) (form : A → List Lexeme → Type 0) (tokens start rest : List Lexeme) (view : X → A) (r : Result X Stop) → IsRead (IsSign open_word) closed tokens tt start → Reads form closed start rest view r → Reads (opened open_word form) closed tokens rest view r
+opened_reads open_word form tokens start rest view (Ok x) first read = opened_read open_word form first read
+opened_reads open_word form tokens start rest view (Err e) first fails = opened_fails open_word form (bad_of e rest) first fails
 
 -- the tokens don't begin with a word where they begin with another
 other_word : (w : Word) (words : Word → Type 0) (ts : List Lexeme) → ((v : Word) → words v → v ≡ w → ⊥) → StartsIn words ts → IsOther w ts
@@ -266,13 +264,13 @@ bar_tail {A} form close = record { starts = λ v ts spelled. each v.0 ts spelled
     each (x ∷ xs) ts spelled = starts_joined _ _ _ ts (λ l many. starts_joined _ _ _ l (λ k later. starts_joined _ _ _ k (λ m is. starts_wider (λ w. w ≡ word.Bar) (λ w. (w ≡ word.Bar) ⊎ (w ≡ close)) m (λ w h. inl h) ((sign_starts word.Bar).starts tt m is)) later) many) spelled
 
 -- what stands between two items isn't put back
-taken_fewer : (w : Word) (tokens rest : List Token) → IsTaken w (lexemes tokens) (lexemes rest) → length rest ≤ length tokens
-taken_fewer w tokens rest is = omega (arith, simp length-map at (ap length is.1))
+taken_fewer : (w : Word) (tokens rest : List Lexeme) → IsTaken w tokens rest → length rest ≤ length tokens
+taken_fewer w tokens rest is = omega (arith, ap length is.1)
 
-same_many : (tokens rest : List Token) → lexemes rest ≡ lexemes tokens → length rest ≤ length tokens
-same_many tokens rest is = omega (arith, simp length-map at (ap length is))
+same_many : (tokens rest : List Lexeme) → rest ≡ tokens → length rest ≤ length tokens
+same_many tokens rest is = omega (arith, ap length is)
 
-pub skips_fewer : (between : Between) (tokens rest : List Token) → SkipsTo between (lexemes tokens) (lexemes rest) → length rest ≤ length tokens
+pub skips_fewer : (between : Between) (tokens rest : List Lexeme) → SkipsTo between tokens rest → length rest ≤ length tokens
 skips_fewer gap.Nothing tokens rest is = same_many tokens rest is
 skips_fewer gap.Comma tokens rest (inl is) = taken_fewer _ tokens rest is
 skips_fewer gap.Comma tokens rest (inr is) = same_many tokens rest is.0

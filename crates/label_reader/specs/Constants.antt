@@ -25,6 +25,10 @@ pub record IsNumeralAt (tokens : List Lexeme) (t : Lexeme) (n : ℤ) (rest : Lis
   pub digits : IsDigits t.text
   pub amount : IsAmount t n
 
+-- whatever stands behind it
+abbrev pub IsNumeralNext : List Lexeme → Lexeme → ℤ → Type 0
+IsNumeralNext tokens t n = (rest : List Lexeme) × IsNumeralAt tokens t n rest
+
 -- a STRING token, and what it stands for
 abbrev pub IsString : Lexeme × List ℕ → List Lexeme → Type 0
 IsString v tokens = IsWord Quoted v.0 tokens × IsQuoted v.0.text v.1

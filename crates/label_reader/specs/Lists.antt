@@ -30,9 +30,9 @@ IsMissing LabelComma tokens = IsNext word.Minus tokens
 IsMissing Bar tokens = IsOther word.Bar tokens
 IsMissing _ tokens = ⊥
 
-abbrev pub Skips : {X : Type 0} → Between → List Lexeme → (X → List Lexeme) → Result X Stop → Type 0
-Skips between tokens view (Ok rest) = SkipsTo between tokens (view rest)
-Skips between tokens view (Err e) = IsMissing between tokens × (bad_of e ≡ Some tokens)
+abbrev pub Skips : Between → List Lexeme → List Lexeme → Result (Unit {0}) Stop → Type 0
+Skips between tokens rest (Ok none) = SkipsTo between tokens rest
+Skips between tokens rest (Err e) = IsMissing between tokens × (bad_of e rest ≡ Some tokens)
 
 -- items, or none, with what stands between two
 abbrev pub Listed : {A : Type 0} → Between → (A → List Lexeme → Type 0) → List A → List Lexeme → Type 0

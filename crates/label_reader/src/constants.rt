@@ -8,14 +8,13 @@ ghost use Rattle.model_program.specs.declared.Word as Word;
 ghost use Rattle.model_program.specs.Grammar.{IsDigits};
 ghost use Rattle.fast_lex.specs.Units.{IsQuotedText};
 ghost use Rattle.fast_lex.specs.Tokens.{lexeme};
-ghost use Rattle.label_reader.specs.Results.{lexemes, Reads};
+ghost use Rattle.label_reader.specs.Results.{left, behind, Reads};
 ghost use Rattle.label_reader.specs.Constants.{IsNumeral, NoNumeral, IsNumeralAt, IsAmount, IsString, NoString};
 
+use crate::reader::{Reader, is_same};
 use crate::stop::Stop;
-use crate::words::next_if;
 use fast_lex::{Token, Word, is_quoted, quoted_value};
 use fast_syntax::Text;
-use std::alloc::Global;
 
 /// The first character, and what follows it.
 fn next_char<'t>(text: &'t str) -> Option<(char, &'t str)>
@@ -48,49 +47,49 @@ fn number_of(text: &str) -> Option<i128>
     Some(value as i128)
 }
 
-/// The number with which the tokens begin, and its token.
-pub fn numeral_at<'t>(tokens: &'t [Token<'t>]) -> Option<(Token<'t>, i128, &'t [Token<'t>])>
-    ensures { MatchOption result (NoNumeral (lexemes tokens.now)) (λ x. IsNumeralAt (lexemes tokens.now) (lexeme x.0) x.1 (lexemes x.2.now)) }
+/// The next token, where it is a number, with the number that it writes.
+pub(crate) fn numeral_next<'t>(reader: &Reader<'t>) -> Option<(Token<'t>, i128)>
+    ensures { MatchOption result (NoNumeral (left reader.now)) (λ x. IsNumeralAt (left reader.now) (lexeme x.0) x.1 (behind reader.now)) }
 {
-    let (token, rest) = next_if(tokens, Word::Number)?;
+    let token = reader.peek()?;
+    if !is_same(token.word, Word::Number) {
+        return None;
+    }
     let number = number_of(token.text)?;
-    Some((token, number, rest))
+    Some((token, number))
 }
 
-pub fn read_numeral<'t>(
-    tokens: &'t [Token<'t>],
-) -> Result<(Token<'t>, i128, &'t [Token<'t>]), Stop<'t>>
-    ensures read { Reads IsNumeral closed tokens.now (λ x. (lexeme x.0, lexemes x.2.now)) result }
+pub fn read_numeral<'t>(reader: &mut Reader<'t>) -> Result<(Token<'t>, i128), Stop>
+    ensures read { Reads IsNumeral closed (left reader.old) (left reader.new) (λ x. lexeme x.0) result }
     ensures value { IfOk result (λ x. IsAmount (lexeme x.0) x.1) }
 {
-    match numeral_at(tokens) {
-        Some((token, number, rest)) => Ok((token, number, rest)),
-        None => Err(Stop::At(tokens)),
-    }
+    let Some(found) = numeral_next(reader) else {
+        return Err(Stop::Wrong);
+    };
+    reader.advance();
+    Ok(found)
 }
 
-/// The quoted text with which the tokens begin.
-fn quoted_at<'t>(tokens: &'t [Token<'t>]) -> Option<(Token<'t>, &'t [Token<'t>])>
-    ensures { MatchOption result (NoString (lexemes tokens.now)) (λ x. (lexemes tokens.now ≡ lexeme x.0 ∷ lexemes x.1.now) × (x.0.word ≡ Word.Quoted) × IsQuotedText (chars x.0.text.now)) }
+/// The next token, where it is a quoted text.
+fn quoted_next<'t>(reader: &Reader<'t>) -> Option<Token<'t>>
+    ensures { MatchOption result (NoString (left reader.now)) (λ t. (left reader.now ≡ lexeme t ∷ behind reader.now) × (t.word ≡ Word.Quoted) × IsQuotedText (chars t.text.now)) }
 {
-    let (token, rest) = next_if(tokens, Word::Quoted)?;
-    if is_quoted(token.text) {
-        Some((token, rest))
+    let token = reader.peek()?;
+    if is_same(token.word, Word::Quoted) && is_quoted(token.text) {
+        Some(token)
     } else {
         None
     }
 }
 
-/// A quoted text, its token, and what it stands for.
-pub fn read_string<'t>(
-    alloc: Global,
-    tokens: &'t [Token<'t>],
-) -> Result<(Token<'t>, Text, &'t [Token<'t>]), Stop<'t>>
-    ensures { Reads IsString closed tokens.now (λ x. ((lexeme x.0, x.1), lexemes x.2.now)) result }
+/// A quoted text: its token, and what it stands for.
+pub fn read_string<'t>(reader: &mut Reader<'t>) -> Result<(Token<'t>, Text), Stop>
+    ensures { Reads IsString closed (left reader.old) (left reader.new) (λ x. (lexeme x.0, x.1)) result }
 {
-    let Some((token, rest)) = quoted_at(tokens) else {
-        return Err(Stop::At(tokens));
+    let Some(token) = quoted_next(reader) else {
+        return Err(Stop::Wrong);
     };
-    let text = quoted_value(alloc, token.text)?;
-    Ok((token, text, rest))
+    let text = quoted_value(reader.alloc, token.text)?;
+    reader.advance();
+    Ok((token, text))
 }

@@ -13,3 +13,13 @@ pub fn kept<A: Drop, B, E>(value: A, made: Result<B, E>) -> Result<(A, B), E>
         Err(why) => Err(why),
     }
 }
+
+/// The value, unless what was to be read behind it wasn't there.
+pub fn kept_if<A: Drop, E>(value: A, read: Result<(), E>) -> Result<A, E>
+    ensures { MatchResult result (λ x. (x ≡ value) × (read ≡ Ok tt)) (λ e. read ≡ Err e) }
+{
+    match read {
+        Ok(_) => Ok(value),
+        Err(why) => Err(why),
+    }
+}

@@ -10,12 +10,12 @@ mod levels;
 mod lists;
 mod operands;
 mod operators;
+mod reader;
 mod stop;
-mod words;
 
 pub use constants::{read_numeral, read_string};
-pub use keep::kept;
+pub use keep::{kept, kept_if};
 pub use levels::read_level;
 pub use lists::{Between, Items, read_any, read_some, read_to};
+pub use reader::{Reader, is_same};
 pub use stop::{ReadTokensStop, Stop};
-pub use words::{is_next, is_same, next_if, read_name, read_sign, read_word};

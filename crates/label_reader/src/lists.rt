@@ -4,13 +4,12 @@ ghost use Rattle.std.specs.Prelude.{map};
 ghost use Rattle.model_program.specs.Joined.{◌⌢◌};
 ghost use Rattle.model_program.specs.Grammar.{sign};
 ghost use Rattle.read_forms.specs.Reads.{closed};
-ghost use Rattle.label_reader.specs.Results.{lexemes, Reads};
+ghost use Rattle.label_reader.specs.Results.{left, Reads};
 ghost use Rattle.label_reader.specs.Lists.{Skips, AnyTo, SomeTo, IsItem};
 
 use crate::Stop;
-use crate::words::{is_next, next_if, read_sign};
-use fast_lex::{Token, Word};
-use std::alloc::Global;
+use crate::reader::Reader;
+use fast_lex::Word;
 
 /// What stands between two items of a list.
 #[derive(Clone, Copy)]
@@ -42,98 +41,93 @@ pub trait Items {
     // The words by which it goes on.
     ghost goes_on: { Word → Type 0 };
 
-    fn read_item<'t>(
-        alloc: Global,
-        tokens: &'t [Token<'t>],
-    ) -> Result<(Self::Item, &'t [Token<'t>]), Stop<'t>>
-        ensures { Reads spelled goes_on tokens.now (λ x. (plain x.0, lexemes x.1.now)) result };
+    fn read_item(reader: &mut Reader) -> Result<Self::Item, Stop>
+        ensures { Reads spelled goes_on (left reader.old) (left reader.new) plain result };
 }
 
-/// The tokens behind what stands between two items.
-fn skip_between<'t>(between: Between, tokens: &'t [Token<'t>]) -> Result<&'t [Token<'t>], Stop<'t>>
-    ensures { Skips between (lexemes tokens.now) (λ rest. lexemes rest.now) result }
+/// What stands between two items is read.
+fn skip_between(reader: &mut Reader, between: Between) -> Result<(), Stop>
+    ensures { Skips between (left reader.old) (left reader.new) result }
 {
     let word = match between {
-        Between::Nothing => return Ok(tokens),
+        Between::Nothing => return Ok(()),
         Between::Comma | Between::LabelComma => Word::Comma,
         Between::Bar => Word::Bar,
     };
-    if let Some((_sign, rest)) = next_if(tokens, word) {
-        return Ok(rest);
+    if let Some(_sign) = reader.peek_if(word) {
+        reader.advance();
+        return Ok(());
     }
     match between {
-        Between::Bar => Err(Stop::At(tokens)),
-        Between::LabelComma if is_next(tokens, Word::Minus) => Err(Stop::At(tokens)),
-        _ => Ok(tokens),
+        Between::Bar => Err(Stop::Wrong),
+        Between::LabelComma if reader.is_next(Word::Minus) => Err(Stop::Wrong),
+        _ => Ok(()),
     }
 }
 
 /// One item or more, up to the closing sign.
-fn read_some_to<'t, L: Items>(
-    alloc: Global,
+fn read_some_to<L: Items>(
+    reader: &mut Reader,
     between: Between,
     close: Word,
-    tokens: &'t [Token<'t>],
-) -> Result<(Vec<L::Item>, &'t [Token<'t>]), Stop<'t>>
+) -> Result<Vec<L::Item>, Stop>
     requires { IsItem between close L.spelled L.goes_on }
-    ensures { Reads (SomeTo between L.spelled close) closed tokens.now (λ x. (map L.plain x.0.items, lexemes x.1.now)) result }
+    ensures { Reads (SomeTo between L.spelled close) closed (left reader.old) (left reader.new) (λ x. map L.plain x.items) result }
 {
-    let (first, mut rest) = L::read_item(alloc, tokens)?;
-    let mut all = Vec::new(alloc);
+    let first = L::read_item(reader)?;
+    let mut all = Vec::new(reader.alloc);
     all.push(first)?;
     'items: loop {
-        if let Some((_close, end)) = next_if(rest, close) {
-            return Ok((all, end));
+        if let Some(_close) = reader.peek_if(close) {
+            reader.advance();
+            return Ok(all);
         }
-        let start = skip_between(between, rest)?;
-        let (item, after) = L::read_item(alloc, start)?;
+        skip_between(reader, between)?;
+        let item = L::read_item(reader)?;
         all.push(item)?;
-        rest = after;
     }
 }
 
 /// Items, or none, up to the closing sign.
-pub fn read_to<'t, L: Items>(
-    alloc: Global,
+pub fn read_to<L: Items>(
+    reader: &mut Reader,
     between: Between,
     close: Word,
-    tokens: &'t [Token<'t>],
-) -> Result<(Vec<L::Item>, &'t [Token<'t>]), Stop<'t>>
+) -> Result<Vec<L::Item>, Stop>
     requires { IsItem between close L.spelled L.goes_on }
-    ensures { Reads (AnyTo between L.spelled close) closed tokens.now (λ x. (map L.plain x.0.items, lexemes x.1.now)) result }
+    ensures { Reads (AnyTo between L.spelled close) closed (left reader.old) (left reader.new) (λ x. map L.plain x.items) result }
 {
-    if let Some((_close, rest)) = next_if(tokens, close) {
-        return Ok((Vec::new(alloc), rest));
+    if let Some(_close) = reader.peek_if(close) {
+        reader.advance();
+        return Ok(Vec::new(reader.alloc));
     }
-    read_some_to::<L>(alloc, between, close, tokens)
+    read_some_to::<L>(reader, between, close)
 }
 
 /// Items, or none, from the opening sign to the closing one.
-pub fn read_any<'t, L: Items>(
-    alloc: Global,
+pub fn read_any<L: Items>(
+    reader: &mut Reader,
     opening: Word,
     between: Between,
     close: Word,
-    tokens: &'t [Token<'t>],
-) -> Result<(Vec<L::Item>, &'t [Token<'t>]), Stop<'t>>
+) -> Result<Vec<L::Item>, Stop>
     requires { IsItem between close L.spelled L.goes_on }
-    ensures { Reads (λ xs. sign opening ⌢ AnyTo between L.spelled close xs) closed tokens.now (λ x. (map L.plain x.0.items, lexemes x.1.now)) result }
+    ensures { Reads (λ xs. sign opening ⌢ AnyTo between L.spelled close xs) closed (left reader.old) (left reader.new) (λ x. map L.plain x.items) result }
 {
-    let inside = read_sign(tokens, opening)?;
-    read_to::<L>(alloc, between, close, inside)
+    reader.sign(opening)?;
+    read_to::<L>(reader, between, close)
 }
 
 /// One item or more, from the opening sign to the closing one.
-pub fn read_some<'t, L: Items>(
-    alloc: Global,
+pub fn read_some<L: Items>(
+    reader: &mut Reader,
     opening: Word,
     between: Between,
     close: Word,
-    tokens: &'t [Token<'t>],
-) -> Result<(Vec<L::Item>, &'t [Token<'t>]), Stop<'t>>
+) -> Result<Vec<L::Item>, Stop>
     requires { IsItem between close L.spelled L.goes_on }
-    ensures { Reads (λ xs. sign opening ⌢ SomeTo between L.spelled close xs) closed tokens.now (λ x. (map L.plain x.0.items, lexemes x.1.now)) result }
+    ensures { Reads (λ xs. sign opening ⌢ SomeTo between L.spelled close xs) closed (left reader.old) (left reader.new) (λ x. map L.plain x.items) result }
 {
-    let inside = read_sign(tokens, opening)?;
-    read_some_to::<L>(alloc, between, close, inside)
+    reader.sign(opening)?;
+    read_some_to::<L>(reader, between, close)
 }

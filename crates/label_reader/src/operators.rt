@@ -6,11 +6,11 @@ ghost use Rattle.model_grammar.specs.Expressions.{operand};
 ghost use Rattle.read_forms.specs.Reads.{Stops};
 ghost use Rattle.model_grammar.specs.declared.Level.TheVariants.{Prim};
 ghost use Rattle.fast_lex.specs.Tokens.{lexeme};
-ghost use Rattle.label_reader.specs.Results.{lexemes};
+ghost use Rattle.label_reader.specs.Results.{left, behind};
 ghost use Rattle.label_reader.specs.Levels.{BeginsAt, NoSign, IsNoRel, NoRel, IsNoMany, NoMany};
 ghost use Rattle.label_reader.specs.Inside.{StartsPrimary};
 
-use crate::words::{is_next, is_same};
+use crate::reader::{Reader, is_same};
 use fast_lex::{Token, Word};
 use model_grammar::{Chain, Level, Rel};
 
@@ -45,15 +45,12 @@ fn is_sign_of(kind: Chain, word: Word) -> bool
     }
 }
 
-/// The next token and those behind it, where it is a sign between operands of the chain.
-pub(crate) fn sign_at<'t>(
-    kind: Chain,
-    tokens: &'t [Token<'t>],
-) -> Option<(Token<'t>, &'t [Token<'t>])>
-    ensures { MatchOption result (NoSign kind (lexemes tokens.now)) (λ x. (lexemes tokens.now ≡ lexeme x.0 ∷ lexemes x.1.now) × IsSignOf kind x.0.word) }
+/// The next token, where it is a sign between operands of the chain.
+pub(crate) fn sign_next<'t>(reader: &Reader<'t>, kind: Chain) -> Option<Token<'t>>
+    ensures { MatchOption result (NoSign kind (left reader.now)) (λ t. (left reader.now ≡ lexeme t ∷ behind reader.now) × IsSignOf kind t.word) }
 {
-    match tokens.split_first() {
-        Some((first, rest)) if is_sign_of(kind, first.word) => Some((*first, rest)),
+    match reader.peek() {
+        Some(token) if is_sign_of(kind, token.word) => Some(token),
         _ => None,
     }
 }
@@ -82,13 +79,13 @@ fn rel_of(word: Word) -> Option<Rel>
     None
 }
 
-/// The comparison with which the tokens begin.
-pub(crate) fn rel_at<'t>(tokens: &'t [Token<'t>]) -> Option<(Token<'t>, Rel, &'t [Token<'t>])>
-    ensures { MatchOption result (NoRel (lexemes tokens.now)) (λ x. (lexemes tokens.now ≡ lexeme x.0 ∷ lexemes x.2.now) × (x.0.word ≡ rel_word x.1)) }
+/// The next token, where it is a comparison.
+pub(crate) fn rel_next<'t>(reader: &Reader<'t>) -> Option<(Token<'t>, Rel)>
+    ensures { MatchOption result (NoRel (left reader.now)) (λ x. (left reader.now ≡ lexeme x.0 ∷ behind reader.now) × (x.0.word ≡ rel_word x.1)) }
 {
-    let (first, rest) = tokens.split_first()?;
-    let rel = rel_of(first.word)?;
-    Some((*first, rel, rest))
+    let token = reader.peek()?;
+    let rel = rel_of(token.word)?;
+    Some((token, rel))
 }
 
 fn many_of(word: Word) -> Option<Chain>
@@ -109,23 +106,23 @@ fn many_of(word: Word) -> Option<Chain>
     None
 }
 
-/// The operator, other than `-`, of any number of operands with which the tokens begin.
-pub(crate) fn many_at<'t>(tokens: &'t [Token<'t>]) -> Option<(Token<'t>, Chain, &'t [Token<'t>])>
-    ensures { MatchOption result (NoMany (lexemes tokens.now)) (λ x. (lexemes tokens.now ≡ lexeme x.0 ∷ lexemes x.2.now) × IsMany x.1 x.0.word) }
+/// The next token, where it is an operator, other than `-`, of any number of operands.
+pub(crate) fn many_next<'t>(reader: &Reader<'t>) -> Option<(Token<'t>, Chain)>
+    ensures { MatchOption result (NoMany (left reader.now)) (λ x. (left reader.now ≡ lexeme x.0 ∷ behind reader.now) × IsMany x.1 x.0.word) }
 {
-    let (first, rest) = tokens.split_first()?;
-    let kind = many_of(first.word)?;
-    Some((*first, kind, rest))
+    let token = reader.peek()?;
+    let kind = many_of(token.word)?;
+    Some((token, kind))
 }
 
 /// Whether a primary expression comes next, if any expression does that doesn't begin with `-` or `not`.
-pub(crate) fn starts_primary(tokens: &[Token]) -> bool
-    ensures yes { result ≡ true → StartsPrimary (lexemes tokens.now) }
-    ensures no { result ≡ false → Stops (BeginsAt Prim) (lexemes tokens.now) }
+pub(crate) fn starts_primary(reader: &Reader) -> bool
+    ensures yes { result ≡ true → StartsPrimary (left reader.now) }
+    ensures no { result ≡ false → Stops (BeginsAt Prim) (left reader.now) }
 {
-    match tokens.split_first() {
-        Some((first, _)) => matches!(
-            first.word,
+    match reader.peek() {
+        Some(token) => matches!(
+            token.word,
             Word::Id | Word::Number | Word::Quoted | Word::True | Word::False | Word::RoundOpen
         ),
         None => false,

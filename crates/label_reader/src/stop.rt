@@ -3,14 +3,13 @@
 ghost use Rattle.std.specs.Prelude.{◌≡◌};
 
 use fast_fault::Memory;
-use fast_lex::Token;
 use std::alloc::{AllocError, AllocFailed};
 
-/// Memory ran out, or the tokens from here on are refused.
+/// Memory ran out, or the tokens that the reader has left are refused.
 #[derive(Drop)]
-pub enum Stop<'t> {
+pub enum Stop {
     Memory,
-    At(&'t [Token<'t>]),
+    Wrong,
 }
 
 /// Why the tokens as a whole weren't read: the first wrong one, by the number of the tokens before it, or want of memory.
@@ -20,7 +19,7 @@ pub enum ReadTokensStop {
     Memory,
 }
 
-impl<'t> From<Memory> for Stop<'t> {
+impl From<Memory> for Stop {
     ghost use Rattle.std.specs.Prelude.{◌≡◌};
     ghost use Rattle.label_reader.specs.declared.stop.Stop.TheVariants.{Memory};
 
@@ -31,7 +30,7 @@ impl<'t> From<Memory> for Stop<'t> {
     }
 }
 
-impl<'t> From<AllocError> for Stop<'t> {
+impl From<AllocError> for Stop {
     ghost use Rattle.std.specs.Prelude.{◌≡◌};
     ghost use Rattle.label_reader.specs.declared.stop.Stop.TheVariants.{Memory};
 
@@ -42,7 +41,7 @@ impl<'t> From<AllocError> for Stop<'t> {
     }
 }
 
-impl<'t, T: Drop> From<AllocFailed<T>> for Stop<'t> {
+impl<T: Drop> From<AllocFailed<T>> for Stop {
     ghost use Rattle.std.specs.Prelude.{◌≡◌};
     ghost use Rattle.label_reader.specs.declared.stop.Stop.TheVariants.{Memory};
 

@@ -4,10 +4,12 @@ use Rattle.model_program.specs.declared.Word.TheVariants.{Id, In, Same, Element,
 use Rattle.model_program.specs.Lexeme.{Lexeme}
 use Rattle.model_program.specs.Syntax.{Name}
 use Rattle.model_program.specs.Joined.{◌⌢◌, IsNext, IsOther, ◌⊗◌}
-use Rattle.read_forms.specs.Reads.{StartsIn, closed}
+use Rattle.read_forms.specs.Reads.{IsRead, StartsIn, closed}
+use Rattle.read_forms.specs.Fronts.{Leaves, Made}
+use Rattle.read_forms.proofs.Fronts.{left_leaves, left_made, first_left, makes_of_made, made_makes}
 use Rattle.model_program.specs.Grammar.{IsSign, sign, IsName}
 use Rattle.read_forms.specs.Parts.{HasSample, other_than}
-use Rattle.read_forms.proofs.Forms.{Makes, sample_as, sample_pair, remade, alternative, starts_joined, starts_append, starts_wider, stops_other, stops_other_than, stops_both}
+use Rattle.read_forms.proofs.Forms.{Makes, sample_as, sample_pair, remade, alternative, ends_closed, starts_joined, starts_append, starts_wider, stops_other, stops_other_than, stops_both}
 use Rattle.read_forms.proofs.Words.{sign_starts, sample_sign, word_other}
 use Rattle.model_grammar.specs.Syntax.{Expr, X, named, literal, xs_of, Claim, equal, member, empty, type_check}
 use Rattle.model_grammar.specs.Terms.{IsX, name, AreLabels}
@@ -248,6 +250,25 @@ compare_makes tokens is_other = alternative (λ w. w ≡ SquareOpen) tokens (λ 
     back : (m : (List Expr × (List X × (Bool × X))) ⊎ (Bool × X)) (ts : List Lexeme) → IsBehindName m ts → StartsIn (λ w. w ≡ SquareOpen) ts ⊎ ((v : (Bool × X) × Unit {0}) × (IsRight ⊗ IsSign RoundClose) v ts × (m ≡ inr v.0))
     back (inl v) ts spelled = inl (starts_joined (λ w. w ≡ SquareOpen) _ _ ts (λ l j. starts_joined (λ w. w ≡ SquareOpen) _ _ l ((sign_starts SquareOpen).starts tt) j) spelled)
     back (inr v) ts spelled = inr ((v, tt), spelled, refl)
+
+-- behind the name
+pub name_left : {tokens middle : List Lexeme} {n : Name} → IsNext Id tokens → IsRead IsName closed tokens n middle → Leaves IsAInside (Made (named_claim n) IsBehindName) closed tokens middle
+name_left starts is_name = left_leaves (left_made (name_makes _ starts)) (first_left (ends_closed _ _) is_name)
+
+-- a tree is compared
+pub tree_left : {tokens middle after rest : List Lexeme} {n : Name} {labels : List Expr} {xs : List X} (x : X) → x ≡ literal n labels (xs_of xs) → IsNext Id tokens → IsRead IsName closed tokens n middle → IsNext SquareOpen middle → IsRead AreLabels closed middle labels after → IsRead AreXsToClose closed after xs rest → Leaves IsAInside (Made (related x) IsRight) closed tokens rest
+tree_left {tokens} {rest = rest} {n = n} x is starts is_name opens labelled inner =
+    subst (λ (y : X). Leaves IsAInside (Made (related y) IsRight) closed tokens rest) (sym is) (left_leaves (name_left starts is_name)
+    (left_leaves (left_made (makes_of_made (tree_makes _ opens) (made_makes (named_claim n) IsBehindName))) (left_leaves (first_left (ends_closed _ _) labelled) (first_left (ends_closed _ _) inner))))
+
+-- a name is compared, and the parenthesis is closed
+pub behind_makes : (n : Name) (tokens : List Lexeme) → IsOther SquareOpen tokens → Makes (Made (related (named n)) IsRight ⊗ IsSign RoundClose) (Made (named_claim n) IsBehindName) (λ v. v.0) closed tokens
+behind_makes n tokens is_other = record {
+  into = λ v ts spelled. let made = spelled.at_front in record { of = inr made.of; spelled = record { front = spelled.front; back = spelled.back; split = spelled.split; at_front = made.spelled; at_back = spelled.at_back }; is = made.is };
+  back = λ c other after goes made stops.
+      let was = (compare_makes tokens is_other).back made.of other after goes made.spelled stops in let spelled = was.1 in
+      ((c, tt), record { front = spelled.front; back = spelled.back; split = spelled.split; at_front = record { of = was.0.0; spelled = spelled.at_front; is = made.is ∙ ap (λ m. named_claim n m) was.2 }; at_back = spelled.at_back }, refl);
+}
 
 pub sample_behind_name : HasSample IsBehindName
 sample_behind_name = sample_as (λ (v : (Bool × X) × Unit {0}). inr v.0) (λ v ts spelled. spelled) (sample_pair sample_right (sample_sign RoundClose))

@@ -1,21 +1,20 @@
 -- Of what expressions are made, node by node.
 use Rattle.std.proofs.Common.{◌≡◌, ◌≤◌, ◌<◌, List, [], ◌∷◌, ◌++◌, ◌∙◌, ◌+◌, length, reverse, refl, ap, sym, subst, arith, Option, Result, Ok, Err}
-use Rattle.std.proofs.lemmas.List.{length-append, length-map, reverse-append}
+use Rattle.std.proofs.lemmas.List.{length-append, reverse-append}
 use Rattle.std.specs.Prelude.{IsErrAnd, IfOk}
 use Rattle.std.proofs.lemmas.Result.{err_from_is_err_and}
-use Rattle.fast_lex.specs.declared.Token.{Token}
 use Rattle.label_reader.specs.declared.stop.Stop.{Stop}
-use Rattle.label_reader.specs.Results.{lexemes, bad_of}
+use Rattle.label_reader.specs.Results.{bad_of}
 use Rattle.model_program.specs.declared.Word.TheVariants.{Id, RoundOpen, RoundClose}
 use Rattle.model_program.specs.Lexeme.{Lexeme}
 use Rattle.model_program.specs.Syntax as syntax
-use Rattle.model_program.specs.Joined.{◌⊗◌, IsOther}
+use Rattle.model_program.specs.Joined.{◌⊗◌, IsNext, IsOther}
 use Rattle.model_program.specs.Grammar.{IsSign}
 use Rattle.read_forms.specs.Reads.{IsRead, Fails, closed}
 use Rattle.read_forms.specs.Fronts.{Leaves, Done, Made, Through}
 use Rattle.read_forms.specs.Parts.{HasSample}
 use Rattle.read_forms.proofs.Forms.{as_read, as_fails, ends_closed}
-use Rattle.read_forms.proofs.Words.{sample_sign, next_of, word_read, sign_makes}
+use Rattle.read_forms.proofs.Words.{sample_sign}
 use Rattle.read_forms.proofs.Fronts.{left_leaves, left_as, left_made, first_left, before_none, Around, around_begins, around_begins_fails, around_resumes, around_resumes_fails, around_ends, made_through, made_makes, none_left}
 use Rattle.model_grammar.specs.declared.Op1.{Op1}
 use Rattle.model_grammar.specs.declared.Op2.{Op2}
@@ -52,8 +51,8 @@ pub literal_begins : {tokens middle rest : List Lexeme} {n : syntax.Name} {label
 literal_begins {tokens} no_one no_two named labelled = left_leaves (left_made (literal_makes tokens no_one no_two)) (left_leaves (first_left (ends_closed _ closed) named) (first_left (ends_closed _ closed) labelled))
 
 -- the closing parenthesis of a tree
-pub row_closes : (n : syntax.Name) (labels : List Expr) (xs : List X) {tokens rest : List Lexeme} {t : Lexeme} → tokens ≡ t ∷ rest → t.word ≡ RoundClose → Leaves (IsRow n labels xs) (Done (literal n labels (xs_of xs))) closed tokens rest
-row_closes n labels xs {tokens} {rest} {t} here is = row_ends IsX RoundClose (λ l. literal n labels (xs_of l)) xs xs_closable (next_of RoundClose t tokens rest here is) (as_read (sign_makes RoundClose closed tokens) (word_read RoundClose t tokens rest here is))
+pub row_closes : (n : syntax.Name) (labels : List Expr) (xs : List X) {tokens rest : List Lexeme} → IsNext RoundClose tokens → IsRead (IsSign RoundClose) closed tokens tt rest → Leaves (IsRow n labels xs) (Done (literal n labels (xs_of xs))) closed tokens rest
+row_closes n labels xs is_next end = row_ends IsX RoundClose (λ l. literal n labels (xs_of l)) xs xs_closable is_next end
 
 -- one more child
 pub row_further : (n : syntax.Name) (labels : List Expr) (xs : List X) {tokens : List Lexeme} → IsOther RoundClose tokens → Leaves (IsRow n labels xs) (Through IsX (λ x. IsRow n labels (xs ++ x ∷ []))) closed tokens tokens
@@ -78,17 +77,17 @@ pub opened_begins : {tokens rest : List Lexeme} → IsOther Id tokens → IsRead
 opened_begins {tokens} is_other end = left_leaves (left_made (open_makes tokens is_other)) (left_leaves (first_left (ends_closed IsXInside closed) end) (left_as (λ a ts s. record { of = a; spelled = s; is = refl }) (λ a ts made. subst (λ x. IsXInside x ts) (sym made.is) made.spelled)))
 
 -- what a reader returned at the exit of a `?`
-pub begins_exit : {T : Type 0} {form : X → List Lexeme → Type 0} (tokens : List Token) (view : T → Begun × List Lexeme) (e : Stop) (r : Result T Stop) → IsErrAnd r (λ y. y ≡ e) → Fails form closed (lexemes tokens) (bad_of e) → Begins form tokens view r
-begins_exit tokens view e r is fails = let p = err_from_is_err_and r is in rw (p.1, p.2) fails
+pub begins_exit : {form : X → List Lexeme → Type 0} (tokens rest : List Lexeme) (e : Stop) (r : Result Begun Stop) → IsErrAnd r (λ y. y ≡ e) → Fails form closed tokens (bad_of e rest) → Begins form tokens rest r
+begins_exit tokens rest e r is fails = let p = err_from_is_err_and r is in rw (p.1, p.2) fails
 
 -- what a reader returned that goes on behind the first part of a form
-pub begins_behind : {T : Type 0} {p q : X → List Lexeme → Type 0} (tokens rest : List Token) (view : T → Begun × List Lexeme) (r : Result T Stop) → Leaves q p closed (lexemes tokens) (lexemes rest) → ((bad : Option (List Lexeme)) → Fails p closed (lexemes rest) bad → Fails q closed (lexemes tokens) bad) → Begins p rest view r → Begins q tokens view r
-begins_behind tokens rest view (Ok x) leaves failed begun = left_leaves leaves begun
-begins_behind tokens rest view (Err e) leaves failed fails = failed _ fails
+pub begins_behind : {p q : X → List Lexeme → Type 0} (tokens middle rest : List Lexeme) (r : Result Begun Stop) → Leaves q p closed tokens middle → ((bad : Option (List Lexeme)) → Fails p closed middle bad → Fails q closed tokens bad) → Begins p middle rest r → Begins q tokens rest r
+begins_behind tokens middle rest (Ok begun) leaves failed more = left_leaves leaves more
+begins_behind tokens middle rest (Err e) leaves failed fails = failed _ fails
 
 -- the same of a node that is known
-pub grown_exit : {T : Type 0} {node given : Open} (x : X) (tokens : List Token) (view : T → Begun × List Lexeme) (e : Stop) (r : Result T Stop) → node ≡ given → IsErrAnd r (λ y. y ≡ e) → Fails (IsGrown given x) closed (lexemes tokens) (bad_of e) → Begins (IsGrown node x) tokens view r
-grown_exit {T} {node} {given} x tokens view e r is_node is fails = subst (λ (n : Open). Begins (IsGrown n x) tokens view r) (sym is_node) (begins_exit tokens view e r is fails)
+pub grown_exit : {node given : Open} (x : X) (tokens rest : List Lexeme) (e : Stop) (r : Result Begun Stop) → node ≡ given → IsErrAnd r (λ y. y ≡ e) → Fails (IsGrown given x) closed tokens (bad_of e rest) → Begins (IsGrown node x) tokens rest r
+grown_exit {node} {given} x tokens rest e r is_node is fails = subst (λ (n : Open). Begins (IsGrown n x) tokens rest r) (sym is_node) (begins_exit tokens rest e r is fails)
 
 pub grown_as : {node given : Open} (x : X) {left : X → List Lexeme → Type 0} {tokens rest : List Lexeme} → node ≡ given → Leaves (IsGrown given x) left closed tokens rest → Leaves (IsGrown node x) left closed tokens rest
 grown_as x {left} {tokens} {rest} is_node leaves = subst (λ (n : Open). Leaves (IsGrown n x) left closed tokens rest) (sym is_node) leaves
@@ -97,12 +96,12 @@ pub done_as : {form : X → List Lexeme → Type 0} {tokens rest : List Lexeme} 
 done_as {form} {tokens} {rest} same leaves = subst (λ (x : X). Leaves form (Done x) closed tokens rest) same leaves
 
 -- what is left is not longer
-pub leaves_fewer : {form left : X → List Lexeme → Type 0} (tokens rest : List Token) → Leaves form left closed (lexemes tokens) (lexemes rest) → length rest ≤ length tokens
-leaves_fewer tokens rest leaves = omega (arith, simp (length-append, length-map) at (ap length leaves.split))
+pub leaves_fewer : {form left : X → List Lexeme → Type 0} (tokens rest : List Lexeme) → Leaves form left closed tokens rest → length rest ≤ length tokens
+leaves_fewer tokens rest leaves = omega (arith, simp length-append at (ap length leaves.split))
 
-pub begins_shorter : {T : Type 0} (form : X → List Lexeme → Type 0) (tokens rest : List Token) (value : T → Begun) (behind : T → List Token) (r : Result T Stop) → length rest < length tokens → Begins form rest (λ x. (value x, lexemes (behind x))) r → IfOk r (λ x. length (behind x) < length tokens)
-begins_shorter form tokens rest value behind (Ok x) less begun = let a = leaves_fewer rest (behind x) begun in omega (arith, a)
-begins_shorter form tokens rest value behind (Err e) less fails = tt
+pub begins_shorter : (form : X → List Lexeme → Type 0) (tokens middle rest : List Lexeme) (r : Result Begun Stop) → length middle < length tokens → Begins form middle rest r → IfOk r (λ _. length rest < length tokens)
+begins_shorter form tokens middle rest (Ok begun) less more = let a = leaves_fewer middle rest more in omega (arith, a)
+begins_shorter form tokens middle rest (Err e) less fails = tt
 
 -- The open nodes, as they stand in the list, the innermost last.
 

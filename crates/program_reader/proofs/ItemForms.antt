@@ -1,5 +1,5 @@
 -- Of what items are made.
-use Rattle.std.proofs.Common.{◌≡◌, Bool, true, false, List, [], ◌∷◌, ◌++◌, refl, sym, ap, ◌∙◌, subst, Option, Some, None, Result, Ok, Err, ◌⊎◌, inl, inr}
+use Rattle.std.proofs.Common.{◌≡◌, ◌<◌, ◌≤◌, ℕ, length, arith, Bool, true, false, List, [], ◌∷◌, ◌++◌, refl, sym, ap, ◌∙◌, subst, Option, Some, None, Result, Ok, Err, ◌⊎◌, inl, inr}
 use Rattle.fast_fault.specs.declared.place.Pos.{Pos}
 use Rattle.model_program.specs.declared.Word.{Word}
 use Rattle.model_program.specs.declared.Word.TheVariants.{TypeWord, Tree, Lang, Trans, Def, AssertTrue, AssertFalse, Arrow, Assign, Colon}
@@ -12,13 +12,12 @@ use Rattle.read_forms.specs.Parts.{Ends, HasSample, AllStartIn}
 use Rattle.read_forms.specs.Fronts.{Made}
 use Rattle.read_forms.proofs.Forms.{Chained, Makes, as_read, as_fails, chained_read, chained_fails, sample_as, sample_pair, remade, stands, left_out, elsewhere, ends_closed, ends_starting, starts_joined, starts_append, starts_wider, starts_next, stops_other}
 use Rattle.read_forms.proofs.Words.{sign_starts, sample_sign, sample_at}
-use Rattle.read_forms.proofs.Lists.{IsPartWay, to_left, to_right, many_more, many_more_fails, many_ends, many_end}
+use Rattle.read_forms.proofs.Lists.{IsPartWay, to_left, to_right, many_ends}
 use Rattle.read_forms.proofs.Fronts.{made_makes, makes_of_made}
-use Rattle.fast_lex.specs.declared.Token.{Token}
 use Rattle.model_grammar.specs.Syntax.{X, OutRule, TransItem, Claim, Body, sorts, tree, lang, trans, def, assertion, Item}
 use Rattle.model_grammar.specs.Grammar.{IsRule, IsOutRule, InBraces, IsTreeItem, IsLangItem, IsTransItem, IsInto, IsDefItem, IsA, IsBody, IsItem, IsProgram}
 use Rattle.label_reader.specs.declared.stop.Stop.{Stop}
-use Rattle.label_reader.specs.Results.{lexemes, bad_of, Reads}
+use Rattle.label_reader.specs.Results.{bad_of, Reads}
 use Rattle.label_reader.proofs.Names.{sample_name}
 use Rattle.label_reader.proofs.Primaries.{missing}
 use Rattle.program_reader.specs.Goings.{arrow_word}
@@ -148,9 +147,9 @@ item_makes : (tokens : List Lexeme) → Makes item_parts IsItem (λ v. v.1) clos
 item_makes tokens = remade (λ v ts spelled. into_item v.0 v.0.word v.1 ts refl spelled) (λ i ts spelled. of_body i.body i.place ts spelled)
 
 -- what was read behind the first word is the item's
-pub item_reads : {Y : Type 0} (t : Lexeme) (w : Word) (tokens rest : List Token) (view : Y → Item × List Lexeme) (r : Result Y Stop) → lexemes tokens ≡ t ∷ lexemes rest → t.word ≡ w → Reads (IsBehind w t.place) closed rest view r → Reads IsItem closed tokens view r
-item_reads t w tokens rest view (Ok x) here is read = as_read (item_makes _) (chained_read (λ v. ends_closed _ _) (token_read t _ _ here) (subst (λ (v : Word). IsRead (IsBehind v t.place) closed (lexemes rest) (view x).0 (view x).1) (sym is) read))
-item_reads t w tokens rest view (Err e) here is fails = as_fails _ (item_makes _) (chained_fails _ (λ v. ends_closed _ _) (token_read t _ _ here) (subst (λ (v : Word). Fails (IsBehind v t.place) closed (lexemes rest) (bad_of e)) (sym is) fails))
+pub item_reads : {Y : Type 0} (t : Lexeme) (w : Word) (tokens middle rest : List Lexeme) (view : Y → Item) (r : Result Y Stop) → tokens ≡ t ∷ middle → t.word ≡ w → Reads (IsBehind w t.place) closed middle rest view r → Reads IsItem closed tokens rest view r
+item_reads t w tokens middle rest view (Ok x) here is read = as_read (item_makes _) (chained_read (λ v. ends_closed _ _) (token_read t _ _ here) (subst (λ (v : Word). IsRead (IsBehind v t.place) closed middle (view x) rest) (sym is) read))
+item_reads t w tokens middle rest view (Err e) here is fails = as_fails _ (item_makes _) (chained_fails _ (λ v. ends_closed _ _) (token_read t _ _ here) (subst (λ (v : Word). Fails (IsBehind v t.place) closed middle (bad_of e rest)) (sym is) fails))
 
 -- the words with which items begin
 abbrev pub IsItemWord : Word → Type 0
@@ -190,19 +189,17 @@ no_item_word _ a b c d e f g is = is.3
 
 -- A program.
 
-pub some_token : (tokens : List Lexeme) → (tokens ≡ [] → ⊥) → StartsIn anything tokens
-some_token [] not_end = absurd (not_end refl)
-some_token (t ∷ ts) not_end = tt
+pub some_token : (tokens : List Lexeme) (count : ℕ) → count ≡ length tokens → 0 < count → StartsIn anything tokens
+some_token [] count is_count some = absurd (omega (arith, is_count, some))
+some_token (t ∷ ts) count is_count some = tt
 
--- the first item is read
-pub program_first : {tokens rest : List Lexeme} {x : Item} (all : List Item) → IsRead IsItem closed tokens x rest → StartsIn anything tokens → all ≡ x ∷ [] → IsPartWay IsProgram (Many IsItem) anything (λ b. all ++ b) tokens rest
-program_first {tokens} {x = x} all item starts is_first = many_more IsItem (λ l. l) [] all (record { read = λ b end more. more; fails = λ bad more. more }) starts item is_first
+-- before the first item
+pub program_begins : {tokens : List Lexeme} (none : List Item) → none ≡ [] → IsPartWay IsProgram (Many IsItem) anything (λ b. none ++ b) tokens tokens
+program_begins {tokens} none is_none = subst (λ (l : List Item). IsPartWay IsProgram (Many IsItem) anything (λ b. l ++ b) tokens tokens) (sym is_none) (record { read = λ b end more. more; fails = λ bad more. more })
 
-pub program_first_fails : (tokens : List Lexeme) (bad : Option (List Lexeme)) → StartsIn anything tokens → Fails IsItem closed tokens bad → Fails IsProgram anything tokens bad
-program_first_fails tokens bad starts fails = many_more_fails IsItem {to = λ l. l} bad (record { read = λ b end more. more; fails = λ bad more. more }) starts fails
+pub program_ends : {tokens rest : List Lexeme} (all : List Item) → IsPartWay IsProgram (Many IsItem) anything (λ b. all ++ b) tokens rest → rest ≡ [] → IsRead IsProgram anything tokens all rest
+program_ends all so_far ended = many_ends IsItem (λ l. l) all item_starts so_far (subst (λ (l : List Lexeme). Stops anything l) (sym ended) tt)
 
-pub program_ends : {tokens rest : List Lexeme} (all : List Item) → IsPartWay IsProgram (Many IsItem) anything (λ b. all ++ b) tokens rest → rest ≡ [] → IsRead IsProgram anything tokens all []
-program_ends {tokens} {rest} all so_far ended = subst (λ (l : List Lexeme). IsRead IsProgram anything tokens all l) ended (many_ends IsItem (λ l. l) all item_starts so_far (subst (λ (l : List Lexeme). Stops anything l) (sym ended) tt))
-
-pub no_program : {tokens : List Lexeme} → tokens ≡ [] → IsRead IsProgram anything tokens [] []
-no_program ended = subst (λ (l : List Lexeme). IsRead IsProgram anything l [] []) (sym ended) (many_end IsItem [] item_starts tt)
+pub no_token : (tokens : List Lexeme) (count : ℕ) → count ≡ length tokens → count ≤ 0 → tokens ≡ []
+no_token [] count is_count none = refl
+no_token (t ∷ ts) count is_count none = absurd (omega (arith, is_count, none))

@@ -1,3 +1,4 @@
+pub mod Steps
 pub mod Sorts
 pub mod TypeForms
 pub mod RowForms

@@ -1,12 +1,14 @@
 -- What reading says of all of the tokens, and of the bytes.
-use Rattle.std.proofs.Common.{◌≡◌, ℕ, ◌+◌, ◌-◌, ◌≤◌, ◌<◌, List, [], ◌∷◌, ◌++◌, length, take, drop, refl, sym, ap, ◌∙◌, subst, append_assoc, append-nil, arith, ◌⊎◌, inl, inr}
+use Rattle.std.proofs.Common.{◌≡◌, ℕ, ◌+◌, ◌-◌, ◌≤◌, ◌<◌, List, [], ◌∷◌, ◌++◌, length, take, drop, refl, sym, ap, ◌∙◌, subst, append_assoc, append-nil, arith, Some, ◌⊎◌, inl, inr}
 use Rattle.std.proofs.lemmas.List.{length-append, length-map, take-append-drop}
 use Rattle.std.proofs.Math.Seq.{take-append_seam, take-append-add}
 use Rattle.model_program.specs.Lexeme.{Lexeme}
-use Rattle.read_forms.specs.Reads.{GoesOnAs, IsRead, IsRefused, anything}
+use Rattle.read_forms.specs.Reads.{GoesOnAs, IsRead, IsRefused, Fails, anything}
 use Rattle.model_grammar.specs.Wrong.{Begins, IsFirstWrong}
 use Rattle.fast_lex.specs.declared.Token.{Token}
-use Rattle.label_reader.specs.Results.{lexemes}
+use Rattle.label_reader.specs.declared.stop.Stop.{Stop}
+use Rattle.label_reader.specs.declared.stop.Stop.TheVariants.{Wrong}
+use Rattle.label_reader.specs.Results.{lexemes, bad_of}
 
 -- a program that was read is the whole of the tokens, and the only one
 pub whole_read : {A : Type 0} {form : A → List Lexeme → Type 0} (tokens : List Lexeme) (items : A) → IsRead form anything tokens items [] → form items tokens
@@ -42,11 +44,19 @@ wrong_at {A} {form} tokens bad refused = record {
     front : take (length refused.part) tokens ≡ refused.part
     front = ap (λ l. take (length refused.part) l) refused.split ∙ take-append_seam refused.part bad
 
--- what a refusal says of the place
-pub first_wrong : {A : Type 0} {form : A → List Lexeme → Type 0} (tokens bad : List Token) → IsRefused form anything (lexemes tokens) (lexemes bad) → IsFirstWrong form (lexemes tokens) (length tokens - length bad)
-first_wrong {A} {form} tokens bad refused = subst (λ (k : ℕ). IsFirstWrong form (lexemes tokens) k) (omega (arith, simp (length-append, length-map) at (ap length refused.split))) (wrong_at (lexemes tokens) (lexemes bad) refused)
+-- what was read of all of the tokens
+pub read_all : {A : Type 0} {form : A → List Lexeme → Type 0} {value : A} {tokens all rest : List Lexeme} → tokens ≡ all → rest ≡ [] → IsRead form anything tokens value rest → IsRead form anything all value []
+read_all {form = form} {value} {tokens} {all} {rest} is_all ended read = subst (λ (l : List Lexeme). IsRead form anything l value []) is_all (subst (λ (l : List Lexeme). IsRead form anything tokens value l) ended read)
 
-pub bad_in_range : {A : Type 0} {form : A → List Lexeme → Type 0} (tokens bad : List Token) → IsRefused form anything (lexemes tokens) (lexemes bad) → length bad ≤ length tokens
+-- and what was refused of them
+pub refused_at : {A : Type 0} {form : A → List Lexeme → Type 0} {tokens all : List Lexeme} (rest : List Lexeme) (e : Stop) → tokens ≡ all → e ≡ Wrong → Fails form anything tokens (bad_of e rest) → IsRefused form anything all rest
+refused_at {form = form} {tokens} {all} rest e is_all is_wrong fails = (subst (λ (l : List Lexeme). Fails form anything l (Some rest)) is_all (subst (λ (s : Stop). Fails form anything tokens (bad_of s rest)) is_wrong fails)).why
+
+-- what a refusal says of the place, from how many tokens are left there
+pub first_wrong : {A : Type 0} {form : A → List Lexeme → Type 0} (tokens : List Token) (bad : List Lexeme) (count : ℕ) → count ≡ length bad → IsRefused form anything (lexemes tokens) bad → IsFirstWrong form (lexemes tokens) (length tokens - count)
+first_wrong {A} {form} tokens bad count is_count refused = subst (λ (k : ℕ). IsFirstWrong form (lexemes tokens) k) (omega (arith, is_count, simp (length-append, length-map) at (ap length refused.split))) (wrong_at (lexemes tokens) bad refused)
+
+pub bad_in_range : {A : Type 0} {form : A → List Lexeme → Type 0} (tokens : List Token) (bad : List Lexeme) → IsRefused form anything (lexemes tokens) bad → length bad ≤ length tokens
 bad_in_range {A} {form} tokens bad refused = omega (arith, simp (length-append, length-map) at (ap length refused.split))
 
 -- tokens of which one is the first wrong one spell no program

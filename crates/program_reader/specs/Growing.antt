@@ -11,9 +11,8 @@ use Rattle.model_grammar.specs.Syntax.{Expr, X, one, two, literal, xs_of}
 use Rattle.model_grammar.specs.Terms.{IsX}
 use Rattle.fast_syntax.specs.View.{plain_name}
 use Rattle.fast_syntax.specs.Plain.{plain_expr, plain_x}
-use Rattle.fast_lex.specs.declared.Token.{Token}
 use Rattle.label_reader.specs.declared.stop.Stop.{Stop}
-use Rattle.label_reader.specs.Results.{lexemes, bad_of}
+use Rattle.label_reader.specs.Results.{bad_of}
 use Rattle.program_reader.specs.Nodes.{AreXsToClose}
 use Rattle.program_reader.specs.declared.terms.Open.{Open}
 use Rattle.program_reader.specs.declared.terms.Open.TheVariants.{One, First, Second, Inner}
@@ -40,7 +39,7 @@ abbrev pub IsLeft : Begun → X → List Lexeme → Type 0
 IsLeft (Whole x) = Done (plain_x x)
 IsLeft (Part node) = Through IsX (IsGrown node)
 
--- what a reader that begins a form returned
-abbrev pub Begins : {T : Type 0} → (X → List Lexeme → Type 0) → List Token → (T → Begun × List Lexeme) → Result T Stop → Type 0
-Begins form tokens view (Ok x) = Leaves form (IsLeft (view x).0) closed (lexemes tokens) (view x).1
-Begins form tokens view (Err e) = Fails form closed (lexemes tokens) (bad_of e)
+-- what a reader that begins a form did with these tokens, of which it left the rest
+abbrev pub Begins : (X → List Lexeme → Type 0) → List Lexeme → List Lexeme → Result Begun Stop → Type 0
+Begins form tokens rest (Ok begun) = Leaves form (IsLeft begun) closed tokens rest
+Begins form tokens rest (Err e) = Fails form closed tokens (bad_of e rest)

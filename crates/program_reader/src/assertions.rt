@@ -4,42 +4,40 @@ ghost use Rattle.std.specs.Prelude.{◌≡◌};
 ghost use Rattle.model_program.specs.declared.Word.TheVariants as word;
 ghost use Rattle.model_program.specs.Joined.{IsNext};
 ghost use Rattle.read_forms.specs.Reads.{closed};
+ghost use Rattle.read_forms.specs.Fronts.{Made};
 ghost use Rattle.model_grammar.specs.Grammar.{IsA, IsB};
-ghost use Rattle.model_grammar.specs.Syntax.{equal, member};
 ghost use Rattle.fast_syntax.specs.Plain.{plain_x, plain_claim};
-ghost use Rattle.label_reader.specs.Results.{lexemes, Reads};
-ghost use Rattle.program_reader.specs.Assertions.{IsRelation, IsRight, IsComparison, IsBInside, IsAInside, related};
+ghost use Rattle.label_reader.specs.Results.{left, Reads};
+ghost use Rattle.program_reader.specs.Assertions.{IsRelation, IsRight, IsBInside, IsAInside, related};
 
 use crate::labels::read_labels;
 use crate::terms::{read_x, read_x_inside, read_xs};
-use fast_lex::{Token, Word};
+use fast_lex::Word;
 use fast_syntax::items::{Claim, X};
-use label_reader::{Stop, is_next, kept, next_if, read_name, read_sign};
-use std::alloc::Global;
+use label_reader::{Reader, Stop, kept, kept_if};
 
 /// `==`, for which it answers true, or `in`.
-fn read_relation<'t>(tokens: &'t [Token<'t>]) -> Result<(bool, &'t [Token<'t>]), Stop<'t>>
-    ensures { Reads IsRelation closed tokens.now (λ x. (x.0, lexemes x.1.now)) result }
+fn read_relation(reader: &mut Reader) -> Result<bool, Stop>
+    ensures { Reads IsRelation closed (left reader.old) (left reader.new) (λ equal. equal) result }
 {
-    if let Some((_same, rest)) = next_if(tokens, Word::Same) {
-        return Ok((true, rest));
+    if reader.is_next(Word::Same) {
+        reader.advance();
+        return Ok(true);
     }
-    if let Some((_in, rest)) = next_if(tokens, Word::In) {
-        return Ok((false, rest));
+    if reader.is_next(Word::In) {
+        reader.advance();
+        return Ok(false);
     }
-    let rest = read_sign(tokens, Word::Element)?;
-    Ok((false, rest))
+    reader.sign(Word::Element)?;
+    Ok(false)
 }
 
-fn read_right<'t>(
-    alloc: Global,
-    tokens: &'t [Token<'t>],
-) -> Result<((bool, X), &'t [Token<'t>]), Stop<'t>>
-    ensures { Reads IsRight closed tokens.now (λ x. ((x.0.0, plain_x x.0.1), lexemes x.1.now)) result }
+fn read_right(reader: &mut Reader) -> Result<(bool, X), Stop>
+    ensures { Reads IsRight closed (left reader.old) (left reader.new) (λ x. (x.0, plain_x x.1)) result }
 {
-    let (equal, rest) = read_relation(tokens)?;
-    let (right, rest) = read_x(alloc, rest)?;
-    Ok(((equal, right), rest))
+    let equal = read_relation(reader)?;
+    let right = read_x(reader)?;
+    Ok((equal, right))
 }
 
 fn claim_of(left: X, equal: bool, right: X) -> Claim
@@ -52,111 +50,96 @@ fn claim_of(left: X, equal: bool, right: X) -> Claim
     }
 }
 
-fn read_empty<'t>(
-    alloc: Global,
-    tokens: &'t [Token<'t>],
-) -> Result<(Claim, &'t [Token<'t>]), Stop<'t>>
-    requires { IsNext word.IsEmpty (lexemes tokens.now) }
-    ensures { Reads IsBInside closed tokens.now (λ x. (plain_claim x.0, lexemes x.1.now)) result }
+/// The comparison with a left side that has been read.
+fn read_compared(reader: &mut Reader, side: X) -> Result<Claim, Stop>
+    ensures { Reads (Made (related (plain_x side)) IsRight) closed (left reader.old) (left reader.new) plain_claim result }
 {
-    let rest = read_sign(tokens, Word::IsEmpty)?;
-    let (x, rest) = read_x(alloc, rest)?;
-    let (x, rest) = kept(x, read_sign(rest, Word::RoundClose))?;
-    Ok((Claim::Empty(x), rest))
+    let (side, (equal, right)) = kept(side, read_right(reader))?;
+    Ok(claim_of(side, equal, right))
 }
 
-fn read_type_check<'t>(
-    alloc: Global,
-    tokens: &'t [Token<'t>],
-) -> Result<(Claim, &'t [Token<'t>]), Stop<'t>>
-    requires { IsNext word.TypeCheck (lexemes tokens.now) }
-    ensures { Reads IsBInside closed tokens.now (λ x. (plain_claim x.0, lexemes x.1.now)) result }
+fn read_empty(reader: &mut Reader) -> Result<Claim, Stop>
+    requires { IsNext word.IsEmpty (left reader.old) }
+    ensures { Reads IsBInside closed (left reader.old) (left reader.new) plain_claim result }
 {
-    let rest = read_sign(tokens, Word::TypeCheck)?;
-    let (x, rest) = read_x(alloc, rest)?;
-    let (x, (y, rest)) = kept(x, read_x(alloc, rest))?;
-    let ((x, y), (z, rest)) = kept((x, y), read_x(alloc, rest))?;
-    let ((x, y, z), rest) = kept((x, y, z), read_sign(rest, Word::RoundClose))?;
-    Ok((Claim::TypeCheck(x, y, z), rest))
+    reader.advance();
+    let x = read_x(reader)?;
+    let x = kept_if(x, reader.sign(Word::RoundClose))?;
+    Ok(Claim::Empty(x))
+}
+
+fn read_type_check(reader: &mut Reader) -> Result<Claim, Stop>
+    requires { IsNext word.TypeCheck (left reader.old) }
+    ensures { Reads IsBInside closed (left reader.old) (left reader.new) plain_claim result }
+{
+    reader.advance();
+    let x = read_x(reader)?;
+    let two = kept(x, read_x(reader))?;
+    let three = kept(two, read_x(reader))?;
+    let ((x, y), z) = kept_if(three, reader.sign(Word::RoundClose))?;
+    Ok(Claim::TypeCheck(x, y, z))
 }
 
 /// What stands behind the first parenthesis of an assertion that has none of its own around it.
-fn read_b_inside<'t>(
-    alloc: Global,
-    tokens: &'t [Token<'t>],
-) -> Result<(Claim, &'t [Token<'t>]), Stop<'t>>
-    ensures { Reads IsBInside closed tokens.now (λ x. (plain_claim x.0, lexemes x.1.now)) result }
+fn read_b_inside(reader: &mut Reader) -> Result<Claim, Stop>
+    ensures { Reads IsBInside closed (left reader.old) (left reader.new) plain_claim result }
 {
-    if is_next(tokens, Word::IsEmpty) {
-        return read_empty(alloc, tokens);
+    if reader.is_next(Word::IsEmpty) {
+        return read_empty(reader);
     }
-    if is_next(tokens, Word::TypeCheck) {
-        return read_type_check(alloc, tokens);
+    if reader.is_next(Word::TypeCheck) {
+        return read_type_check(reader);
     }
-    let (left, rest) = read_x_inside(alloc, tokens)?;
-    let (left, ((equal, right), rest)) = kept(left, read_right(alloc, rest))?;
-    Ok((claim_of(left, equal, right), rest))
+    let left = read_x_inside(reader)?;
+    read_compared(reader, left)
 }
 
-fn read_b<'t>(alloc: Global, tokens: &'t [Token<'t>]) -> Result<(Claim, &'t [Token<'t>]), Stop<'t>>
-    ensures { Reads IsB closed tokens.now (λ x. (plain_claim x.0, lexemes x.1.now)) result }
+fn read_b(reader: &mut Reader) -> Result<Claim, Stop>
+    ensures { Reads IsB closed (left reader.old) (left reader.new) plain_claim result }
 {
-    if is_next(tokens, Word::RoundOpen) {
-        let rest = read_sign(tokens, Word::RoundOpen)?;
-        return read_b_inside(alloc, rest);
+    if reader.is_next(Word::RoundOpen) {
+        reader.advance();
+        return read_b_inside(reader);
     }
-    let (left, rest) = read_x(alloc, tokens)?;
-    let (left, ((equal, right), rest)) = kept(left, read_right(alloc, rest))?;
-    Ok((claim_of(left, equal, right), rest))
+    let left = read_x(reader)?;
+    read_compared(reader, left)
 }
 
 /// Behind a parenthesis and a name either a tree goes on, or a comparison in parentheses.
-fn read_named<'t>(
-    alloc: Global,
-    tokens: &'t [Token<'t>],
-) -> Result<(Claim, &'t [Token<'t>]), Stop<'t>>
-    requires { IsNext word.Id (lexemes tokens.now) }
-    ensures { Reads IsAInside closed tokens.now (λ x. (plain_claim x.0, lexemes x.1.now)) result }
+fn read_named(reader: &mut Reader) -> Result<Claim, Stop>
+    requires { IsNext word.Id (left reader.old) }
+    ensures { Reads IsAInside closed (left reader.old) (left reader.new) plain_claim result }
 {
-    let (name, rest) = read_name(alloc, tokens)?;
-    if is_next(rest, Word::SquareOpen) {
-        let (name, (labels, rest)) = kept(name, read_labels(alloc, rest))?;
-        let ((name, labels), (children, rest)) = kept((name, labels), read_xs(alloc, rest))?;
-        let left = X::Literal(name, labels, children);
-        let (left, ((equal, right), rest)) = kept(left, read_right(alloc, rest))?;
-        return Ok((claim_of(left, equal, right), rest));
+    let name = reader.name()?;
+    if reader.is_next(Word::SquareOpen) {
+        let head = kept(name, read_labels(reader))?;
+        let ((name, labels), children) = kept(head, read_xs(reader))?;
+        return read_compared(reader, X::Literal(name, labels, children));
     }
-    let (name, ((equal, right), rest)) = kept(name, read_right(alloc, rest))?;
-    let claim = claim_of(X::Named(name), equal, right);
-    kept(claim, read_sign(rest, Word::RoundClose))
+    let claim = read_compared(reader, X::Named(name))?;
+    kept_if(claim, reader.sign(Word::RoundClose))
 }
 
 /// What stands behind the first parenthesis of an assertion.
-fn read_a_inside<'t>(
-    alloc: Global,
-    tokens: &'t [Token<'t>],
-) -> Result<(Claim, &'t [Token<'t>]), Stop<'t>>
-    ensures { Reads IsAInside closed tokens.now (λ x. (plain_claim x.0, lexemes x.1.now)) result }
+fn read_a_inside(reader: &mut Reader) -> Result<Claim, Stop>
+    ensures { Reads IsAInside closed (left reader.old) (left reader.new) plain_claim result }
 {
-    if is_next(tokens, Word::RoundOpen) {
-        let (claim, rest) = read_b(alloc, tokens)?;
-        return kept(claim, read_sign(rest, Word::RoundClose));
+    if reader.is_next(Word::RoundOpen) {
+        let claim = read_b(reader)?;
+        return kept_if(claim, reader.sign(Word::RoundClose));
     }
-    if is_next(tokens, Word::Id) {
-        return read_named(alloc, tokens);
+    if reader.is_next(Word::Id) {
+        return read_named(reader);
     }
-    read_b_inside(alloc, tokens)
+    read_b_inside(reader)
 }
 
-pub(crate) fn read_a<'t>(
-    alloc: Global,
-    tokens: &'t [Token<'t>],
-) -> Result<(Claim, &'t [Token<'t>]), Stop<'t>>
-    ensures { Reads IsA closed tokens.now (λ x. (plain_claim x.0, lexemes x.1.now)) result }
+pub(crate) fn read_a(reader: &mut Reader) -> Result<Claim, Stop>
+    ensures { Reads IsA closed (left reader.old) (left reader.new) plain_claim result }
 {
-    if is_next(tokens, Word::RoundOpen) {
-        let rest = read_sign(tokens, Word::RoundOpen)?;
-        return read_a_inside(alloc, rest);
+    if reader.is_next(Word::RoundOpen) {
+        reader.advance();
+        return read_a_inside(reader);
     }
-    read_b(alloc, tokens)
+    read_b(reader)
 }

@@ -8,7 +8,7 @@ ghost use Rattle.model_grammar.specs.Wrong.{IsFirstWrong};
 ghost use Rattle.model_grammar.specs.Syntax as plain;
 ghost use Rattle.fast_syntax.specs.View.{plain_name};
 ghost use Rattle.fast_syntax.specs.Plain.{plain_x, plain_into, plain_item, plain_program};
-ghost use Rattle.label_reader.specs.Results.{lexemes, Reads, IfWrong};
+ghost use Rattle.label_reader.specs.Results.{lexemes, left, Reads, IfWrong};
 ghost use Rattle.program_reader.specs.Goings.{arrow_word};
 ghost use Rattle.program_reader.specs.Items.{IsNameBehind, IsTyped, IsAssigned, IsAsserted, IsBehind};
 
@@ -21,180 +21,148 @@ use fast_syntax::items::{
     AssertItem, Body, DefItem, Item, LangItem, Program, TransItem, TreeItem, X,
 };
 use fast_syntax::{Name, Pos};
-use label_reader::{ReadTokensStop, Stop, is_next, kept, read_name, read_sign};
+use label_reader::{ReadTokensStop, Reader, Stop, kept};
 use std::alloc::Global;
 
 /// A name behind a sign.
-fn read_name_behind<'t>(
-    alloc: Global,
-    sign: Word,
-    tokens: &'t [Token<'t>],
-) -> Result<(Name, &'t [Token<'t>]), Stop<'t>>
-    ensures { Reads (IsNameBehind sign) closed tokens.now (λ x. (plain_name x.0, lexemes x.1.now)) result }
+fn read_name_behind(reader: &mut Reader, sign: Word) -> Result<Name, Stop>
+    ensures { Reads (IsNameBehind sign) closed (left reader.old) (left reader.new) plain_name result }
 {
-    let rest = read_sign(tokens, sign)?;
-    read_name(alloc, rest)
+    reader.sign(sign)?;
+    reader.name()
 }
 
 /// A name, and the name of its type.
-fn read_typed<'t>(
-    alloc: Global,
-    tokens: &'t [Token<'t>],
-) -> Result<((Name, Name), &'t [Token<'t>]), Stop<'t>>
-    ensures { Reads IsTyped closed tokens.now (λ x. ((plain_name x.0.0, plain_name x.0.1), lexemes x.1.now)) result }
+fn read_typed(reader: &mut Reader) -> Result<(Name, Name), Stop>
+    ensures { Reads IsTyped closed (left reader.old) (left reader.new) (λ x. (plain_name x.0, plain_name x.1)) result }
 {
-    let (name, rest) = read_name(alloc, tokens)?;
-    let (name, (of, rest)) = kept(name, read_name_behind(alloc, Word::Colon, rest))?;
-    Ok(((name, of), rest))
+    let name = reader.name()?;
+    kept(name, read_name_behind(reader, Word::Colon))
 }
 
 /// The value of a name.
-fn read_assigned<'t>(
-    alloc: Global,
-    tokens: &'t [Token<'t>],
-) -> Result<(X, &'t [Token<'t>]), Stop<'t>>
-    ensures { Reads IsAssigned closed tokens.now (λ x. (plain_x x.0, lexemes x.1.now)) result }
+fn read_assigned(reader: &mut Reader) -> Result<X, Stop>
+    ensures { Reads IsAssigned closed (left reader.old) (left reader.new) plain_x result }
 {
-    let rest = read_sign(tokens, Word::Assign)?;
-    read_x(alloc, rest)
+    reader.sign(Word::Assign)?;
+    read_x(reader)
 }
 
-fn read_type_item<'t>(
-    alloc: Global,
-    place: Pos,
-    tokens: &'t [Token<'t>],
-) -> Result<(Item, &'t [Token<'t>]), Stop<'t>>
-    ensures { Reads (IsBehind word.TypeWord place) closed tokens.now (λ x. (plain_item x.0, lexemes x.1.now)) result }
+/// A type, behind its first word, which stands at the place.
+fn read_type_item(reader: &mut Reader, place: Pos) -> Result<Item, Stop>
+    ensures { Reads (IsBehind word.TypeWord place) closed (left reader.old) (left reader.new) plain_item result }
 {
-    let (item, rest) = read_type(alloc, tokens)?;
+    let item = read_type(reader)?;
     let body = Body::Sorts(item);
-    Ok((Item { place, body }, rest))
+    Ok(Item { place, body })
 }
 
-fn read_tree_item<'t>(
-    alloc: Global,
-    place: Pos,
-    tokens: &'t [Token<'t>],
-) -> Result<(Item, &'t [Token<'t>]), Stop<'t>>
-    ensures { Reads (IsBehind word.Tree place) closed tokens.now (λ x. (plain_item x.0, lexemes x.1.now)) result }
+/// A tree, likewise.
+fn read_tree_item(reader: &mut Reader, place: Pos) -> Result<Item, Stop>
+    ensures { Reads (IsBehind word.Tree place) closed (left reader.old) (left reader.new) plain_item result }
 {
-    let (names, rest) = read_typed(alloc, tokens)?;
-    let ((name, of), (value, rest)) = kept(names, read_assigned(alloc, rest))?;
+    let names = read_typed(reader)?;
+    let ((name, of), value) = kept(names, read_assigned(reader))?;
     let body = Body::Tree(TreeItem { name, of, value });
-    Ok((Item { place, body }, rest))
+    Ok(Item { place, body })
 }
 
-fn read_lang_item<'t>(
-    alloc: Global,
-    place: Pos,
-    tokens: &'t [Token<'t>],
-) -> Result<(Item, &'t [Token<'t>]), Stop<'t>>
-    ensures { Reads (IsBehind word.Lang place) closed tokens.now (λ x. (plain_item x.0, lexemes x.1.now)) result }
+/// A language, likewise.
+fn read_lang_item(reader: &mut Reader, place: Pos) -> Result<Item, Stop>
+    ensures { Reads (IsBehind word.Lang place) closed (left reader.old) (left reader.new) plain_item result }
 {
-    let (names, rest) = read_typed(alloc, tokens)?;
-    let ((name, of), (rules, rest)) = kept(names, read_rules(alloc, rest))?;
+    let names = read_typed(reader)?;
+    let ((name, of), rules) = kept(names, read_rules(reader))?;
     let body = Body::Lang(LangItem { name, of, rules });
-    Ok((Item { place, body }, rest))
+    Ok(Item { place, body })
 }
 
-fn read_trans_item<'t>(
-    alloc: Global,
-    place: Pos,
-    tokens: &'t [Token<'t>],
-) -> Result<(Item, &'t [Token<'t>]), Stop<'t>>
-    ensures { Reads (IsBehind word.Trans place) closed tokens.now (λ x. (plain_item x.0, lexemes x.1.now)) result }
+/// A transformation, likewise.
+fn read_trans_item(reader: &mut Reader, place: Pos) -> Result<Item, Stop>
+    ensures { Reads (IsBehind word.Trans place) closed (left reader.old) (left reader.new) plain_item result }
 {
-    let (names, rest) = read_typed(alloc, tokens)?;
-    let (names, (into, rest)) = kept(names, read_name_behind(alloc, Word::Arrow, rest))?;
-    let (((name, from), into), (rules, rest)) = kept((names, into), read_out_rules(alloc, rest))?;
+    let names = read_typed(reader)?;
+    let head = kept(names, read_name_behind(reader, Word::Arrow))?;
+    let (((name, from), into), rules) = kept(head, read_out_rules(reader))?;
     let body = Body::Trans(TransItem {
         name,
         from,
         into,
         rules,
     });
-    Ok((Item { place, body }, rest))
+    Ok(Item { place, body })
 }
 
-fn read_into<'t>(
-    alloc: Global,
-    tokens: &'t [Token<'t>],
-) -> Result<(Option<Name>, &'t [Token<'t>]), Stop<'t>>
-    ensures { Reads IsInto arrow_word tokens.now (λ x. (plain_into x.0, lexemes x.1.now)) result }
+/// An output type, where there is one.
+fn read_into(reader: &mut Reader) -> Result<Option<Name>, Stop>
+    ensures { Reads IsInto arrow_word (left reader.old) (left reader.new) plain_into result }
 {
-    if !is_next(tokens, Word::Arrow) {
-        return Ok((None, tokens));
+    if !reader.is_next(Word::Arrow) {
+        return Ok(None);
     }
-    let (into, rest) = read_name_behind(alloc, Word::Arrow, tokens)?;
-    Ok((Some(into), rest))
+    reader.advance();
+    let into = reader.name()?;
+    Ok(Some(into))
 }
 
-fn read_def_item<'t>(
-    alloc: Global,
-    place: Pos,
-    tokens: &'t [Token<'t>],
-) -> Result<(Item, &'t [Token<'t>]), Stop<'t>>
-    ensures { Reads (IsBehind word.Def place) closed tokens.now (λ x. (plain_item x.0, lexemes x.1.now)) result }
+/// A definition, behind its first word, which stands at the place.
+fn read_def_item(reader: &mut Reader, place: Pos) -> Result<Item, Stop>
+    ensures { Reads (IsBehind word.Def place) closed (left reader.old) (left reader.new) plain_item result }
 {
-    let (names, rest) = read_typed(alloc, tokens)?;
-    let (names, (into, rest)) = kept(names, read_into(alloc, rest))?;
-    let (((name, from), into), (value, rest)) = kept((names, into), read_assigned(alloc, rest))?;
+    let names = read_typed(reader)?;
+    let head = kept(names, read_into(reader))?;
+    let (((name, from), into), value) = kept(head, read_assigned(reader))?;
     let body = Body::Def(DefItem {
         name,
         from,
         into,
         value,
     });
-    Ok((Item { place, body }, rest))
+    Ok(Item { place, body })
 }
 
-fn read_assertion<'t>(
-    alloc: Global,
-    place: Pos,
-    wanted: bool,
-    tokens: &'t [Token<'t>],
-) -> Result<(Item, &'t [Token<'t>]), Stop<'t>>
-    ensures { Reads (IsAsserted wanted place) closed tokens.now (λ x. (plain_item x.0, lexemes x.1.now)) result }
+/// An assertion, likewise, and whether it is to hold.
+fn read_assertion(reader: &mut Reader, place: Pos, wanted: bool) -> Result<Item, Stop>
+    ensures { Reads (IsAsserted wanted place) closed (left reader.old) (left reader.new) plain_item result }
 {
-    let (claim, rest) = read_a(alloc, tokens)?;
+    let claim = read_a(reader)?;
     let body = Body::Assert(AssertItem { wanted, claim });
-    Ok((Item { place, body }, rest))
+    Ok(Item { place, body })
 }
 
-fn read_item<'t>(
-    alloc: Global,
-    tokens: &'t [Token<'t>],
-) -> Result<(Item, &'t [Token<'t>]), Stop<'t>>
-    ensures { Reads IsItem closed tokens.now (λ x. (plain_item x.0, lexemes x.1.now)) result }
+fn read_item(reader: &mut Reader) -> Result<Item, Stop>
+    ensures { Reads IsItem closed (left reader.old) (left reader.new) plain_item result }
 {
-    let Some((first, rest)) = tokens.split_first() else {
-        return Err(Stop::At(tokens));
+    let Some(first) = reader.peek() else {
+        return Err(Stop::Wrong);
     };
+    let before = *reader;
+    reader.advance();
     match first.word {
-        Word::TypeWord => read_type_item(alloc, first.place, rest),
-        Word::Tree => read_tree_item(alloc, first.place, rest),
-        Word::Lang => read_lang_item(alloc, first.place, rest),
-        Word::Trans => read_trans_item(alloc, first.place, rest),
-        Word::Def => read_def_item(alloc, first.place, rest),
-        Word::AssertTrue => read_assertion(alloc, first.place, true, rest),
-        Word::AssertFalse => read_assertion(alloc, first.place, false, rest),
-        _ => Err(Stop::At(tokens)),
+        Word::TypeWord => read_type_item(reader, first.place),
+        Word::Tree => read_tree_item(reader, first.place),
+        Word::Lang => read_lang_item(reader, first.place),
+        Word::Trans => read_trans_item(reader, first.place),
+        Word::Def => read_def_item(reader, first.place),
+        Word::AssertTrue => read_assertion(reader, first.place, true),
+        Word::AssertFalse => read_assertion(reader, first.place, false),
+        _ => {
+            *reader = before;
+            Err(Stop::Wrong)
+        }
     }
 }
 
-fn read_program<'t>(alloc: Global, tokens: &'t [Token<'t>]) -> Result<Vec<Item>, Stop<'t>>
-    ensures { Reads IsProgram anything tokens.now (λ v. (map plain_item v.items, [])) result }
+/// Items up to the end of the tokens.
+fn read_program(reader: &mut Reader) -> Result<Vec<Item>, Stop>
+    ensures read { Reads IsProgram anything (left reader.old) (left reader.new) (λ v. map plain_item v.items) result }
+    ensures whole { IfOk result (λ _. left reader.new ≡ []) }
 {
-    if tokens.is_empty() {
-        return Ok(Vec::new(alloc));
-    }
-    let (first, mut rest) = read_item(alloc, tokens)?;
-    let mut all = Vec::new(alloc);
-    all.push(first)?;
-    'items: while !rest.is_empty() {
-        let (next, after) = read_item(alloc, rest)?;
+    let mut all = Vec::new(reader.alloc);
+    'items: while reader.count_left() > 0 {
+        let (so_far, next) = kept(all, read_item(reader))?;
+        all = so_far;
         all.push(next)?;
-        rest = after;
     }
     Ok(all)
 }
@@ -208,9 +176,10 @@ pub fn read_items<'t>(alloc: Global, tokens: &'t [Token<'t>]) -> Result<Program,
     // Where they spell none, the first wrong token is told.
     ensures refused { IfWrong result (IsFirstWrong IsProgram (lexemes tokens.now)) }
 {
-    match read_program(alloc, tokens) {
+    let mut reader = Reader::new(alloc, tokens);
+    match read_program(&mut reader) {
         Ok(items) => Ok(Program { items }),
         Err(Stop::Memory) => Err(ReadTokensStop::Memory),
-        Err(Stop::At(bad)) => Err(ReadTokensStop::Wrong(tokens.len() - bad.len())),
+        Err(Stop::Wrong) => Err(ReadTokensStop::Wrong(tokens.len() - reader.count_left())),
     }
 }

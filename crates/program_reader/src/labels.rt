@@ -4,13 +4,12 @@ ghost use Rattle.std.specs.Prelude.{map};
 ghost use Rattle.read_forms.specs.Reads.{closed};
 ghost use Rattle.model_grammar.specs.Terms.{AreLabels};
 ghost use Rattle.fast_syntax.specs.Plain.{plain_expr};
-ghost use Rattle.label_reader.specs.Results.{lexemes, Reads};
+ghost use Rattle.label_reader.specs.Results.{left, Reads};
 
-use fast_lex::{Token, Word};
+use fast_lex::Word;
 use fast_syntax::expressions::Expr;
-use label_reader::{Between, Items, Stop, read_any, read_level};
+use label_reader::{Between, Items, Reader, Stop, read_any, read_level};
 use model_grammar::Level;
-use std::alloc::Global;
 
 /// A label is an expression.
 struct Labels;
@@ -32,25 +31,18 @@ impl Items for Labels {
 
     ghost goes_on = { GoesOn E };
 
-    fn read_item<'t>(
-        alloc: Global,
-        tokens: &'t [Token<'t>],
-    ) -> Result<(Expr, &'t [Token<'t>]), Stop<'t>> {
-        read_level(alloc, Level::E, tokens)
+    fn read_item(reader: &mut Reader) -> Result<Expr, Stop> {
+        read_level(reader, Level::E)
     }
 }
 
-pub(crate) fn read_labels<'t>(
-    alloc: Global,
-    tokens: &'t [Token<'t>],
-) -> Result<(Vec<Expr>, &'t [Token<'t>]), Stop<'t>>
-    ensures { Reads AreLabels closed tokens.now (λ x. (map plain_expr x.0.items, lexemes x.1.now)) result }
+pub(crate) fn read_labels(reader: &mut Reader) -> Result<Vec<Expr>, Stop>
+    ensures { Reads AreLabels closed (left reader.old) (left reader.new) (λ x. map plain_expr x.items) result }
 {
     read_any::<Labels>(
-        alloc,
+        reader,
         Word::SquareOpen,
         Between::LabelComma,
         Word::SquareClose,
-        tokens,
     )
 }

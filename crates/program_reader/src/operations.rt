@@ -3,12 +3,12 @@
 ghost use Rattle.std.specs.Prelude.{◌≡◌, ◌∷◌, MatchOption};
 ghost use Rattle.model_grammar.specs.Operators.{op1_word, op2_word};
 ghost use Rattle.fast_lex.specs.Tokens.{lexeme};
-ghost use Rattle.label_reader.specs.Results.{lexemes};
+ghost use Rattle.label_reader.specs.Results.{left, behind};
 ghost use Rattle.program_reader.specs.Operations.{IsNoOp1, IsNoOp2, NoOp1, NoOp2};
 
 use fast_lex::{Token, Word};
 use fast_syntax::{Op1, Op2};
-use label_reader::is_same;
+use label_reader::{Reader, is_same};
 
 fn op1_of(word: Word) -> Option<Op1>
     ensures { MatchOption result (IsNoOp1 word) (λ op. word ≡ op1_word op) }
@@ -58,20 +58,20 @@ fn op2_of(word: Word) -> Option<Op2>
     None
 }
 
-/// The operation on one operand with which the tokens begin.
-pub(crate) fn op1_at<'t>(tokens: &'t [Token<'t>]) -> Option<(Token<'t>, Op1, &'t [Token<'t>])>
-    ensures { MatchOption result (NoOp1 (lexemes tokens.now)) (λ x. (lexemes tokens.now ≡ lexeme x.0 ∷ lexemes x.2.now) × (x.0.word ≡ op1_word x.1)) }
+/// The next token, where it is an operation on one operand.
+pub(crate) fn op1_next<'t>(reader: &Reader<'t>) -> Option<(Token<'t>, Op1)>
+    ensures { MatchOption result (NoOp1 (left reader.now)) (λ x. (left reader.now ≡ lexeme x.0 ∷ behind reader.now) × (x.0.word ≡ op1_word x.1)) }
 {
-    let (first, rest) = tokens.split_first()?;
-    let op = op1_of(first.word)?;
-    Some((*first, op, rest))
+    let token = reader.peek()?;
+    let op = op1_of(token.word)?;
+    Some((token, op))
 }
 
-/// The operation on two operands with which the tokens begin.
-pub(crate) fn op2_at<'t>(tokens: &'t [Token<'t>]) -> Option<(Token<'t>, Op2, &'t [Token<'t>])>
-    ensures { MatchOption result (NoOp2 (lexemes tokens.now)) (λ x. (lexemes tokens.now ≡ lexeme x.0 ∷ lexemes x.2.now) × (x.0.word ≡ op2_word x.1)) }
+/// The next token, where it is an operation on two operands.
+pub(crate) fn op2_next<'t>(reader: &Reader<'t>) -> Option<(Token<'t>, Op2)>
+    ensures { MatchOption result (NoOp2 (left reader.now)) (λ x. (left reader.now ≡ lexeme x.0 ∷ behind reader.now) × (x.0.word ≡ op2_word x.1)) }
 {
-    let (first, rest) = tokens.split_first()?;
-    let op = op2_of(first.word)?;
-    Some((*first, op, rest))
+    let token = reader.peek()?;
+    let op = op2_of(token.word)?;
+    Some((token, op))
 }

@@ -1,74 +1,58 @@
 //! Output terms: behind the first name in parentheses, another name makes a call, and labels make a new node.
 
-ghost use Rattle.std.specs.Prelude.{map, []};
+ghost use Rattle.std.specs.Prelude.{map};
 ghost use Rattle.read_forms.specs.Reads.{closed};
 ghost use Rattle.model_grammar.specs.Terms.{IsOut};
 ghost use Rattle.fast_syntax.specs.View.{plain_name};
 ghost use Rattle.fast_syntax.specs.Plain.{plain_out};
-ghost use Rattle.label_reader.specs.Results.{lexemes, Reads};
+ghost use Rattle.label_reader.specs.Results.{left, Reads};
 ghost use Rattle.program_reader.specs.Nodes.{IsNameToClose, AreOutsToClose};
 
 use crate::labels::read_labels;
-use fast_lex::{Token, Word};
+use fast_lex::Word;
 use fast_syntax::Name;
 use fast_syntax::items::Out;
-use label_reader::{Stop, is_next, kept, next_if, read_name, read_sign};
-use std::alloc::Global;
+use label_reader::{Reader, Stop, kept, kept_if};
 
 /// A child, a transformation of a child, or a new node.
 #[cycle(output)]
-pub(crate) fn read_out<'t>(
-    alloc: Global,
-    tokens: &'t [Token<'t>],
-) -> Result<(Out, &'t [Token<'t>]), Stop<'t>>
-    ensures { Reads IsOut closed tokens.now (λ x. (plain_out x.0, lexemes x.1.now)) result }
+pub(crate) fn read_out(reader: &mut Reader) -> Result<Out, Stop>
+    ensures { Reads IsOut closed (left reader.old) (left reader.new) plain_out result }
 {
-    if is_next(tokens, Word::Id) {
-        let (name, rest) = read_name(alloc, tokens)?;
-        return Ok((Out::Child(name), rest));
+    if reader.is_next(Word::Id) {
+        let name = reader.name()?;
+        return Ok(Out::Child(name));
     }
-    let rest = read_sign(tokens, Word::RoundOpen)?;
-    let (name, rest) = read_name(alloc, rest)?;
-    if is_next(rest, Word::Id) {
-        let (name, (child, rest)) = kept(name, read_child(alloc, rest))?;
-        return Ok((Out::Call(name, child), rest));
+    reader.sign(Word::RoundOpen)?;
+    let name = reader.name()?;
+    if reader.is_next(Word::Id) {
+        let (name, child) = kept(name, read_child(reader))?;
+        return Ok(Out::Call(name, child));
     }
-    let (name, (labels, rest)) = kept(name, read_labels(alloc, rest))?;
-    let ((name, labels), (children, rest)) = kept((name, labels), read_outs(alloc, rest))?;
-    Ok((Out::Node(name, labels, children), rest))
+    let head = kept(name, read_labels(reader))?;
+    let ((name, labels), children) = kept(head, read_outs(reader))?;
+    Ok(Out::Node(name, labels, children))
 }
 
 /// The child of a call, and the closing parenthesis.
-fn read_child<'t>(
-    alloc: Global,
-    tokens: &'t [Token<'t>],
-) -> Result<(Name, &'t [Token<'t>]), Stop<'t>>
-    ensures { Reads IsNameToClose closed tokens.now (λ x. (plain_name x.0, lexemes x.1.now)) result }
+fn read_child(reader: &mut Reader) -> Result<Name, Stop>
+    ensures { Reads IsNameToClose closed (left reader.old) (left reader.new) plain_name result }
 {
-    let (child, rest) = read_name(alloc, tokens)?;
-    kept(child, read_sign(rest, Word::RoundClose))
+    let child = reader.name()?;
+    kept_if(child, reader.sign(Word::RoundClose))
 }
 
 /// The children of a new node, and the closing parenthesis.
 #[cycle(output)]
-fn read_outs<'t>(
-    alloc: Global,
-    tokens: &'t [Token<'t>],
-) -> Result<(Vec<Out>, &'t [Token<'t>]), Stop<'t>>
-    ensures { Reads AreOutsToClose closed tokens.now (λ x. (map plain_out x.0.items, lexemes x.1.now)) result }
+fn read_outs(reader: &mut Reader) -> Result<Vec<Out>, Stop>
+    ensures { Reads AreOutsToClose closed (left reader.old) (left reader.new) (λ x. map plain_out x.items) result }
 {
-    if let Some((_close, rest)) = next_if(tokens, Word::RoundClose) {
-        return Ok((Vec::new(alloc), rest));
-    }
-    let (first, mut rest) = read_out(alloc, tokens)?;
-    let mut all = Vec::new(alloc);
-    all.push(first)?;
-    'items: loop {
-        if let Some((_close, end)) = next_if(rest, Word::RoundClose) {
-            return Ok((all, end));
-        }
-        let (next, after) = read_out(alloc, rest)?;
+    let mut all = Vec::new(reader.alloc);
+    'items: while !reader.is_next(Word::RoundClose) {
+        let (so_far, next) = kept(all, read_out(reader))?;
+        all = so_far;
         all.push(next)?;
-        rest = after;
     }
+    reader.advance();
+    Ok(all)
 }

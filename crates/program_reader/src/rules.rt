@@ -6,31 +6,25 @@ ghost use Rattle.model_program.specs.Grammar.{IsDemand, AreVars, IsGiven};
 ghost use Rattle.model_grammar.specs.Grammar.{IsGuard, IsRule, IsOutRule, InBraces};
 ghost use Rattle.fast_syntax.specs.View.{plain_name, plain_demand};
 ghost use Rattle.fast_syntax.specs.Plain.{plain_guard, plain_rule, plain_out_rule};
-ghost use Rattle.label_reader.specs.Results.{lexemes, Reads};
+ghost use Rattle.label_reader.specs.Results.{left, Reads};
 ghost use Rattle.program_reader.specs.Goings.{guard_words, given_words};
 
 use crate::outputs::read_out;
-use fast_lex::{Token, Word};
+use fast_lex::Word;
 use fast_syntax::expressions::Expr;
 use fast_syntax::items::{OutRule, Rule};
 use fast_syntax::{Demand, Name};
-use label_reader::{
-    Between, Items, Stop, is_next, kept, read_any, read_level, read_name, read_sign, read_some,
-};
+use label_reader::{Between, Items, Reader, Stop, kept, kept_if, read_any, read_level, read_some};
 use model_grammar::Level;
-use std::alloc::Global;
 
-fn read_demand<'t>(
-    alloc: Global,
-    tokens: &'t [Token<'t>],
-) -> Result<(Demand, &'t [Token<'t>]), Stop<'t>>
-    ensures { Reads IsDemand closed tokens.now (λ x. (plain_demand x.0, lexemes x.1.now)) result }
+fn read_demand(reader: &mut Reader) -> Result<Demand, Stop>
+    ensures { Reads IsDemand closed (left reader.old) (left reader.new) plain_demand result }
 {
-    let rest = read_sign(tokens, Word::RoundOpen)?;
-    let (language, rest) = read_name(alloc, rest)?;
-    let (child, rest) = read_name(alloc, rest)?;
-    let rest = read_sign(rest, Word::RoundClose)?;
-    Ok((Demand { language, child }, rest))
+    reader.sign(Word::RoundOpen)?;
+    let language = reader.name()?;
+    let child = reader.name()?;
+    reader.sign(Word::RoundClose)?;
+    Ok(Demand { language, child })
 }
 
 /// The variables of a rule.
@@ -52,61 +46,42 @@ impl Items for Variables {
 
     ghost goes_on = { closed };
 
-    fn read_item<'t>(
-        alloc: Global,
-        tokens: &'t [Token<'t>],
-    ) -> Result<(Name, &'t [Token<'t>]), Stop<'t>> {
-        read_name(alloc, tokens)
+    fn read_item(reader: &mut Reader) -> Result<Name, Stop> {
+        reader.name()
     }
 }
 
-fn read_vars<'t>(
-    alloc: Global,
-    tokens: &'t [Token<'t>],
-) -> Result<(Vec<Name>, &'t [Token<'t>]), Stop<'t>>
-    ensures { Reads AreVars closed tokens.now (λ x. (map plain_name x.0.items, lexemes x.1.now)) result }
+fn read_vars(reader: &mut Reader) -> Result<Vec<Name>, Stop>
+    ensures { Reads AreVars closed (left reader.old) (left reader.new) (λ x. map plain_name x.items) result }
 {
-    read_any::<Variables>(
-        alloc,
-        Word::RoundOpen,
-        Between::Comma,
-        Word::RoundClose,
-        tokens,
-    )
+    read_any::<Variables>(reader, Word::RoundOpen, Between::Comma, Word::RoundClose)
 }
 
-fn read_guard<'t>(
-    alloc: Global,
-    tokens: &'t [Token<'t>],
-) -> Result<(Option<Expr>, &'t [Token<'t>]), Stop<'t>>
-    ensures { Reads IsGuard guard_words tokens.now (λ x. (plain_guard x.0, lexemes x.1.now)) result }
+fn read_guard(reader: &mut Reader) -> Result<Option<Expr>, Stop>
+    ensures { Reads IsGuard guard_words (left reader.old) (left reader.new) plain_guard result }
 {
-    if !is_next(tokens, Word::Where) {
-        return Ok((None, tokens));
+    if !reader.is_next(Word::Where) {
+        return Ok(None);
     }
-    let rest = read_sign(tokens, Word::Where)?;
-    let (guard, rest) = read_level(alloc, Level::E, rest)?;
-    Ok((Some(guard), rest))
+    reader.advance();
+    let guard = read_level(reader, Level::E)?;
+    Ok(Some(guard))
 }
 
-fn read_given<'t>(
-    alloc: Global,
-    tokens: &'t [Token<'t>],
-) -> Result<(Vec<Demand>, &'t [Token<'t>]), Stop<'t>>
-    ensures { Reads IsGiven given_words tokens.now (λ x. (map plain_demand x.0.items, lexemes x.1.now)) result }
+fn read_given(reader: &mut Reader) -> Result<Vec<Demand>, Stop>
+    ensures { Reads IsGiven given_words (left reader.old) (left reader.new) (λ x. map plain_demand x.items) result }
 {
-    let mut all = Vec::new(alloc);
-    if !is_next(tokens, Word::Given) {
-        return Ok((all, tokens));
+    let mut all = Vec::new(reader.alloc);
+    if !reader.is_next(Word::Given) {
+        return Ok(all);
     }
-    let mut rest = read_sign(tokens, Word::Given)?;
+    reader.advance();
     'items: loop {
-        let (next, after) = read_demand(alloc, rest)?;
+        let next = read_demand(reader)?;
         all.push(next)?;
-        if !is_next(after, Word::RoundOpen) {
-            return Ok((all, after));
+        if !reader.is_next(Word::RoundOpen) {
+            return Ok(all);
         }
-        rest = after;
     }
 }
 
@@ -129,26 +104,17 @@ impl Items for Rules {
 
     ghost goes_on = { rule_words };
 
-    fn read_item<'t>(
-        alloc: Global,
-        tokens: &'t [Token<'t>],
-    ) -> Result<(Rule, &'t [Token<'t>]), Stop<'t>> {
-        let (ctor, rest) = read_name(alloc, tokens)?;
-        let (vars, rest) = read_vars(alloc, rest)?;
-        let (guard, rest) = read_guard(alloc, rest)?;
-        let ((ctor, vars, guard), (given, rest)) = kept(
-            (ctor, vars, guard),
-            read_given(alloc, rest),
-        )?;
-        Ok((
-            Rule {
-                ctor,
-                vars,
-                guard,
-                given,
-            },
-            rest,
-        ))
+    fn read_item(reader: &mut Reader) -> Result<Rule, Stop> {
+        let ctor = reader.name()?;
+        let head = kept(ctor, read_vars(reader))?;
+        let guarded = kept(head, read_guard(reader))?;
+        let (((ctor, vars), guard), given) = kept(guarded, read_given(reader))?;
+        Ok(Rule {
+            ctor,
+            vars,
+            guard,
+            given,
+        })
     }
 }
 
@@ -171,43 +137,22 @@ impl Items for OutRules {
 
     ghost goes_on = { closed };
 
-    fn read_item<'t>(
-        alloc: Global,
-        tokens: &'t [Token<'t>],
-    ) -> Result<(OutRule, &'t [Token<'t>]), Stop<'t>> {
-        let (rule, rest) = Rules::read_item(alloc, tokens)?;
-        let (rule, rest) = kept(rule, read_sign(rest, Word::To))?;
-        let (rule, (out, rest)) = kept(rule, read_out(alloc, rest))?;
-        Ok((OutRule { rule, out }, rest))
+    fn read_item(reader: &mut Reader) -> Result<OutRule, Stop> {
+        let rule = Rules::read_item(reader)?;
+        let rule = kept_if(rule, reader.sign(Word::To))?;
+        let (rule, out) = kept(rule, read_out(reader))?;
+        Ok(OutRule { rule, out })
     }
 }
 
-pub(crate) fn read_rules<'t>(
-    alloc: Global,
-    tokens: &'t [Token<'t>],
-) -> Result<(Vec<Rule>, &'t [Token<'t>]), Stop<'t>>
-    ensures { Reads (InBraces IsRule) closed tokens.now (λ x. (map plain_rule x.0.items, lexemes x.1.now)) result }
+pub(crate) fn read_rules(reader: &mut Reader) -> Result<Vec<Rule>, Stop>
+    ensures { Reads (InBraces IsRule) closed (left reader.old) (left reader.new) (λ x. map plain_rule x.items) result }
 {
-    read_some::<Rules>(
-        alloc,
-        Word::CurlyOpen,
-        Between::Bar,
-        Word::CurlyClose,
-        tokens,
-    )
+    read_some::<Rules>(reader, Word::CurlyOpen, Between::Bar, Word::CurlyClose)
 }
 
-pub(crate) fn read_out_rules<'t>(
-    alloc: Global,
-    tokens: &'t [Token<'t>],
-) -> Result<(Vec<OutRule>, &'t [Token<'t>]), Stop<'t>>
-    ensures { Reads (InBraces IsOutRule) closed tokens.now (λ x. (map plain_out_rule x.0.items, lexemes x.1.now)) result }
+pub(crate) fn read_out_rules(reader: &mut Reader) -> Result<Vec<OutRule>, Stop>
+    ensures { Reads (InBraces IsOutRule) closed (left reader.old) (left reader.new) (λ x. map plain_out_rule x.items) result }
 {
-    read_some::<OutRules>(
-        alloc,
-        Word::CurlyOpen,
-        Between::Bar,
-        Word::CurlyClose,
-        tokens,
-    )
+    read_some::<OutRules>(reader, Word::CurlyOpen, Between::Bar, Word::CurlyClose)
 }

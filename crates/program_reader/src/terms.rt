@@ -8,18 +8,17 @@ ghost use Rattle.read_forms.specs.Fronts.{Leaves};
 ghost use Rattle.model_grammar.specs.Terms.{IsX};
 ghost use Rattle.fast_syntax.specs.View.{plain_name};
 ghost use Rattle.fast_syntax.specs.Plain.{plain_expr, plain_x};
-ghost use Rattle.label_reader.specs.Results.{lexemes, Reads};
+ghost use Rattle.label_reader.specs.Results.{left, Reads};
 ghost use Rattle.program_reader.specs.Nodes.{IsXInside, AreXsToClose};
 ghost use Rattle.program_reader.specs.Growing.{IsRow, IsGrown, IsLeft, Begins};
 
 use crate::labels::read_labels;
-use crate::operations::{op1_at, op2_at};
-use fast_lex::{Token, Word};
+use crate::operations::{op1_next, op2_next};
+use fast_lex::Word;
 use fast_syntax::expressions::Expr;
 use fast_syntax::items::X;
 use fast_syntax::{Name, Op1, Op2, Pos};
-use label_reader::{Between, Items, Stop, is_next, kept, next_if, read_name, read_sign, read_to};
-use std::alloc::Global;
+use label_reader::{Between, Items, Reader, Stop, kept, kept_if, read_to};
 
 /// A node whose next child is to be read, and what stands before that child.
 #[derive(Drop)]
@@ -38,121 +37,100 @@ pub(crate) enum Begun {
 }
 
 /// A name, an operation, or a tree.
-pub(crate) fn read_x<'t>(
-    alloc: Global,
-    tokens: &'t [Token<'t>],
-) -> Result<(X, &'t [Token<'t>]), Stop<'t>>
-    ensures { Reads IsX closed tokens.now (λ x. (plain_x x.0, lexemes x.1.now)) result }
+pub(crate) fn read_x(reader: &mut Reader) -> Result<X, Stop>
+    ensures { Reads IsX closed (left reader.old) (left reader.new) plain_x result }
 {
-    if is_next(tokens, Word::Id) {
-        let (name, rest) = read_name(alloc, tokens)?;
-        return Ok((X::Named(name), rest));
+    if reader.is_next(Word::Id) {
+        let name = reader.name()?;
+        return Ok(X::Named(name));
     }
-    let rest = read_sign(tokens, Word::RoundOpen)?;
-    read_x_inside(alloc, rest)
+    reader.sign(Word::RoundOpen)?;
+    read_x_inside(reader)
 }
 
 /// What stands behind an opening parenthesis. The open nodes stand in a list, so a deep expression takes no stack.
-pub(crate) fn read_x_inside<'t>(
-    alloc: Global,
-    tokens: &'t [Token<'t>],
-) -> Result<(X, &'t [Token<'t>]), Stop<'t>>
-    ensures { Reads IsXInside closed tokens.now (λ x. (plain_x x.0, lexemes x.1.now)) result }
+pub(crate) fn read_x_inside(reader: &mut Reader) -> Result<X, Stop>
+    ensures { Reads IsXInside closed (left reader.old) (left reader.new) plain_x result }
 {
-    let mut around = Vec::new(alloc);
-    let (mut here, mut rest) = begin_x_inside(alloc, tokens)?;
+    let mut here = begin_x_inside(reader)?;
+    let mut around = Vec::new(reader.alloc);
     'nodes: loop {
         match here {
             Begun::Part(node) => {
                 around.push(node)?;
-                let (inner, after) = begin_x(alloc, rest)?;
-                here = inner;
-                rest = after;
+                here = begin_x(reader)?;
             }
             Begun::Whole(x) => {
                 let Some(node) = around.pop() else {
-                    return Ok((x, rest));
+                    return Ok(x);
                 };
-                let (outer, after) = resume_x(alloc, node, x, rest)?;
-                here = outer;
-                rest = after;
+                here = resume_x(reader, node, x)?;
             }
         }
     }
 }
 
-fn begin_x<'t>(alloc: Global, tokens: &'t [Token<'t>]) -> Result<(Begun, &'t [Token<'t>]), Stop<'t>>
-    ensures begins { Begins IsX tokens.now (λ x. (x.0, lexemes x.1.now)) result }
-    ensures shorter { IfOk result (λ x. length x.1.now < length tokens.now) }
+fn begin_x(reader: &mut Reader) -> Result<Begun, Stop>
+    ensures begins { Begins IsX (left reader.old) (left reader.new) result }
+    ensures shorter { IfOk result (λ _. length (left reader.new) < length (left reader.old)) }
 {
-    if is_next(tokens, Word::Id) {
-        let (name, rest) = read_name(alloc, tokens)?;
-        return Ok((Begun::Whole(X::Named(name)), rest));
+    if reader.is_next(Word::Id) {
+        let name = reader.name()?;
+        return Ok(Begun::Whole(X::Named(name)));
     }
-    let rest = read_sign(tokens, Word::RoundOpen)?;
-    begin_x_inside(alloc, rest)
+    reader.sign(Word::RoundOpen)?;
+    begin_x_inside(reader)
 }
 
-fn begin_x_inside<'t>(
-    alloc: Global,
-    tokens: &'t [Token<'t>],
-) -> Result<(Begun, &'t [Token<'t>]), Stop<'t>>
-    ensures { Begins IsXInside tokens.now (λ x. (x.0, lexemes x.1.now)) result }
+fn begin_x_inside(reader: &mut Reader) -> Result<Begun, Stop>
+    ensures { Begins IsXInside (left reader.old) (left reader.new) result }
 {
-    if let Some((sign, op, rest)) = op1_at(tokens) {
-        return Ok((Begun::Part(Open::One(op, sign.place)), rest));
+    if let Some((sign, op)) = op1_next(reader) {
+        reader.advance();
+        return Ok(Begun::Part(Open::One(op, sign.place)));
     }
-    if let Some((sign, op, rest)) = op2_at(tokens) {
-        return Ok((Begun::Part(Open::First(op, sign.place)), rest));
+    if let Some((sign, op)) = op2_next(reader) {
+        reader.advance();
+        return Ok(Begun::Part(Open::First(op, sign.place)));
     }
-    let (name, rest) = read_name(alloc, tokens)?;
-    let (labels, rest) = read_labels(alloc, rest)?;
-    let none = Vec::new(alloc);
-    Ok(begin_child(name, labels, none, rest))
+    let name = reader.name()?;
+    let (name, labels) = kept(name, read_labels(reader))?;
+    let none = Vec::new(reader.alloc);
+    Ok(begin_child(reader, name, labels, none))
 }
 
 /// Behind some children of a node, its closing parenthesis or its next child.
-fn begin_child<'t>(
-    name: Name,
-    labels: Vec<Expr>,
-    children: Vec<X>,
-    tokens: &'t [Token<'t>],
-) -> (Begun, &'t [Token<'t>])
-    ensures { Leaves (IsRow (plain_name name) (map plain_expr labels.items) (map plain_x children.items)) (IsLeft result.0) closed (lexemes tokens.now) (lexemes result.1.now) }
+fn begin_child(reader: &mut Reader, name: Name, labels: Vec<Expr>, children: Vec<X>) -> Begun
+    ensures { Leaves (IsRow (plain_name name) (map plain_expr labels.items) (map plain_x children.items)) (IsLeft result) closed (left reader.old) (left reader.new) }
 {
-    if let Some((_close, rest)) = next_if(tokens, Word::RoundClose) {
-        let node = X::Literal(name, labels, children);
-        return (Begun::Whole(node), rest);
+    if reader.is_next(Word::RoundClose) {
+        reader.advance();
+        return Begun::Whole(X::Literal(name, labels, children));
     }
-    (Begun::Part(Open::Inner(name, labels, children)), tokens)
+    Begun::Part(Open::Inner(name, labels, children))
 }
 
 /// What comes of an open node behind its next child.
-fn resume_x<'t>(
-    alloc: Global,
-    node: Open,
-    x: X,
-    tokens: &'t [Token<'t>],
-) -> Result<(Begun, &'t [Token<'t>]), Stop<'t>>
-    ensures { Begins (IsGrown node (plain_x x)) tokens.now (λ x. (x.0, lexemes x.1.now)) result }
+fn resume_x(reader: &mut Reader, node: Open, x: X) -> Result<Begun, Stop>
+    ensures { Begins (IsGrown node (plain_x x)) (left reader.old) (left reader.new) result }
 {
     match node {
         Open::One(op, place) => {
-            let (x, rest) = kept(x, read_sign(tokens, Word::RoundClose))?;
-            let x = Box::new(alloc, x)?;
-            Ok((Begun::Whole(X::One(op, place, x)), rest))
+            let x = kept_if(x, reader.sign(Word::RoundClose))?;
+            let x = Box::new(reader.alloc, x)?;
+            Ok(Begun::Whole(X::One(op, place, x)))
         }
-        Open::First(op, place) => Ok((Begun::Part(Open::Second(op, place, x)), tokens)),
+        Open::First(op, place) => Ok(Begun::Part(Open::Second(op, place, x))),
         Open::Second(op, place, first) => {
-            let ((first, x), rest) = kept((first, x), read_sign(tokens, Word::RoundClose))?;
-            let (x, first) = kept(x, Box::new(alloc, first))?;
-            let second = Box::new(alloc, x)?;
-            Ok((Begun::Whole(X::Two(op, place, first, second)), rest))
+            let (first, x) = kept_if((first, x), reader.sign(Word::RoundClose))?;
+            let (x, first) = kept(x, Box::new(reader.alloc, first))?;
+            let second = Box::new(reader.alloc, x)?;
+            Ok(Begun::Whole(X::Two(op, place, first, second)))
         }
         Open::Inner(name, labels, children) => {
             let mut all = children;
             all.push(x)?;
-            Ok(begin_child(name, labels, all, tokens))
+            Ok(begin_child(reader, name, labels, all))
         }
     }
 }
@@ -176,20 +154,14 @@ impl Items for Children {
 
     ghost goes_on = { closed };
 
-    fn read_item<'t>(
-        alloc: Global,
-        tokens: &'t [Token<'t>],
-    ) -> Result<(X, &'t [Token<'t>]), Stop<'t>> {
-        read_x(alloc, tokens)
+    fn read_item(reader: &mut Reader) -> Result<X, Stop> {
+        read_x(reader)
     }
 }
 
 /// The children of a tree, and the closing parenthesis.
-pub(crate) fn read_xs<'t>(
-    alloc: Global,
-    tokens: &'t [Token<'t>],
-) -> Result<(Vec<X>, &'t [Token<'t>]), Stop<'t>>
-    ensures { Reads AreXsToClose closed tokens.now (λ x. (map plain_x x.0.items, lexemes x.1.now)) result }
+pub(crate) fn read_xs(reader: &mut Reader) -> Result<Vec<X>, Stop>
+    ensures { Reads AreXsToClose closed (left reader.old) (left reader.new) (λ x. map plain_x x.items) result }
 {
-    read_to::<Children>(alloc, Between::Nothing, Word::RoundClose, tokens)
+    read_to::<Children>(reader, Between::Nothing, Word::RoundClose)
 }

@@ -4,16 +4,12 @@ ghost use Rattle.std.specs.Prelude.{◌≡◌, map};
 ghost use Rattle.std.specs.Str.{chars};
 ghost use Rattle.read_forms.specs.Reads.{closed};
 ghost use Rattle.model_program.specs.Grammar.{IsSort, AreFields, AreFieldsOrNone, AreCtors, IsTypeItem, square_word, sort_text};
-ghost use Rattle.label_reader.specs.Results.{lexemes, Reads};
+ghost use Rattle.label_reader.specs.Results.{left, Reads};
 ghost use Rattle.fast_syntax.specs.View.{plain_name, plain_field, plain_ctor, plain_type};
 
-use fast_lex::{Token, Word};
+use fast_lex::Word;
 use fast_syntax::{CtorItem, FieldItem, Name, Text, TypeItem};
-use label_reader::{
-    Between, Items, Stop, is_next, read_any, read_name, read_numeral, read_sign, read_some,
-    read_word,
-};
-use std::alloc::Global;
+use label_reader::{Between, Items, Reader, Stop, kept, read_any, read_numeral, read_some};
 
 /// The sort's name, with a capital.
 fn sort_name<'t>(text: &'t str) -> &'t str
@@ -27,21 +23,13 @@ fn sort_name<'t>(text: &'t str) -> &'t str
     }
 }
 
-fn read_sort<'t>(
-    alloc: Global,
-    tokens: &'t [Token<'t>],
-) -> Result<(Name, &'t [Token<'t>]), Stop<'t>>
-    ensures { Reads IsSort closed tokens.now (λ x. (plain_name x.0, lexemes x.1.now)) result }
+fn read_sort(reader: &mut Reader) -> Result<Name, Stop>
+    ensures { Reads IsSort closed (left reader.old) (left reader.new) plain_name result }
 {
-    let (id, rest) = read_word(tokens, Word::Id)?;
-    let text = Text::of(alloc, sort_name(id.text))?;
-    Ok((
-        Name {
-            text,
-            place: id.place,
-        },
-        rest,
-    ))
+    let id = reader.word(Word::Id)?;
+    let text = Text::of(reader.alloc, sort_name(id.text))?;
+    let place = id.place;
+    Ok(Name { text, place })
 }
 
 /// The fields of the labels of a type.
@@ -63,43 +51,27 @@ impl Items for Fields {
 
     ghost goes_on = { closed };
 
-    fn read_item<'t>(
-        alloc: Global,
-        tokens: &'t [Token<'t>],
-    ) -> Result<(FieldItem, &'t [Token<'t>]), Stop<'t>> {
-        let (name, rest) = read_name(alloc, tokens)?;
-        let rest = read_sign(rest, Word::Colon)?;
-        let (sort, rest) = read_sort(alloc, rest)?;
-        Ok((FieldItem { name, sort }, rest))
+    fn read_item(reader: &mut Reader) -> Result<FieldItem, Stop> {
+        let name = reader.name()?;
+        reader.sign(Word::Colon)?;
+        let sort = read_sort(reader)?;
+        Ok(FieldItem { name, sort })
     }
 }
 
-fn read_fields<'t>(
-    alloc: Global,
-    tokens: &'t [Token<'t>],
-) -> Result<(Vec<FieldItem>, &'t [Token<'t>]), Stop<'t>>
-    ensures { Reads AreFields closed tokens.now (λ x. (map plain_field x.0.items, lexemes x.1.now)) result }
+fn read_fields(reader: &mut Reader) -> Result<Vec<FieldItem>, Stop>
+    ensures { Reads AreFields closed (left reader.old) (left reader.new) (λ x. map plain_field x.items) result }
 {
-    read_any::<Fields>(
-        alloc,
-        Word::SquareOpen,
-        Between::Comma,
-        Word::SquareClose,
-        tokens,
-    )
+    read_any::<Fields>(reader, Word::SquareOpen, Between::Comma, Word::SquareClose)
 }
 
-fn read_fields_or_none<'t>(
-    alloc: Global,
-    tokens: &'t [Token<'t>],
-) -> Result<(Vec<FieldItem>, &'t [Token<'t>]), Stop<'t>>
-    ensures { Reads AreFieldsOrNone square_word tokens.now (λ x. (map plain_field x.0.items, lexemes x.1.now)) result }
+fn read_fields_or_none(reader: &mut Reader) -> Result<Vec<FieldItem>, Stop>
+    ensures { Reads AreFieldsOrNone square_word (left reader.old) (left reader.new) (λ x. map plain_field x.items) result }
 {
-    if !is_next(tokens, Word::SquareOpen) {
-        return Ok((Vec::new(alloc), tokens));
+    if !reader.is_next(Word::SquareOpen) {
+        return Ok(Vec::new(reader.alloc));
     }
-    let (fields, rest) = read_fields(alloc, tokens)?;
-    Ok((fields, rest))
+    read_fields(reader)
 }
 
 /// The constructors of a type.
@@ -121,48 +93,30 @@ impl Items for Ctors {
 
     ghost goes_on = { closed };
 
-    fn read_item<'t>(
-        alloc: Global,
-        tokens: &'t [Token<'t>],
-    ) -> Result<(CtorItem, &'t [Token<'t>]), Stop<'t>> {
-        let (name, rest) = read_name(alloc, tokens)?;
-        let rest = read_sign(rest, Word::RoundOpen)?;
-        let (_token, rank, rest) = read_numeral(rest)?;
-        let rest = read_sign(rest, Word::RoundClose)?;
-        Ok((CtorItem { name, rank }, rest))
+    fn read_item(reader: &mut Reader) -> Result<CtorItem, Stop> {
+        let name = reader.name()?;
+        reader.sign(Word::RoundOpen)?;
+        let (_digits, rank) = read_numeral(reader)?;
+        reader.sign(Word::RoundClose)?;
+        Ok(CtorItem { name, rank })
     }
 }
 
-fn read_ctors<'t>(
-    alloc: Global,
-    tokens: &'t [Token<'t>],
-) -> Result<(Vec<CtorItem>, &'t [Token<'t>]), Stop<'t>>
-    ensures { Reads AreCtors closed tokens.now (λ x. (map plain_ctor x.0.items, lexemes x.1.now)) result }
+fn read_ctors(reader: &mut Reader) -> Result<Vec<CtorItem>, Stop>
+    ensures { Reads AreCtors closed (left reader.old) (left reader.new) (λ x. map plain_ctor x.items) result }
 {
-    read_some::<Ctors>(
-        alloc,
-        Word::CurlyOpen,
-        Between::Comma,
-        Word::CurlyClose,
-        tokens,
-    )
+    read_some::<Ctors>(reader, Word::CurlyOpen, Between::Comma, Word::CurlyClose)
 }
 
-pub(crate) fn read_type<'t>(
-    alloc: Global,
-    tokens: &'t [Token<'t>],
-) -> Result<(TypeItem, &'t [Token<'t>]), Stop<'t>>
-    ensures { Reads IsTypeItem closed tokens.now (λ x. (plain_type x.0, lexemes x.1.now)) result }
+pub(crate) fn read_type(reader: &mut Reader) -> Result<TypeItem, Stop>
+    ensures { Reads IsTypeItem closed (left reader.old) (left reader.new) plain_type result }
 {
-    let (name, rest) = read_name(alloc, tokens)?;
-    let (fields, rest) = read_fields_or_none(alloc, rest)?;
-    let (ctors, rest) = read_ctors(alloc, rest)?;
-    Ok((
-        TypeItem {
-            name,
-            fields,
-            ctors,
-        },
-        rest,
-    ))
+    let name = reader.name()?;
+    let head = kept(name, read_fields_or_none(reader))?;
+    let ((name, fields), ctors) = kept(head, read_ctors(reader))?;
+    Ok(TypeItem {
+        name,
+        fields,
+        ctors,
+    })
 }

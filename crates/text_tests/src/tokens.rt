@@ -1,7 +1,7 @@
 //! Tokens: their kinds, texts and places, where a text stops, and what numbers and quoted texts stand for.
 
 use fast_lex::{Kind, Lexed, Word, number_value, quoted_value, tokens};
-use label_reader::{Stop, read_string};
+use label_reader::{Reader, Stop, read_string};
 use std::alloc::Global;
 use std::test::Fail;
 
@@ -112,14 +112,16 @@ fn reads_quoted_texts(rt: HostRuntime) -> Result<(), Fail> {
     let Lexed::Tokens(found) = tokens(rt.alloc(), "\"\\n\" b") else {
         panic!(rt; "no tokens");
     };
-    let (token, text, behind) = match read_string(rt.alloc(), &found) {
+    let mut reader = Reader::new(rt.alloc(), &found);
+    let (token, text) = match read_string(&mut reader) {
         Ok(read) => read,
         Err(_) => panic!(rt; "no text"),
     };
     assert!(rt; token.text == "\"\\n\"");
     assert!(rt; text.as_str() == "\n");
-    assert!(rt; behind.len() == 1);
-    let refused = read_string(rt.alloc(), behind);
-    assert!(rt; matches!(refused, Err(Stop::At(left)) if left.len() == 1));
+    assert!(rt; reader.count_left() == 1);
+    let refused = read_string(&mut reader);
+    assert!(rt; matches!(refused, Err(Stop::Wrong)));
+    assert!(rt; reader.count_left() == 1);
     Ok(())
 }

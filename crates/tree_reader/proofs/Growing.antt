@@ -1,21 +1,19 @@
 -- Of what trees are made, node by node.
-use Rattle.std.proofs.Common.{◌≡◌, List, [], ◌∷◌, ◌++◌, ◌∙◌, ◌+◌, length, reverse, map, refl, ap, sym, subst, arith, Option, Result}
+use Rattle.std.proofs.Common.{◌≡◌, List, [], ◌∷◌, ◌++◌, ◌∙◌, length, reverse, map, refl, ap, sym, subst, arith, Option, Result}
 use Rattle.std.proofs.lemmas.List.{reverse-append}
 use Rattle.std.specs.Prelude.{IsErrAnd}
 use Rattle.std.proofs.lemmas.Result.{err_from_is_err_and}
-use Rattle.fast_lex.specs.declared.Token.{Token}
 use Rattle.label_reader.specs.declared.stop.Stop.{Stop}
-use Rattle.label_reader.specs.Results.{lexemes, bad_of}
+use Rattle.label_reader.specs.Results.{bad_of}
 use Rattle.model_program.specs.declared.Word.TheVariants.{RoundOpen, RoundClose}
 use Rattle.model_program.specs.Lexeme.{Lexeme}
 use Rattle.model_program.specs.Syntax as syntax
-use Rattle.model_program.specs.Joined.{◌⊗◌, IsOther}
-use Rattle.model_program.specs.Grammar.{IsWord, IsName}
+use Rattle.model_program.specs.Joined.{◌⊗◌, IsNext, IsOther}
+use Rattle.model_program.specs.Grammar.{IsWord, IsSign, IsName}
 use Rattle.read_forms.specs.Reads.{IsRead, Fails, closed}
 use Rattle.read_forms.specs.Fronts.{Leaves, Done, Made, Through}
 use Rattle.read_forms.specs.Parts.{HasSample}
-use Rattle.read_forms.proofs.Forms.{as_read, ends_closed}
-use Rattle.read_forms.proofs.Words.{next_of, word_read, sign_makes}
+use Rattle.read_forms.proofs.Forms.{ends_closed}
 use Rattle.read_forms.proofs.Fronts.{left_leaves, left_made, first_left, inside_left, before_none, whole_left, Around, around_begins, around_begins_fails, around_resumes, around_ends}
 use Rattle.model_grammar.specs.Syntax.{Expr}
 use Rattle.model_grammar.specs.TreeFiles.{FileTree, node, trees_of, IsTree, AreConstants}
@@ -38,8 +36,8 @@ pub opened_is : {tokens rest : List Lexeme} (begun : OpenTree) → begun.childre
 opened_is {tokens} {rest} begun none leaves = subst (λ (l : List code.FileTree). Leaves IsTree (IsRow begun (map plain_tree l)) closed tokens rest) (sym none) leaves
 
 -- the closing parenthesis
-pub row_closes : (begun : OpenTree) (trees : List FileTree) {tokens rest : List Lexeme} {t : Lexeme} → tokens ≡ t ∷ rest → t.word ≡ RoundClose → Leaves (IsRow begun trees) (Done (node_of begun trees)) closed tokens rest
-row_closes begun trees {tokens} {rest} {t} here is = row_ends IsTree RoundClose (λ l. node_of begun l) trees trees_closable (next_of RoundClose t tokens rest here is) (as_read (sign_makes RoundClose closed tokens) (word_read RoundClose t tokens rest here is))
+pub row_closes : (begun : OpenTree) (trees : List FileTree) {tokens rest : List Lexeme} → IsNext RoundClose tokens → IsRead (IsSign RoundClose) closed tokens tt rest → Leaves (IsRow begun trees) (Done (node_of begun trees)) closed tokens rest
+row_closes begun trees is_next end = row_ends IsTree RoundClose (λ l. node_of begun l) trees trees_closable is_next end
 
 -- one more child
 pub row_further : (begun : OpenTree) (trees : List FileTree) {tokens : List Lexeme} → IsOther RoundClose tokens → Leaves (IsRow begun trees) (Through IsTree (λ x. IsRow begun (trees ++ x ∷ []))) closed tokens tokens
@@ -50,8 +48,8 @@ pub sample_grown : (begun : OpenTree) (x : FileTree) → HasSample (IsGrown begu
 sample_grown begun x = let s = sample_children in record { value = _; tokens = s.tokens; spelled = record { of = s.value; spelled = s.spelled; is = refl } }
 
 -- what a reader returned at the exit of a `?`
-pub opens_exit : {T : Type 0} (tokens : List Token) (view : T → OpenTree × List Lexeme) (e : Stop) (r : Result T Stop) → IsErrAnd r (λ y. y ≡ e) → Fails IsTree closed (lexemes tokens) (bad_of e) → Opens tokens view r
-opens_exit tokens view e r is fails = let p = err_from_is_err_and r is in rw (p.1, p.2) fails
+pub opens_exit : (tokens rest : List Lexeme) (e : Stop) (r : Result OpenTree Stop) → IsErrAnd r (λ y. y ≡ e) → Fails IsTree closed tokens (bad_of e rest) → Opens tokens rest r
+opens_exit tokens rest e r is fails = let p = err_from_is_err_and r is in rw (p.1, p.2) fails
 
 -- The open trees, as they stand in the list, the innermost last.
 
@@ -73,20 +71,20 @@ trees_deeper {form} {less} {tokens} {behind = behind} inner old new is_new is_ot
 pub trees_deeper_fails : {form : FileTree → List Lexeme → Type 0} {tokens rest : List Lexeme} (bad : Option (List Lexeme)) (inner : OpenTree) (old : List OpenTree) → IsOther RoundClose rest → Leaves form (Through (IsOpen inner) (Around IsGrown (reverse old))) closed tokens rest → Fails IsTree closed rest bad → Fails form closed tokens bad
 trees_deeper_fails bad inner old is_other so_far fails = around_begins_fails IsGrown bad sample_grown inner (reverse old) (child_next inner (reverse old) is_other so_far) fails
 
-closed_by : {form : FileTree → List Lexeme → Type 0} {tokens rest behind : List Lexeme} {t : Lexeme} (inner : OpenTree) (tree : code.FileTree) (around : List OpenTree) → plain_tree tree ≡ node_of inner (map plain_tree inner.children.items) → rest ≡ t ∷ behind → t.word ≡ RoundClose → Leaves form (Through (IsOpen inner) (Around IsGrown around)) closed tokens rest
+closed_by : {form : FileTree → List Lexeme → Type 0} {tokens rest behind : List Lexeme} (inner : OpenTree) (tree : code.FileTree) (around : List OpenTree) → plain_tree tree ≡ node_of inner (map plain_tree inner.children.items) → IsNext RoundClose rest → IsRead (IsSign RoundClose) closed rest tt behind → Leaves form (Through (IsOpen inner) (Around IsGrown around)) closed tokens rest
     → Leaves form (Through (Done (plain_tree tree)) (Around IsGrown around)) closed tokens behind
-closed_by {form} {tokens} {behind = behind} inner tree around is_tree here is so_far = subst (λ (x : FileTree). Leaves form (Through (Done x) (Around IsGrown around)) closed tokens behind) (sym is_tree) (left_leaves so_far (inside_left (Around IsGrown around) (row_closes inner (map plain_tree inner.children.items) here is)))
+closed_by {form} {tokens} {behind = behind} inner tree around is_tree is_next end so_far = subst (λ (x : FileTree). Leaves form (Through (Done x) (Around IsGrown around)) closed tokens behind) (sym is_tree) (left_leaves so_far (inside_left (Around IsGrown around) (row_closes inner (map plain_tree inner.children.items) is_next end)))
 
 -- a child is closed, and put into the tree around it
-pub trees_higher : {form : FileTree → List Lexeme → Type 0} {tokens rest behind : List Lexeme} {t : Lexeme} (inner outer : OpenTree) (tree : code.FileTree) (old new : List OpenTree) (children : List FileTree) → old ≡ new ++ outer ∷ [] → plain_tree tree ≡ node_of inner (map plain_tree inner.children.items) → children ≡ map plain_tree outer.children.items ++ plain_tree tree ∷ []
-    → rest ≡ t ∷ behind → t.word ≡ RoundClose → Leaves form (Through (IsOpen inner) (Around IsGrown (reverse old))) closed tokens rest → Leaves form (Through (IsRow outer children) (Around IsGrown (reverse new))) closed tokens behind
-trees_higher {form} {tokens} {rest} {behind} inner outer tree old new children is_old is_tree are here is so_far = subst (λ (l : List FileTree). Leaves form (Through (IsRow outer l) (Around IsGrown (reverse new))) closed tokens behind) (sym are)
-    (around_resumes IsGrown (plain_tree tree) outer (reverse new) (closed_by inner tree (outer ∷ reverse new) is_tree here is (subst (λ (l : List OpenTree). Leaves form (Through (IsOpen inner) (Around IsGrown l)) closed tokens rest) (turned new old outer is_old) so_far)) (whole_left (IsGrown outer (plain_tree tree))))
+pub trees_higher : {form : FileTree → List Lexeme → Type 0} {tokens rest behind : List Lexeme} (inner outer : OpenTree) (tree : code.FileTree) (old new : List OpenTree) (children : List FileTree) → old ≡ new ++ outer ∷ [] → plain_tree tree ≡ node_of inner (map plain_tree inner.children.items) → children ≡ map plain_tree outer.children.items ++ plain_tree tree ∷ []
+    → IsNext RoundClose rest → IsRead (IsSign RoundClose) closed rest tt behind → Leaves form (Through (IsOpen inner) (Around IsGrown (reverse old))) closed tokens rest → Leaves form (Through (IsRow outer children) (Around IsGrown (reverse new))) closed tokens behind
+trees_higher {form} {tokens} {rest} {behind} inner outer tree old new children is_old is_tree are is_next end so_far = subst (λ (l : List FileTree). Leaves form (Through (IsRow outer l) (Around IsGrown (reverse new))) closed tokens behind) (sym are)
+    (around_resumes IsGrown (plain_tree tree) outer (reverse new) (closed_by inner tree (outer ∷ reverse new) is_tree is_next end (subst (λ (l : List OpenTree). Leaves form (Through (IsOpen inner) (Around IsGrown l)) closed tokens rest) (turned new old outer is_old) so_far)) (whole_left (IsGrown outer (plain_tree tree))))
 
 -- the outermost is closed
-pub trees_end : {form : FileTree → List Lexeme → Type 0} {tokens rest behind : List Lexeme} {t : Lexeme} (inner : OpenTree) (tree : code.FileTree) (old : List OpenTree) → length old ≡ 0 → plain_tree tree ≡ node_of inner (map plain_tree inner.children.items) → rest ≡ t ∷ behind → t.word ≡ RoundClose → Leaves form (Through (IsOpen inner) (Around IsGrown (reverse old))) closed tokens rest
+pub trees_end : {form : FileTree → List Lexeme → Type 0} {tokens rest behind : List Lexeme} (inner : OpenTree) (tree : code.FileTree) (old : List OpenTree) → length old ≡ 0 → plain_tree tree ≡ node_of inner (map plain_tree inner.children.items) → IsNext RoundClose rest → IsRead (IsSign RoundClose) closed rest tt behind → Leaves form (Through (IsOpen inner) (Around IsGrown (reverse old))) closed tokens rest
     → IsRead form closed tokens (plain_tree tree) behind
-trees_end {form} {tokens} {rest} inner tree old none is_tree here is so_far = around_ends IsGrown (plain_tree tree) (closed_by inner tree [] is_tree here is (subst (λ (l : List OpenTree). Leaves form (Through (IsOpen inner) (Around IsGrown (reverse l))) closed tokens rest) (empty old none) so_far))
+trees_end {form} {tokens} {rest} inner tree old none is_tree is_next end so_far = around_ends IsGrown (plain_tree tree) (closed_by inner tree [] is_tree is_next end (subst (λ (l : List OpenTree). Leaves form (Through (IsOpen inner) (Around IsGrown (reverse l))) closed tokens rest) (empty old none) so_far))
   where
     empty : (l : List OpenTree) → length l ≡ 0 → l ≡ []
     empty [] e = refl

@@ -1,20 +1,19 @@
 -- Of what trees are made.
-use Rattle.std.proofs.Common.{◌≡◌, List, [], ◌∷◌, ◌++◌, refl, sym, ap, ◌∙◌, subst, Option}
+use Rattle.std.proofs.Common.{◌≡◌, List, [], ◌∷◌, ◌++◌, refl, sym, ap, ◌∙◌, subst}
 use Rattle.model_program.specs.declared.Word.TheVariants.{RoundOpen, RoundClose}
 use Rattle.model_program.specs.Lexeme.{Lexeme}
 use Rattle.model_program.specs.Syntax.{Name}
-use Rattle.read_forms.specs.Reads.{Stops, IsRead, Fails, StartsIn, closed, anything}
+use Rattle.read_forms.specs.Reads.{Stops, IsRead, StartsIn, closed, anything}
 use Rattle.model_program.specs.Grammar.{IsWord, IsName, Many}
 use Rattle.model_program.specs.Joined.{◌⊗◌}
 use Rattle.read_forms.specs.Parts.{HasSample, AllStartIn, other_than}
-use Rattle.read_forms.proofs.Forms.{Makes, as_read, as_fails, then_read, then_fails, first_fails, ends_closed, remade, starts_wider, starts_append, sample_pair}
-use Rattle.read_forms.proofs.Lists.{IsPartWay, many_make, many_ends, many_end, sample_many}
+use Rattle.read_forms.proofs.Forms.{Makes, as_read, as_fails, ends_closed, remade, starts_wider, sample_pair}
+use Rattle.read_forms.proofs.Lists.{IsPartWay, many_ends}
 use Rattle.model_grammar.specs.Syntax.{Expr}
 use Rattle.model_grammar.specs.TreeFiles.{FileTree, node, FileTrees, no_trees, and_tree, trees_of, AreConstants, IsTree, a_tree, AreTrees, no_more, one_more, IsTreeFile}
 use Rattle.label_reader.proofs.Names.{sample_name}
 use Rattle.label_reader.specs.Lists.{closing_of}
 use Rattle.label_reader.proofs.Closings.{IsClosable, sample_to_close}
-use Rattle.program_reader.proofs.ItemForms.{some_token}
 use Rattle.tree_reader.specs.Trees.{AreTreesToClose}
 use Rattle.tree_reader.proofs.ConstantForms.{sample_constants}
 
@@ -101,21 +100,9 @@ file_makes tokens = remade (λ v ts spelled. are_trees v ts spelled) (λ b ts sp
     back : (b : List FileTree) (ts : List Lexeme) → IsTreeFile b ts → (trees : List FileTree) × Many IsTree trees ts × (b ≡ trees)
     back b ts spelled = let list = trees_are (trees_of b) ts spelled in (list.list, list.spelled, sym (listed_is b) ∙ ap listed list.is ∙ listed_is list.list)
 
--- where a token comes, a tree comes
-pub file_first : {tokens rest : List Lexeme} {x : FileTree} (all : List FileTree) → IsRead IsTree closed tokens x rest → all ≡ x ∷ [] → IsPartWay IsTreeFile (Many IsTree) anything (λ b. all ++ b) tokens rest
-file_first {tokens} {rest} all tree is_first = subst (λ (l : List FileTree). IsPartWay IsTreeFile (Many IsTree) anything (λ b. l ++ b) tokens rest) (sym is_first) (record {
-  read = λ b end more. as_read (file_makes tokens) (as_read (many_make IsTree tokens (tree_comes tree)) (then_read (ends_closed (Many IsTree) anything) tree more));
-  fails = λ bad more. as_fails bad (file_makes tokens) (as_fails bad (many_make IsTree tokens (tree_comes tree)) (then_fails bad (ends_closed (Many IsTree) anything) tree more));
-})
-  where
-    tree_comes : {x : FileTree} → IsRead IsTree closed tokens x rest → StartsIn anything tokens
-    tree_comes read = subst (λ (l : List Lexeme). StartsIn anything l) (sym read.split) (starts_append anything read.part rest (some_starts.starts _ read.part read.spelled))
+-- before the first tree
+pub file_begins : {tokens : List Lexeme} (none : List FileTree) → none ≡ [] → IsPartWay IsTreeFile (Many IsTree) anything (λ b. none ++ b) tokens tokens
+file_begins {tokens} none is_none = subst (λ (l : List FileTree). IsPartWay IsTreeFile (Many IsTree) anything (λ b. l ++ b) tokens tokens) (sym is_none) (record { read = λ b end more. as_read (file_makes tokens) more; fails = λ bad more. as_fails bad (file_makes tokens) more })
 
-pub file_first_fails : (tokens : List Lexeme) (bad : Option (List Lexeme)) → (tokens ≡ [] → ⊥) → Fails IsTree closed tokens bad → Fails IsTreeFile anything tokens bad
-file_first_fails tokens bad not_end fails = as_fails bad (file_makes tokens) (as_fails bad (many_make IsTree tokens (some_token tokens not_end)) (first_fails bad (ends_closed (Many IsTree) anything) (sample_many IsTree) fails))
-
-pub file_ends : {tokens rest : List Lexeme} (all : List FileTree) → IsPartWay IsTreeFile (Many IsTree) anything (λ b. all ++ b) tokens rest → rest ≡ [] → IsRead IsTreeFile anything tokens all []
-file_ends {tokens} {rest} all so_far ended = subst (λ (l : List Lexeme). IsRead IsTreeFile anything tokens all l) ended (many_ends IsTree (λ l. l) all some_starts so_far (subst (λ (l : List Lexeme). Stops anything l) (sym ended) tt))
-
-pub no_file : {tokens : List Lexeme} → tokens ≡ [] → IsRead IsTreeFile anything tokens [] []
-no_file ended = subst (λ (l : List Lexeme). IsRead IsTreeFile anything l [] []) (sym ended) (as_read (file_makes []) (many_end IsTree [] some_starts tt))
+pub file_ends : {tokens rest : List Lexeme} (all : List FileTree) → IsPartWay IsTreeFile (Many IsTree) anything (λ b. all ++ b) tokens rest → rest ≡ [] → IsRead IsTreeFile anything tokens all rest
+file_ends all so_far ended = many_ends IsTree (λ l. l) all some_starts so_far (subst (λ (l : List Lexeme). Stops anything l) (sym ended) tt)

@@ -6,9 +6,8 @@ use Rattle.read_forms.specs.Fronts.{Leaves, Made}
 use Rattle.model_grammar.specs.TreeFiles as plain
 use Rattle.model_grammar.specs.TreeFiles.{node, trees_of, IsTree}
 use Rattle.fast_syntax.specs.View.{plain_name}
-use Rattle.fast_lex.specs.declared.Token.{Token}
 use Rattle.label_reader.specs.declared.stop.Stop.{Stop}
-use Rattle.label_reader.specs.Results.{lexemes, bad_of}
+use Rattle.label_reader.specs.Results.{bad_of}
 use Rattle.tree_reader.specs.Plain.{plain_constant, plain_tree}
 use Rattle.tree_reader.specs.Trees.{AreTreesToClose}
 use Rattle.tree_reader.specs.declared.trees.OpenTree.{OpenTree}
@@ -29,7 +28,7 @@ IsOpen begun = IsRow begun (map plain_tree begun.children.items)
 abbrev pub IsGrown : OpenTree → plain.FileTree → plain.FileTree → List Lexeme → Type 0
 IsGrown begun tree = IsRow begun (map plain_tree begun.children.items ++ tree ∷ [])
 
--- what a reader of the front of a tree returned
-abbrev pub Opens : {T : Type 0} → List Token → (T → OpenTree × List Lexeme) → Result T Stop → Type 0
-Opens tokens view (Ok x) = Leaves IsTree (IsOpen (view x).0) closed (lexemes tokens) (view x).1
-Opens tokens view (Err e) = Fails IsTree closed (lexemes tokens) (bad_of e)
+-- what a reader of the front of a tree did with these tokens, of which it left the rest
+abbrev pub Opens : List Lexeme → List Lexeme → Result OpenTree Stop → Type 0
+Opens tokens rest (Ok begun) = Leaves IsTree (IsOpen begun) closed tokens rest
+Opens tokens rest (Err e) = Fails IsTree closed tokens (bad_of e rest)

@@ -3,13 +3,12 @@
 ghost use Rattle.std.specs.Prelude.{map};
 ghost use Rattle.read_forms.specs.Reads.{closed};
 ghost use Rattle.model_grammar.specs.TreeFiles.{AreConstants};
-ghost use Rattle.label_reader.specs.Results.{lexemes, Reads};
+ghost use Rattle.label_reader.specs.Results.{left, Reads};
 ghost use Rattle.tree_reader.specs.Plain.{plain_constant};
 
 use crate::{Constant, Value};
-use fast_lex::{Token, Word};
-use label_reader::{Between, Items, Stop, is_next, next_if, read_any, read_numeral, read_string};
-use std::alloc::Global;
+use fast_lex::Word;
+use label_reader::{Between, Items, Reader, Stop, read_any, read_numeral, read_string};
 
 /// The labels of a tree: numbers, which `-` may stand before, texts and truth values.
 struct Constants;
@@ -30,45 +29,41 @@ impl Items for Constants {
 
     ghost goes_on = { closed };
 
-    fn read_item<'t>(
-        alloc: Global,
-        tokens: &'t [Token<'t>],
-    ) -> Result<(Constant, &'t [Token<'t>]), Stop<'t>> {
-        if let Some((token, rest)) = next_if(tokens, Word::True) {
+    fn read_item(reader: &mut Reader) -> Result<Constant, Stop> {
+        if let Some(token) = reader.peek_if(Word::True) {
+            reader.advance();
             let (place, value) = (token.place, Value::Truth(true));
-            return Ok((Constant { place, value }, rest));
+            return Ok(Constant { place, value });
         }
-        if let Some((token, rest)) = next_if(tokens, Word::False) {
+        if let Some(token) = reader.peek_if(Word::False) {
+            reader.advance();
             let (place, value) = (token.place, Value::Truth(false));
-            return Ok((Constant { place, value }, rest));
+            return Ok(Constant { place, value });
         }
-        if is_next(tokens, Word::Quoted) {
-            let (token, text, rest) = read_string(alloc, tokens)?;
+        if reader.is_next(Word::Quoted) {
+            let (token, text) = read_string(reader)?;
             let (place, value) = (token.place, Value::Text(text));
-            return Ok((Constant { place, value }, rest));
+            return Ok(Constant { place, value });
         }
-        if let Some((sign, behind)) = next_if(tokens, Word::Minus) {
-            let (_digits, number, rest) = read_numeral(behind)?;
+        if let Some(sign) = reader.peek_if(Word::Minus) {
+            reader.advance();
+            let (_digits, number) = read_numeral(reader)?;
             let (place, value) = (sign.place, Value::Number(-number));
-            return Ok((Constant { place, value }, rest));
+            return Ok(Constant { place, value });
         }
-        let (token, number, rest) = read_numeral(tokens)?;
+        let (token, number) = read_numeral(reader)?;
         let (place, value) = (token.place, Value::Number(number));
-        Ok((Constant { place, value }, rest))
+        Ok(Constant { place, value })
     }
 }
 
-pub(crate) fn read_constants<'t>(
-    alloc: Global,
-    tokens: &'t [Token<'t>],
-) -> Result<(Vec<Constant>, &'t [Token<'t>]), Stop<'t>>
-    ensures { Reads AreConstants closed tokens.now (λ x. (map plain_constant x.0.items, lexemes x.1.now)) result }
+pub(crate) fn read_constants(reader: &mut Reader) -> Result<Vec<Constant>, Stop>
+    ensures { Reads AreConstants closed (left reader.old) (left reader.new) (λ x. map plain_constant x.items) result }
 {
     read_any::<Constants>(
-        alloc,
+        reader,
         Word::SquareOpen,
         Between::LabelComma,
         Word::SquareClose,
-        tokens,
     )
 }

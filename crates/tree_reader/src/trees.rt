@@ -7,7 +7,7 @@ ghost use Rattle.read_forms.specs.Reads.{closed, anything};
 ghost use Rattle.model_grammar.specs.TreeFiles.{IsTree, IsTreeFile};
 ghost use Rattle.model_grammar.specs.TreeFiles as plain;
 ghost use Rattle.model_grammar.specs.Wrong.{IsFirstWrong};
-ghost use Rattle.label_reader.specs.Results.{lexemes, Reads, IfWrong};
+ghost use Rattle.label_reader.specs.Results.{lexemes, left, Reads, IfWrong};
 ghost use Rattle.tree_reader.specs.Plain.{plain_tree};
 ghost use Rattle.tree_reader.specs.Growing.{node_of, Opens};
 
@@ -16,7 +16,7 @@ use crate::{Constant, FileTree};
 use fast_fault::Pos;
 use fast_lex::{Token, Word};
 use fast_syntax::Name;
-use label_reader::{ReadTokensStop, Stop, next_if, read_name, read_word};
+use label_reader::{ReadTokensStop, Reader, Stop, kept};
 use std::alloc::Global;
 
 /// A tree whose closing parenthesis hasn't been read, with the children that have been.
@@ -29,26 +29,20 @@ struct OpenTree {
 }
 
 /// What stands before the children of a tree.
-fn open_tree<'t>(
-    alloc: Global,
-    tokens: &'t [Token<'t>],
-) -> Result<(OpenTree, &'t [Token<'t>]), Stop<'t>>
-    ensures opens { Opens tokens.now (λ x. (x.0, lexemes x.1.now)) result }
-    ensures shorter { IfOk result (λ x. length x.1.now < length tokens.now) }
+fn open_tree(reader: &mut Reader) -> Result<OpenTree, Stop>
+    ensures opens { Opens (left reader.old) (left reader.new) result }
+    ensures shorter { IfOk result (λ _. length (left reader.new) < length (left reader.old)) }
 {
-    let (left, rest) = read_word(tokens, Word::RoundOpen)?;
-    let (name, rest) = read_name(alloc, rest)?;
-    let (labels, rest) = read_constants(alloc, rest)?;
-    let (place, children) = (left.place, Vec::new(alloc));
-    Ok((
-        OpenTree {
-            place,
-            name,
-            labels,
-            children,
-        },
-        rest,
-    ))
+    let left = reader.word(Word::RoundOpen)?;
+    let name = reader.name()?;
+    let (name, labels) = kept(name, read_constants(reader))?;
+    let (place, children) = (left.place, Vec::new(reader.alloc));
+    Ok(OpenTree {
+        place,
+        name,
+        labels,
+        children,
+    })
 }
 
 fn close_tree(begun: OpenTree) -> FileTree
@@ -69,45 +63,37 @@ fn close_tree(begun: OpenTree) -> FileTree
 }
 
 /// The open nodes around the one that is read stand in a list, so a deep tree takes no stack.
-fn read_tree<'t>(
-    alloc: Global,
-    tokens: &'t [Token<'t>],
-) -> Result<(FileTree, &'t [Token<'t>]), Stop<'t>>
-    ensures { Reads IsTree closed tokens.now (λ x. (plain_tree x.0, lexemes x.1.now)) result }
+fn read_tree(reader: &mut Reader) -> Result<FileTree, Stop>
+    ensures { Reads IsTree closed (left reader.old) (left reader.new) plain_tree result }
 {
-    let mut around = Vec::new(alloc);
-    let (mut here, mut rest) = open_tree(alloc, tokens)?;
+    let mut here = open_tree(reader)?;
+    let mut around = Vec::new(reader.alloc);
     'nodes: loop {
-        if let Some((_close, behind)) = next_if(rest, Word::RoundClose) {
-            let tree = close_tree(here);
-            let Some(outer) = around.pop() else {
-                return Ok((tree, behind));
-            };
-            here = outer;
-            here.children.push(tree)?;
-            rest = behind;
-        } else {
+        if !reader.is_next(Word::RoundClose) {
             around.push(here)?;
-            let (inner, behind) = open_tree(alloc, rest)?;
-            here = inner;
-            rest = behind;
+            here = open_tree(reader)?;
+            continue;
         }
+        reader.advance();
+        let tree = close_tree(here);
+        let Some(outer) = around.pop() else {
+            return Ok(tree);
+        };
+        here = outer;
+        here.children.push(tree)?;
     }
 }
 
-fn read_file<'t>(alloc: Global, tokens: &'t [Token<'t>]) -> Result<Vec<FileTree>, Stop<'t>>
-    ensures { Reads IsTreeFile anything tokens.now (λ v. (map plain_tree v.items, [])) result }
+/// Trees up to the end of the tokens.
+fn read_file(reader: &mut Reader) -> Result<Vec<FileTree>, Stop>
+    ensures read { Reads IsTreeFile anything (left reader.old) (left reader.new) (λ v. map plain_tree v.items) result }
+    ensures whole { IfOk result (λ _. left reader.new ≡ []) }
 {
-    let mut all = Vec::new(alloc);
-    if tokens.is_empty() {
-        return Ok(all);
-    }
-    let (first, mut rest) = read_tree(alloc, tokens)?;
-    all.push(first)?;
-    'items: while !rest.is_empty() {
-        let (next, after) = read_tree(alloc, rest)?;
+    let mut all = Vec::new(reader.alloc);
+    'items: while reader.count_left() > 0 {
+        let (so_far, next) = kept(all, read_tree(reader))?;
+        all = so_far;
         all.push(next)?;
-        rest = after;
     }
     Ok(all)
 }
@@ -124,9 +110,10 @@ pub fn read_trees<'t>(
     // Where they spell none, the first wrong token is told.
     ensures refused { IfWrong result (IsFirstWrong IsTreeFile (lexemes tokens.now)) }
 {
-    match read_file(alloc, tokens) {
+    let mut reader = Reader::new(alloc, tokens);
+    match read_file(&mut reader) {
         Ok(trees) => Ok(trees),
         Err(Stop::Memory) => Err(ReadTokensStop::Memory),
-        Err(Stop::At(bad)) => Err(ReadTokensStop::Wrong(tokens.len() - bad.len())),
+        Err(Stop::Wrong) => Err(ReadTokensStop::Wrong(tokens.len() - reader.count_left())),
     }
 }

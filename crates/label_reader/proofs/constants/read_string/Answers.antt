@@ -13,4 +13,4 @@ returns c =
     let e = c.in-Some.ensures in
     let q = e.2 in
     let same : c.in_ok-text.text ≡ q.values = c.in_ok-text.ensures ∙ quoted_stands_for _ q.values q.is in
-    string_read _ _ _ _ e.0 e.1 (subst (λ (l : List ℕ). IsQuoted (chars c.in-Some.token.text.now) l) (sym same) q.is) (λ others is. sym (quoted_stands_for _ others is) ∙ sym c.in_ok-text.ensures)
+    rw c.advance.ensures (string_read _ _ _ _ e.0 e.1 (subst (λ (l : List ℕ). IsQuoted (chars c.in-Some.token.text.now) l) (sym same) q.is) (λ others is. sym (quoted_stands_for _ others is) ∙ sym c.in_ok-text.ensures))

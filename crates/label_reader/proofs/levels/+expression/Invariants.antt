@@ -3,50 +3,50 @@ use Rattle.model_grammar.specs.Operators.{is_marking}
 use Rattle.model_grammar.specs.Printed.{rank, chain_level}
 use Rattle.fast_lex.specs.Tokens.{lexeme}
 use Rattle.fast_syntax.specs.Plain.{plain_expr}
-use Rattle.label_reader.specs.Results.{lexemes}
+use Rattle.label_reader.specs.Results.{left}
 use Rattle.label_reader.specs.Operands.{marked, kind_of}
 use Rattle.label_reader.proofs.Gathered.{IsChaining}
 use Rattle.label_reader.proofs.Further.{IsFurther}
 use Rattle.label_reader.proofs.levels.+expression.Given as goal
 
 abbrev pub decreases-read_level : goal.decreases-read_level
-decreases-read_level l = 20 * length l.tokens.now + (2 * (7 - rank l.level) + 2)
+decreases-read_level l = 20 * length (left l.reader.now) + (2 * (7 - rank l.level) + 2)
 
 abbrev pub decreases-read_chain : goal.decreases-read_chain
-decreases-read_chain l = 20 * length l.tokens.now + (2 * (7 - rank (chain_level l.kind)) + 1)
+decreases-read_chain l = 20 * length (left l.reader.now) + (2 * (7 - rank (chain_level l.kind)) + 1)
 
 abbrev pub decreases-read_negation : goal.decreases-read_negation
-decreases-read_negation l = 20 * length l.tokens.now + 11
+decreases-read_negation l = 20 * length (left l.reader.now) + 11
 
 abbrev pub decreases-read_comparison : goal.decreases-read_comparison
-decreases-read_comparison l = 20 * length l.tokens.now + 9
+decreases-read_comparison l = 20 * length (left l.reader.now) + 9
 
 abbrev pub decreases-read_unary : goal.decreases-read_unary
-decreases-read_unary l = 20 * length l.tokens.now + 3
+decreases-read_unary l = 20 * length (left l.reader.now) + 3
 
 abbrev pub decreases-read_primary : goal.decreases-read_primary
-decreases-read_primary l = 20 * length l.tokens.now + 1
+decreases-read_primary l = 20 * length (left l.reader.now) + 1
 
 abbrev pub decreases-read_inside : goal.decreases-read_inside
-decreases-read_inside l = 20 * length l.tokens.now + 18
+decreases-read_inside l = 20 * length (left l.reader.now) + 18
 
 abbrev pub decreases-read_behind_minus : goal.decreases-read_behind_minus
-decreases-read_behind_minus l = 20 * length l.tokens.now + 17
+decreases-read_behind_minus l = 20 * length (left l.reader.now) + 17
 
 abbrev pub decreases-read_further : goal.decreases-read_further
-decreases-read_further l = 20 * length l.tokens.now + 2
+decreases-read_further l = 20 * length (left l.reader.now) + 2
 
 abbrev pub decreases-read_two : goal.decreases-read_two
-decreases-read_two l = 20 * length l.tokens.now + 2
+decreases-read_two l = 20 * length (left l.reader.now) + 2
 
 abbrev pub invariant-read_chain-parts : goal.invariant-read_chain-parts
-invariant-read_chain-parts l = IsChaining l.fn.kind (lexemes l.fn.tokens) (lexemes l.rest) (lexeme l.sign) (marked l.parts) × (kind_of l.parts ≡ l.fn.kind)
+invariant-read_chain-parts l = IsChaining l.fn.kind (left l.fn.reader) (left l.reader) (lexeme l.sign) (marked l.parts) × (kind_of l.parts ≡ l.fn.kind)
 
 abbrev pub decreases-read_chain-parts : goal.decreases-read_chain-parts
-decreases-read_chain-parts l = length l.rest
+decreases-read_chain-parts l = length (left l.reader)
 
 abbrev pub invariant-read_further-parts : goal.invariant-read_further-parts
-invariant-read_further-parts l = IsFurther l.fn.kind (lexeme l.fn.op) (plain_expr l.fn.first) (lexemes l.fn.tokens) (lexemes l.rest) (marked l.parts) × (kind_of l.parts ≡ l.fn.kind) × (l.mark ≡ is_marking l.fn.op.word)
+invariant-read_further-parts l = IsFurther l.fn.kind (lexeme l.fn.op) (plain_expr l.fn.first) (left l.fn.reader) (left l.reader) (marked l.parts) × (kind_of l.parts ≡ l.fn.kind) × (l.mark ≡ is_marking l.fn.op.word)
 
 abbrev pub decreases-read_further-parts : goal.decreases-read_further-parts
-decreases-read_further-parts l = length l.rest
+decreases-read_further-parts l = length (left l.reader)

@@ -5,10 +5,10 @@ use Rattle.program_reader.proofs.AssertForms.{right_makes}
 use Rattle.program_reader.proofs.assertions.read_right.Goals as goal
 
 pub returns-in_err-equal : goal.returns-in_err-equal
-returns-in_err-equal c = exit _ _ _ c.from_residual.result c.from_residual.ensures.1 (as_fails _ (right_makes _) (first_fails _ (ends_closed _ _) sample_x c.in_err-equal.ensures))
+returns-in_err-equal c = exit _ _ _ _ c.from_residual.result c.from_residual.ensures.1 (as_fails _ (right_makes _) (first_fails _ (ends_closed _ _) sample_x c.in_err-equal.ensures))
 
 pub returns-in_err-right : goal.returns-in_err-right
-returns-in_err-right c = exit _ _ _ c.from_residual-in_err-right.result c.from_residual-in_err-right.ensures.1 (as_fails _ (right_makes _) (then_fails _ (ends_closed _ _) c.in_ok-equal.ensures c.in_err-right.ensures))
+returns-in_err-right c = exit _ _ _ _ c.from_residual-in_err-right.result c.from_residual-in_err-right.ensures.1 (as_fails _ (right_makes _) (then_fails _ (ends_closed _ _) c.in_ok-equal.ensures c.in_err-right.ensures))
 
 pub returns : goal.returns
 returns c = as_read (right_makes _) (then_read (ends_closed _ _) c.in_ok-equal.ensures c.in_ok-right.ensures)

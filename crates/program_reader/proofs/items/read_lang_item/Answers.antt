@@ -8,11 +8,11 @@ use Rattle.program_reader.proofs.ItemForms.{lang_makes}
 use Rattle.program_reader.proofs.items.read_lang_item.Goals as goal
 
 pub returns-in_err-names : goal.returns-in_err-names
-returns-in_err-names c = exit _ _ _ c.from_residual.result c.from_residual.ensures.1 (as_fails _ (lang_makes _ _) (first_fails _ (ends_closed _ _) (sample_braces _ sample_rule) c.in_err-names.ensures))
+returns-in_err-names c = exit _ _ _ _ c.from_residual.result c.from_residual.ensures.1 (as_fails _ (lang_makes _ _) (first_fails _ (ends_closed _ _) (sample_braces _ sample_rule) c.in_err-names.ensures))
 
 pub returns-in_err-name : goal.returns-in_err-name
-returns-in_err-name c = exit _ _ _ c.from_residual-in_err-name.result c.from_residual-in_err-name.ensures.1 (as_fails _ (lang_makes _ _) (then_fails _ (ends_closed _ _) c.in_ok-names.ensures (told_fails _ _ c.in_err-name.ensures c.read_rules.ensures)))
+returns-in_err-name c = exit _ _ _ _ c.from_residual-in_err-name.result c.from_residual-in_err-name.ensures.1 (as_fails _ (lang_makes _ _) (then_fails _ (ends_closed _ _) c.in_ok-names.ensures (told_fails _ _ _ c.in_err-name.ensures c.read_rules.ensures)))
 
 pub returns : goal.returns
 returns c = let e = c.in_ok-name.ensures in
-    as_read (lang_makes _ _) (then_read (ends_closed _ _) (read_at (ap (λ v. (plain_name v.0, plain_name v.1)) (sym e.0)) c.in_ok-names.ensures) (told_read _ _ e.1 c.read_rules.ensures))
+    as_read (lang_makes _ _) (then_read (ends_closed _ _) (read_at (ap (λ v. (plain_name v.0, plain_name v.1)) (sym e.0)) c.in_ok-names.ensures) (told_read _ _ _ e.1 c.read_rules.ensures))

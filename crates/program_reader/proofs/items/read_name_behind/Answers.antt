@@ -5,8 +5,8 @@ use Rattle.label_reader.proofs.Listed.{opened_reads}
 use Rattle.label_reader.proofs.Names.{sample_name}
 use Rattle.program_reader.proofs.items.read_name_behind.Goals as goal
 
-pub returns-in_err-rest : goal.returns-in_err-rest
-returns-in_err-rest c = exit _ _ _ c.from_residual.result c.from_residual.ensures.1 (open_fails _ IsName _ sample_name c.in_err-rest.ensures)
+pub returns-in_err-sign : goal.returns-in_err-sign
+returns-in_err-sign c = exit _ _ _ _ c.from_residual.result c.from_residual.ensures.1 (open_fails _ IsName _ sample_name c.in_err-sign.ensures)
 
 pub returns : goal.returns
-returns c = opened_reads _ IsName _ _ _ c.read_name.result c.in_ok-rest.ensures c.read_name.ensures
+returns c = opened_reads _ IsName _ _ _ _ c.name.result c.in_ok-sign.ensures c.name.ensures

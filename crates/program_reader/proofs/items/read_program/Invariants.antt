@@ -4,11 +4,11 @@ use Rattle.model_program.specs.Grammar.{Many}
 use Rattle.model_grammar.specs.Grammar.{IsItem, IsProgram}
 use Rattle.read_forms.proofs.Lists.{IsPartWay}
 use Rattle.fast_syntax.specs.Plain.{plain_item}
-use Rattle.label_reader.specs.Results.{lexemes}
+use Rattle.label_reader.specs.Results.{left}
 use Rattle.program_reader.proofs.items.read_program.Given as goal
 
 abbrev pub invariant-items : goal.invariant-items
-invariant-items l = IsPartWay IsProgram (Many IsItem) anything (λ b. map plain_item l.all.items ++ b) (lexemes l.fn.tokens) (lexemes l.rest)
+invariant-items l = IsPartWay IsProgram (Many IsItem) anything (λ b. map plain_item l.all.items ++ b) (left l.fn.reader) (left l.reader)
 
 abbrev pub decreases-items : goal.decreases-items
-decreases-items l = length l.rest
+decreases-items l = length (left l.reader)

@@ -8,17 +8,17 @@ use Rattle.label_reader.proofs.Keeping.{told_read, told_fails}
 use Rattle.program_reader.proofs.items.read_trans_item.Goals as goal
 
 pub returns-in_err-names : goal.returns-in_err-names
-returns-in_err-names c = exit _ _ _ c.from_residual.result c.from_residual.ensures.1 (as_fails _ (trans_makes _ _) (first_fails _ (ends_closed _ _) (sample_pair (sample_behind _) (sample_braces _ sample_out_rule)) c.in_err-names.ensures))
+returns-in_err-names c = exit _ _ _ _ c.from_residual.result c.from_residual.ensures.1 (as_fails _ (trans_makes _ _) (first_fails _ (ends_closed _ _) (sample_pair (sample_behind _) (sample_braces _ sample_out_rule)) c.in_err-names.ensures))
 
-pub returns-in_err-names-2 : goal.returns-in_err-names-2
-returns-in_err-names-2 c = exit _ _ _ c.from_residual-in_err-names-2.result c.from_residual-in_err-names-2.ensures.1
-    (as_fails _ (trans_makes _ _) (then_fails _ (ends_closed _ _) c.in_ok-names.ensures (first_fails _ (ends_closed _ _) (sample_braces _ sample_out_rule) (told_fails _ _ c.in_err-names-2.ensures c.read_name_behind.ensures))))
+pub returns-in_err-head : goal.returns-in_err-head
+returns-in_err-head c = exit _ _ _ _ c.from_residual-in_err-head.result c.from_residual-in_err-head.ensures.1
+    (as_fails _ (trans_makes _ _) (then_fails _ (ends_closed _ _) c.in_ok-names.ensures (first_fails _ (ends_closed _ _) (sample_braces _ sample_out_rule) (told_fails _ _ _ c.in_err-head.ensures c.read_name_behind.ensures))))
 
 pub returns-in_err-name : goal.returns-in_err-name
-returns-in_err-name c = exit _ _ _ c.from_residual-in_err-name.result c.from_residual-in_err-name.ensures.1
-    (as_fails _ (trans_makes _ _) (then_fails _ (ends_closed _ _) c.in_ok-names.ensures (then_fails _ (ends_closed _ _) (told_read _ _ c.in_ok-names-2.ensures.1 c.read_name_behind.ensures) (told_fails _ _ c.in_err-name.ensures c.read_out_rules.ensures))))
+returns-in_err-name c = exit _ _ _ _ c.from_residual-in_err-name.result c.from_residual-in_err-name.ensures.1
+    (as_fails _ (trans_makes _ _) (then_fails _ (ends_closed _ _) c.in_ok-names.ensures (then_fails _ (ends_closed _ _) (told_read _ _ _ c.in_ok-head.ensures.1 c.read_name_behind.ensures) (told_fails _ _ _ c.in_err-name.ensures c.read_out_rules.ensures))))
 
 pub returns : goal.returns
-returns c = let one = c.in_ok-names-2.ensures in let two = c.in_ok-name.ensures in
+returns c = let one = c.in_ok-head.ensures in let two = c.in_ok-name.ensures in
     as_read (trans_makes _ _) (then_read (ends_closed _ _) (read_at (ap (λ v. (plain_name v.0, plain_name v.1)) (sym (ap (λ v. v.0) two.0 ∙ one.0))) c.in_ok-names.ensures)
-    (then_read (ends_closed _ _) (read_at (ap (λ v. plain_name v.1) (sym two.0)) (told_read _ _ one.1 c.read_name_behind.ensures)) (told_read _ _ two.1 c.read_out_rules.ensures)))
+    (then_read (ends_closed _ _) (read_at (ap (λ v. plain_name v.1) (sym two.0)) (told_read _ _ _ one.1 c.read_name_behind.ensures)) (told_read _ _ _ two.1 c.read_out_rules.ensures)))

@@ -7,7 +7,7 @@ use Rattle.program_reader.specs.Items.{item_at}
 use Rattle.program_reader.proofs.items.read_type_item.Goals as goal
 
 pub returns-in_err-item : goal.returns-in_err-item
-returns-in_err-item c = exit _ _ _ c.from_residual.result c.from_residual.ensures.1 (as_fails _ (made_makes (λ t. item_at c.args.place (sorts t)) IsTypeItem) c.in_err-item.ensures)
+returns-in_err-item c = exit _ _ _ _ c.from_residual.result c.from_residual.ensures.1 (as_fails _ (made_makes (λ t. item_at c.args.place (sorts t)) IsTypeItem) c.in_err-item.ensures)
 
 pub returns : goal.returns
 returns c = as_read (made_makes (λ t. item_at c.args.place (sorts t)) IsTypeItem) c.in_ok-item.ensures

@@ -1,14 +1,14 @@
 use Rattle.read_forms.proofs.Forms.{as_read, as_fails, then_read, then_fails, first_fails, ends_closed}
 use Rattle.read_forms.proofs.Words.{sample_sign}
 use Rattle.label_reader.proofs.Exits.{exit}
-use Rattle.label_reader.proofs.Keeping.{reads_kept}
+use Rattle.label_reader.proofs.Keeping.{reads_kept_if}
 use Rattle.program_reader.proofs.OutForms.{name_closes}
 use Rattle.program_reader.proofs.outputs.read_child.Goals as goal
 
 pub returns-in_err-child : goal.returns-in_err-child
-returns-in_err-child c = exit _ _ _ c.from_residual.result c.from_residual.ensures.1 (as_fails _ (name_closes _) (first_fails _ (ends_closed _ _) (sample_sign _) c.in_err-child.ensures))
+returns-in_err-child c = exit _ _ _ _ c.from_residual.result c.from_residual.ensures.1 (as_fails _ (name_closes _) (first_fails _ (ends_closed _ _) (sample_sign _) c.in_err-child.ensures))
 
 pub returns : goal.returns
-returns c = reads_kept _ _ _ _ _ _ c.kept.ensures c.read_sign.ensures
-    (λ rest read. as_read (name_closes _) (then_read (ends_closed _ _) c.in_ok-child.ensures read))
+returns c = reads_kept_if _ _ _ _ _ _ _ c.kept_if.ensures c.sign.ensures
+    (λ read. as_read (name_closes _) (then_read (ends_closed _ _) c.in_ok-child.ensures read))
     (λ bad fails. as_fails _ (name_closes _) (then_fails _ (ends_closed _ _) c.in_ok-child.ensures fails))

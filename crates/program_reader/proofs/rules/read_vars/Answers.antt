@@ -3,6 +3,3 @@ use Rattle.program_reader.proofs.rules.read_vars.Goals as goal
 
 pub read_any-requires : goal.read_any-requires
 read_any-requires c = var_item
-
-pub returns : goal.returns
-returns c = c.read_any.ensures

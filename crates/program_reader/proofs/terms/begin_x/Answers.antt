@@ -14,11 +14,11 @@ returns-in_err-name-clause-begins c = begins_exit _ _ _ c.from_residual.result c
 pub returns-then-is_next-clause-begins : goal.returns-then-is_next-clause-begins
 returns-then-is_next-clause-begins c = none_left (as_read (named_makes _ (c.is_next.ensures.yes c.if-is_next.true)) c.in_ok-name.ensures)
 
-pub returns-in_err-rest-clause-begins : goal.returns-in_err-rest-clause-begins
-returns-in_err-rest-clause-begins c = begins_exit _ _ _ c.from_residual-in_err-rest.result c.from_residual-in_err-rest.ensures.1 (as_fails _ (open_makes _ (c.is_next.ensures.no c.if-is_next.false)) (first_fails _ (ends_closed _ _) sample_x_inside c.in_err-rest.ensures))
+pub returns-in_err-sign-clause-begins : goal.returns-in_err-sign-clause-begins
+returns-in_err-sign-clause-begins c = begins_exit _ _ _ c.from_residual-in_err-sign.result c.from_residual-in_err-sign.ensures.1 (as_fails _ (open_makes _ (c.is_next.ensures.no c.if-is_next.false)) (first_fails _ (ends_closed _ _) sample_x_inside c.in_err-sign.ensures))
 
 pub returns-clause-begins : goal.returns-clause-begins
-returns-clause-begins c = begins_behind _ _ _ _ (opened_begins (c.is_next.ensures.no c.if-is_next.false) c.in_ok-rest.ensures) (λ bad fails. as_fails _ (open_makes _ (c.is_next.ensures.no c.if-is_next.false)) (then_fails _ (ends_closed _ _) c.in_ok-rest.ensures fails)) c.begin_x_inside.ensures
+returns-clause-begins c = begins_behind _ _ _ _ (opened_begins (c.is_next.ensures.no c.if-is_next.false) c.in_ok-sign.ensures) (λ bad fails. as_fails _ (open_makes _ (c.is_next.ensures.no c.if-is_next.false)) (then_fails _ (ends_closed _ _) c.in_ok-sign.ensures fails)) c.begin_x_inside.ensures
 
 pub returns-clause-shorter : goal.returns-clause-shorter
-returns-clause-shorter c = begins_shorter IsXInside _ _ (λ x. x.0) (λ x. x.1.now) c.begin_x_inside.result (shorter _ _ _ (sign_starts RoundOpen) c.in_ok-rest.ensures) c.begin_x_inside.ensures
+returns-clause-shorter c = begins_shorter IsXInside _ _ _ c.begin_x_inside.result (shorter _ _ _ (sign_starts RoundOpen) c.in_ok-sign.ensures) c.begin_x_inside.ensures

@@ -3,6 +3,3 @@ use Rattle.program_reader.proofs.terms.read_xs.Goals as goal
 
 pub read_to-requires : goal.read_to-requires
 read_to-requires c = x_item
-
-pub returns : goal.returns
-returns c = c.read_to.ensures

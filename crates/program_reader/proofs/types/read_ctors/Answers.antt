@@ -3,6 +3,3 @@ use Rattle.program_reader.proofs.types.read_ctors.Goals as goal
 
 pub read_some-requires : goal.read_some-requires
 read_some-requires c = ctor_item
-
-pub returns : goal.returns
-returns c = c.read_some.ensures

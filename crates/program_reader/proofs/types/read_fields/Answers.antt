@@ -3,6 +3,3 @@ use Rattle.program_reader.proofs.types.read_fields.Goals as goal
 
 pub read_any-requires : goal.read_any-requires
 read_any-requires c = field_item
-
-pub returns : goal.returns
-returns c = c.read_any.ensures

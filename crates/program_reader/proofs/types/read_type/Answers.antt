@@ -1,16 +1,22 @@
-use Rattle.read_forms.proofs.Forms.{as_fails, as_read, then_fails, then_read, first_fails, ends_closed, sample_pair}
+use Rattle.std.proofs.Common.{map, sym, ap, ◌∙◌}
+use Rattle.read_forms.proofs.Forms.{as_fails, as_read, then_fails, then_read, first_fails, ends_closed, sample_pair, read_at}
+use Rattle.fast_syntax.specs.View.{plain_name, plain_field}
 use Rattle.label_reader.proofs.Exits.{exit}
+use Rattle.label_reader.proofs.Keeping.{told_read, told_fails}
 use Rattle.program_reader.proofs.TypeForms.{type_makes, sample_fields, sample_ctors, ends_fields}
 use Rattle.program_reader.proofs.types.read_type.Goals as goal
 
 pub returns-in_err-name : goal.returns-in_err-name
-returns-in_err-name c = exit _ _ _ c.from_residual.result c.from_residual.ensures.1 (as_fails _ (type_makes _ _) (first_fails _ (ends_closed _ _) (sample_pair sample_fields sample_ctors) c.in_err-name.ensures))
+returns-in_err-name c = exit _ _ _ _ c.from_residual.result c.from_residual.ensures.1 (as_fails _ (type_makes _ _) (first_fails _ (ends_closed _ _) (sample_pair sample_fields sample_ctors) c.in_err-name.ensures))
 
-pub returns-in_err-fields : goal.returns-in_err-fields
-returns-in_err-fields c = exit _ _ _ c.from_residual-in_err-fields.result c.from_residual-in_err-fields.ensures.1 (as_fails _ (type_makes _ _) (then_fails _ (ends_closed _ _) c.in_ok-name.ensures (first_fails _ ends_fields sample_ctors c.in_err-fields.ensures)))
+pub returns-in_err-head : goal.returns-in_err-head
+returns-in_err-head c = exit _ _ _ _ c.from_residual-in_err-head.result c.from_residual-in_err-head.ensures.1 (as_fails _ (type_makes _ _) (then_fails _ (ends_closed _ _) c.in_ok-name.ensures (first_fails _ ends_fields sample_ctors (told_fails _ _ _ c.in_err-head.ensures c.read_fields_or_none.ensures))))
 
-pub returns-in_err-ctors : goal.returns-in_err-ctors
-returns-in_err-ctors c = exit _ _ _ c.from_residual-in_err-ctors.result c.from_residual-in_err-ctors.ensures.1 (as_fails _ (type_makes _ _) (then_fails _ (ends_closed _ _) c.in_ok-name.ensures (then_fails _ ends_fields c.in_ok-fields.ensures c.in_err-ctors.ensures)))
+pub returns-in_err-name-2 : goal.returns-in_err-name-2
+returns-in_err-name-2 c = exit _ _ _ _ c.from_residual-in_err-name-2.result c.from_residual-in_err-name-2.ensures.1
+    (as_fails _ (type_makes _ _) (then_fails _ (ends_closed _ _) c.in_ok-name.ensures (then_fails _ ends_fields (told_read _ _ _ c.in_ok-head.ensures.1 c.read_fields_or_none.ensures) (told_fails _ _ _ c.in_err-name-2.ensures c.read_ctors.ensures))))
 
 pub returns : goal.returns
-returns c = as_read (type_makes _ _) (then_read (ends_closed _ _) c.in_ok-name.ensures (then_read ends_fields c.in_ok-fields.ensures c.in_ok-ctors.ensures))
+returns c = let one = c.in_ok-head.ensures in let two = c.in_ok-name-2.ensures in
+    as_read (type_makes _ _) (then_read (ends_closed _ _) (read_at (ap plain_name (sym (ap (λ v. v.0) two.0 ∙ one.0))) c.in_ok-name.ensures)
+    (then_read ends_fields (read_at (ap (λ v. map plain_field v.1.items) (sym two.0)) (told_read _ _ _ one.1 c.read_fields_or_none.ensures)) (told_read _ _ _ two.1 c.read_ctors.ensures)))

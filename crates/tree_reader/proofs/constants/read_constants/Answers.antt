@@ -3,6 +3,3 @@ use Rattle.tree_reader.proofs.constants.read_constants.Goals as goal
 
 pub read_any-requires : goal.read_any-requires
 read_any-requires c = constant_item
-
-pub returns : goal.returns
-returns c = c.read_any.ensures

@@ -4,11 +4,11 @@ use Rattle.model_program.specs.Grammar.{Many}
 use Rattle.model_grammar.specs.TreeFiles.{IsTree, IsTreeFile}
 use Rattle.read_forms.proofs.Lists.{IsPartWay}
 use Rattle.tree_reader.specs.Plain.{plain_tree}
-use Rattle.label_reader.specs.Results.{lexemes}
+use Rattle.label_reader.specs.Results.{left}
 use Rattle.tree_reader.proofs.trees.read_file.Given as goal
 
 abbrev pub invariant-items : goal.invariant-items
-invariant-items l = IsPartWay IsTreeFile (Many IsTree) anything (λ b. map plain_tree l.all.items ++ b) (lexemes l.fn.tokens) (lexemes l.rest)
+invariant-items l = IsPartWay IsTreeFile (Many IsTree) anything (λ b. map plain_tree l.all.items ++ b) (left l.fn.reader) (left l.reader)
 
 abbrev pub decreases-items : goal.decreases-items
-decreases-items l = length l.rest
+decreases-items l = length (left l.reader)

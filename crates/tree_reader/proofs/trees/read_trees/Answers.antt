@@ -1,15 +1,8 @@
-use Rattle.std.proofs.Common.{subst}
-use Rattle.read_forms.specs.Reads.{anything, Fails}
-use Rattle.model_grammar.specs.TreeFiles.{IsTreeFile}
-use Rattle.label_reader.specs.declared.stop.Stop.{Stop}
-use Rattle.label_reader.specs.Results.{lexemes, bad_of}
-use Rattle.program_reader.proofs.Texts.{whole_read, whole_only, first_wrong}
+use Rattle.program_reader.proofs.Texts.{whole_read, whole_only, read_all, refused_at, first_wrong}
 use Rattle.tree_reader.proofs.trees.read_trees.Goals as goal
 
 pub returns-in-Ok : goal.returns-in-Ok
-returns-in-Ok c = record { found = whole_read _ _ c.in-Ok.ensures; only = λ other spelled. whole_only _ _ other c.in-Ok.ensures spelled; refused = tt }
+returns-in-Ok c = let read = read_all c.new-reader.ensures c.in-Ok.ensures.whole c.in-Ok.ensures.read in record { found = whole_read _ _ read; only = λ other spelled. whole_only _ _ other read spelled; refused = tt }
 
-pub returns-in-Err-At-clause-refused : goal.returns-in-Err-At-clause-refused
-returns-in-Err-At-clause-refused c =
-    let fails = subst (λ (e : Stop). Fails IsTreeFile anything (lexemes c.args.tokens.now) (bad_of e)) c.in-Err-At.field-0-is c.in-Err-At.ensures in
-    first_wrong _ _ fails.why
+pub returns-in-Err-Wrong-clause-refused : goal.returns-in-Err-Wrong-clause-refused
+returns-in-Err-Wrong-clause-refused c = first_wrong _ _ _ c.count_left.ensures (refused_at _ c.in-Err-Wrong.field-0 c.new-reader.ensures c.in-Err-Wrong.field-0-is c.in-Err-Wrong.ensures.read)

@@ -10,16 +10,16 @@ use Rattle.program_reader.proofs.TypeForms.{ctor_makes, number_makes, sample_num
 use Rattle.program_reader.proofs.types.CtorsItems.read_item.Goals as goal
 
 pub returns-in_err-name : goal.returns-in_err-name
-returns-in_err-name c = exit _ _ _ c.from_residual.result c.from_residual.ensures.1 (as_fails _ (ctor_makes _ _) (first_fails _ (ends_closed _ _) (sample_pair (sample_sign _) (sample_pair sample_number (sample_sign _))) c.in_err-name.ensures))
+returns-in_err-name c = exit _ _ _ _ c.from_residual.result c.from_residual.ensures.1 (as_fails _ (ctor_makes _ _) (first_fails _ (ends_closed _ _) (sample_pair (sample_sign _) (sample_pair sample_number (sample_sign _))) c.in_err-name.ensures))
 
-pub returns-in_err-rest : goal.returns-in_err-rest
-returns-in_err-rest c = exit _ _ _ c.from_residual-in_err-rest.result c.from_residual-in_err-rest.ensures.1 (as_fails _ (ctor_makes _ _) (then_fails _ (ends_closed _ _) c.in_ok-name.ensures (first_fails _ (ends_closed _ _) (sample_pair sample_number (sample_sign _)) c.in_err-rest.ensures)))
+pub returns-in_err-sign : goal.returns-in_err-sign
+returns-in_err-sign c = exit _ _ _ _ c.from_residual-in_err-sign.result c.from_residual-in_err-sign.ensures.1 (as_fails _ (ctor_makes _ _) (then_fails _ (ends_closed _ _) c.in_ok-name.ensures (first_fails _ (ends_closed _ _) (sample_pair sample_number (sample_sign _)) c.in_err-sign.ensures)))
 
-pub returns-in_err-_token : goal.returns-in_err-_token
-returns-in_err-_token c = exit _ _ _ c.from_residual-in_err-_token.result c.from_residual-in_err-_token.ensures.1 (as_fails _ (ctor_makes _ _) (then_fails _ (ends_closed _ _) c.in_ok-name.ensures (then_fails _ (ends_closed _ _) c.in_ok-rest.ensures (first_fails _ (ends_closed _ _) (sample_sign _) (as_fails _ (number_makes _ _) c.in_err-_token.ensures.read)))))
+pub returns-in_err-_digits : goal.returns-in_err-_digits
+returns-in_err-_digits c = exit _ _ _ _ c.from_residual-in_err-_digits.result c.from_residual-in_err-_digits.ensures.1 (as_fails _ (ctor_makes _ _) (then_fails _ (ends_closed _ _) c.in_ok-name.ensures (then_fails _ (ends_closed _ _) c.in_ok-sign.ensures (first_fails _ (ends_closed _ _) (sample_sign _) (as_fails _ (number_makes _ _) c.in_err-_digits.ensures.read)))))
 
-pub returns-in_err-rest-2 : goal.returns-in_err-rest-2
-returns-in_err-rest-2 c = exit _ _ _ c.from_residual-in_err-rest-2.result c.from_residual-in_err-rest-2.ensures.1 (as_fails _ (ctor_makes _ _) (then_fails _ (ends_closed _ _) c.in_ok-name.ensures (then_fails _ (ends_closed _ _) c.in_ok-rest.ensures (then_fails _ (ends_closed _ _) (as_read (number_makes _ _) c.in_ok-_token.ensures.read) c.in_err-rest-2.ensures))))
+pub returns-in_err-sign-2 : goal.returns-in_err-sign-2
+returns-in_err-sign-2 c = exit _ _ _ _ c.from_residual-in_err-sign-2.result c.from_residual-in_err-sign-2.ensures.1 (as_fails _ (ctor_makes _ _) (then_fails _ (ends_closed _ _) c.in_ok-name.ensures (then_fails _ (ends_closed _ _) c.in_ok-sign.ensures (then_fails _ (ends_closed _ _) (as_read (number_makes _ _) c.in_ok-_digits.ensures.read) c.in_err-sign-2.ensures))))
 
 pub returns : goal.returns
-returns c = read_at (ap (λ r. record { name = plain_name c.in_ok-name.name; rank = r }) (sym (to_z-of_z w128 _ (fits_below _ _ c.in_ok-_token.ensures.value.0 c.in_ok-_token.ensures.value.1) ∙ c.in_ok-_token.ensures.value.0))) (as_read (ctor_makes _ _) (then_read (ends_closed _ _) c.in_ok-name.ensures (then_read (ends_closed _ _) c.in_ok-rest.ensures (then_read (ends_closed _ _) (as_read (number_makes _ _) c.in_ok-_token.ensures.read) c.in_ok-rest-2.ensures))))
+returns c = read_at (ap (λ r. record { name = plain_name c.in_ok-name.name; rank = r }) (sym (to_z-of_z w128 _ (fits_below _ _ c.in_ok-_digits.ensures.value.0 c.in_ok-_digits.ensures.value.1) ∙ c.in_ok-_digits.ensures.value.0))) (as_read (ctor_makes _ _) (then_read (ends_closed _ _) c.in_ok-name.ensures (then_read (ends_closed _ _) c.in_ok-sign.ensures (then_read (ends_closed _ _) (as_read (number_makes _ _) c.in_ok-_digits.ensures.read) c.in_ok-sign-2.ensures))))

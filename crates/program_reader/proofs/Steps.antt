@@ -1,0 +1,40 @@
+-- What a reader did behind a front of the tokens.
+use Rattle.std.proofs.Common.{◌≡◌, ℕ, ◌+◌, List, [], ◌∷◌, drop, refl, sym, ap, ◌∙◌, subst, arith, zero, suc, Result, Ok, Err}
+use Rattle.std.proofs.Math.Seq.{drop-nil}
+use Rattle.model_program.specs.declared.Word.{Word}
+use Rattle.model_program.specs.Lexeme.{Lexeme}
+use Rattle.model_program.specs.Joined.{IsNext}
+use Rattle.model_program.specs.Grammar.{IsSign}
+use Rattle.read_forms.specs.Reads.{IsRead, closed}
+use Rattle.read_forms.specs.Fronts.{Leaves}
+use Rattle.read_forms.proofs.Forms.{as_read}
+use Rattle.read_forms.proofs.Fronts.{left_read, left_fails}
+use Rattle.read_forms.proofs.Words.{word_read, sign_makes}
+use Rattle.fast_lex.specs.declared.Token.{Token}
+use Rattle.fast_lex.specs.Tokens.{lexeme}
+use Rattle.label_reader.specs.declared.reader.Reader.{Reader}
+use Rattle.label_reader.specs.declared.stop.Stop.{Stop}
+use Rattle.label_reader.specs.Results.{lexemes, left, behind, Reads}
+
+-- the next token is the word
+next_in : (w : Word) (n : ℕ) (tokens : List Token) → IsNext w (lexemes (drop n tokens)) → (t : Lexeme) × (lexemes (drop n tokens) ≡ t ∷ lexemes (drop (n + 1) tokens)) × (t.word ≡ w)
+next_in w n [] is_next = absurd (subst (λ (l : List Token). IsNext w (lexemes l)) (drop-nil n) is_next)
+next_in w zero (t ∷ ts) is_next = (lexeme t, refl, is_next)
+next_in w (suc n) (t ∷ ts) is_next =
+    let e = next_in w n ts is_next in
+    let one_more : suc (n + 1) ≡ suc n + 1 = omega arith in
+    (e.0, e.1 ∙ ap (λ m. e.0 ∷ lexemes (drop m (t ∷ ts))) one_more, e.2)
+
+pub sign_next : {w : Word} {rest : List Lexeme} (r : Reader) → IsNext w (left r) → rest ≡ behind r → IsRead (IsSign w) closed (left r) tt rest
+sign_next {w} {rest} r is_next is =
+    let e = next_in w r.place r.tokens.now is_next in
+    subst (λ (l : List Lexeme). IsRead (IsSign w) closed (left r) tt l) (sym is) (as_read (sign_makes w closed (left r)) (word_read w e.0 (left r) (behind r) e.1 e.2))
+
+-- what is left where a token is taken
+pub token_taken : {tokens after rest : List Lexeme} {t : Lexeme} → tokens ≡ t ∷ after → rest ≡ after → tokens ≡ t ∷ rest
+token_taken {t = t} here is = here ∙ ap (λ l. t ∷ l) (sym is)
+
+-- what is left of a form behind a front of it was read, or refused
+pub reads_left : {A X : Type 0} {form rest_of : A → List Lexeme → Type 0} {goes_on : Word → Type 0} (tokens middle rest : List Lexeme) (view : X → A) (r : Result X Stop) → Leaves form rest_of goes_on tokens middle → Reads rest_of goes_on middle rest view r → Reads form goes_on tokens rest view r
+reads_left tokens middle rest view (Ok x) front read = left_read front read
+reads_left tokens middle rest view (Err e) front fails = left_fails _ front fails
