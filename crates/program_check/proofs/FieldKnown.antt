@@ -12,7 +12,7 @@ use Rattle.fast_tree.specs.declared.signature.Sort.{Sort}
 use Rattle.fast_tree.specs.Signatures.{plain_sort}
 use Rattle.fast_syntax.specs.declared.FieldItem.{FieldItem}
 use Rattle.fast_syntax.specs.View.{plain_field}
-use Rattle.model_checks.specs.Failures.{fails_if, first_among}
+use Rattle.model_checks.specs.Failures.{fails_if}
 use Rattle.model_names.specs.Sorts.{sort_named}
 use Rattle.model_checks.specs.Sorts.{find_field, field_sort, plain_fields}
 use Rattle.model_checks.specs.Forms.{form_numbered, form_of_field, is_field}
@@ -20,7 +20,8 @@ use Rattle.model_checks.specs.Labels.{unknown_field}
 use Rattle.program_check.specs.declared.checker.Checker.{Checker}
 use Rattle.program_check.specs.declared.labels.Scope.{Scope}
 use Rattle.program_check.specs.Known.{plain_scope, IsKnown}
-use Rattle.program_check.specs.Notes.{Notes}
+use Rattle.program_check.specs.Notes.{Noted}
+use Rattle.program_check.proofs.Noting.{same}
 
 pub element_at : {A : Type 0} (xs : List A) (i : ℕ) → i < length xs → (x : A) × (x ≡ get_or xs i x)
 element_at [] i low = absurd (omega (arith, low))
@@ -48,7 +49,7 @@ known_field scope fields name place i sort form scope_some low found sorted form
     }
 
 -- nothing fails at the name of a field
-pub field_there : (scope : Scope) (fields : Bor (List FieldItem)) (name : List ℕ) (place : Pos) (i : ℕ) (known : Checker) → scope.fields ≡ Some fields → i < length fields.now → ((x : FieldItem) → x ≡ get_or fields.now i x → find_field (map plain_field fields.now) name ≡ Some (plain_field x)) → Notes known known (unknown_field (plain_scope scope) name place)
-field_there scope fields name place i known scope_some low found =
+pub field_there : (scope : Scope) (fields : Bor (List FieldItem)) (name : List ℕ) (place : Pos) (i : ℕ) (a b : Checker) → scope.fields ≡ Some fields → i < length fields.now → ((x : FieldItem) → x ≡ get_or fields.now i x → find_field (map plain_field fields.now) name ≡ Some (plain_field x)) → Noted a b [] → Noted a b (unknown_field (plain_scope scope) name place)
+field_there scope fields name place i a b scope_some low found none =
     let at = element_at fields.now i low in
-    record { same = refl; is = sym (ap (λ s. first_among known.known (unknown_field s name place)) (scope_is scope fields scope_some) ∙ ap (λ o. first_among known.known (fails_if (not (is_some o)) UnknownField place)) (found at.0 at.1)) }
+    same (sym (ap (λ s. unknown_field s name place) (scope_is scope fields scope_some) ∙ ap (λ o. fails_if (not (is_some o)) UnknownField place) (found at.0 at.1))) none

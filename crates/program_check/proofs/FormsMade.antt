@@ -1,7 +1,7 @@
 -- Forms that are in range, and those that aren't.
 use Rattle.std.proofs.Common.{◌≡◌, cond, Some, None, sym, ap, ◌∙◌, not}
 use Rattle.std.proofs.Math.IntN.{ℤ}
-use Rattle.std.specs.Prelude.{Result, Ok, Err, IfOk, OnOk, MatchResult}
+use Rattle.std.specs.Prelude.{Result, Ok, Err, MatchResult}
 use Rattle.model_form.specs.Form.{Form}
 use Rattle.model_form.specs.Ranges.{IsOutside}
 use Rattle.model_checks.specs.Forms.{is_in_range, kept, is_out_of_range}
@@ -25,16 +25,6 @@ pub form_is : (f : Form) (made : Result Form FormStop) → Makes f made → IsMa
 form_is f (Ok g) h m = ap (λ b. cond b (Some g) None) (sym (is_within g h.in_range)) ∙ ap (λ x. kept (Some x)) h.is
 form_is f (Err (Range n)) h m = ap (λ b. cond b (Some f) None) (sym (is_outside f n h.is))
 form_is f (Err Memory) h m = absurd m
-
--- ---- what is so where a result is Ok
-
-pub on_ok : {T E : Type 0} {P Q R : Type 0} (r : Result T E) → (P → Q → R) → OnOk r P → OnOk r Q → OnOk r R
-on_ok (Ok x) into p q = into p q
-on_ok (Err e) into p q = tt
-
-pub if_ok : {T E : Type 0} {P R : T → Type 0} {Q : Type 0} (r : Result T E) → ((x : T) → P x → Q → R x) → IfOk r P → OnOk r Q → IfOk r R
-if_ok (Ok x) into p q = into x p q
-if_ok (Err e) into p q = tt
 
 pub makes : (f : Form) (made : Result Form FormStop) → MatchResult made (λ g. g ≡ f) (λ stop. StopsAt (IsOutside f) stop) → MatchResult made (λ g. (n : ℤ) → IsOutside g n → ⊥) (λ _. Unit {0}) → Makes f made
 makes f made is in_range = record { is = is; in_range = in_range }

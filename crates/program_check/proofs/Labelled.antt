@@ -1,10 +1,9 @@
 -- What is noted and known of a label expression, from what is so of its parts.
 use Rattle.std.proofs.Common.{◌≡◌, Bool, List, Option, Some, None, sym, ap, ap₂, ◌∙◌, subst, append_assoc, ◌++◌}
-use Rattle.std.specs.Prelude.{negsuc, Result, Ok, Err, IfOk}
+use Rattle.std.specs.Prelude.{negsuc}
 use Rattle.std.specs.Option.{option_map}
 use Rattle.fast_fault.specs.declared.code.Code.TheVariants.{NumberRange, WrongSort}
 use Rattle.fast_fault.specs.declared.place.Pos.{Pos}
-use Rattle.fast_fault.specs.declared.memory.Memory.{Memory}
 use Rattle.model_tree.specs.Signature.{Sort, wholes, truths}
 use Rattle.model_form.specs.Form.{Form}
 use Rattle.model_form.specs.Sums.{Part, sum_form, product_form}
@@ -23,23 +22,23 @@ use Rattle.fast_syntax.specs.declared.expressions.Expr as code
 use Rattle.fast_syntax.specs.Plain.{plain_expr}
 use Rattle.program_check.specs.declared.labels.Side.{Side}
 use Rattle.program_check.proofs.Places.{place_is}
-use Rattle.model_checks.specs.Forms.{is_out_of_range, has_field, form_in_range, added}
+use Rattle.model_checks.specs.Forms.{is_out_of_range, has_field, have_field, form_in_range, added}
 use Rattle.model_checks.specs.Labels.{label_failures, sorted_failures, operands_failures, compared, needs_sort_of}
 use Rattle.program_check.specs.declared.labels.Scope.{Scope}
 use Rattle.program_check.specs.declared.labels.Known.{Known}
 use Rattle.program_check.specs.Known.{plain_scope, IsKnown, AreTruths, sort_failures, sides_failures, field_sort_failures, next_failures, step_failures}
-use Rattle.program_check.specs.Notes.{Notes}
+use Rattle.program_check.specs.Notes.{Noted}
 use Rattle.program_check.specs.declared.checker.Checker.{Checker}
 use Rattle.program_check.proofs.Noting.{next, same}
 
-pub minus_noted : (s : model.Scope) (e : Expr) (place : Pos) (form : Option Form) (a b c : Checker) → form ≡ form_in_range s e → Notes a b (sorted_failures s wholes e)
-    → Notes b c (fails_if (is_out_of_range (option_map (product_form (negsuc 0)) form)) NumberRange place) → Notes a c (label_failures s (minus place e))
+pub minus_noted : (s : model.Scope) (e : Expr) (place : Pos) (form : Option Form) (a b c : Checker) → form ≡ form_in_range s e → Noted a b (sorted_failures s wholes e)
+    → Noted b c (fails_if (is_out_of_range (option_map (product_form (negsuc 0)) form)) NumberRange place) → Noted a c (label_failures s (minus place e))
 minus_noted s e place form a b c is one two =
     same (append_assoc (label_failures s e) (needs_sort s wholes e) (fails_if (is_out_of_range (option_map (product_form (negsuc 0)) (form_in_range s e))) NumberRange place))
     (next one (same (ap (λ f. fails_if (is_out_of_range (option_map (product_form (negsuc 0)) f)) NumberRange place) is) two))
 
-pub sum_noted : (s : model.Scope) (parts : Parts) (place : Pos) (acc : Option (List Part)) (a b c : Checker) → acc ≡ added s parts → Notes a b (operands_failures s wholes parts)
-    → Notes b c (fails_if (is_out_of_range (option_map sum_form acc)) NumberRange place) → Notes a c (label_failures s (chain Sum place parts))
+pub sum_noted : (s : model.Scope) (parts : Parts) (place : Pos) (acc : Option (List Part)) (a b c : Checker) → acc ≡ added s parts → Noted a b (operands_failures s wholes parts)
+    → Noted b c (fails_if (is_out_of_range (option_map sum_form acc)) NumberRange place) → Noted a c (label_failures s (chain Sum place parts))
 sum_noted s parts place acc a b c is one two = next one (same (ap (λ x. fails_if (is_out_of_range (option_map sum_form x)) NumberRange place) is) two)
 
 -- what is known of a side of a comparison
@@ -77,12 +76,12 @@ sides_are s Greater x y l r h g = ap₂ (λ a b. a ++ b) (sort_are s wholes x l 
 sides_are s AtLeast x y l r h g = ap₂ (λ a b. a ++ b) (sort_are s wholes x l h) (sort_are s wholes y r g)
 
 pub compare_noted : (s : model.Scope) (rel : Rel) (place : Pos) (x x1 y y2 : Expr) (l r : Side) (a b c d : Checker) → x1 ≡ x → y2 ≡ y → IsSide s x l → IsSide s y r
-    → Notes a b (label_failures s x1) → Notes b c (label_failures s y2) → Notes c d (sides_failures rel l r) → Notes a d (label_failures s (compare place rel x y))
+    → Noted a b (label_failures s x1) → Noted b c (label_failures s y2) → Noted c d (sides_failures rel l r) → Noted a d (label_failures s (compare place rel x y))
 compare_noted s rel place x x1 y y2 l r a b c d p q h g one two three =
     next (same (ap (label_failures s) p) one) (next (same (ap (label_failures s) q) two) (same (sides_are s rel x y l r h g) three))
 
 pub step_noted : (s : model.Scope) (place : Pos) (has : Bool) (form : Option Form) (m : Bool) (e : Expr) (also : Bool) (factor : Option Form) (a b c : Checker) → also ≡ has_field s e → factor ≡ form_in_range s e
-    → Notes a b (sorted_failures s wholes e) → Notes b c (next_failures place has form m also factor e) → Notes a c (step_failures s place has form m e)
+    → Noted a b (sorted_failures s wholes e) → Noted b c (next_failures place has form m also factor e) → Noted a c (step_failures s place has form m e)
 step_noted s place has form m e also factor a b c also_is factor_is one two =
     same (append_assoc (label_failures s e) (needs_sort s wholes e) (next_failures place has form m (has_field s e) (form_in_range s e) e)) (next one (same (ap₂ (λ h f. next_failures place has form m h f e) also_is factor_is) two))
 
@@ -100,6 +99,9 @@ truth_known scope e known has is sort_is has_is form_is = record {
   form = ap (λ (k : Known). k.form) is ∙ form_is;
 }
 
-pub if_known : (made : Result Known Memory) (scope : Scope) (parts : Parts) (x y : Expr) → ((known : Known) → AreTruths scope parts known → IsKnown scope x known) → x ≡ y → IfOk made (AreTruths scope parts) → IfOk made (IsKnown scope y)
-if_known (Ok known) scope parts x y is same are = subst (λ (z : Expr). IsKnown scope z known) same (is known are)
-if_known (Err want) scope parts x y is same are = tt
+pub truths_known : (scope : Scope) (parts : Parts) (known : Known) (has : Bool) → known ≡ record { sort = Some sorts.Bool; has_field = has; form = None } → has ≡ have_field (plain_scope scope) parts → AreTruths scope parts known
+truths_known scope parts known has is has_is = record {
+  sort = ap (λ (k : Known). option_map plain_sort k.sort) is;
+  has = ap (λ (k : Known). k.has_field) is ∙ has_is;
+  form = ap (λ (k : Known). k.form) is;
+}

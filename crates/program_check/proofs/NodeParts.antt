@@ -8,7 +8,7 @@ use Rattle.model_checks.specs.Sorts.{Scope}
 use Rattle.model_checks.specs.Labels.{labels_failures}
 use Rattle.model_checks.specs.Rules.{type_at, scope_of, fields_of, constructor_failures, label_count_failures, count_outs, out_failures, outs_failures}
 use Rattle.program_check.specs.Nodes.{node_failures}
-use Rattle.program_check.specs.Notes.{Notes}
+use Rattle.program_check.specs.Notes.{Noted}
 use Rattle.program_check.specs.declared.checker.Checker.{Checker}
 use Rattle.program_check.specs.Contexts.{items_of}
 use Rattle.program_check.proofs.Noting.{then, next, same}
@@ -18,7 +18,7 @@ outs_counted [] = refl
 outs_counted (out ∷ outs) = ap suc (outs_counted outs)
 
 pub node_noted : (from into : Name) (vars : List Name) (name : Name) (labels : List Expr) (outs : Outs) (n : ℕ) (a b c : Checker) → n ≡ count_outs outs
-    → Notes a b (node_failures (items_of a.context) from into name labels n) → Notes b c (outs_failures (items_of b.context) from into vars outs) → Notes a c (out_failures (items_of a.context) from into vars (node name labels outs))
+    → Noted a b (node_failures (items_of a.context) from into name labels n) → Noted b c (outs_failures (items_of b.context) from into vars outs) → Noted a c (out_failures (items_of a.context) from into vars (node name labels outs))
 node_noted from into vars name labels outs n a b c counted one two =
     let items = items_of a.context in
     let ctor = constructor_failures (type_at items into) name (count_outs outs) in
@@ -29,7 +29,7 @@ node_noted from into vars name labels outs n a b c counted one two =
 
 pub node_made : (items : List Item) (from into : Name) (name : Name) (labels : List Expr) (n m : ℕ) (t : Option TypeItem) (s : Scope) (fields : List FieldItem) (a b c d : Checker)
     → t ≡ type_at items into → s ≡ scope_of (type_at items from) → fields ≡ fields_of t → m ≡ length labels
-    → Notes a b (constructor_failures t name n) → Notes b c (label_count_failures t name m) → Notes c d (labels_failures s fields labels) → Notes a d (node_failures items from into name labels n)
+    → Noted a b (constructor_failures t name n) → Noted b c (label_count_failures t name m) → Noted c d (labels_failures s fields labels) → Noted a d (node_failures items from into name labels n)
 node_made items from into name labels n m t s fields a b c d t_is s_is fields_are counted one two three =
     next (same (ap (λ o. constructor_failures o name n) t_is) one)
     (next (same (ap₂ (λ o k. label_count_failures o name k) t_is counted) two) (same (ap₂ (λ x y. labels_failures x y labels) s_is (fields_are ∙ ap fields_of t_is)) three))

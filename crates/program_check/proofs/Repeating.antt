@@ -10,7 +10,7 @@ use Rattle.model_checks.specs.Failures.{fails_if}
 use Rattle.model_checks.specs.Types.{is_among, repeated_behind, repeated}
 use Rattle.fast_syntax.proofs.Appending.{drop_at}
 use Rattle.program_check.specs.declared.names.Names.{Names}
-use Rattle.program_check.specs.Notes.{Notes, Left}
+use Rattle.program_check.specs.Notes.{HasMemory, Noted, LeftOver}
 use Rattle.program_check.specs.Naming.{place_in, or_else, Adds}
 use Rattle.program_check.specs.Numbered.{name_place, ctor_place}
 use Rattle.program_check.specs.declared.checker.Checker.{Checker}
@@ -41,14 +41,14 @@ places_more names n old new place many adds there text =
 
 -- what is so before the element of this number
 pub record SoFar {A : Type 0} (f : A → Name) (code : Code) (all : List A) (i : ℕ) (start now : Checker) (names : Names) : Type 0 where
-  pub noted : Left start now (repeated code (map f all)) (repeated_behind code (map f (take i all)) (map f (drop i all)))
+  pub noted : LeftOver start now (repeated code (map f all)) (repeated_behind code (map f (take i all)) (map f (drop i all)))
   pub there : (text : List ℕ) → place_in names text ≡ name_place (map f (take i all)) text
 
-pub at_first : {A : Type 0} (f : A → Name) (code : Code) (all : List A) (start : Checker) (names : Names) → ((text : List ℕ) → place_in names text ≡ None) → SoFar f code all 0 start start names
-at_first f code all start names none = record { noted = nothing_yet start (repeated code (map f all)); there = none }
+pub at_first : {A : Type 0} (f : A → Name) (code : Code) (all : List A) (start : Checker) (names : Names) → ((text : List ℕ) → place_in names text ≡ None) → HasMemory start → SoFar f code all 0 start start names
+at_first f code all start names none h = record { noted = nothing_yet start (repeated code (map f all)) h; there = none }
 
 one_more_of : {A : Type 0} (f : A → Name) (code : Code) (all : List A) (i : ℕ) (x : A) (start a b : Checker) (old new : Names) → i < length all → x ≡ get_or all i x
-    → Notes a b (fails_if (is_some (place_in old (f x).text)) code (f x).place) → Adds old new (f x).text i → SoFar f code all i start a old → SoFar f code all (i + 1) start b new
+    → Noted a b (fails_if (is_some (place_in old (f x).text)) code (f x).place) → Adds old new (f x).text i → SoFar f code all i start a old → SoFar f code all (i + 1) start b new
 one_more_of f code all i x start a b old new low is noted adds so_far =
     let before : map f (take (i + 1) all) ≡ map f (take i all) ++ f x ∷ [] = ap (map f) (take_at all i x low is) ∙ map-append f (take i all) (x ∷ []) in
     record {
@@ -59,11 +59,11 @@ one_more_of f code all i x start a b old new low is noted adds so_far =
     }
 
 pub one_more : {A : Type 0} (f : A → Name) (code : Code) (all : List A) (i : ℕ) (x : A) (n : Name) (start a b : Checker) (old new : Names) → i < length all → x ≡ get_or all i x → n ≡ f x
-    → Notes a b (fails_if (is_some (place_in old n.text)) code n.place) → Adds old new n.text i → SoFar f code all i start a old → SoFar f code all (i + 1) start b new
+    → Noted a b (fails_if (is_some (place_in old n.text)) code n.place) → Adds old new n.text i → SoFar f code all i start a old → SoFar f code all (i + 1) start b new
 one_more f code all i x n start a b old new low is named noted adds so_far =
-    one_more_of f code all i x start a b old new low is (subst (λ (m : Name). Notes a b (fails_if (is_some (place_in old m.text)) code m.place)) named noted) (subst (λ (m : Name). Adds old new m.text i) named adds) so_far
+    one_more_of f code all i x start a b old new low is (subst (λ (m : Name). Noted a b (fails_if (is_some (place_in old m.text)) code m.place)) named noted) (subst (λ (m : Name). Adds old new m.text i) named adds) so_far
 
-pub all_noted : {A : Type 0} (f : A → Name) (code : Code) (all : List A) (i : ℕ) (start known : Checker) (names : Names) → length all ≤ i → SoFar f code all i start known names → Notes start known (repeated code (map f all))
+pub all_noted : {A : Type 0} (f : A → Name) (code : Code) (all : List A) (i : ℕ) (start known : Checker) (names : Names) → length all ≤ i → SoFar f code all i start known names → Noted start known (repeated code (map f all))
 all_noted f code all i start known names end so_far =
     done (ap (λ xs. repeated_behind code (map f (take i all)) (map f xs)) (drop_all i all end)) so_far.noted
 

@@ -11,7 +11,7 @@ use Rattle.model_checks.specs.Types.{repeated}
 use Rattle.model_checks.specs.Rules.{constructor_failures, scope_of, guard_failures, type_at, demand_failures, rule_failures}
 use Rattle.program_check.specs.declared.checker.Checker.{Checker}
 use Rattle.program_check.specs.Contexts.{items_of}
-use Rattle.program_check.specs.Notes.{Notes}
+use Rattle.program_check.specs.Notes.{Noted}
 use Rattle.program_check.specs.Numbered.{place_by}
 use Rattle.program_check.proofs.Found.{at_next}
 use Rattle.program_check.proofs.Noting.{next, same}
@@ -31,7 +31,7 @@ either_way f None o e = sym e
 either_way f (Some x) o e = sym e
 
 pub rule_noted : (of : Name) (r : Rule) (t : Option TypeItem) (s : Scope) (vars : List Name) (a b c d e : Checker) → t ≡ type_at (items_of a.context) of → s ≡ scope_of t → vars ≡ r.vars
-    → Notes a b (constructor_failures t r.ctor (length r.vars)) → Notes b c (repeated DuplicateVariable r.vars) → Notes c d (guard_failures s r.guard) → Notes d e (flat_map (demand_failures (items_of d.context) of vars) r.given) → Notes a e (rule_failures (items_of a.context) of r)
+    → Noted a b (constructor_failures t r.ctor (length r.vars)) → Noted b c (repeated DuplicateVariable r.vars) → Noted c d (guard_failures s r.guard) → Noted d e (flat_map (demand_failures (items_of d.context) of vars) r.given) → Noted a e (rule_failures (items_of a.context) of r)
 rule_noted of r t s vars a b c d e t_is s_is vars_are one two three four =
     next (same (ap (λ o. constructor_failures o r.ctor (length r.vars)) t_is) one)
     (next two (next (same (ap (λ x. guard_failures x r.guard) (s_is ∙ ap scope_of t_is)) three)

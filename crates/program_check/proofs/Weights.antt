@@ -1,5 +1,5 @@
 -- Rows of children that wait, and how often they are looked at, at most.
-use Rattle.std.proofs.Common.{◌≡◌, ◌+◌, ◌<◌, List, [], ◌∷◌, ◌++◌, map, refl, sym, ap, ◌∙◌, arith}
+use Rattle.std.proofs.Common.{◌≡◌, ◌+◌, ◌<◌, List, [], ◌∷◌, ◌++◌, map, refl, ap, ◌∙◌, arith}
 use Rattle.std.proofs.lemmas.List.{map-append}
 use Rattle.model_grammar.specs.Syntax.{X, named, one, two, literal}
 use Rattle.fast_syntax.specs.declared.items.X as code
@@ -13,15 +13,6 @@ added later (first ∷ rows) row = added (first ++ later) rows row
 -- a row that is added goes first
 pub row_added : {R A : Type 0} (f : R → List A) (rows new : List R) (row : R) → new ≡ rows ++ row ∷ [] → before_these [] (map f new) ≡ f row ++ before_these [] (map f rows)
 row_added f rows new row is = ap (λ rs. before_these [] (map f rs)) is ∙ ap (before_these []) (map-append f rows (row ∷ [])) ∙ added [] (map f rows) (f row)
-
--- the rest of a row takes its place
-pub row_shorter : {R A : Type 0} (f : R → List A) (old middle new : List R) (row rest : R) (x : A) → old ≡ middle ++ row ∷ [] → f row ≡ x ∷ f rest → new ≡ middle ++ rest ∷ [] → before_these [] (map f old) ≡ x ∷ before_these [] (map f new)
-row_shorter f old middle new row rest x was is now =
-    row_added f middle old row was ∙ ap (λ xs. xs ++ before_these [] (map f middle)) is ∙ ap (λ xs. x ∷ xs) (sym (row_added f middle new rest now))
-
--- a row without children
-pub row_empty : {R A : Type 0} (f : R → List A) (old new : List R) (row : R) → old ≡ new ++ row ∷ [] → f row ≡ [] → before_these [] (map f old) ≡ before_these [] (map f new)
-row_empty f old new row was is = row_added f new old row was ∙ ap (λ xs. xs ++ before_these [] (map f new)) is
 
 -- an expression is looked at once at least
 pub some_weight : (x : X) → 0 < weight x

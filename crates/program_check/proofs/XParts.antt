@@ -13,7 +13,7 @@ use Rattle.model_checks.specs.Labels.{labels_failures}
 use Rattle.model_checks.specs.Rules.{constructor_failures, label_count_failures, fields_of}
 use Rattle.model_checks.specs.Expressions.{nesting_failures, count_xs, type_called, needs_be, wanted_second, expected_as, x_failures, xs_failures}
 use Rattle.program_check.specs.Standings.{as_failures, literal_failures}
-use Rattle.program_check.specs.Notes.{Notes, Left}
+use Rattle.program_check.specs.Notes.{Noted, LeftOver}
 use Rattle.program_check.specs.declared.checker.Checker.{Checker}
 use Rattle.program_check.proofs.Noting.{next, same, left_by}
 
@@ -39,14 +39,14 @@ module _ (items before : List Item) where
 
   pub one_noted : (op : Op1) (place : Pos) (around deep : ℕ) (e : Option (List ℕ)) (x x1 : X) (k : Kind) (a b c : Checker) → x1 ≡ x → k ≡ taken_by_one op
       → ((n : Option (List ℕ)) (z : X) → x_failures items before deep n z ≡ x_failures items before (suc around) n z)
-      → Notes a b (nesting_failures around place) → Notes b c (as_failures items before deep None k x1) → Notes a c (x_failures items before around e (one op place x))
+      → Noted a b (nesting_failures around place) → Noted b c (as_failures items before deep None k x1) → Noted a c (x_failures items before around e (one op place x))
   one_noted op place around deep e x x1 k a b c is k_is deep_is p q = next p (same (first_is around deep k (taken_by_one op) x1 x deep_is k_is is) q)
 
   pub two_noted : (op : Op2) (place : Pos) (around deep : ℕ) (e wanted : Option (List ℕ)) (x x1 x2 y y1 : X) (k l : Kind) (a b c d : Checker)
       → x1 ≡ x → x2 ≡ x → y1 ≡ y → k ≡ taken_first op → l ≡ taken_second op → wanted ≡ wanted_second items before op x2
       → ((n : Option (List ℕ)) (z : X) → x_failures items before deep n z ≡ x_failures items before (suc around) n z)
-      → Notes a b (nesting_failures around place) → Notes b c (as_failures items before deep None k x1) → Notes c d (as_failures items before deep wanted l y1)
-      → Notes a d (x_failures items before around e (two op place x y))
+      → Noted a b (nesting_failures around place) → Noted b c (as_failures items before deep None k x1) → Noted c d (as_failures items before deep wanted l y1)
+      → Noted a d (x_failures items before around e (two op place x y))
   two_noted op place around deep e wanted x x1 x2 y y1 k l a b c d is is2 js k_is l_is wanted_is deep_is p q r =
       let want = wanted_second items before op x in
       let first = x_failures items before (suc around) None x in
@@ -56,7 +56,7 @@ module _ (items before : List Item) where
       (same (operand_is around deep wanted want l (taken_second op) y1 y deep_is (wanted_is ∙ ap (wanted_second items before op) is2) l_is js) r)))
 
   pub literal_noted : (around n : ℕ) (e : Option (List ℕ)) (t : Option TypeItem) (name : Name) (labels : List Expr) (xs : Xs) (a b c : Checker) → t ≡ type_called items before e → n ≡ count_xs xs
-      → Notes a b (literal_failures t name labels n) → Notes b c (xs_failures items before around e xs) → Notes a c (x_failures items before around e (literal name labels xs))
+      → Noted a b (literal_failures t name labels n) → Noted b c (xs_failures items before around e xs) → Noted a c (x_failures items before around e (literal name labels xs))
   literal_noted around n e t name labels xs a b c t_is counted p q =
       let t2 = type_called items before e in
       let ctor = constructor_failures t2 name (count_xs xs) in
@@ -82,8 +82,8 @@ module _ (items before : List Item) where
 
   -- a child that is a literal, whose children wait
   pub literal_child : (around n : ℕ) (e : Option (List ℕ)) (t : Option TypeItem) (x : X) (name : Name) (labels : List Expr) (xs old new : List code.X) (a b : Checker) → t ≡ type_called items before e → n ≡ count_xs (plain_children xs)
-      → x ≡ literal name labels (plain_children xs) → new ≡ xs ++ old → Notes a b (literal_failures t name labels n)
-      → Left a b (xs_failures items before around e (and_x x (plain_children old))) (xs_failures items before around e (plain_children new))
+      → x ≡ literal name labels (plain_children xs) → new ≡ xs ++ old → Noted a b (literal_failures t name labels n)
+      → LeftOver a b (xs_failures items before around e (and_x x (plain_children old))) (xs_failures items before around e (plain_children new))
   literal_child around n e t x name labels xs old new a b t_is counted is more_are p =
       let each = xs_failures items before around e in
       let t2 = type_called items before e in
@@ -102,7 +102,7 @@ module _ (items before : List Item) where
       (same (ap₂ (λ u m. literal_failures u name labels m) t_is counted) p)
 
   -- any other child
-  pub other_child : (around : ℕ) (e : Option (List ℕ)) (x : X) (rest : Xs) (a b : Checker) → Notes a b (as_failures items before around e a_tree x)
-      → Left a b (xs_failures items before around e (and_x x rest)) (xs_failures items before around e rest)
+  pub other_child : (around : ℕ) (e : Option (List ℕ)) (x : X) (rest : Xs) (a b : Checker) → Noted a b (as_failures items before around e a_tree x)
+      → LeftOver a b (xs_failures items before around e (and_x x rest)) (xs_failures items before around e rest)
   other_child around e x rest a b p =
       left_by (xs_failures items before around e rest) (sym (append_assoc (x_failures items before around e x) (needs_be items before e a_tree x) (xs_failures items before around e rest))) p

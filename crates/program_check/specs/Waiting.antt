@@ -12,7 +12,7 @@ before_these later (row ∷ rows) = before_these (row ++ later) rows
 
 -- the children, in the order in which they are checked
 abbrev pub those_of : Waiting → List code.X
-those_of waiting = before_these [] (map (λ row. row.now) waiting.rows.items)
+those_of waiting = waiting.row.now ++ before_these [] (map (λ row. row.now) waiting.rows.items)
 
 abbrev pub plain_waiting : Waiting → Xs
 plain_waiting waiting = plain_children (those_of waiting)

@@ -1,18 +1,22 @@
 //! What goes through a program: it keeps the first failing condition of those that it noted, in whatever order they were
 //! found.
 
-ghost use Rattle.std.specs.Prelude.{◌≡◌, None, Some};
+ghost use Rattle.std.specs.Prelude.{◌≡◌, None, Some, IsOk, []};
 ghost use Rattle.model_checks.specs.Failures.{failure, fails_if, goes_before};
-ghost use Rattle.program_check.specs.Notes.{Notes};
+ghost use Rattle.program_check.specs.Notes.{HasMemory, Notes};
 
 use crate::context::Context;
-use fast_fault::{Code, Pos, Refusal};
+use fast_fault::{Code, Memory, Pos, Refusal};
 use std::alloc::Global;
 
 /// The failing condition that goes before all others that were noted, where some were, and the program.
+///
+/// It keeps in mind that memory ran out, so that no method has to say so: the check goes on to its end, and its caller asks.
 #[derive(Drop)]
 pub(crate) struct Checker<'p> {
     pub(crate) known: Option<Refusal>,
+    /// Whether memory ran out. From then on what is noted says nothing.
+    pub(crate) ran_out: bool,
     pub(crate) alloc: Global,
     pub(crate) context: Context<'p>,
 }
@@ -37,6 +41,16 @@ impl Checker<'_> {
     {
         if fails {
             self.note(code, place);
+        }
+    }
+
+    /// It was done, or memory ran out, which is kept in mind.
+    pub(crate) fn note_want(&mut self, done: Result<(), Memory>)
+        ensures noted { Notes self.old self.new [] }
+        ensures done { HasMemory self.new → IsOk done }
+    {
+        if done.is_err() {
+            self.ran_out = true;
         }
     }
 }

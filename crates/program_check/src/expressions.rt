@@ -1,6 +1,6 @@
 //! What may fail in an expression of a language, a transformation or a tree, and what one stands for.
 
-ghost use Rattle.std.specs.Prelude.{◌≡◌, ◌<◌, ◌≤◌, ◌+◌, ◌++◌, ◌&&◌, not, List, [], OnOk, IfOk, Some, None, map, length, is_some};
+ghost use Rattle.std.specs.Prelude.{◌≡◌, ◌<◌, ◌≤◌, ◌+◌, ◌++◌, ◌&&◌, not, List, [], Some, None, map, length, is_some};
 ghost use Rattle.std.specs.Option.{option_map, option_and_then, option_map_or};
 ghost use Rattle.model_tree.specs.Limits.{most_around};
 ghost use Rattle.fast_fault.specs.declared.code.Code.TheVariants as code;
@@ -12,7 +12,7 @@ ghost use Rattle.fast_syntax.specs.View.{plain_name, plain_field, plain_type};
 ghost use Rattle.fast_syntax.specs.Plain.{plain_expr, plain_x, plain_item, plain_into};
 ghost use Rattle.fast_syntax.specs.Slices.{plain_children};
 ghost use Rattle.model_checks.specs.Expressions.{place_of_x, is_other_kind, is_known_later, expected_as, nesting_failures, name_failures, needs_kind, needs_type, needs_be, x_failures, xs_failures};
-ghost use Rattle.program_check.specs.Notes.{Notes, Left};
+ghost use Rattle.program_check.specs.Notes.{HasMemory, Notes, Left};
 ghost use Rattle.program_check.specs.Typed.{type_name};
 ghost use Rattle.program_check.specs.Contexts.{items_of, before_of};
 ghost use Rattle.program_check.specs.Waiting.{plain_waiting, weight, weights};
@@ -25,7 +25,7 @@ use crate::limits::MOST_AROUND;
 use crate::outputs::fields_of;
 use crate::rules::differ;
 use crate::waiting::Waiting;
-use fast_fault::{Code, Memory, Pos, Text};
+use fast_fault::{Code, Pos, Text};
 use fast_syntax::Name;
 use fast_syntax::expressions::Expr;
 use fast_syntax::items::{Body, Item, X};
@@ -313,7 +313,7 @@ fn standing_of_nothing<'p>(context: &Context<'p>, name: &Name) -> Standing<'p>
 impl<'p> Checker<'p> {
     /// The expression is of this kind and the type of this name.
     fn check_be(&mut self, of: Option<&Text>, kind: Kind, x: &X, standing: &Standing)
-        requires { IsStanding (items_of self.old.context) (plain_x x.now) standing.now }
+        requires { HasMemory self.old → IsStanding (items_of self.old.context) (plain_x x.now) standing.now }
         ensures { Notes self.old self.new (needs_be (items_of self.old.context) (before_of self.old.context) (type_name of.entry) (plain_kind kind) (plain_x x.now)) }
     {
         let place = place_of(x);
@@ -364,14 +364,8 @@ impl<'p> Checker<'p> {
     }
 
     /// The constructor of a literal of this type, and its labels, which have no names of fields.
-    fn check_literal(
-        &mut self,
-        expected: Option<&Text>,
-        name: &Name,
-        labels: &[Expr],
-        count: usize,
-    ) -> Result<(), Memory>
-        ensures { OnOk result (Notes self.old self.new (literal_failures (option_and_then (find_type (items_of self.old.context)) (type_name expected.entry)) (plain_name name.now) (map plain_expr labels.now) count)) }
+    fn check_literal(&mut self, expected: Option<&Text>, name: &Name, labels: &[Expr], count: usize)
+        ensures { Notes self.old self.new (literal_failures (option_and_then (find_type (items_of self.old.context)) (type_name expected.entry)) (plain_name name.now) (map plain_expr labels.now) count) }
     {
         let of = self.context.type_called(expected);
         self.check_constructor(&of, name, count);
@@ -388,35 +382,35 @@ impl<'p> Checker<'p> {
         around: usize,
         expected: Option<&'p Text>,
         x: &X,
-    ) -> Result<Standing<'p>, Memory>
-        ensures noted { OnOk result (Notes self.old self.new (x_failures (items_of self.old.context) (before_of self.old.context) around (type_name expected.entry) (plain_x x.now))) }
-        ensures standing { IfOk result (IsStanding (items_of self.old.context) (plain_x x.now)) }
+    ) -> Standing<'p>
+        ensures noted { Notes self.old self.new (x_failures (items_of self.old.context) (before_of self.old.context) around (type_name expected.entry) (plain_x x.now)) }
+        ensures standing { HasMemory self.new → IsStanding (items_of self.old.context) (plain_x x.now) result }
     {
         match x {
-            X::Named(name) => Ok(self.check_word(name)),
+            X::Named(name) => self.check_word(name),
             X::One(op, place, inside) => {
                 let deep = self.check_nested(around, *place);
                 let kind = taken_by_one(*op);
-                let operand = self.check_as(deep, None, kind, inside)?;
-                Ok(of_one(*op, &operand))
+                let operand = self.check_as(deep, None, kind, inside);
+                of_one(*op, &operand)
             }
             X::Two(op, place, first, second) => {
                 let deep = self.check_nested(around, *place);
                 let kind = taken_first(*op);
-                let left = self.check_as(deep, None, kind, first)?;
+                let left = self.check_as(deep, None, kind, first);
                 let wanted = wanted_second(*op, &left);
                 let kind = taken_second(*op);
-                let right = self.check_as(deep, wanted, kind, second)?;
-                Ok(of_two(*op, &left, &right))
+                let right = self.check_as(deep, wanted, kind, second);
+                of_two(*op, &left, &right)
             }
             X::Literal(name, labels, children) => {
-                self.check_literal(expected, name, labels, children.len())?;
-                self.check_children(around, expected, children)?;
-                Ok(Standing {
+                self.check_literal(expected, name, labels, children.len());
+                self.check_children(around, expected, children);
+                Standing {
                     kind: Some(Kind::Tree),
                     input: None,
                     output: None,
-                })
+                }
             }
         }
     }
@@ -429,32 +423,25 @@ impl<'p> Checker<'p> {
         of: Option<&'p Text>,
         kind: Kind,
         x: &X,
-    ) -> Result<Standing<'p>, Memory>
-        ensures noted { OnOk result (Notes self.old self.new (as_failures (items_of self.old.context) (before_of self.old.context) around (type_name of.entry) (plain_kind kind) (plain_x x.now))) }
-        ensures standing { IfOk result (IsStanding (items_of self.old.context) (plain_x x.now)) }
+    ) -> Standing<'p>
+        ensures noted { Notes self.old self.new (as_failures (items_of self.old.context) (before_of self.old.context) around (type_name of.entry) (plain_kind kind) (plain_x x.now)) }
+        ensures standing { HasMemory self.new → IsStanding (items_of self.old.context) (plain_x x.now) result }
     {
         let expected = expected_as(kind, of);
-        let standing = self.check_x(around, expected, x)?;
+        let standing = self.check_x(around, expected, x);
         self.check_be(of, kind, x, &standing);
-        Ok(standing)
+        standing
     }
 
     /// The children of a literal of this type, and those of the literals in it.
     #[cycle(check_x)]
-    fn check_children(
-        &mut self,
-        around: usize,
-        expected: Option<&'p Text>,
-        children: &[X],
-    ) -> Result<(), Memory>
-        ensures { OnOk result (Notes self.old self.new (xs_failures (items_of self.old.context) (before_of self.old.context) around (type_name expected.entry) (plain_children children.now))) }
+    fn check_children(&mut self, around: usize, expected: Option<&'p Text>, children: &[X])
+        ensures { Notes self.old self.new (xs_failures (items_of self.old.context) (before_of self.old.context) around (type_name expected.entry) (plain_children children.now)) }
     {
-        let mut waiting = Waiting::new(self.alloc);
-        waiting.add(children)?;
-        'children: while let Some(child) = waiting.next()? {
-            self.check_next_child(around, expected, child, &mut waiting)?;
+        let mut waiting = Waiting::new(self.alloc, children);
+        'children: while let Some(child) = waiting.next() {
+            self.check_next_child(around, expected, child, &mut waiting);
         }
-        Ok(())
     }
 
     /// A child of a literal of this type. Where it is a literal, its own children wait.
@@ -465,15 +452,16 @@ impl<'p> Checker<'p> {
         expected: Option<&'p Text>,
         child: &'x X,
         waiting: &mut Waiting<'x>,
-    ) -> Result<(), Memory>
-        ensures noted { OnOk result (Left self.old self.new (xs_failures (items_of self.old.context) (before_of self.old.context) around (type_name expected.entry) (plain.and_x (plain_x child.now) (plain_waiting waiting.old))) (xs_failures (items_of self.old.context) (before_of self.old.context) around (type_name expected.entry) (plain_waiting waiting.new))) }
-        ensures less { OnOk result (weights (plain_waiting waiting.new) < weight (plain_x child.now) + weights (plain_waiting waiting.old)) }
+    )
+        ensures noted { Left self.old self.new (xs_failures (items_of self.old.context) (before_of self.old.context) around (type_name expected.entry) (plain.and_x (plain_x child.now) (plain_waiting waiting.old))) (xs_failures (items_of self.old.context) (before_of self.old.context) around (type_name expected.entry) (plain_waiting waiting.new)) }
+        ensures less { weights (plain_waiting waiting.new) < weight (plain_x child.now) + weights (plain_waiting waiting.old) }
     {
         let X::Literal(name, labels, children) = child else {
-            self.check_as(around, expected, Kind::Tree, child)?;
-            return Ok(());
+            self.check_as(around, expected, Kind::Tree, child);
+            return;
         };
-        self.check_literal(expected, name, labels, children.len())?;
-        waiting.add(children)
+        self.check_literal(expected, name, labels, children.len());
+        let added = waiting.add(children);
+        self.note_want(added);
     }
 }

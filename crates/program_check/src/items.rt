@@ -1,6 +1,6 @@
 //! What may fail in an item, by its kind.
 
-ghost use Rattle.std.specs.Prelude.{◌≡◌, ◌++◌, List, [], OnOk, IfOk, Some, None, map, is_some};
+ghost use Rattle.std.specs.Prelude.{◌≡◌, ◌++◌, List, [], Some, None, map, is_some};
 ghost use Rattle.std.specs.List.{flat_map};
 ghost use Rattle.std.specs.Option.{option_map, option_and_then};
 ghost use Rattle.fast_fault.specs.declared.code.Code.TheVariants as code;
@@ -11,7 +11,7 @@ ghost use Rattle.model_checks.specs.Failures.{fails_if};
 ghost use Rattle.model_checks.specs.Rules.{type_name_failures, rule_limit, rule_failures, out_rule_failures};
 ghost use Rattle.model_checks.specs.Expressions.{place_of_x, type_as, output_as, whole_failures};
 ghost use Rattle.model_checks.specs.Programs.{is_tree, type_again, name_again, tree_failures, lang_failures, trans_failures, into_failures, needs_output, def_failures, claim_failures, body_failures};
-ghost use Rattle.program_check.specs.Notes.{Notes};
+ghost use Rattle.program_check.specs.Notes.{HasMemory, Notes};
 ghost use Rattle.program_check.specs.Typed.{type_name};
 ghost use Rattle.program_check.specs.Contexts.{items_of, before_of};
 ghost use Rattle.program_check.specs.Standings.{plain_kind, IsStanding};
@@ -24,7 +24,7 @@ use crate::context::Context;
 use crate::expressions::{Kind, Standing, defined_kind, only_as, place_of};
 use crate::limits::MOST_RULES;
 use crate::rules::{Between, differ};
-use fast_fault::{Code, Memory, Text};
+use fast_fault::{Code, Text};
 use fast_syntax::items::{Body, Claim, DefItem, LangItem, OutRule, Rule, TransItem, TreeItem, X};
 use fast_syntax::{Name, TypeItem};
 
@@ -72,14 +72,13 @@ impl<'p> Checker<'p> {
         self.note_if(again, Code::DuplicateType, name.place);
     }
 
-    fn check_tree(&mut self, item: &TreeItem) -> Result<(), Memory>
-        ensures { OnOk result (Notes self.old self.new (tree_failures (items_of self.old.context) (before_of self.old.context) (plain_tree item.now))) }
+    fn check_tree(&mut self, item: &TreeItem)
+        ensures { Notes self.old self.new (tree_failures (items_of self.old.context) (before_of self.old.context) (plain_tree item.now)) }
     {
         let of = type_named(&self.context, &item.of);
         self.check_new_name(&item.name);
         self.check_type_name(&item.of);
-        self.check_as(0, of, Kind::Tree, &item.value)?;
-        Ok(())
+        self.check_as(0, of, Kind::Tree, &item.value);
     }
 
     fn check_rule_limit(&mut self, item: &LangItem)
@@ -90,17 +89,16 @@ impl<'p> Checker<'p> {
         }
     }
 
-    fn check_rules(&mut self, of: &Name, rules: &[Rule]) -> Result<(), Memory>
-        ensures { OnOk result (Notes self.old self.new (flat_map (rule_failures (items_of self.old.context) (plain_name of.now)) (map plain_rule rules.now))) }
+    fn check_rules(&mut self, of: &Name, rules: &[Rule])
+        ensures { Notes self.old self.new (flat_map (rule_failures (items_of self.old.context) (plain_name of.now)) (map plain_rule rules.now)) }
     {
         'rules: for rule in rules {
-            self.check_rule(of, rule)?;
+            self.check_rule(of, rule);
         }
-        Ok(())
     }
 
-    fn check_lang(&mut self, item: &LangItem) -> Result<(), Memory>
-        ensures { OnOk result (Notes self.old self.new (lang_failures (items_of self.old.context) (before_of self.old.context) (plain_lang item.now))) }
+    fn check_lang(&mut self, item: &LangItem)
+        ensures { Notes self.old self.new (lang_failures (items_of self.old.context) (before_of self.old.context) (plain_lang item.now)) }
     {
         self.check_new_name(&item.name);
         self.check_type_name(&item.of);
@@ -116,17 +114,16 @@ impl<'p> Checker<'p> {
         }
     }
 
-    fn check_out_rules(&mut self, types: &Between, rules: &[OutRule]) -> Result<(), Memory>
-        ensures { OnOk result (Notes self.old self.new (flat_map (out_rule_failures (items_of self.old.context) (plain_name types.now.from.now) (plain_name types.now.into.now)) (map plain_out_rule rules.now))) }
+    fn check_out_rules(&mut self, types: &Between, rules: &[OutRule])
+        ensures { Notes self.old self.new (flat_map (out_rule_failures (items_of self.old.context) (plain_name types.now.from.now) (plain_name types.now.into.now)) (map plain_out_rule rules.now)) }
     {
         'rules: for rule in rules {
-            self.check_out_rule(types, rule)?;
+            self.check_out_rule(types, rule);
         }
-        Ok(())
     }
 
-    fn check_trans(&mut self, item: &TransItem) -> Result<(), Memory>
-        ensures { OnOk result (Notes self.old self.new (trans_failures (items_of self.old.context) (before_of self.old.context) (plain_trans item.now))) }
+    fn check_trans(&mut self, item: &TransItem)
+        ensures { Notes self.old self.new (trans_failures (items_of self.old.context) (before_of self.old.context) (plain_trans item.now)) }
     {
         let types = Between {
             from: &item.from,
@@ -150,7 +147,7 @@ impl<'p> Checker<'p> {
 
     /// The outputs are of the type that a definition says.
     fn check_output(&mut self, into: &Option<Name>, x: &X, standing: &Standing)
-        requires { IsStanding (items_of self.old.context) (plain_x x.now) standing.now }
+        requires { HasMemory self.old → IsStanding (items_of self.old.context) (plain_x x.now) standing.now }
         ensures { Notes self.old self.new (needs_output (items_of self.old.context) (before_of self.old.context) (plain_into into.now) (plain_x x.now)) }
     {
         let wanted = output_named(&self.context, into);
@@ -158,62 +155,57 @@ impl<'p> Checker<'p> {
         self.note_if(differ(wanted, found), Code::WrongType, place_of(x));
     }
 
-    fn check_def(&mut self, item: &DefItem) -> Result<(), Memory>
-        ensures { OnOk result (Notes self.old self.new (def_failures (items_of self.old.context) (before_of self.old.context) (plain_def item.now))) }
+    fn check_def(&mut self, item: &DefItem)
+        ensures { Notes self.old self.new (def_failures (items_of self.old.context) (before_of self.old.context) (plain_def item.now)) }
     {
         let from = type_named(&self.context, &item.from);
         self.check_new_name(&item.name);
         self.check_type_name(&item.from);
         self.check_into(&item.into);
         let kind = defined_kind(&item.into);
-        let standing = self.check_as(0, from, kind, &item.value)?;
+        let standing = self.check_as(0, from, kind, &item.value);
         self.check_output(&item.into, &item.value, &standing);
-        Ok(())
     }
 
     /// Two languages are compared of one type.
-    fn check_equal(&mut self, x: &X, y: &X) -> Result<(), Memory>
-        ensures { OnOk result (Notes self.old self.new (claim_failures (items_of self.old.context) (before_of self.old.context) (plain.equal (plain_x x.now) (plain_x y.now)))) }
+    fn check_equal(&mut self, x: &X, y: &X)
+        ensures { Notes self.old self.new (claim_failures (items_of self.old.context) (before_of self.old.context) (plain.equal (plain_x x.now) (plain_x y.now))) }
     {
-        let left = self.check_as(0, None, Kind::Language, x)?;
+        let left = self.check_as(0, None, Kind::Language, x);
         let wanted = only_as(Kind::Language, left.kind, left.input);
-        self.check_as(0, wanted, Kind::Language, y)?;
-        Ok(())
+        self.check_as(0, wanted, Kind::Language, y);
     }
 
     /// A tree has the type of the language that it is to be in.
-    fn check_member(&mut self, x: &X, y: &X) -> Result<(), Memory>
-        ensures { OnOk result (Notes self.old self.new (claim_failures (items_of self.old.context) (before_of self.old.context) (plain.member (plain_x x.now) (plain_x y.now)))) }
+    fn check_member(&mut self, x: &X, y: &X)
+        ensures { Notes self.old self.new (claim_failures (items_of self.old.context) (before_of self.old.context) (plain.member (plain_x x.now) (plain_x y.now))) }
     {
-        let language = self.check_as(0, None, Kind::Language, y)?;
+        let language = self.check_as(0, None, Kind::Language, y);
         let wanted = only_as(Kind::Language, language.kind, language.input);
-        self.check_as(0, wanted, Kind::Tree, x)?;
-        Ok(())
+        self.check_as(0, wanted, Kind::Tree, x);
     }
 
     /// What is to be empty is a language or a transformation.
-    fn check_empty(&mut self, x: &X) -> Result<(), Memory>
-        ensures { OnOk result (Notes self.old self.new (claim_failures (items_of self.old.context) (before_of self.old.context) (plain.empty (plain_x x.now)))) }
+    fn check_empty(&mut self, x: &X)
+        ensures { Notes self.old self.new (claim_failures (items_of self.old.context) (before_of self.old.context) (plain.empty (plain_x x.now))) }
     {
-        let standing = self.check_x(0, None, x)?;
+        let standing = self.check_x(0, None, x);
         self.note_if(is_tree(&standing), Code::WrongKind, place_of(x));
-        Ok(())
     }
 
     /// The first language has the type of the inputs, and the second that of the outputs.
-    fn check_type_check(&mut self, x: &X, y: &X, z: &X) -> Result<(), Memory>
-        ensures { OnOk result (Notes self.old self.new (claim_failures (items_of self.old.context) (before_of self.old.context) (plain.type_check (plain_x x.now) (plain_x y.now) (plain_x z.now)))) }
+    fn check_type_check(&mut self, x: &X, y: &X, z: &X)
+        ensures { Notes self.old self.new (claim_failures (items_of self.old.context) (before_of self.old.context) (plain.type_check (plain_x x.now) (plain_x y.now) (plain_x z.now))) }
     {
-        let language = self.check_as(0, None, Kind::Language, x)?;
+        let language = self.check_as(0, None, Kind::Language, x);
         let input = only_as(Kind::Language, language.kind, language.input);
-        let standing = self.check_as(0, input, Kind::Transformation, y)?;
+        let standing = self.check_as(0, input, Kind::Transformation, y);
         let output = only_as(Kind::Transformation, standing.kind, standing.output);
-        self.check_as(0, output, Kind::Language, z)?;
-        Ok(())
+        self.check_as(0, output, Kind::Language, z);
     }
 
-    fn check_claim(&mut self, claim: &Claim) -> Result<(), Memory>
-        ensures { OnOk result (Notes self.old self.new (claim_failures (items_of self.old.context) (before_of self.old.context) (plain_claim claim.now))) }
+    fn check_claim(&mut self, claim: &Claim)
+        ensures { Notes self.old self.new (claim_failures (items_of self.old.context) (before_of self.old.context) (plain_claim claim.now)) }
     {
         match claim {
             Claim::Equal(x, y) => self.check_equal(x, y),
@@ -223,16 +215,16 @@ impl<'p> Checker<'p> {
         }
     }
 
-    fn check_sorts(&mut self, item: &TypeItem) -> Result<(), Memory>
-        ensures { OnOk result (Notes self.old self.new (type_again (items_of self.old.context) (before_of self.old.context) (plain_name item.now.name) ++ type_failures (plain_type item.now))) }
+    fn check_sorts(&mut self, item: &TypeItem)
+        ensures { Notes self.old self.new (type_again (items_of self.old.context) (before_of self.old.context) (plain_name item.now.name) ++ type_failures (plain_type item.now)) }
     {
         self.check_new_type(&item.name);
         self.check_type(item)
     }
 
     /// Notes what fails in an item.
-    pub(crate) fn check_body(&mut self, body: &Body) -> Result<(), Memory>
-        ensures { OnOk result (Notes self.old self.new (body_failures (items_of self.old.context) (before_of self.old.context) (plain_body body.now))) }
+    pub(crate) fn check_body(&mut self, body: &Body)
+        ensures { Notes self.old self.new (body_failures (items_of self.old.context) (before_of self.old.context) (plain_body body.now)) }
     {
         match body {
             Body::Sorts(item) => self.check_sorts(item),

@@ -1,7 +1,7 @@
 //! What may fail in a label expression, and what is known of one: its sort, whether it has the name of a field, and its form
 //! as a sum where it is a whole number.
 
-ghost use Rattle.std.specs.Prelude.{◌≡◌, ◌<◌, ◌++◌, ◌||◌, ◌&&◌, OnOk, IfOk, MatchOption, IfSome, Some, None, [], ◌≤◌, negsuc, false, cond, map, not, length, get_or, slice_index_or, nat_le, encode_utf8_all};
+ghost use Rattle.std.specs.Prelude.{◌≡◌, ◌<◌, ◌++◌, ◌||◌, ◌&&◌, IfOk, Ok, MatchOption, IfSome, Some, None, [], ◌≤◌, negsuc, false, cond, map, not, length, get_or, slice_index_or, nat_le, encode_utf8_all};
 ghost use Rattle.std.specs.Option.{option_map, option_and_then};
 ghost use Rattle.fast_fault.specs.declared.code.Code.TheVariants as code;
 ghost use Rattle.fast_tree.specs.Signatures.{plain_sort};
@@ -10,7 +10,7 @@ ghost use Rattle.fast_syntax.specs.Plain.{plain_expr};
 ghost use Rattle.fast_syntax.specs.Slices.{plain_operands, plain_sum_parts, plain_prod_parts};
 ghost use Rattle.model_tree.specs.Limits.{longest_text, greatest_divisor};
 ghost use Rattle.model_tree.specs.Signature.{wholes, truths};
-ghost use Rattle.model_form.specs.Sums.{sum_form, product_form};
+ghost use Rattle.model_form.specs.Sums.{sum_form, product_form, number_form};
 ghost use Rattle.model_label.specs.Fields.{same_sort, number_at};
 ghost use Rattle.fast_tree.specs.declared.signature.Sort.TheVariants as Sort;
 ghost use Rattle.model_grammar.specs.Syntax as plain;
@@ -18,10 +18,10 @@ ghost use Rattle.model_grammar.specs.declared.Chain.TheVariants as kind;
 ghost use Rattle.model_checks.specs.Failures.{failure, fails_if};
 ghost use Rattle.model_names.specs.Sorts.{sort_named, own_sort};
 ghost use Rattle.model_checks.specs.Sorts.{find_field, plain_fields, sort_of, place_of, is_other_sort, differ_in_sort, needs_sort};
-ghost use Rattle.model_tree.specs.Range.{is_label_number};
+ghost use Rattle.model_tree.specs.Range.{is_label_number, IsLabelNumber};
 ghost use Rattle.model_checks.specs.Forms.{is_out_of_range, kept, has_field, have_field, form_in_range, form_numbered, product_of, remainder_of, divisor_in, divisor_of, with_part};
 ghost use Rattle.model_checks.specs.Labels.{unknown_field, compared, label_failures, operands_failures, sorted_failures, multiplied, divided};
-ghost use Rattle.program_check.specs.Notes.{Notes};
+ghost use Rattle.program_check.specs.Notes.{HasMemory, Notes};
 ghost use Rattle.program_check.specs.Known.{plain_scope, IsKnown, form_made, is_range, IsMade, AreTruths, plain_added, joined, sort_failures, sides_failures, next_failures, next_form, step_failures, step_form};
 
 use crate::checker::Checker;
@@ -125,6 +125,14 @@ fn form_numbered(alloc: Global, number: usize) -> Result<Option<Form>, Memory>
     }
 }
 
+/// The form of a number.
+fn form_of_number(alloc: Global, number: i128) -> Result<Option<Form>, Memory>
+    requires { IsLabelNumber number }
+    ensures { IfOk result (λ form. form ≡ Some (number_form number)) }
+{
+    Ok(Some(Form::number(alloc, number)?))
+}
+
 /// The form of the field of this name, where it is a whole number and has a form.
 fn form_of_field(
     alloc: Global,
@@ -207,21 +215,6 @@ pub(crate) fn differ_in_sort(left: Option<Sort>, right: Option<Sort>) -> bool
     }
 }
 
-/// One more part of a sum.
-fn with_part(
-    added: Option<Vec<Signed>>,
-    minus: bool,
-    form: Option<Form>,
-) -> Result<Option<Vec<Signed>>, Memory>
-    ensures { IfOk result (λ more. plain_added more ≡ joined (plain_added added) (with_part minus form (Some []))) }
-{
-    let (Some(mut parts), Some(form)) = (added, form) else {
-        return Ok(None);
-    };
-    parts.push(Signed { minus, form })?;
-    Ok(Some(parts))
-}
-
 /// The number, where it is from 1 to 4,096.
 fn divisor_in(number: i128) -> Option<u32>
     ensures is { result ≡ divisor_in number }
@@ -264,57 +257,97 @@ fn remainder(
 }
 
 impl Checker<'_> {
-    /// A form that may be out of range.
-    fn keep(&mut self, made: Result<Form, FormStop>, place: Pos) -> Result<Option<Form>, Memory>
-        ensures noted { OnOk result (Notes self.old self.new (fails_if (is_range made) code.NumberRange place)) }
-        ensures form { IfOk result (λ form. form ≡ form_made made) }
-        ensures range { OnOk result (IsMade made) }
+    /// The form that was made, or none where memory ran out, which is kept in mind.
+    fn take_form(&mut self, made: Result<Option<Form>, Memory>) -> Option<Form>
+        ensures noted { Notes self.old self.new [] }
+        ensures made { HasMemory self.new → made ≡ Ok result }
     {
         match made {
-            Ok(form) => Ok(Some(form)),
+            Ok(form) => form,
+            Err(_want) => {
+                self.ran_out = true;
+                None
+            }
+        }
+    }
+
+    /// One more part of a sum.
+    fn with_part(
+        &mut self,
+        added: Option<Vec<Signed>>,
+        minus: bool,
+        form: Option<Form>,
+    ) -> Option<Vec<Signed>>
+        ensures noted { Notes self.old self.new [] }
+        ensures added { HasMemory self.new → plain_added result ≡ joined (plain_added added) (with_part minus form (Some [])) }
+    {
+        let (Some(mut parts), Some(form)) = (added, form) else {
+            return None;
+        };
+        match parts.push(Signed { minus, form }) {
+            Ok(()) => Some(parts),
+            Err(_failed) => {
+                self.ran_out = true;
+                None
+            }
+        }
+    }
+
+    /// A form that may be out of range.
+    fn keep(&mut self, made: Result<Form, FormStop>, place: Pos) -> Option<Form>
+        ensures noted { Notes self.old self.new (fails_if (is_range made) code.NumberRange place) }
+        ensures form { HasMemory self.new → result ≡ form_made made }
+        ensures range { HasMemory self.new → IsMade made }
+    {
+        match made {
+            Ok(form) => Some(form),
             Err(FormStop::Range(_)) => {
                 self.note(Code::NumberRange, place);
-                Ok(None)
+                None
             }
-            Err(FormStop::Memory) => Err(Memory),
+            Err(FormStop::Memory) => {
+                self.ran_out = true;
+                None
+            }
         }
     }
 
     /// The name of a field.
-    fn check_field(&mut self, scope: &Scope, name: &Text, place: Pos) -> Result<Known, Memory>
-        ensures noted { OnOk result (Notes self.old self.new (unknown_field (plain_scope scope.now) name.now place)) }
-        ensures known { IfOk result (IsKnown scope.now (plain.field place name.now)) }
+    fn check_field(&mut self, scope: &Scope, name: &Text, place: Pos) -> Known
+        ensures noted { Notes self.old self.new (unknown_field (plain_scope scope.now) name.now place) }
+        ensures known { HasMemory self.new → IsKnown scope.now (plain.field place name.now) result }
     {
         let Some(fields) = scope.fields else {
-            return Ok(Known::of_nothing(None));
+            return Known::of_nothing(None);
         };
         let Some(place_of_field) = find_field(fields, name) else {
             self.note(Code::UnknownField, place);
-            return Ok(Known::of_nothing(None));
+            return Known::of_nothing(None);
         };
         let sort = sort_at(fields, place_of_field);
-        let form = form_of_field(self.alloc, fields, name, sort)?;
-        Ok(Known {
+        let made = form_of_field(self.alloc, fields, name, sort);
+        let form = self.take_form(made);
+        Known {
             sort,
             has_field: true,
             form,
-        })
+        }
     }
 
-    fn check_number(&mut self, scope: &Scope, number: i128, place: Pos) -> Result<Known, Memory>
-        ensures noted { OnOk result (Notes self.old self.new (fails_if (not (is_label_number number)) code.NumberRange place)) }
-        ensures known { IfOk result (IsKnown scope.now (plain.number place number)) }
+    fn check_number(&mut self, scope: &Scope, number: i128, place: Pos) -> Known
+        ensures noted { Notes self.old self.new (fails_if (not (is_label_number number)) code.NumberRange place) }
+        ensures known { HasMemory self.new → IsKnown scope.now (plain.number place number) result }
     {
         if !is_label_number(number) {
             self.note(Code::NumberRange, place);
-            return Ok(Known::of_nothing(Some(Sort::Int)));
+            return Known::of_nothing(Some(Sort::Int));
         }
-        let form = Form::number(self.alloc, number)?;
-        Ok(Known {
+        let made = form_of_number(self.alloc, number);
+        Known {
             sort: Some(Sort::Int),
             has_field: false,
-            form: Some(form),
-        })
+            form: self.take_form(made),
+        }
     }
 
     fn check_text(&mut self, text: &Text, place: Pos) -> Known
@@ -349,67 +382,58 @@ impl Checker<'_> {
     }
 
     /// A form with its sign changed.
-    fn negate(&mut self, form: &Option<Form>, place: Pos) -> Result<Option<Form>, Memory>
-        ensures noted { OnOk result (Notes self.old self.new (fails_if (is_out_of_range (option_map (product_form (negsuc 0)) form.now)) code.NumberRange place)) }
-        ensures form { IfOk result (λ made. made ≡ kept (option_map (product_form (negsuc 0)) form.now)) }
+    fn negate(&mut self, form: &Option<Form>, place: Pos) -> Option<Form>
+        ensures noted { Notes self.old self.new (fails_if (is_out_of_range (option_map (product_form (negsuc 0)) form.now)) code.NumberRange place) }
+        ensures form { HasMemory self.new → result ≡ kept (option_map (product_form (negsuc 0)) form.now) }
     {
         match form {
             Some(form) => {
                 let made = form.scaled(self.alloc, -1);
                 self.keep(made, place)
             }
-            None => Ok(None),
+            None => None,
         }
     }
 
     /// The form of a sum of these parts, where all have forms.
-    fn add_up(&mut self, added: Option<Vec<Signed>>, place: Pos) -> Result<Option<Form>, Memory>
-        ensures noted { OnOk result (Notes self.old self.new (fails_if (is_out_of_range (option_map sum_form (plain_added added))) code.NumberRange place)) }
-        ensures form { IfOk result (λ made. made ≡ kept (option_map sum_form (plain_added added))) }
+    fn add_up(&mut self, added: Option<Vec<Signed>>, place: Pos) -> Option<Form>
+        ensures noted { Notes self.old self.new (fails_if (is_out_of_range (option_map sum_form (plain_added added))) code.NumberRange place) }
+        ensures form { HasMemory self.new → result ≡ kept (option_map sum_form (plain_added added)) }
     {
         let Some(parts) = added else {
-            return Ok(None);
+            return None;
         };
         if parts.len() > MOST_PARTS {
-            return Err(Memory);
+            self.ran_out = true;
+            return None;
         }
         let made = Form::of_sum(self.alloc, &parts);
         self.keep(made, place)
     }
 
     /// The product of two forms, of which one has no field.
-    fn multiply(
-        &mut self,
-        before: &Factor,
-        factor: &Known,
-        place: Pos,
-    ) -> Result<Option<Form>, Memory>
-        ensures noted { OnOk result (Notes self.old self.new (fails_if (is_out_of_range (product_of before.now.has_field before.now.form factor.now.has_field factor.now.form)) code.NumberRange place)) }
-        ensures form { IfOk result (λ made. made ≡ kept (product_of before.now.has_field before.now.form factor.now.has_field factor.now.form)) }
+    fn multiply(&mut self, before: &Factor, factor: &Known, place: Pos) -> Option<Form>
+        ensures noted { Notes self.old self.new (fails_if (is_out_of_range (product_of before.now.has_field before.now.form factor.now.has_field factor.now.form)) code.NumberRange place) }
+        ensures form { HasMemory self.new → result ≡ kept (product_of before.now.has_field before.now.form factor.now.has_field factor.now.form) }
     {
         let (Some(left), Some(right)) = (&before.form, &factor.form) else {
-            return Ok(None);
+            return None;
         };
         if !factor.has_field {
             let made = left.scaled(self.alloc, right.constant());
             return self.keep(made, place);
         }
         if before.has_field {
-            return Ok(None);
+            return None;
         }
         let made = right.scaled(self.alloc, left.constant());
         self.keep(made, place)
     }
 
     /// A step of a product by a factor.
-    fn check_factor(
-        &mut self,
-        before: &Factor,
-        factor: &Known,
-        place: Pos,
-    ) -> Result<Option<Form>, Memory>
-        ensures noted { OnOk result (Notes self.old self.new (multiplied place before.now.has_field before.now.form factor.now.has_field factor.now.form)) }
-        ensures form { IfOk result (λ made. made ≡ kept (product_of before.now.has_field before.now.form factor.now.has_field factor.now.form)) }
+    fn check_factor(&mut self, before: &Factor, factor: &Known, place: Pos) -> Option<Form>
+        ensures noted { Notes self.old self.new (multiplied place before.now.has_field before.now.form factor.now.has_field factor.now.form) }
+        ensures form { HasMemory self.new → result ≡ kept (product_of before.now.has_field before.now.form factor.now.has_field factor.now.form) }
     {
         let both = both(before.has_field, factor.has_field);
         self.note_if(both, Code::NotLinear, place);
@@ -418,13 +442,14 @@ impl Checker<'_> {
 
     /// A step of a product to a remainder.
     #[tactic(auto, using(crate::proofs::Places::place_is))]
-    fn check_remainder(&mut self, before: Factor, e: &Expr) -> Result<Option<Form>, Memory>
-        ensures noted { OnOk result (Notes self.old self.new (divided (plain_expr e.now))) }
-        ensures form { IfOk result (λ made. made ≡ remainder_of before.form (divisor_of (plain_expr e.now))) }
+    fn check_remainder(&mut self, before: Factor, e: &Expr) -> Option<Form>
+        ensures noted { Notes self.old self.new (divided (plain_expr e.now)) }
+        ensures form { HasMemory self.new → result ≡ remainder_of before.form (divisor_of (plain_expr e.now)) }
     {
         let divisor = divisor_of(e);
         self.note_if(divisor.is_none(), Code::BadModulus, e.place);
-        remainder(self.alloc, before.form, divisor)
+        let made = remainder(self.alloc, before.form, divisor);
+        self.take_form(made)
     }
 
     /// A step of a product by a factor or to a remainder.
@@ -434,9 +459,9 @@ impl Checker<'_> {
         known: &Known,
         part: &ProdPart,
         place: Pos,
-    ) -> Result<Option<Form>, Memory>
-        ensures noted { OnOk result (Notes self.old self.new (next_failures place before.has_field before.form part.now.remainder known.now.has_field known.now.form (plain_expr part.now.part))) }
-        ensures form { IfOk result (λ made. made ≡ next_form before.has_field before.form part.now.remainder known.now.has_field known.now.form (plain_expr part.now.part)) }
+    ) -> Option<Form>
+        ensures noted { Notes self.old self.new (next_failures place before.has_field before.form part.now.remainder known.now.has_field known.now.form (plain_expr part.now.part)) }
+        ensures form { HasMemory self.new → result ≡ next_form before.has_field before.form part.now.remainder known.now.has_field known.now.form (plain_expr part.now.part) }
     {
         if part.remainder {
             self.check_remainder(before, &part.part)
@@ -447,22 +472,22 @@ impl Checker<'_> {
 
     /// Notes what fails in an expression, and tells what is known of it.
     #[cycle(check_label)]
-    pub(crate) fn check_label(&mut self, scope: &Scope, e: &Expr) -> Result<Known, Memory>
-        ensures noted { OnOk result (Notes self.old self.new (label_failures (plain_scope scope.now) (plain_expr e.now))) }
-        ensures known { IfOk result (IsKnown scope.now (plain_expr e.now)) }
+    pub(crate) fn check_label(&mut self, scope: &Scope, e: &Expr) -> Known
+        ensures noted { Notes self.old self.new (label_failures (plain_scope scope.now) (plain_expr e.now)) }
+        ensures known { HasMemory self.new → IsKnown scope.now (plain_expr e.now) result }
     {
         match &e.node {
             Node::Field(name) => self.check_field(scope, name, e.place),
             Node::Num(number) => self.check_number(scope, *number, e.place),
-            Node::Str(text) => Ok(self.check_text(text, e.place)),
-            Node::Truth(_) => Ok(Known::of_truth(false)),
+            Node::Str(text) => self.check_text(text, e.place),
+            Node::Truth(_) => Known::of_truth(false),
             Node::Not(inside) => self.check_not(scope, inside, e.place),
             Node::Minus(inside) => self.check_minus(scope, inside, e.place),
             Node::Compare(rel, left, right) => {
-                let of_left = self.check_label(scope, left)?;
-                let of_right = self.check_label(scope, right)?;
+                let of_left = self.check_label(scope, left);
+                let of_right = self.check_label(scope, right);
                 self.check_sides(*rel, of_left.side(left.place), of_right.side(right.place));
-                Ok(Known::of_truth(either(of_left.has_field, of_right.has_field)))
+                Known::of_truth(either(of_left.has_field, of_right.has_field))
             }
             Node::Or(parts) => self.check_truths(scope, parts),
             Node::And(parts) => self.check_truths(scope, parts),
@@ -473,117 +498,102 @@ impl Checker<'_> {
 
     /// An expression that is to be of this sort.
     #[cycle(check_label)]
-    pub(crate) fn check_sorted(
-        &mut self,
-        scope: &Scope,
-        sort: Sort,
-        e: &Expr,
-    ) -> Result<Known, Memory>
-        ensures noted { OnOk result (Notes self.old self.new (sorted_failures (plain_scope scope.now) (plain_sort sort) (plain_expr e.now))) }
-        ensures known { IfOk result (IsKnown scope.now (plain_expr e.now)) }
+    pub(crate) fn check_sorted(&mut self, scope: &Scope, sort: Sort, e: &Expr) -> Known
+        ensures noted { Notes self.old self.new (sorted_failures (plain_scope scope.now) (plain_sort sort) (plain_expr e.now)) }
+        ensures known { HasMemory self.new → IsKnown scope.now (plain_expr e.now) result }
     {
-        let known = self.check_label(scope, e)?;
+        let known = self.check_label(scope, e);
         self.check_sort(sort, known.side(e.place));
-        Ok(known)
+        known
     }
 
     #[cycle(check_label)]
-    fn check_not(&mut self, scope: &Scope, inside: &Expr, place: Pos) -> Result<Known, Memory>
-        ensures noted { OnOk result (Notes self.old self.new (label_failures (plain_scope scope.now) (plain.negation place (plain_expr inside.now)))) }
-        ensures known { IfOk result (IsKnown scope.now (plain.negation place (plain_expr inside.now))) }
+    fn check_not(&mut self, scope: &Scope, inside: &Expr, place: Pos) -> Known
+        ensures noted { Notes self.old self.new (label_failures (plain_scope scope.now) (plain.negation place (plain_expr inside.now))) }
+        ensures known { HasMemory self.new → IsKnown scope.now (plain.negation place (plain_expr inside.now)) result }
     {
-        let known = self.check_sorted(scope, Sort::Bool, inside)?;
-        Ok(Known::of_truth(known.has_field))
+        let known = self.check_sorted(scope, Sort::Bool, inside);
+        Known::of_truth(known.has_field)
     }
 
     #[cycle(check_label)]
-    fn check_minus(&mut self, scope: &Scope, inside: &Expr, place: Pos) -> Result<Known, Memory>
-        ensures noted { OnOk result (Notes self.old self.new (label_failures (plain_scope scope.now) (plain.minus place (plain_expr inside.now)))) }
-        ensures known { IfOk result (IsKnown scope.now (plain.minus place (plain_expr inside.now))) }
+    fn check_minus(&mut self, scope: &Scope, inside: &Expr, place: Pos) -> Known
+        ensures noted { Notes self.old self.new (label_failures (plain_scope scope.now) (plain.minus place (plain_expr inside.now))) }
+        ensures known { HasMemory self.new → IsKnown scope.now (plain.minus place (plain_expr inside.now)) result }
     {
-        let known = self.check_sorted(scope, Sort::Int, inside)?;
-        let form = self.negate(&known.form, place)?;
-        Ok(Known {
+        let known = self.check_sorted(scope, Sort::Int, inside);
+        let form = self.negate(&known.form, place);
+        Known {
             sort: Some(Sort::Int),
             has_field: known.has_field,
             form,
-        })
+        }
     }
 
     /// Operands that are to be truth values, as all of them are together.
     #[cycle(check_label)]
-    fn check_truths(&mut self, scope: &Scope, parts: &[Expr]) -> Result<Known, Memory>
-        ensures noted { OnOk result (Notes self.old self.new (operands_failures (plain_scope scope.now) truths (plain_operands parts.now))) }
-        ensures known { IfOk result (AreTruths scope.now (plain_operands parts.now)) }
+    fn check_truths(&mut self, scope: &Scope, parts: &[Expr]) -> Known
+        ensures noted { Notes self.old self.new (operands_failures (plain_scope scope.now) truths (plain_operands parts.now)) }
+        ensures known { HasMemory self.new → AreTruths scope.now (plain_operands parts.now) result }
     {
         let mut has_field = false;
         'parts: for part in parts {
-            let known = self.check_sorted(scope, Sort::Bool, part)?;
+            let known = self.check_sorted(scope, Sort::Bool, part);
             has_field = either(has_field, known.has_field);
         }
-        Ok(Known::of_truth(has_field))
+        Known::of_truth(has_field)
     }
 
     #[cycle(check_label)]
-    fn check_sum(&mut self, scope: &Scope, parts: &[SumPart], place: Pos) -> Result<Known, Memory>
-        ensures noted { OnOk result (Notes self.old self.new (label_failures (plain_scope scope.now) (plain.chain kind.Sum place (plain_sum_parts parts.now)))) }
-        ensures known { IfOk result (IsKnown scope.now (plain.chain kind.Sum place (plain_sum_parts parts.now))) }
+    fn check_sum(&mut self, scope: &Scope, parts: &[SumPart], place: Pos) -> Known
+        ensures noted { Notes self.old self.new (label_failures (plain_scope scope.now) (plain.chain kind.Sum place (plain_sum_parts parts.now))) }
+        ensures known { HasMemory self.new → IsKnown scope.now (plain.chain kind.Sum place (plain_sum_parts parts.now)) result }
     {
         let mut has_field = false;
         let mut added = Some(Vec::new(self.alloc));
         'parts: for part in parts {
-            let known = self.check_sorted(scope, Sort::Int, &part.part)?;
+            let known = self.check_sorted(scope, Sort::Int, &part.part);
             has_field = either(has_field, known.has_field);
-            added = with_part(added, part.minus, known.form)?;
+            added = self.with_part(added, part.minus, known.form);
         }
-        let form = self.add_up(added, place)?;
-        Ok(Known {
+        let form = self.add_up(added, place);
+        Known {
             sort: Some(Sort::Int),
             has_field,
             form,
-        })
+        }
     }
 
     #[cycle(check_label)]
-    fn check_product(
-        &mut self,
-        scope: &Scope,
-        parts: &[ProdPart],
-        place: Pos,
-    ) -> Result<Known, Memory>
-        ensures noted { OnOk result (Notes self.old self.new (label_failures (plain_scope scope.now) (plain.chain kind.Product place (plain_prod_parts parts.now)))) }
-        ensures known { IfOk result (IsKnown scope.now (plain.chain kind.Product place (plain_prod_parts parts.now))) }
+    fn check_product(&mut self, scope: &Scope, parts: &[ProdPart], place: Pos) -> Known
+        ensures noted { Notes self.old self.new (label_failures (plain_scope scope.now) (plain.chain kind.Product place (plain_prod_parts parts.now))) }
+        ensures known { HasMemory self.new → IsKnown scope.now (plain.chain kind.Product place (plain_prod_parts parts.now)) result }
     {
+        let one = form_of_number(self.alloc, 1);
         let mut before = Factor {
             has_field: false,
-            form: Some(Form::number(self.alloc, 1)?),
+            form: self.take_form(one),
         };
         'parts: for part in parts {
-            before = self.check_step(scope, before, part, place)?;
+            before = self.check_step(scope, before, part, place);
         }
-        Ok(Known {
+        Known {
             sort: Some(Sort::Int),
             has_field: before.has_field,
             form: before.form,
-        })
+        }
     }
 
     /// A step of a product.
     #[cycle(check_label)]
-    fn check_step(
-        &mut self,
-        scope: &Scope,
-        before: Factor,
-        part: &ProdPart,
-        place: Pos,
-    ) -> Result<Factor, Memory>
-        ensures noted { OnOk result (Notes self.old self.new (step_failures (plain_scope scope.now) place before.has_field before.form part.now.remainder (plain_expr part.now.part))) }
-        ensures has { IfOk result (λ made. made.has_field ≡ (before.has_field || has_field (plain_scope scope.now) (plain_expr part.now.part))) }
-        ensures form { IfOk result (λ made. made.form ≡ step_form (plain_scope scope.now) before.has_field before.form part.now.remainder (plain_expr part.now.part)) }
+    fn check_step(&mut self, scope: &Scope, before: Factor, part: &ProdPart, place: Pos) -> Factor
+        ensures noted { Notes self.old self.new (step_failures (plain_scope scope.now) place before.has_field before.form part.now.remainder (plain_expr part.now.part)) }
+        ensures has { HasMemory self.new → result.has_field ≡ (before.has_field || has_field (plain_scope scope.now) (plain_expr part.now.part)) }
+        ensures form { HasMemory self.new → result.form ≡ step_form (plain_scope scope.now) before.has_field before.form part.now.remainder (plain_expr part.now.part) }
     {
-        let known = self.check_sorted(scope, Sort::Int, &part.part)?;
+        let known = self.check_sorted(scope, Sort::Int, &part.part);
         let has_field = either(before.has_field, known.has_field);
-        let form = self.check_next(before, &known, part, place)?;
-        Ok(Factor { has_field, form })
+        let form = self.check_next(before, &known, part, place);
+        Factor { has_field, form }
     }
 }

@@ -1,17 +1,17 @@
 //! What has a name, and names that stand twice.
 
-ghost use Rattle.std.specs.Prelude.{◌≡◌, ℕ, List, map, IfOk, OnOk, is_some};
+ghost use Rattle.std.specs.Prelude.{◌≡◌, ℕ, List, map, is_some};
 ghost use Rattle.fast_syntax.specs.View.{plain_name};
 ghost use Rattle.model_program.specs.Syntax as plain;
 ghost use Rattle.model_checks.specs.Failures.{fails_if};
 ghost use Rattle.model_checks.specs.Types.{is_among, repeated};
-ghost use Rattle.program_check.specs.Notes.{Notes};
+ghost use Rattle.program_check.specs.Notes.{HasMemory, Notes};
 ghost use Rattle.program_check.specs.Naming.{place_in, Adds};
 ghost use Rattle.program_check.specs.Numbered.{name_place};
 
 use crate::checker::Checker;
 use crate::names::Names;
-use fast_fault::{Code, Memory};
+use fast_fault::Code;
 use fast_syntax::{CtorItem, FieldItem, Name};
 
 /// What has a name.
@@ -54,34 +54,25 @@ impl Named for CtorItem {
 
 impl Checker<'_> {
     /// Notes a name that is there already, and adds it otherwise.
-    fn add_name(
-        &mut self,
-        code: Code,
-        names: &mut Names,
-        name: &Name,
-        place: usize,
-    ) -> Result<(), Memory>
-        ensures noted { OnOk result (Notes self.old self.new (fails_if (is_some (place_in names.old name.now.text)) code name.now.place)) }
-        ensures names { OnOk result (Adds names.old names.new name.now.text place) }
+    fn add_name(&mut self, code: Code, names: &mut Names, name: &Name, place: usize)
+        ensures noted { Notes self.old self.new (fails_if (is_some (place_in names.old name.now.text)) code name.now.place) }
+        ensures names { HasMemory self.new → Adds names.old names.new name.now.text place }
     {
         self.note_if(names.place(&name.text).is_some(), code, name.place);
-        names.add(self.alloc, &name.text, place)
+        let added = names.add(self.alloc, &name.text, place);
+        self.note_want(added);
     }
 
     /// Notes each name that stood before. The names come back for look-ups.
-    pub(crate) fn check_repeated<N: Named>(
-        &mut self,
-        code: Code,
-        all: &[N],
-    ) -> Result<Names, Memory>
-        ensures noted { OnOk result (Notes self.old self.new (repeated code (map N.name_of all.now))) }
-        ensures names { IfOk result (λ names. (text : List ℕ) → is_some (place_in names text) ≡ is_among (map N.name_of all.now) text) }
-        ensures places { IfOk result (λ names. (text : List ℕ) → place_in names text ≡ name_place (map N.name_of all.now) text) }
+    pub(crate) fn check_repeated<N: Named>(&mut self, code: Code, all: &[N]) -> Names
+        ensures noted { Notes self.old self.new (repeated code (map N.name_of all.now)) }
+        ensures names { HasMemory self.new → (text : List ℕ) → is_some (place_in result text) ≡ is_among (map N.name_of all.now) text }
+        ensures places { HasMemory self.new → (text : List ℕ) → place_in result text ≡ name_place (map N.name_of all.now) text }
     {
         let mut names = Names::new(self.alloc);
         'all: for (place, one) in all.iter().enumerate() {
-            self.add_name(code, &mut names, one.name(), place)?;
+            self.add_name(code, &mut names, one.name(), place);
         }
-        Ok(names)
+        names
     }
 }

@@ -1,6 +1,6 @@
 //! What may fail in the labels of a node and in an output term, whose labels speak of the input.
 
-ghost use Rattle.std.specs.Prelude.{◌≡◌, ◌++◌, List, [], OnOk, IfOk, Some, None, map, length, slice_get};
+ghost use Rattle.std.specs.Prelude.{◌≡◌, ◌++◌, List, [], Some, None, map, length, slice_get};
 ghost use Rattle.std.specs.List.{flat_map};
 ghost use Rattle.std.specs.Option.{option_map};
 ghost use Rattle.model_grammar.specs.Syntax as plain;
@@ -21,7 +21,7 @@ use crate::labels::{Scope, Side, differ_in_sort};
 use crate::rules::{Between, scope_of, types_differ};
 use crate::types::sort_named;
 use crate::vars::Vars;
-use fast_fault::{Code, Memory};
+use fast_fault::Code;
 use fast_syntax::expressions::Expr;
 use fast_syntax::items::{Out, OutRule};
 use fast_syntax::{FieldItem, Name};
@@ -50,36 +50,23 @@ impl Checker<'_> {
     }
 
     /// The label of this number.
-    fn check_label_at(
-        &mut self,
-        scope: &Scope,
-        fields: &[FieldItem],
-        number: usize,
-        e: &Expr,
-    ) -> Result<(), Memory>
-        ensures { OnOk result (Notes self.old self.new (label_at (plain_scope scope.now) (field_at (map plain_field fields.now) number) (plain_expr e.now))) }
+    fn check_label_at(&mut self, scope: &Scope, fields: &[FieldItem], number: usize, e: &Expr)
+        ensures { Notes self.old self.new (label_at (plain_scope scope.now) (field_at (map plain_field fields.now) number) (plain_expr e.now)) }
     {
-        let known = self.check_label(scope, e)?;
+        let known = self.check_label(scope, e);
         if number < fields.len() {
             self.check_field_sort(&fields[number], known.side(e.place));
-            return Ok(());
+            return;
         }
-        Ok(())
     }
 
     /// The labels of a node.
-    pub(crate) fn check_labels(
-        &mut self,
-        scope: &Scope,
-        fields: &[FieldItem],
-        labels: &[Expr],
-    ) -> Result<(), Memory>
-        ensures { OnOk result (Notes self.old self.new (labels_failures (plain_scope scope.now) (map plain_field fields.now) (map plain_expr labels.now))) }
+    pub(crate) fn check_labels(&mut self, scope: &Scope, fields: &[FieldItem], labels: &[Expr])
+        ensures { Notes self.old self.new (labels_failures (plain_scope scope.now) (map plain_field fields.now) (map plain_expr labels.now)) }
     {
         'labels: for (number, label) in labels.iter().enumerate() {
-            self.check_label_at(scope, fields, number, label)?;
+            self.check_label_at(scope, fields, number, label);
         }
-        Ok(())
     }
 
     /// A child that is given as it is: the types of inputs and outputs are the same.
@@ -101,44 +88,35 @@ impl Checker<'_> {
 
     /// An output term of a rule between these types.
     #[cycle(check_out)]
-    fn check_out(&mut self, types: &Between, vars: &Vars, out: &Out) -> Result<(), Memory>
-        ensures { OnOk result (Notes self.old self.new (out_failures (items_of self.old.context) (plain_name types.now.from.now) (plain_name types.now.into.now) (map plain_name vars.now.all.now) (plain_out out.now))) }
+    fn check_out(&mut self, types: &Between, vars: &Vars, out: &Out)
+        ensures { Notes self.old self.new (out_failures (items_of self.old.context) (plain_name types.now.from.now) (plain_name types.now.into.now) (map plain_name vars.now.all.now) (plain_out out.now)) }
     {
         match out {
             Out::Child(name) => {
                 self.check_child(types, vars, name);
-                Ok(())
             }
             Out::Call(name, child) => {
                 self.check_call(types, vars, name, child);
-                Ok(())
             }
             Out::Node(name, labels, outs) => {
-                self.check_node(types, name, labels, outs.len())?;
+                self.check_node(types, name, labels, outs.len());
                 self.check_outs(types, vars, outs)
             }
         }
     }
 
     #[cycle(check_out)]
-    fn check_outs(&mut self, types: &Between, vars: &Vars, outs: &[Out]) -> Result<(), Memory>
-        ensures { OnOk result (Notes self.old self.new (outs_failures (items_of self.old.context) (plain_name types.now.from.now) (plain_name types.now.into.now) (map plain_name vars.now.all.now) (plain_outputs outs.now))) }
+    fn check_outs(&mut self, types: &Between, vars: &Vars, outs: &[Out])
+        ensures { Notes self.old self.new (outs_failures (items_of self.old.context) (plain_name types.now.from.now) (plain_name types.now.into.now) (map plain_name vars.now.all.now) (plain_outputs outs.now)) }
     {
         'outs: for out in outs {
-            self.check_out(types, vars, out)?;
+            self.check_out(types, vars, out);
         }
-        Ok(())
     }
 
     /// The constructor of a node, and its labels, which speak of the input.
-    fn check_node(
-        &mut self,
-        types: &Between,
-        name: &Name,
-        labels: &[Expr],
-        count: usize,
-    ) -> Result<(), Memory>
-        ensures { OnOk result (Notes self.old self.new (node_failures (items_of self.old.context) (plain_name types.now.from.now) (plain_name types.now.into.now) (plain_name name.now) (map plain_expr labels.now) count)) }
+    fn check_node(&mut self, types: &Between, name: &Name, labels: &[Expr], count: usize)
+        ensures { Notes self.old self.new (node_failures (items_of self.old.context) (plain_name types.now.from.now) (plain_name types.now.into.now) (plain_name name.now) (map plain_expr labels.now) count) }
     {
         let from = self.context.find_type(&types.from.text);
         let into = self.context.find_type(&types.into.text);
@@ -148,10 +126,10 @@ impl Checker<'_> {
     }
 
     /// A rule of a transformation between these types.
-    pub(crate) fn check_out_rule(&mut self, types: &Between, rule: &OutRule) -> Result<(), Memory>
-        ensures { OnOk result (Notes self.old self.new (out_rule_failures (items_of self.old.context) (plain_name types.now.from.now) (plain_name types.now.into.now) (plain_out_rule rule.now))) }
+    pub(crate) fn check_out_rule(&mut self, types: &Between, rule: &OutRule)
+        ensures { Notes self.old self.new (out_rule_failures (items_of self.old.context) (plain_name types.now.from.now) (plain_name types.now.into.now) (plain_out_rule rule.now)) }
     {
-        let vars = self.check_rule(types.from, &rule.rule)?;
+        let vars = self.check_rule(types.from, &rule.rule);
         self.check_out(types, &vars, &rule.out)
     }
 }

@@ -82,10 +82,14 @@ fn check_item(
     };
     let mut checker = Checker {
         known,
+        ran_out: false,
         alloc,
         context,
     };
-    checker.check_body(&items[before].body)?;
+    checker.check_body(&items[before].body);
+    if checker.ran_out {
+        return Err(Memory);
+    }
     Ok(checker.known)
 }
 

@@ -1,7 +1,7 @@
 //! What may fail in a rule of a language or a transformation, its output term aside: its constructor, its variables, its
 //! guard and its demands.
 
-ghost use Rattle.std.specs.Prelude.{◌≡◌, ℕ, ◌++◌, ◌||◌, ◌==◌, List, [], OnOk, IfOk, MatchOption, Some, None, map, not, length, is_some, get_or};
+ghost use Rattle.std.specs.Prelude.{◌≡◌, ℕ, ◌++◌, ◌||◌, ◌==◌, List, [], MatchOption, Some, None, map, not, length, is_some, get_or};
 ghost use Rattle.std.specs.List.{flat_map};
 ghost use Rattle.std.specs.Option.{option_map, option_map_or};
 ghost use Rattle.fast_fault.specs.declared.code.Code.TheVariants as code;
@@ -16,7 +16,7 @@ ghost use Rattle.model_checks.specs.Failures.{failure, fails_if};
 ghost use Rattle.model_checks.specs.Labels.{labels_failures, label_failures, needs_sort_of};
 ghost use Rattle.model_checks.specs.Types.{is_among, repeated, find_ctor};
 ghost use Rattle.model_checks.specs.Rules.{differ, constructor_failures, label_count_failures, scope_of, fields_of, variable_failures, guard_failures, own_lang, own_trans, rule_limit, type_at, type_name_failures, language_failures, transformation_failures, demand_failures, rule_failures, count_outs, out_failures, outs_failures, out_rule_failures};
-ghost use Rattle.program_check.specs.Notes.{Notes};
+ghost use Rattle.program_check.specs.Notes.{HasMemory, Notes};
 ghost use Rattle.program_check.specs.Typed.{plain_of, plain_option, type_name};
 ghost use Rattle.program_check.specs.Contexts.{items_of};
 ghost use Rattle.program_check.specs.Known.{plain_scope};
@@ -26,9 +26,10 @@ use crate::checker::Checker;
 use crate::context::Context;
 use crate::declared_type::DeclaredType;
 use crate::labels::{Scope, either};
+use crate::names::Names;
 use crate::types::is_rank;
 use crate::vars::Vars;
-use fast_fault::{Code, Memory, Text};
+use fast_fault::{Code, Text};
 use fast_syntax::expressions::Expr;
 use fast_syntax::items::{Body, Item, LangItem, Rule, TransItem};
 use fast_syntax::{Demand, Name};
@@ -141,13 +142,12 @@ impl Checker<'_> {
     }
 
     /// A guard is a truth value.
-    fn check_guard(&mut self, scope: &Scope, guard: &Option<Expr>) -> Result<(), Memory>
-        ensures { OnOk result (Notes self.old self.new (guard_failures (plain_scope scope.now) (plain_guard guard.now))) }
+    fn check_guard(&mut self, scope: &Scope, guard: &Option<Expr>)
+        ensures { Notes self.old self.new (guard_failures (plain_scope scope.now) (plain_guard guard.now)) }
     {
         if let Some(guard) = guard {
-            self.check_sorted(scope, Sort::Bool, guard)?;
+            self.check_sorted(scope, Sort::Bool, guard);
         }
-        Ok(())
     }
 
     /// In a rule for trees of this type a demanded language is a `lang` of trees of the type.
@@ -213,12 +213,15 @@ impl Checker<'_> {
     }
 
     /// The variables of a rule are different.
-    fn check_vars<'r>(&mut self, rule: &'r Rule) -> Result<Vars<'r>, Memory>
-        ensures noted { OnOk result (Notes self.old self.new (repeated code.DuplicateVariable (plain_rule rule.now).vars)) }
-        ensures same { IfOk result (λ vars. map plain_name vars.all.now ≡ (plain_rule rule.now).vars) }
+    fn check_vars<'r>(&mut self, rule: &'r Rule) -> Vars<'r>
+        ensures noted { Notes self.old self.new (repeated code.DuplicateVariable (plain_rule rule.now).vars) }
+        ensures same { HasMemory self.new → map plain_name result.all.now ≡ (plain_rule rule.now).vars }
     {
-        let names = self.check_repeated(Code::DuplicateVariable, &rule.vars)?;
-        Ok(Vars::new(&rule.vars, names))
+        let names = self.check_repeated(Code::DuplicateVariable, &rule.vars);
+        if self.ran_out {
+            return Vars::new(&[], Names::new(self.alloc));
+        }
+        Vars::new(&rule.vars, names)
     }
 
     /// The constructor of a rule.
@@ -229,16 +232,16 @@ impl Checker<'_> {
     }
 
     /// A rule for trees of a type. Its variables come back.
-    pub(crate) fn check_rule<'r>(&mut self, of: &Name, rule: &'r Rule) -> Result<Vars<'r>, Memory>
-        ensures noted { OnOk result (Notes self.old self.new (rule_failures (items_of self.old.context) (plain_name of.now) (plain_rule rule.now))) }
-        ensures same { IfOk result (λ vars. map plain_name vars.all.now ≡ (plain_rule rule.now).vars) }
+    pub(crate) fn check_rule<'r>(&mut self, of: &Name, rule: &'r Rule) -> Vars<'r>
+        ensures noted { Notes self.old self.new (rule_failures (items_of self.old.context) (plain_name of.now) (plain_rule rule.now)) }
+        ensures same { HasMemory self.new → map plain_name result.all.now ≡ (plain_rule rule.now).vars }
     {
         let item = self.context.find_type(&of.text);
         let scope = scope_of(&item);
         self.check_head(&item, rule);
-        let vars = self.check_vars(rule)?;
-        self.check_guard(&scope, &rule.guard)?;
+        let vars = self.check_vars(rule);
+        self.check_guard(&scope, &rule.guard);
         self.check_given(of, &vars, rule);
-        Ok(vars)
+        vars
     }
 }

@@ -1,7 +1,7 @@
 //! What may fail in a type by itself: a leaf that is missing, names that stand twice, unknown sorts, and numbers of fields
 //! and children that are too great.
 
-ghost use Rattle.std.specs.Prelude.{◌≡◌, OnOk, map, not, is_some};
+ghost use Rattle.std.specs.Prelude.{◌≡◌, map, not, is_some};
 ghost use Rattle.std.specs.List.{flat_map};
 ghost use Rattle.std.specs.Option.{option_map};
 ghost use Rattle.fast_tree.specs.Signatures.{plain_sort};
@@ -14,7 +14,7 @@ ghost use Rattle.program_check.specs.Notes.{Notes};
 use crate::checker::Checker;
 use crate::declared_type::DeclaredType;
 use crate::limits::{MOST_CHILDREN, MOST_FIELDS};
-use fast_fault::{Code, Memory, Text};
+use fast_fault::{Code, Text};
 use fast_syntax::{CtorItem, FieldItem, TypeItem};
 use fast_tree::Sort;
 
@@ -89,19 +89,21 @@ impl Checker<'_> {
     }
 
     /// Notes what fails in a type.
-    pub(crate) fn check_type(&mut self, item: &TypeItem) -> Result<(), Memory>
-        ensures { OnOk result (Notes self.old self.new (type_failures (plain_type item.now))) }
+    pub(crate) fn check_type(&mut self, item: &TypeItem)
+        ensures { Notes self.old self.new (type_failures (plain_type item.now)) }
     {
-        self.check_repeated(Code::DuplicateName, &item.fields)?;
+        self.check_repeated(Code::DuplicateName, &item.fields);
         self.check_own_sorts(item);
         self.check_field_limit(item);
-        let ctors = self.check_repeated(Code::DuplicateName, &item.ctors)?;
+        let ctors = self.check_repeated(Code::DuplicateName, &item.ctors);
+        if self.ran_out {
+            return;
+        }
         let declared = DeclaredType {
             item,
             ctors: &ctors,
         };
         self.note_if(!declared.has_leaf(), Code::NoLeaf, item.name.place);
         self.check_ranks(item);
-        Ok(())
     }
 }

@@ -9,4 +9,4 @@ use Rattle.program_check.proofs.programs.check_item.Goals as goal
 pub returns : goal.returns
 returns c x is =
     let items = map plain_item c.args.items.now in
-    c.in_ok-check_body.ensures.is ∙ ap (λ (y : Item). first_among c.args.known (body_failures items (take c.args.before items) (plain_item y).body)) (same_element c.args.items.now c.args.before c.index-items-before.result x c.requires.within ∙ sym is)
+    (c.check_body.ensures c.if-checker.false).is ∙ ap (λ (y : Item). first_among c.args.known (body_failures items (take c.args.before items) (plain_item y).body)) (same_element c.args.items.now c.args.before c.index-items-before.result x c.requires.within ∙ sym is)

@@ -6,7 +6,7 @@ use Rattle.model_checks.specs.Forms.{have_field, added, form_behind}
 use Rattle.model_checks.specs.Labels.{operands_failures, steps_failures}
 use Rattle.fast_syntax.specs.Slices.{plain_operands, plain_sum_parts, plain_prod_parts}
 use Rattle.program_check.specs.Known.{plain_scope, plain_added, joined}
-use Rattle.program_check.specs.Notes.{Left}
+use Rattle.program_check.specs.Notes.{HasMemory, Left}
 use Rattle.program_check.proofs.checker.Checker.+check_label.Given as goal
 
 abbrev pub invariant-check_truths-parts : goal.invariant-check_truths-parts
@@ -14,7 +14,7 @@ invariant-check_truths-parts l =
     let s = plain_scope l.scope in
     record {
       noted : Left l.initial.self l.self (operands_failures s truths (plain_operands l.parts)) (operands_failures s truths (plain_operands (drop l.part-index l.parts)));
-      has : (l.has_field || have_field s (plain_operands (drop l.part-index l.parts))) ≡ have_field s (plain_operands l.parts);
+      has : HasMemory l.self → (l.has_field || have_field s (plain_operands (drop l.part-index l.parts))) ≡ have_field s (plain_operands l.parts);
     }
 
 abbrev pub invariant-check_sum-parts : goal.invariant-check_sum-parts
@@ -22,8 +22,8 @@ invariant-check_sum-parts l =
     let s = plain_scope l.scope in
     record {
       noted : Left l.initial.self l.self (operands_failures s wholes (plain_sum_parts l.parts)) (operands_failures s wholes (plain_sum_parts (drop l.part-index l.parts)));
-      has : (l.has_field || have_field s (plain_sum_parts (drop l.part-index l.parts))) ≡ have_field s (plain_sum_parts l.parts);
-      added : joined (plain_added l.added) (added s (plain_sum_parts (drop l.part-index l.parts))) ≡ added s (plain_sum_parts l.parts);
+      has : HasMemory l.self → (l.has_field || have_field s (plain_sum_parts (drop l.part-index l.parts))) ≡ have_field s (plain_sum_parts l.parts);
+      added : HasMemory l.self → joined (plain_added l.added) (added s (plain_sum_parts (drop l.part-index l.parts))) ≡ added s (plain_sum_parts l.parts);
     }
 
 abbrev pub invariant-check_product-parts : goal.invariant-check_product-parts
@@ -31,7 +31,7 @@ invariant-check_product-parts l =
     let s = plain_scope l.scope in
     let one = Some (number_form (pos 1)) in
     record {
-      noted : Left l.initial.self l.self (steps_failures s l.place false one (plain_prod_parts l.parts)) (steps_failures s l.place l.before.has_field l.before.form (plain_prod_parts (drop l.part-index l.parts)));
-      has : (l.before.has_field || have_field s (plain_prod_parts (drop l.part-index l.parts))) ≡ have_field s (plain_prod_parts l.parts);
-      form : form_behind s l.before.has_field l.before.form (plain_prod_parts (drop l.part-index l.parts)) ≡ form_behind s false one (plain_prod_parts l.parts);
+      noted : Left l.fn.self l.self (steps_failures s l.place false one (plain_prod_parts l.parts)) (steps_failures s l.place l.before.has_field l.before.form (plain_prod_parts (drop l.part-index l.parts)));
+      has : HasMemory l.self → (l.before.has_field || have_field s (plain_prod_parts (drop l.part-index l.parts))) ≡ have_field s (plain_prod_parts l.parts);
+      form : HasMemory l.self → form_behind s l.before.has_field l.before.form (plain_prod_parts (drop l.part-index l.parts)) ≡ form_behind s false one (plain_prod_parts l.parts);
     }

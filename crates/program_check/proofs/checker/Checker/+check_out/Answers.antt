@@ -6,7 +6,7 @@ use Rattle.fast_syntax.specs.Slices.{plain_outputs}
 use Rattle.fast_syntax.proofs.Appending.{drop_at}
 use Rattle.model_checks.specs.Rules.{out_failures, outs_failures}
 use Rattle.program_check.specs.Contexts.{items_of}
-use Rattle.program_check.proofs.Noting.{same, on_ok1, more, done}
+use Rattle.program_check.proofs.Noting.{same, more, done}
 use Rattle.fast_syntax.proofs.Rows.{plain_made}
 use Rattle.model_checks.specs.Rules.{count_outs}
 use Rattle.program_check.specs.Nodes.{node_failures}
@@ -14,22 +14,24 @@ use Rattle.program_check.proofs.NodeParts.{outs_counted, node_noted}
 use Rattle.program_check.proofs.checker.Checker.+check_out.Goals as goal
 
 pub check_outs-outs-preserved : goal.check_outs-outs-preserved
-check_outs-outs-preserved t c =
+check_outs-outs-preserved t c h =
+    let one = c.check_out.ensures h in
     let items = c.args.outs.now in
     let i = c.outs.out-index in
     let x = c.out-item.result in
     let from = plain_name c.args.types.now.from.now in
     let into = plain_name c.args.types.now.into.now in
     let vars = map plain_name c.args.vars.now.all.now in
-    more (λ d. out_failures (items_of d) from into vars (plain_out x)) _ c.in_ok-check_out.ensures (ap (λ l. outs_failures (items_of c.args.self.now.context) from into vars (plain_outputs l)) (drop_at items i x c.outs-test.true c.out-item.is)) c.outs.invariant
+    more (λ d. out_failures (items_of d) from into vars (plain_out x)) _ one (ap (λ l. outs_failures (items_of c.args.self.now.context) from into vars (plain_outputs l)) (drop_at items i x c.outs-test.true c.out-item.is)) (c.outs.invariant one.had)
 
 pub check_outs-returns : goal.check_outs-returns
-check_outs-returns t c =
+check_outs-returns t c h =
     let each = outs_failures (items_of c.args.self.now.context) (plain_name c.args.types.now.from.now) (plain_name c.args.types.now.into.now) (map plain_name c.args.vars.now.all.now) in
-    done (ap (λ l. each (plain_outputs l)) (drop_all c.outs.out-index c.args.outs.now c.outs-test.false)) c.outs.invariant
+    done (ap (λ l. each (plain_outputs l)) (drop_all c.outs.out-index c.args.outs.now c.outs-test.false)) (c.outs.invariant h)
 
-pub check_out-returns-in_ok-check_node-in-Node : goal.check_out-returns-in_ok-check_node-in-Node
-check_out-returns-in_ok-check_node-in-Node t c =
+pub check_out-returns-in-Node : goal.check_out-returns-in-Node
+check_out-returns-in-Node t c h =
+    let last = c.check_outs.ensures h in
     let items = items_of c.args.self.now.context in
     let from = plain_name c.args.types.now.from.now in
     let into = plain_name c.args.types.now.into.now in
@@ -38,6 +40,6 @@ check_out-returns-in_ok-check_node-in-Node t c =
     let labels = map plain_expr c.in-Node.labels.items in
     let outs = plain_outputs c.in-Node.outs.items in
     let is = ap plain_out c.in-Node.is ∙ plain_made name c.in-Node.labels c.in-Node.outs in
-    let node = same (ap (λ xs. node_failures items from into (plain_name name) (map plain_expr xs) c.len.result) c.deref.ensures.value) c.in_ok-check_node-in-Node.ensures in
-    on_ok1 c.check_outs.result (λ two. same (ap (out_failures items from into vars) (sym is))
-    (node_noted from into vars (plain_name name) labels outs c.len.result _ _ _ (c.len.ensures ∙ sym c.deref-in-Node.ensures.len ∙ outs_counted c.deref-in-Node.result.now ∙ ap (λ xs. count_outs (plain_outputs xs)) c.deref-in-Node.ensures.value) node (same (ap (λ xs. outs_failures (items_of c.check_node.new.self.context) from into vars (plain_outputs xs)) c.deref-in-Node.ensures.value) two))) c.check_outs.ensures
+    let node = same (ap (λ xs. node_failures items from into (plain_name name) (map plain_expr xs) c.len.result) c.deref.ensures.value) (c.check_node.ensures last.had) in
+    same (ap (out_failures items from into vars) (sym is))
+    (node_noted from into vars (plain_name name) labels outs c.len.result _ _ _ (c.len.ensures ∙ sym c.deref-in-Node.ensures.len ∙ outs_counted c.deref-in-Node.result.now ∙ ap (λ xs. count_outs (plain_outputs xs)) c.deref-in-Node.ensures.value) node (same (ap (λ xs. outs_failures (items_of c.check_node.new.self.context) from into vars (plain_outputs xs)) c.deref-in-Node.ensures.value) last))

@@ -6,7 +6,7 @@ use Rattle.model_checks.specs.Expressions.{type_called, x_failures, xs_failures,
 use Rattle.program_check.specs.Contexts.{items_of, before_of}
 use Rattle.program_check.specs.Typed.{type_name}
 use Rattle.program_check.specs.Standings.{plain_kind, as_failures, IsStanding}
-use Rattle.program_check.proofs.Noting.{next, same, of_same, on_ok1}
+use Rattle.program_check.proofs.Noting.{next, same, of_same, and_none, was_done, either_way}
 use Rattle.program_check.proofs.Standing.{wanted_is, one_stands, two_stands, kind_is}
 use Rattle.fast_syntax.proofs.Rows.{plain_literal}
 use Rattle.model_grammar.specs.Syntax.{X}
@@ -19,69 +19,80 @@ use Rattle.program_check.proofs.Weights.{weights-append, some_weight}
 use Rattle.program_check.proofs.checker.Checker.+check_x.Goals as goal
 
 pub check_as-returns-clause-noted : goal.check_as-returns-clause-noted
-check_as-returns-clause-noted t c =
+check_as-returns-clause-noted t c h =
+    let last = c.check_be.ensures h in
     let items = items_of c.args.self.now.context in
     let before = before_of c.args.self.now.context in
     let x = plain_x c.args.x.now in
-    let one = c.in_ok-standing.ensures.noted in
+    let one = c.check_x-standing.ensures.noted last.had in
     next (same (ap (λ n. x_failures items before c.args.around n x) c.expected_as-expected.ensures) one)
-    (of_same (λ d. needs_be (items_of d) (before_of d) (type_name c.args.of) (plain_kind c.args.kind) x) one.same c.check_be.ensures)
+    (of_same (λ d. needs_be (items_of d) (before_of d) (type_name c.args.of) (plain_kind c.args.kind) x) one.same last)
+
+pub check_as-returns-clause-standing : goal.check_as-returns-clause-standing
+check_as-returns-clause-standing t c h = c.check_x-standing.ensures.standing (c.check_be.ensures h).had
 
 pub check_as-check_be-requires : goal.check_as-check_be-requires
-check_as-check_be-requires t c = subst (λ (d : Context). IsStanding (items_of d) (plain_x c.args.x.now) c.in_ok-standing.standing) (sym c.in_ok-standing.ensures.noted.same) c.in_ok-standing.ensures.standing
+check_as-check_be-requires t c h = subst (λ (d : Context). IsStanding (items_of d) (plain_x c.args.x.now) c.check_x-standing.result) (sym (c.check_x-standing.ensures.noted h).same) (c.check_x-standing.ensures.standing h)
 
-pub check_x-returns-in_ok-operand-in-One-clause-noted : goal.check_x-returns-in_ok-operand-in-One-clause-noted
-check_x-returns-in_ok-operand-in-One-clause-noted t c =
+pub check_x-returns-in-One-clause-noted : goal.check_x-returns-in-One-clause-noted
+check_x-returns-in-One-clause-noted t c h =
+    let last = c.check_as-operand.ensures.noted h in
     let items = items_of c.args.self.now.context in
     let before = before_of c.args.self.now.context in
     let e = type_name c.args.expected in
     let deep = c.check_nested-deep in
-    let one = deep.ensures.noted in
-    let two = of_same (λ d. as_failures (items_of d) (before_of d) deep.result None (plain_kind c.taken_by_one-kind.result) (plain_x c.deref.result.now)) one.same c.in_ok-operand-in-One.ensures.noted in
+    let one = deep.ensures.noted last.had in
+    let two = of_same (λ d. as_failures (items_of d) (before_of d) deep.result None (plain_kind c.taken_by_one-kind.result) (plain_x c.deref.result.now)) one.same last in
     same (ap (x_failures items before c.args.around e) (sym (ap plain_x c.in-One.is)))
     (one_noted items before c.in-One.op c.in-One.place c.args.around deep.result e (plain_x c.in-One.inside.value) _ (plain_kind c.taken_by_one-kind.result) _ _ _ (ap plain_x c.deref.ensures) (ap plain_kind c.taken_by_one-kind.ensures ∙ kind_is c.in-One.op)
     (λ n z. as_deep items before c.args.around deep.result n z deep.ensures.few deep.ensures.many) one two)
 
-pub check_x-returns-in_ok-operand-in-One-clause-standing : goal.check_x-returns-in_ok-operand-in-One-clause-standing
-check_x-returns-in_ok-operand-in-One-clause-standing t c =
+pub check_x-returns-in-One-clause-standing : goal.check_x-returns-in-One-clause-standing
+check_x-returns-in-One-clause-standing t c h =
+    let last = c.check_as-operand.ensures.noted h in
     let x = plain_x c.in-One.inside.value in
-    let is = subst (λ (d : Context). IsStanding (items_of d) (plain_x c.deref.result.now) c.in_ok-operand-in-One.operand) c.check_nested-deep.ensures.noted.same c.in_ok-operand-in-One.ensures.standing in
-    let here = subst (λ (z : X). IsStanding (items_of c.args.self.now.context) z c.in_ok-operand-in-One.operand) (ap plain_x c.deref.ensures) is in
+    let is = subst (λ (d : Context). IsStanding (items_of d) (plain_x c.deref.result.now) c.check_as-operand.result) (c.check_nested-deep.ensures.noted last.had).same (c.check_as-operand.ensures.standing h) in
+    let here = subst (λ (z : X). IsStanding (items_of c.args.self.now.context) z c.check_as-operand.result) (ap plain_x c.deref.ensures) is in
     subst (λ (z : X). IsStanding (items_of c.args.self.now.context) z c.of_one.result) (sym (ap plain_x c.in-One.is))
-    (rw c.of_one.ensures (one_stands (items_of c.args.self.now.context) (before_of c.args.self.now.context) c.in-One.op c.in-One.place x c.in_ok-operand-in-One.operand here))
+    (rw c.of_one.ensures (one_stands (items_of c.args.self.now.context) (before_of c.args.self.now.context) c.in-One.op c.in-One.place x c.check_as-operand.result here))
 
-pub check_x-returns-in_ok-right-in-Two-clause-noted : goal.check_x-returns-in_ok-right-in-Two-clause-noted
-check_x-returns-in_ok-right-in-Two-clause-noted t c =
+pub check_x-returns-in-Two-clause-noted : goal.check_x-returns-in-Two-clause-noted
+check_x-returns-in-Two-clause-noted t c h =
+    let last = c.check_as-right.ensures.noted h in
+    let middle = c.check_as-left.ensures.noted last.had in
     let items = items_of c.args.self.now.context in
     let before = before_of c.args.self.now.context in
     let e = type_name c.args.expected in
     let deep = c.check_nested-deep-in-Two in
-    let left = c.in_ok-left-in-Two.left in
+    let left = c.check_as-left.result in
     let wanted = c.wanted_second-wanted.result in
-    let one = deep.ensures.noted in
-    let two = of_same (λ d. as_failures (items_of d) (before_of d) deep.result None (plain_kind c.taken_first-kind.result) (plain_x c.deref-in-Two.result.now)) one.same c.in_ok-left-in-Two.ensures.noted in
-    let three = of_same (λ d. as_failures (items_of d) (before_of d) deep.result (type_name wanted) (plain_kind c.taken_second-kind.result) (plain_x c.deref-in-Two-2.result.now)) (two.same ∙ one.same) c.in_ok-right-in-Two.ensures.noted in
-    let is = subst (λ (d : Context). IsStanding (items_of d) (plain_x c.deref-in-Two.result.now) left) one.same c.in_ok-left-in-Two.ensures.standing in
+    let one = deep.ensures.noted middle.had in
+    let two = of_same (λ d. as_failures (items_of d) (before_of d) deep.result None (plain_kind c.taken_first-kind.result) (plain_x c.deref-in-Two.result.now)) one.same middle in
+    let three = of_same (λ d. as_failures (items_of d) (before_of d) deep.result (type_name wanted) (plain_kind c.taken_second-kind.result) (plain_x c.deref-in-Two-2.result.now)) (two.same ∙ one.same) last in
+    let is = subst (λ (d : Context). IsStanding (items_of d) (plain_x c.deref-in-Two.result.now) left) one.same (c.check_as-left.ensures.standing last.had) in
     same (ap (x_failures items before c.args.around e) (sym (ap plain_x c.in-Two.is)))
     (two_noted items before c.in-Two.op c.in-Two.place c.args.around deep.result e (type_name wanted) (plain_x c.in-Two.first.value) _ (plain_x c.deref-in-Two.result.now) (plain_x c.in-Two.second.value) _
     (plain_kind c.taken_first-kind.result) (plain_kind c.taken_second-kind.result) _ _ _ _ (ap plain_x c.deref-in-Two.ensures) (ap plain_x c.deref-in-Two.ensures) (ap plain_x c.deref-in-Two-2.ensures)
     c.taken_first-kind.ensures c.taken_second-kind.ensures (ap type_name c.wanted_second-wanted.ensures ∙ wanted_is items before c.in-Two.op (plain_x c.deref-in-Two.result.now) left is) (λ n z. as_deep items before c.args.around deep.result n z deep.ensures.few deep.ensures.many)
     one two three)
 
-pub check_x-returns-in_ok-right-in-Two-clause-standing : goal.check_x-returns-in_ok-right-in-Two-clause-standing
-check_x-returns-in_ok-right-in-Two-clause-standing t c =
+pub check_x-returns-in-Two-clause-standing : goal.check_x-returns-in-Two-clause-standing
+check_x-returns-in-Two-clause-standing t c h =
+    let last = c.check_as-right.ensures.noted h in
+    let middle = c.check_as-left.ensures.noted last.had in
     let items = items_of c.args.self.now.context in
-    let left = c.in_ok-left-in-Two.left in
-    let right = c.in_ok-right-in-Two.right in
-    let one = c.check_nested-deep-in-Two.ensures.noted.same in
-    let two = c.in_ok-left-in-Two.ensures.noted.same in
-    let first = subst (λ (z : X). IsStanding items z left) (ap plain_x c.deref-in-Two.ensures) (subst (λ (d : Context). IsStanding (items_of d) (plain_x c.deref-in-Two.result.now) left) one c.in_ok-left-in-Two.ensures.standing) in
-    let second = subst (λ (z : X). IsStanding items z right) (ap plain_x c.deref-in-Two-2.ensures) (subst (λ (d : Context). IsStanding (items_of d) (plain_x c.deref-in-Two-2.result.now) right) (two ∙ one) c.in_ok-right-in-Two.ensures.standing) in
+    let left = c.check_as-left.result in
+    let right = c.check_as-right.result in
+    let one = (c.check_nested-deep-in-Two.ensures.noted middle.had).same in
+    let two = middle.same in
+    let first = subst (λ (z : X). IsStanding items z left) (ap plain_x c.deref-in-Two.ensures) (subst (λ (d : Context). IsStanding (items_of d) (plain_x c.deref-in-Two.result.now) left) one (c.check_as-left.ensures.standing last.had)) in
+    let second = subst (λ (z : X). IsStanding items z right) (ap plain_x c.deref-in-Two-2.ensures) (subst (λ (d : Context). IsStanding (items_of d) (plain_x c.deref-in-Two-2.result.now) right) (two ∙ one) (c.check_as-right.ensures.standing h)) in
     subst (λ (z : X). IsStanding items z c.of_two.result) (sym (ap plain_x c.in-Two.is))
     (rw c.of_two.ensures (two_stands items (before_of c.args.self.now.context) c.in-Two.op c.in-Two.place (plain_x c.in-Two.first.value) (plain_x c.in-Two.second.value) left right first second))
 
-pub check_x-returns-in_ok-check_children-in-Literal-clause-noted : goal.check_x-returns-in_ok-check_children-in-Literal-clause-noted
-check_x-returns-in_ok-check_children-in-Literal-clause-noted t c =
+pub check_x-returns-in-Literal-clause-noted : goal.check_x-returns-in-Literal-clause-noted
+check_x-returns-in-Literal-clause-noted t c h =
+    let last = c.check_children.ensures h in
     let items = items_of c.args.self.now.context in
     let before = before_of c.args.self.now.context in
     let e = type_name c.args.expected in
@@ -89,8 +100,8 @@ check_x-returns-in_ok-check_children-in-Literal-clause-noted t c =
     let name = plain_name c.in-Literal.name in
     let t = type_called items before e in
     let xs = c.in-Literal.children.items in
-    let one = same (ap₂ (λ ls n. literal_failures t name (map plain_expr ls) n) c.deref-in-Literal.ensures.value (c.len.ensures ∙ sym c.deref-in-Literal-2.ensures.len ∙ ap length c.deref-in-Literal-2.ensures.value)) c.in_ok-check_literal-in-Literal.ensures in
-    let two = same (ap (λ l. xs_failures items before c.args.around e (plain_children l)) c.deref-in-Literal-2.ensures.value) (of_same (λ d. xs_failures (items_of d) (before_of d) c.args.around e (plain_children c.deref-in-Literal-2.result.now)) one.same c.in_ok-check_children-in-Literal.ensures) in
+    let one = same (ap₂ (λ ls n. literal_failures t name (map plain_expr ls) n) c.deref-in-Literal.ensures.value (c.len.ensures ∙ sym c.deref-in-Literal-2.ensures.len ∙ ap length c.deref-in-Literal-2.ensures.value)) (c.check_literal.ensures last.had) in
+    let two = same (ap (λ l. xs_failures items before c.args.around e (plain_children l)) c.deref-in-Literal-2.ensures.value) (of_same (λ d. xs_failures (items_of d) (before_of d) c.args.around e (plain_children c.deref-in-Literal-2.result.now)) one.same last) in
     same (sym (ap each (ap plain_x c.in-Literal.is ∙ plain_literal c.in-Literal.name c.in-Literal.labels c.in-Literal.children)))
     (literal_noted items before c.args.around (length xs) e t name (map plain_expr c.in-Literal.labels.items) (plain_children xs) _ _ _
     refl (xs_counted xs) one two)
@@ -103,7 +114,9 @@ check_x-check_children-requires t c =
     omega (arith, is, inside, c.decreases)
 
 pub check_next_child-returns-clause-noted : goal.check_next_child-returns-clause-noted
-check_next_child-returns-clause-noted t c =
+check_next_child-returns-clause-noted t c h =
+    let none = c.note_want.ensures.noted h in
+    let more = was_done _ _ c.add-added.result (c.note_want.ensures.done h) c.add-added.ensures in
     let items = items_of c.args.self.now.context in
     let before = before_of c.args.self.now.context in
     let e = type_name c.args.expected in
@@ -111,22 +124,22 @@ check_next_child-returns-clause-noted t c =
     let t = type_called items before e in
     let xs = c.in-Literal.children.items in
     let old = those_of c.args.waiting.now in
-    let one = same (ap₂ (λ ls n. literal_failures t name (map plain_expr ls) n) c.deref.ensures.value (c.len.ensures ∙ sym c.deref-2.ensures.len ∙ ap length c.deref-2.ensures.value)) c.in_ok-check_literal.ensures in
-    on_ok1 c.add.result (λ more. literal_child items before c.args.around (length xs) e t (plain_x c.args.child.now) name (map plain_expr c.in-Literal.labels.items) xs old (those_of c.add.new.self) _ _
-    refl (xs_counted xs) (ap plain_x c.in-Literal.is ∙ plain_literal c.in-Literal.name c.in-Literal.labels c.in-Literal.children) (more ∙ ap (λ l. l ++ old) c.deref-2.ensures.value) one) c.add.ensures
+    let one = and_none (same (ap₂ (λ ls n. literal_failures t name (map plain_expr ls) n) c.deref.ensures.value (c.len.ensures ∙ sym c.deref-2.ensures.len ∙ ap length c.deref-2.ensures.value)) (c.check_literal.ensures none.had)) none in
+    literal_child items before c.args.around (length xs) e t (plain_x c.args.child.now) name (map plain_expr c.in-Literal.labels.items) xs old (those_of c.add-added.new.self) _ _
+    refl (xs_counted xs) (ap plain_x c.in-Literal.is ∙ plain_literal c.in-Literal.name c.in-Literal.labels c.in-Literal.children) (more ∙ ap (λ l. l ++ old) c.deref-2.ensures.value) one
 
 pub check_next_child-returns-clause-less : goal.check_next_child-returns-clause-less
 check_next_child-returns-clause-less t c =
     let xs = c.in-Literal.children.items in
     let old = those_of c.args.waiting.now in
     let is : weight (plain_x c.args.child.now) ≡ suc (suc (suc (suc (weights (plain_children xs))))) = ap weight (ap plain_x c.in-Literal.is ∙ plain_literal c.in-Literal.name c.in-Literal.labels c.in-Literal.children) in
-    on_ok1 c.add.result (λ more.
-    let now = ap (λ l. weights (plain_children l)) (more ∙ ap (λ l. l ++ old) c.deref-2.ensures.value) ∙ weights-append xs old in
-    omega (arith, is, now)) c.add.ensures
+    either_way c.add-added.result
+    (λ more. let now = ap (λ l. weights (plain_children l)) (more ∙ ap (λ l. l ++ old) c.deref-2.ensures.value) ∙ weights-append xs old in omega (arith, is, now))
+    (λ same. let now = ap (λ l. weights (plain_children l)) same in omega (arith, is, now)) c.add-added.ensures
 
 pub check_next_child-returns-in_default-clause-noted : goal.check_next_child-returns-in_default-clause-noted
-check_next_child-returns-in_default-clause-noted t c =
-    other_child (items_of c.args.self.now.context) (before_of c.args.self.now.context) c.args.around (type_name c.args.expected) (plain_x c.args.child.now) (plain_waiting c.args.waiting.now) _ _ c.in_ok-check_as.ensures.noted
+check_next_child-returns-in_default-clause-noted t c h =
+    other_child (items_of c.args.self.now.context) (before_of c.args.self.now.context) c.args.around (type_name c.args.expected) (plain_x c.args.child.now) (plain_waiting c.args.waiting.now) _ _ (c.check_as.ensures.noted h)
 
 pub check_next_child-returns-in_default-clause-less : goal.check_next_child-returns-in_default-clause-less
 check_next_child-returns-in_default-clause-less t c = let some = some_weight (plain_x c.args.child.now) in omega (arith, some)

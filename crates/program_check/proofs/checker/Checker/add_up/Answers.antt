@@ -7,15 +7,15 @@ use Rattle.model_checks.specs.Failures.{fails_if}
 use Rattle.model_checks.specs.Forms.{is_out_of_range, kept}
 use Rattle.program_check.specs.Known.{plain_added}
 use Rattle.program_check.proofs.Noting.{same}
-use Rattle.program_check.proofs.FormsMade.{makes, range_is, form_is, on_ok, if_ok}
+use Rattle.program_check.proofs.FormsMade.{makes, range_is, form_is}
 use Rattle.program_check.proofs.checker.Checker.add_up.Goals as goal
 
 pub returns-clause-noted : goal.returns-clause-noted
-returns-clause-noted c =
+returns-clause-noted c h =
     let made = makes (sum_form (plain_parts c.deref.result.now)) c.of_sum-made.result c.of_sum-made.ensures.form c.of_sum-made.ensures.in_range in
-    on_ok c.keep.result (λ noted m. same (ap (λ b. fails_if b NumberRange c.args.place) (range_is _ c.of_sum-made.result made m ∙ ap (λ xs. is_out_of_range (Some (sum_form (plain_parts xs)))) c.deref.ensures.value ∙ ap (λ o. is_out_of_range (option_map sum_form (plain_added o))) (sym c.in-Some.is))) noted) c.keep.ensures.noted c.keep.ensures.range
+    same (ap (λ b. fails_if b NumberRange c.args.place) (range_is _ c.of_sum-made.result made (c.keep.ensures.range h) ∙ ap (λ xs. is_out_of_range (Some (sum_form (plain_parts xs)))) c.deref.ensures.value ∙ ap (λ o. is_out_of_range (option_map sum_form (plain_added o))) (sym c.in-Some.is))) (c.keep.ensures.noted h)
 
 pub returns-clause-form : goal.returns-clause-form
-returns-clause-form c =
+returns-clause-form c h =
     let made = makes (sum_form (plain_parts c.deref.result.now)) c.of_sum-made.result c.of_sum-made.ensures.form c.of_sum-made.ensures.in_range in
-    if_ok c.keep.result (λ x e m. e ∙ form_is _ c.of_sum-made.result made m ∙ ap (λ xs. kept (Some (sum_form (plain_parts xs)))) c.deref.ensures.value ∙ ap (λ o. kept (option_map sum_form (plain_added o))) (sym c.in-Some.is)) c.keep.ensures.form c.keep.ensures.range
+    c.keep.ensures.form h ∙ form_is _ c.of_sum-made.result made (c.keep.ensures.range h) ∙ ap (λ xs. kept (Some (sum_form (plain_parts xs)))) c.deref.ensures.value ∙ ap (λ o. kept (option_map sum_form (plain_added o))) (sym c.in-Some.is)

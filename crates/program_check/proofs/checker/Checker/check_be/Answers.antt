@@ -10,8 +10,11 @@ use Rattle.fast_fault.specs.declared.code.Code.TheVariants.{WrongKind, WrongType
 use Rattle.program_check.proofs.checker.Checker.check_be.Goals as goal
 
 pub returns : goal.returns
-returns c =
+returns c h =
+    let last = c.note_if-2.ensures h in
+    let first = c.note_if.ensures last.had in
+    let is = c.requires first.had in
     let s = c.args.standing.now in
     let kind = c.args.kind in
-    let one = same (ap₂ (λ b p. fails_if b WrongKind p) (c.is_other_kind.ensures ∙ ap (is_other_kind (plain_kind kind)) c.requires.kind) c.place_of-place.ensures) c.note_if.ensures in
-    next one (same (ap₂ (λ b p. fails_if b WrongType p) (c.differ.ensures ∙ ap (differ (type_name c.args.of)) (ap type_name c.only_as-found.ensures ∙ only_is kind s.kind s.input _ _ c.requires.kind c.requires.input)) c.place_of-place.ensures) c.note_if-2.ensures)
+    let one = same (ap₂ (λ b p. fails_if b WrongKind p) (c.is_other_kind.ensures ∙ ap (is_other_kind (plain_kind kind)) is.kind) c.place_of-place.ensures) first in
+    next one (same (ap₂ (λ b p. fails_if b WrongType p) (c.differ.ensures ∙ ap (differ (type_name c.args.of)) (ap type_name c.only_as-found.ensures ∙ only_is kind s.kind s.input _ _ is.kind is.input)) c.place_of-place.ensures) last)

@@ -6,5 +6,6 @@ use Rattle.fast_fault.specs.declared.code.Code.TheVariants.{WrongKind}
 use Rattle.program_check.proofs.checker.Checker.check_empty.Goals as goal
 
 pub returns : goal.returns
-returns c =
-    next c.in_ok-standing.ensures.noted (same (ap₂ (λ b p. fails_if b WrongKind p) (c.is_tree.ensures ∙ ap is_tree c.in_ok-standing.ensures.standing.kind) c.place_of.ensures) c.note_if.ensures)
+returns c h =
+    let last = c.note_if.ensures h in
+    next (c.check_x-standing.ensures.noted last.had) (same (ap₂ (λ b p. fails_if b WrongKind p) (c.is_tree.ensures ∙ ap is_tree (c.check_x-standing.ensures.standing last.had).kind) c.place_of.ensures) last)

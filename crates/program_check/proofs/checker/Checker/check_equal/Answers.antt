@@ -10,11 +10,12 @@ use Rattle.program_check.specs.declared.expressions.Kind.TheVariants.{Language}
 use Rattle.program_check.proofs.checker.Checker.check_equal.Goals as goal
 
 pub returns : goal.returns
-returns c =
+returns c h =
+    let last = c.check_as.ensures.noted h in
     let items = items_of c.args.self.now.context in
     let before = before_of c.args.self.now.context in
-    let s = c.in_ok-left.left in
-    let is = c.in_ok-left.ensures.standing in
-    let one = c.in_ok-left.ensures.noted in
-    let two = of_same (λ d. whole_failures (items_of d) (before_of d) (type_name c.only_as-wanted.result) language (plain_x c.args.y.now)) one.same c.in_ok-check_as.ensures.noted in
+    let s = c.check_as-left.result in
+    let is = c.check_as-left.ensures.standing last.had in
+    let one = c.check_as-left.ensures.noted last.had in
+    let two = of_same (λ d. whole_failures (items_of d) (before_of d) (type_name c.only_as-wanted.result) language (plain_x c.args.y.now)) one.same last in
     next one (same (ap (λ n. whole_failures items before n language (plain_x c.args.y.now)) (ap type_name c.only_as-wanted.ensures ∙ only_is Language s.kind s.input _ _ is.kind is.input)) two)

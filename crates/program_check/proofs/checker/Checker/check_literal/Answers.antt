@@ -4,14 +4,16 @@ use Rattle.fast_syntax.specs.Plain.{plain_expr}
 use Rattle.model_checks.specs.Labels.{labels_failures}
 use Rattle.program_check.specs.Typed.{plain_option}
 use Rattle.program_check.specs.Standings.{literal_failures}
-use Rattle.program_check.proofs.Noting.{next, same, on_ok1}
+use Rattle.program_check.proofs.Noting.{next, same}
 use Rattle.std.proofs.lemmas.List.{length-map}
 use Rattle.model_checks.specs.Rules.{label_count_failures}
 use Rattle.program_check.proofs.checker.Checker.check_literal.Goals as goal
 
 pub returns : goal.returns
-returns c =
+returns c h =
+    let last = c.check_labels.ensures h in
+    let count = c.check_label_count.ensures last.had in
     let labels = map plain_expr c.args.labels.now in
     let t = plain_option c.type_called-of.result in
-    on_ok1 c.check_labels.result (λ last. same (ap (λ u. literal_failures u (plain_name c.args.name.now) labels c.args.count) c.type_called-of.ensures) (next c.check_constructor.ensures (next (same (ap (label_count_failures t (plain_name c.args.name.now)) (sym (length-map c.args.labels.now plain_expr))) c.check_label_count.ensures)
-    (same (ap (λ fs. labels_failures (Some []) fs labels) c.fields_of.ensures) last)))) c.check_labels.ensures
+    same (ap (λ u. literal_failures u (plain_name c.args.name.now) labels c.args.count) c.type_called-of.ensures) (next (c.check_constructor.ensures count.had) (next (same (ap (label_count_failures t (plain_name c.args.name.now)) (sym (length-map c.args.labels.now plain_expr))) count)
+    (same (ap (λ fs. labels_failures (Some []) fs labels) c.fields_of.ensures) last)))

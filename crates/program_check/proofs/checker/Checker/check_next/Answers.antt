@@ -1,5 +1,4 @@
 use Rattle.std.proofs.Common.{sym, subst}
-use Rattle.std.specs.Prelude.{OnOk}
 use Rattle.fast_syntax.specs.Plain.{plain_expr}
 use Rattle.std.proofs.Common.{Bool}
 use Rattle.program_check.specs.Notes.{Notes}
@@ -8,10 +7,10 @@ use Rattle.program_check.proofs.checker.Checker.check_next.Goals as goal
 
 pub returns-then-part-clause-noted : goal.returns-then-part-clause-noted
 returns-then-part-clause-noted c =
-    subst (λ (m : Bool). OnOk c.check_remainder.result (Notes c.args.self.now c.check_remainder.new.self (next_failures c.args.place c.args.before.has_field c.args.before.form m c.args.known.now.has_field c.args.known.now.form (plain_expr c.args.part.now.part))))
+    subst (λ (m : Bool). Notes c.args.self.now c.check_remainder.new.self (next_failures c.args.place c.args.before.has_field c.args.before.form m c.args.known.now.has_field c.args.known.now.form (plain_expr c.args.part.now.part)))
     (sym c.if-part.true) c.check_remainder.ensures.noted
 
 pub returns-else-part-clause-noted : goal.returns-else-part-clause-noted
 returns-else-part-clause-noted c =
-    subst (λ (m : Bool). OnOk c.check_factor.result (Notes c.args.self.now c.check_factor.new.self (next_failures c.args.place c.args.before.has_field c.args.before.form m c.args.known.now.has_field c.args.known.now.form (plain_expr c.args.part.now.part))))
+    subst (λ (m : Bool). Notes c.args.self.now c.check_factor.new.self (next_failures c.args.place c.args.before.has_field c.args.before.form m c.args.known.now.has_field c.args.known.now.form (plain_expr c.args.part.now.part)))
     (sym c.if-part.false) c.check_factor.ensures.noted

@@ -9,6 +9,8 @@ use Rattle.fast_fault.specs.declared.code.Code.TheVariants.{WrongType}
 use Rattle.program_check.proofs.checker.Checker.check_output.Goals as goal
 
 pub returns : goal.returns
-returns c =
+returns c h =
+    let last = c.note_if.ensures h in
+    let is = c.requires last.had in
     let s = c.args.standing.now in
-    same (λ i. fails_if ((c.differ.ensures ∙ ap₂ differ c.output_named-wanted.ensures (ap type_name c.only_as-found.ensures ∙ only_is Transformation s.kind s.output _ _ c.requires.kind c.requires.output)) i) WrongType (c.place_of.ensures i)) c.note_if.ensures
+    same (λ i. fails_if ((c.differ.ensures ∙ ap₂ differ c.output_named-wanted.ensures (ap type_name c.only_as-found.ensures ∙ only_is Transformation s.kind s.output _ _ is.kind is.output)) i) WrongType (c.place_of.ensures i)) last

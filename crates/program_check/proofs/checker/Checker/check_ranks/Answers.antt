@@ -9,12 +9,13 @@ use Rattle.fast_syntax.specs.declared.CtorItem.{CtorItem}
 use Rattle.program_check.proofs.checker.Checker.check_ranks.Goals as goal
 
 pub ctors-preserved : goal.ctors-preserved
-ctors-preserved c =
+ctors-preserved c h =
+    let one = c.check_rank.ensures h in
     let at = subst (λ (xs : List CtorItem). c.ctor-item.result ≡ get_or xs c.ctors.ctor-index c.ctor-item.result) c.deref-ctor-items.ensures.value c.ctor-item.is in
     let low = subst (λ (xs : List CtorItem). c.ctors.ctor-index < length xs) c.deref-ctor-items.ensures.value c.ctors-test.true in
-    more (λ _. ctor_failures (plain_ctor c.ctor-item.result)) _ c.check_rank.ensures (one_of ctor_failures plain_ctor c.args.item.now.ctors.items c.ctors.ctor-index c.ctor-item.result low at) c.ctors.invariant
+    more (λ _. ctor_failures (plain_ctor c.ctor-item.result)) _ one (one_of ctor_failures plain_ctor c.args.item.now.ctors.items c.ctors.ctor-index c.ctor-item.result low at) (c.ctors.invariant one.had)
 
 pub returns : goal.returns
-returns c =
+returns c h =
     let end = subst (λ (xs : List CtorItem). length xs ≤ c.ctors.ctor-index) c.deref-ctor-items.ensures.value c.ctors-test.false in
-    done (ap (λ xs. flat_map ctor_failures (map plain_ctor xs)) (drop_all c.ctors.ctor-index c.args.item.now.ctors.items end)) c.ctors.invariant
+    done (ap (λ xs. flat_map ctor_failures (map plain_ctor xs)) (drop_all c.ctors.ctor-index c.args.item.now.ctors.items end)) (c.ctors.invariant h)

@@ -7,6 +7,12 @@ use Rattle.program_check.proofs.Searching.{rule_noted}
 use Rattle.program_check.proofs.checker.Checker.check_rule.Goals as goal
 
 pub returns-clause-noted : goal.returns-clause-noted
-returns-clause-noted c =
-    rule_noted (plain_name c.args.of.now) (plain_rule c.args.rule.now) (plain_option c.find_type-item.result) (plain_scope c.scope_of-scope.result) (map plain_name c.in_ok-vars.vars.all.now) _ _ _ _ _
-    c.find_type-item.ensures c.scope_of-scope.ensures c.in_ok-vars.ensures.same c.check_head.ensures c.in_ok-vars.ensures.noted c.in_ok-check_guard.ensures c.check_given.ensures
+returns-clause-noted c h =
+    let four = c.check_given.ensures h in
+    let three = c.check_guard.ensures four.had in
+    let two = c.check_vars-vars.ensures.noted three.had in
+    rule_noted (plain_name c.args.of.now) (plain_rule c.args.rule.now) (plain_option c.find_type-item.result) (plain_scope c.scope_of-scope.result) (map plain_name c.check_vars-vars.result.all.now) _ _ _ _ _
+    c.find_type-item.ensures c.scope_of-scope.ensures (c.check_vars-vars.ensures.same three.had) (c.check_head.ensures two.had) two three four
+
+pub returns-clause-same : goal.returns-clause-same
+returns-clause-same c h = c.check_vars-vars.ensures.same (c.check_guard.ensures (c.check_given.ensures h).had).had

@@ -10,9 +10,11 @@ use Rattle.program_check.proofs.Noting.{next, same, of_same}
 use Rattle.program_check.proofs.checker.Checker.check_tree.Goals as goal
 
 pub returns : goal.returns
-returns c =
+returns c h =
+    let last = c.check_as.ensures.noted h in
+    let type = c.check_type_name.ensures last.had in
     let x = plain_x c.args.item.now.value in
-    let one = c.check_new_name.ensures in
-    let two = of_same (λ d. type_name_failures (items_of d) (plain_name c.args.item.now.of)) one.same c.check_type_name.ensures in
-    let three = of_same (λ d. whole_failures (items_of d) (before_of d) (type_name c.type_named-of.result) a_tree x) (two.same ∙ one.same) c.in_ok-check_as.ensures.noted in
+    let one = c.check_new_name.ensures type.had in
+    let two = of_same (λ d. type_name_failures (items_of d) (plain_name c.args.item.now.of)) one.same type in
+    let three = of_same (λ d. whole_failures (items_of d) (before_of d) (type_name c.type_named-of.result) a_tree x) (two.same ∙ one.same) last in
     next one (next two (same (ap (λ n. whole_failures (items_of c.args.self.now.context) (before_of c.args.self.now.context) n a_tree x) c.type_named-of.ensures) three))

@@ -12,12 +12,17 @@ use Rattle.program_check.proofs.Repeating.{placed_ctors}
 use Rattle.program_check.proofs.checker.Checker.check_type.Goals as goal
 
 pub invariant_of-declared : goal.invariant_of-declared
-invariant_of-declared c = record { numbered = λ name. c.in_ok-ctors.ensures.places name ∙ ap (λ names. name_place names name) (ap (map (λ c. plain_name c.name)) c.deref-2.ensures.value ∙ sym (map-map (λ (c : plain.CtorItem). c.name) plain_ctor c.args.item.now.ctors.items)) ∙ placed_ctors (map plain_ctor c.args.item.now.ctors.items) name }
+invariant_of-declared c = record { numbered = λ name. c.check_repeated-ctors.ensures.places c.if-self.false name ∙ ap (λ names. name_place names name) (ap (map (λ c. plain_name c.name)) c.deref-2.ensures.value ∙ sym (map-map (λ (c : plain.CtorItem). c.name) plain_ctor c.args.item.now.ctors.items)) ∙ placed_ctors (map plain_ctor c.args.item.now.ctors.items) name }
 
 pub returns : goal.returns
-returns c =
+returns c h =
+    let six = c.check_ranks.ensures h in
+    let five = c.note_if.ensures six.had in
+    let four = c.check_repeated-ctors.ensures.noted five.had in
+    let three = c.check_field_limit.ensures four.had in
+    let two = c.check_own_sorts.ensures three.had in
     let item = c.args.item.now in
-    let fields = same (ap (repeated DuplicateName) (ap (map (λ f. plain_name f.name)) c.deref.ensures.value ∙ sym (map-map (λ (f : plain.FieldItem). f.name) plain_field item.fields.items))) c.in_ok-check_repeated.ensures.noted in
-    let ctors = same (ap (repeated DuplicateName) (ap (map (λ c. plain_name c.name)) c.deref-2.ensures.value ∙ sym (map-map (λ (c : plain.CtorItem). c.name) plain_ctor item.ctors.items))) c.in_ok-ctors.ensures.noted in
-    let leaf = same (ap (λ b. fails_if (not b) NoLeaf item.name.place) c.has_leaf.ensures) c.note_if.ensures in
-    next fields (next c.check_own_sorts.ensures (next c.check_field_limit.ensures (next ctors (next leaf c.check_ranks.ensures))))
+    let fields = same (ap (repeated DuplicateName) (ap (map (λ f. plain_name f.name)) c.deref.ensures.value ∙ sym (map-map (λ (f : plain.FieldItem). f.name) plain_field item.fields.items))) (c.check_repeated.ensures.noted two.had) in
+    let ctors = same (ap (repeated DuplicateName) (ap (map (λ c. plain_name c.name)) c.deref-2.ensures.value ∙ sym (map-map (λ (c : plain.CtorItem). c.name) plain_ctor item.ctors.items))) four in
+    let leaf = same (ap (λ b. fails_if (not b) NoLeaf item.name.place) c.has_leaf.ensures) five in
+    next fields (next two (next three (next ctors (next leaf six))))

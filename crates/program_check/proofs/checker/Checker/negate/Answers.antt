@@ -6,15 +6,15 @@ use Rattle.model_form.specs.Sums.{product_form}
 use Rattle.model_checks.specs.Failures.{fails_if}
 use Rattle.model_checks.specs.Forms.{is_out_of_range, kept}
 use Rattle.program_check.proofs.Noting.{same}
-use Rattle.program_check.proofs.FormsMade.{makes, range_is, form_is, on_ok, if_ok}
+use Rattle.program_check.proofs.FormsMade.{makes, range_is, form_is}
 use Rattle.program_check.proofs.checker.Checker.negate.Goals as goal
 
 pub returns-in-Some-clause-noted : goal.returns-in-Some-clause-noted
-returns-in-Some-clause-noted c =
+returns-in-Some-clause-noted c h =
     let made = makes (product_form (negsuc 0) c.in-Some.form) c.scaled-made.result c.scaled-made.ensures.form c.scaled-made.ensures.in_range in
-    on_ok c.keep.result (λ noted m. same (ap (λ b. fails_if b NumberRange c.args.place) (range_is _ c.scaled-made.result made m ∙ ap (λ o. is_out_of_range (option_map (product_form (negsuc 0)) o)) (sym c.in-Some.is))) noted) c.keep.ensures.noted c.keep.ensures.range
+    same (ap (λ b. fails_if b NumberRange c.args.place) (range_is _ c.scaled-made.result made (c.keep.ensures.range h) ∙ ap (λ o. is_out_of_range (option_map (product_form (negsuc 0)) o)) (sym c.in-Some.is))) (c.keep.ensures.noted h)
 
 pub returns-in-Some-clause-form : goal.returns-in-Some-clause-form
-returns-in-Some-clause-form c =
+returns-in-Some-clause-form c h =
     let made = makes (product_form (negsuc 0) c.in-Some.form) c.scaled-made.result c.scaled-made.ensures.form c.scaled-made.ensures.in_range in
-    if_ok c.keep.result (λ x is m. is ∙ form_is _ c.scaled-made.result made m ∙ ap (λ o. kept (option_map (product_form (negsuc 0)) o)) (sym c.in-Some.is)) c.keep.ensures.form c.keep.ensures.range
+    c.keep.ensures.form h ∙ form_is _ c.scaled-made.result made (c.keep.ensures.range h) ∙ ap (λ o. kept (option_map (product_form (negsuc 0)) o)) (sym c.in-Some.is)
