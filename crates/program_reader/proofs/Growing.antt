@@ -86,8 +86,12 @@ begins_behind tokens middle rest (Ok begun) leaves failed more = left_leaves lea
 begins_behind tokens middle rest (Err e) leaves failed fails = failed _ fails
 
 -- the same of a node that is known
-pub grown_exit : {node given : Open} (x : X) (tokens rest : List Lexeme) (e : Stop) (r : Result Begun Stop) → node ≡ given → IsErrAnd r (λ y. y ≡ e) → Fails (IsGrown given x) closed tokens (bad_of e rest) → Begins (IsGrown node x) tokens rest r
-grown_exit {node} {given} x tokens rest e r is_node is fails = subst (λ (n : Open). Begins (IsGrown n x) tokens rest r) (sym is_node) (begins_exit tokens rest e r is fails)
+pub grown_begins : {node given : Open} (x : X) (tokens rest : List Lexeme) (r : Result Begun Stop) → node ≡ given → Begins (IsGrown given x) tokens rest r → Begins (IsGrown node x) tokens rest r
+grown_begins {node} {given} x tokens rest r is_node begun = subst (λ (n : Open). Begins (IsGrown n x) tokens rest r) (sym is_node) begun
+
+-- and of a value
+pub closes_as : {a b : X} (tokens rest : List Lexeme) (r : Result Begun Stop) → a ≡ b → Begins (Closes a) tokens rest r → Begins (Closes b) tokens rest r
+closes_as tokens rest r same begun = subst (λ (x : X). Begins (Closes x) tokens rest r) same begun
 
 pub grown_as : {node given : Open} (x : X) {left : X → List Lexeme → Type 0} {tokens rest : List Lexeme} → node ≡ given → Leaves (IsGrown given x) left closed tokens rest → Leaves (IsGrown node x) left closed tokens rest
 grown_as x {left} {tokens} {rest} is_node leaves = subst (λ (n : Open). Leaves (IsGrown n x) left closed tokens rest) (sym is_node) leaves

@@ -23,10 +23,6 @@ abbrev pub related : X → Bool × X → Claim
 related x (true, y) = equal x y
 related x (false, y) = member x y
 
--- two expressions and what relates them
-abbrev pub IsComparison : X × (Bool × X) → List Lexeme → Type 0
-IsComparison v = IsX v.0 ⌢ IsRight v.1
-
 -- What stands behind the first parenthesis of an assertion without parentheses of its own.
 pub data IsBInside : Claim → List Lexeme → Type 0 where
   no_trees : (x : X) (tokens : List Lexeme) → (sign IsEmpty ⌢ IsX x ⌢ sign RoundClose) tokens → IsBInside (empty x) tokens

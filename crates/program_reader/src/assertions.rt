@@ -64,8 +64,7 @@ fn read_empty(reader: &mut Reader) -> Result<Claim, Stop>
 {
     reader.advance();
     let x = read_x(reader)?;
-    let x = kept_if(x, reader.sign(Word::RoundClose))?;
-    Ok(Claim::Empty(x))
+    kept_if(Claim::Empty(x), reader.sign(Word::RoundClose))
 }
 
 fn read_type_check(reader: &mut Reader) -> Result<Claim, Stop>
@@ -75,9 +74,8 @@ fn read_type_check(reader: &mut Reader) -> Result<Claim, Stop>
     reader.advance();
     let x = read_x(reader)?;
     let two = kept(x, read_x(reader))?;
-    let three = kept(two, read_x(reader))?;
-    let ((x, y), z) = kept_if(three, reader.sign(Word::RoundClose))?;
-    Ok(Claim::TypeCheck(x, y, z))
+    let ((x, y), z) = kept(two, read_x(reader))?;
+    kept_if(Claim::TypeCheck(x, y, z), reader.sign(Word::RoundClose))
 }
 
 /// What stands behind the first parenthesis of an assertion that has none of its own around it.

@@ -160,8 +160,7 @@ fn read_program(reader: &mut Reader) -> Result<Vec<Item>, Stop>
 {
     let mut all = Vec::new(reader.alloc);
     'items: while reader.count_left() > 0 {
-        let (so_far, next) = kept(all, read_item(reader))?;
-        all = so_far;
+        let next = read_item(reader)?;
         all.push(next)?;
     }
     Ok(all)

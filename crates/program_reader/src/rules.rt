@@ -23,8 +23,7 @@ fn read_demand(reader: &mut Reader) -> Result<Demand, Stop>
     reader.sign(Word::RoundOpen)?;
     let language = reader.name()?;
     let child = reader.name()?;
-    reader.sign(Word::RoundClose)?;
-    Ok(Demand { language, child })
+    kept_if(Demand { language, child }, reader.sign(Word::RoundClose))
 }
 
 /// The variables of a rule.

@@ -2,23 +2,26 @@
 //!
 //! Nothing here calls itself: the stack that is needed doesn't grow with the expression.
 
-ghost use Rattle.std.specs.Prelude.{◌<◌, map, length, IfOk};
+ghost use Rattle.std.specs.Prelude.{◌≡◌, ◌<◌, map, length, IfOk};
 ghost use Rattle.read_forms.specs.Reads.{closed};
 ghost use Rattle.read_forms.specs.Fronts.{Leaves};
+ghost use Rattle.model_grammar.specs.Syntax.{two};
 ghost use Rattle.model_grammar.specs.Terms.{IsX};
 ghost use Rattle.fast_syntax.specs.View.{plain_name};
 ghost use Rattle.fast_syntax.specs.Plain.{plain_expr, plain_x};
 ghost use Rattle.label_reader.specs.Results.{left, Reads};
 ghost use Rattle.program_reader.specs.Nodes.{IsXInside, AreXsToClose};
-ghost use Rattle.program_reader.specs.Growing.{IsRow, IsGrown, IsLeft, Begins};
+ghost use Rattle.program_reader.specs.Growing.{Closes, IsRow, IsGrown, IsLeft, Begins};
 
 use crate::labels::read_labels;
 use crate::operations::{op1_next, op2_next};
+use fast_fault::Memory;
 use fast_lex::Word;
 use fast_syntax::expressions::Expr;
 use fast_syntax::items::X;
 use fast_syntax::{Name, Op1, Op2, Pos};
 use label_reader::{Between, Items, Reader, Stop, kept, kept_if, read_to};
+use std::alloc::Global;
 
 /// A node whose next child is to be read, and what stands before that child.
 #[derive(Drop)]
@@ -110,22 +113,36 @@ fn begin_child(reader: &mut Reader, name: Name, labels: Vec<Expr>, children: Vec
     Begun::Part(Open::Inner(name, labels, children))
 }
 
+/// The closing parenthesis of a node whose children have been read.
+fn close(reader: &mut Reader, x: X) -> Result<Begun, Stop>
+    ensures { Begins (Closes (plain_x x)) (left reader.old) (left reader.new) result }
+{
+    let x = kept_if(x, reader.sign(Word::RoundClose))?;
+    Ok(Begun::Whole(x))
+}
+
+/// The operation on two expressions.
+fn on_two(alloc: Global, op: Op2, place: Pos, first: X, second: X) -> Result<X, Memory>
+    ensures { IfOk result (λ x. plain_x x ≡ two op place (plain_x first) (plain_x second)) }
+{
+    let (second, first) = kept(second, Box::new(alloc, first))?;
+    let second = Box::new(alloc, second)?;
+    Ok(X::Two(op, place, first, second))
+}
+
 /// What comes of an open node behind its next child.
 fn resume_x(reader: &mut Reader, node: Open, x: X) -> Result<Begun, Stop>
     ensures { Begins (IsGrown node (plain_x x)) (left reader.old) (left reader.new) result }
 {
     match node {
         Open::One(op, place) => {
-            let x = kept_if(x, reader.sign(Word::RoundClose))?;
             let x = Box::new(reader.alloc, x)?;
-            Ok(Begun::Whole(X::One(op, place, x)))
+            close(reader, X::One(op, place, x))
         }
         Open::First(op, place) => Ok(Begun::Part(Open::Second(op, place, x))),
         Open::Second(op, place, first) => {
-            let (first, x) = kept_if((first, x), reader.sign(Word::RoundClose))?;
-            let (x, first) = kept(x, Box::new(reader.alloc, first))?;
-            let second = Box::new(reader.alloc, x)?;
-            Ok(Begun::Whole(X::Two(op, place, first, second)))
+            let both = on_two(reader.alloc, op, place, first, x)?;
+            close(reader, both)
         }
         Open::Inner(name, labels, children) => {
             let mut all = children;

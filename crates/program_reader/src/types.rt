@@ -9,7 +9,9 @@ ghost use Rattle.fast_syntax.specs.View.{plain_name, plain_field, plain_ctor, pl
 
 use fast_lex::Word;
 use fast_syntax::{CtorItem, FieldItem, Name, Text, TypeItem};
-use label_reader::{Between, Items, Reader, Stop, kept, read_any, read_numeral, read_some};
+use label_reader::{
+    Between, Items, Reader, Stop, kept, kept_if, read_any, read_numeral, read_some,
+};
 
 /// The sort's name, with a capital.
 fn sort_name<'t>(text: &'t str) -> &'t str
@@ -97,8 +99,7 @@ impl Items for Ctors {
         let name = reader.name()?;
         reader.sign(Word::RoundOpen)?;
         let (_digits, rank) = read_numeral(reader)?;
-        reader.sign(Word::RoundClose)?;
-        Ok(CtorItem { name, rank })
+        kept_if(CtorItem { name, rank }, reader.sign(Word::RoundClose))
     }
 }
 

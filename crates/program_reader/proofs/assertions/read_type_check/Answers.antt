@@ -2,7 +2,7 @@ use Rattle.std.proofs.Common.{sym, ap, ◌∙◌}
 use Rattle.read_forms.proofs.Forms.{as_read, as_fails, then_read, then_fails, first_fails, ends_closed, sample_pair, read_at}
 use Rattle.read_forms.proofs.Words.{sample_sign}
 use Rattle.label_reader.proofs.Exits.{exit}
-use Rattle.label_reader.proofs.Keeping.{told_read, told_fails}
+use Rattle.label_reader.proofs.Keeping.{told_read, told_fails, reads_kept_if}
 use Rattle.fast_syntax.specs.Plain.{plain_x}
 use Rattle.program_reader.proofs.Steps.{sign_next}
 use Rattle.program_reader.proofs.XForms.{sample_x}
@@ -16,15 +16,13 @@ pub returns-in_err-two : goal.returns-in_err-two
 returns-in_err-two c = exit _ _ _ _ c.from_residual-in_err-two.result c.from_residual-in_err-two.ensures.1
     (as_fails _ (check_makes _ c.requires) (then_fails _ (ends_closed _ _) (sign_next c.args.reader.now c.requires c.advance.ensures) (then_fails _ (ends_closed _ _) c.in_ok-x.ensures (first_fails _ (ends_closed _ _) (sample_pair sample_x (sample_sign _)) (told_fails _ _ _ c.in_err-two.ensures c.read_x-2.ensures)))))
 
-pub returns-in_err-three : goal.returns-in_err-three
-returns-in_err-three c = exit _ _ _ _ c.from_residual-in_err-three.result c.from_residual-in_err-three.ensures.1
-    (as_fails _ (check_makes _ c.requires) (then_fails _ (ends_closed _ _) (sign_next c.args.reader.now c.requires c.advance.ensures) (then_fails _ (ends_closed _ _) c.in_ok-x.ensures (then_fails _ (ends_closed _ _) (told_read _ _ _ c.in_ok-two.ensures.1 c.read_x-2.ensures) (first_fails _ (ends_closed _ _) (sample_sign _) (told_fails _ _ _ c.in_err-three.ensures c.read_x-3.ensures))))))
-
 pub returns-in_err-x-2 : goal.returns-in_err-x-2
 returns-in_err-x-2 c = exit _ _ _ _ c.from_residual-in_err-x-2.result c.from_residual-in_err-x-2.ensures.1
-    (as_fails _ (check_makes _ c.requires) (then_fails _ (ends_closed _ _) (sign_next c.args.reader.now c.requires c.advance.ensures) (then_fails _ (ends_closed _ _) c.in_ok-x.ensures (then_fails _ (ends_closed _ _) (told_read _ _ _ c.in_ok-two.ensures.1 c.read_x-2.ensures) (then_fails _ (ends_closed _ _) (told_read _ _ _ c.in_ok-three.ensures.1 c.read_x-3.ensures) (told_fails _ _ _ c.in_err-x-2.ensures c.sign.ensures))))))
+    (as_fails _ (check_makes _ c.requires) (then_fails _ (ends_closed _ _) (sign_next c.args.reader.now c.requires c.advance.ensures) (then_fails _ (ends_closed _ _) c.in_ok-x.ensures (then_fails _ (ends_closed _ _) (told_read _ _ _ c.in_ok-two.ensures.1 c.read_x-2.ensures) (first_fails _ (ends_closed _ _) (sample_sign _) (told_fails _ _ _ c.in_err-x-2.ensures c.read_x-3.ensures))))))
 
 pub returns : goal.returns
-returns c = let one = c.in_ok-two.ensures in let two = c.in_ok-three.ensures in let three = c.in_ok-x-2.ensures in
-    as_read (check_makes _ c.requires) (then_read (ends_closed _ _) (sign_next c.args.reader.now c.requires c.advance.ensures) (then_read (ends_closed _ _) (read_at (ap plain_x (sym (ap (λ v. v.0.0) three.0 ∙ ap (λ v. v.0) two.0 ∙ one.0))) c.in_ok-x.ensures)
-    (then_read (ends_closed _ _) (read_at (ap (λ v. plain_x v.1) (sym (ap (λ v. v.0) three.0 ∙ two.0))) (told_read _ _ _ one.1 c.read_x-2.ensures)) (then_read (ends_closed _ _) (read_at (ap (λ v. plain_x v.1) (sym three.0)) (told_read _ _ _ two.1 c.read_x-3.ensures)) (told_read _ _ _ three.1 c.sign.ensures)))))
+returns c = let one = c.in_ok-two.ensures in let two = c.in_ok-x-2.ensures in reads_kept_if _ _ _ _ _ _ _ c.kept_if.ensures c.sign.ensures
+    (λ read. as_read (check_makes _ c.requires) (then_read (ends_closed _ _) (sign_next c.args.reader.now c.requires c.advance.ensures) (then_read (ends_closed _ _) (read_at (ap plain_x (sym (ap (λ v. v.0) two.0 ∙ one.0))) c.in_ok-x.ensures)
+    (then_read (ends_closed _ _) (read_at (ap (λ v. plain_x v.1) (sym two.0)) (told_read _ _ _ one.1 c.read_x-2.ensures)) (then_read (ends_closed _ _) (told_read _ _ _ two.1 c.read_x-3.ensures) read)))))
+    (λ bad fails. as_fails _ (check_makes _ c.requires) (then_fails _ (ends_closed _ _) (sign_next c.args.reader.now c.requires c.advance.ensures) (then_fails _ (ends_closed _ _) c.in_ok-x.ensures
+    (then_fails _ (ends_closed _ _) (told_read _ _ _ one.1 c.read_x-2.ensures) (then_fails _ (ends_closed _ _) (told_read _ _ _ two.1 c.read_x-3.ensures) fails)))))

@@ -1,6 +1,7 @@
 use Rattle.read_forms.proofs.Forms.{as_read, as_fails, then_read, then_fails, first_fails, ends_closed, sample_pair}
 use Rattle.read_forms.proofs.Words.{sample_sign}
 use Rattle.label_reader.proofs.Exits.{exit}
+use Rattle.label_reader.proofs.Keeping.{reads_kept_if}
 use Rattle.label_reader.proofs.Names.{sample_name}
 use Rattle.program_reader.proofs.RuleForms.{demand_makes}
 use Rattle.program_reader.proofs.rules.read_demand.Goals as goal
@@ -14,8 +15,7 @@ returns-in_err-language c = exit _ _ _ _ c.from_residual-in_err-language.result 
 pub returns-in_err-child : goal.returns-in_err-child
 returns-in_err-child c = exit _ _ _ _ c.from_residual-in_err-child.result c.from_residual-in_err-child.ensures.1 (as_fails _ (demand_makes _ _) (then_fails _ (ends_closed _ _) c.in_ok-sign.ensures (then_fails _ (ends_closed _ _) c.in_ok-language.ensures (first_fails _ (ends_closed _ _) (sample_sign _) c.in_err-child.ensures))))
 
-pub returns-in_err-sign-2 : goal.returns-in_err-sign-2
-returns-in_err-sign-2 c = exit _ _ _ _ c.from_residual-in_err-sign-2.result c.from_residual-in_err-sign-2.ensures.1 (as_fails _ (demand_makes _ _) (then_fails _ (ends_closed _ _) c.in_ok-sign.ensures (then_fails _ (ends_closed _ _) c.in_ok-language.ensures (then_fails _ (ends_closed _ _) c.in_ok-child.ensures c.in_err-sign-2.ensures))))
-
 pub returns : goal.returns
-returns c = as_read (demand_makes _ _) (then_read (ends_closed _ _) c.in_ok-sign.ensures (then_read (ends_closed _ _) c.in_ok-language.ensures (then_read (ends_closed _ _) c.in_ok-child.ensures c.in_ok-sign-2.ensures)))
+returns c = reads_kept_if _ _ _ _ _ _ _ c.kept_if.ensures c.sign-2.ensures
+    (λ read. as_read (demand_makes _ _) (then_read (ends_closed _ _) c.in_ok-sign.ensures (then_read (ends_closed _ _) c.in_ok-language.ensures (then_read (ends_closed _ _) c.in_ok-child.ensures read))))
+    (λ bad fails. as_fails _ (demand_makes _ _) (then_fails _ (ends_closed _ _) c.in_ok-sign.ensures (then_fails _ (ends_closed _ _) c.in_ok-language.ensures (then_fails _ (ends_closed _ _) c.in_ok-child.ensures fails))))
