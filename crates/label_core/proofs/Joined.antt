@@ -1,5 +1,5 @@
 -- What is made of a formula's parts, joined.
-use Rattle.std.proofs.Common.{◌≡◌, ◌⊎◌, inl, inr, ℕ, zero, suc, ◌+◌, ◌<◌, Bool, not, ◌&&◌, ◌||◌, List, [], ◌∷◌, ◌++◌, map, length, take, get_or, All, Contains, Vec, Global, refl, sym, ap, ap₂, ◌∙◌, subst, arith}
+use Rattle.std.proofs.Common.{◌≡◌, ◌⊎◌, inl, inr, ℕ, zero, suc, ◌+◌, ◌<◌, Bool, true, false, not, ◌&&◌, ◌||◌, List, [], ◌∷◌, ◌++◌, map, length, take, get_or, All, Contains, Box, Vec, Global, refl, sym, ap, ap₂, ◌∙◌, subst, arith}
 use Rattle.std.proofs.Math.IntN.{ℤ}
 use Rattle.std.specs.List.{list_all, list_any}
 use Rattle.std.proofs.lemmas.List.{take_more, map-append}
@@ -7,15 +7,15 @@ use Rattle.std.proofs.lemmas.List.Elements.{All-nil, All-cons, All-head, All-tai
 use Rattle.model_tree.specs.Label.{Label}
 use Rattle.model_tree.specs.Formula as plain
 use Rattle.model_tree.specs.Formula.{yes, no, atom, negation, all_of, some_of, formulas_of, no_formulas, formula, formula_holds, all_hold, some_hold, EveryAtom, EveryAtomOfAll}
-use Rattle.label_core.specs.Formula.{plain_formula, atoms_in, atoms_in_all}
+use Rattle.label_core.specs.Formula.{plain_formula, joined, atoms_in, atoms_in_all}
 use Rattle.label_core.specs.Maps.{IsPut}
 use Rattle.label_core.specs.Meaning.{Meaning}
-use Rattle.label_core.specs.Puts.{IsOverMade, OfSome, OfSomePart, AreEachPut}
+use Rattle.label_core.specs.Puts.{IsOverMade, OfSome, OfSomePart, IsPutFor, IsDenied, AreEachPut}
 use Rattle.label_core.specs.declared.formula.Formula.{Formula}
 use Rattle.label_core.specs.declared.labels.Put.{Put}
 use Rattle.label_core.specs.declared.labels.Put.TheVariants as put
-use Rattle.label_core.specs.declared.formula.Formula.TheVariants.{And, Or}
-use Rattle.label_core.proofs.Formulas.{all_hold_of_list, some_hold_of_list, every_atom_of_and, every_atom_of_or, plain_and, plain_or}
+use Rattle.label_core.specs.declared.formula.Formula.TheVariants.{Not, And, Or}
+use Rattle.label_core.proofs.Formulas.{all_hold_of_list, some_hold_of_list, every_not, every_and, every_or}
 
 module _ {X Y : Type 0} (p : X → Bool) (q : Y → Bool) where
   all_as : (xs : List X) (ys : List Y) → map p xs ≡ map q ys → list_all p xs ≡ list_all q ys
@@ -55,45 +55,25 @@ module _ {A : Type 0} (P Q : A → Type 0) (weaker : (a : A) → P a → Q a) wh
     every_weaker_all no_formulas h = tt
     every_weaker_all (formula f fs) h = (every_weaker f h.0, every_weaker_all fs h.1)
 
-module _ {A : Type 0} where
-  abbrev mutual
-    -- how many parts a formula has, at all depths
-    pub weight : plain.Formula A → ℕ
-    weight yes = 0
-    weight no = 0
-    weight (atom a) = 0
-    weight (negation f) = weight f + 1
-    weight (all_of fs) = weights fs + 1
-    weight (some_of fs) = weights fs + 1
-
-    pub weights : plain.Formulas A → ℕ
-    weights no_formulas = 0
-    weights (formula f fs) = weight f + weights fs
-
-  part_lighter : (parts : List (Formula A)) (i : ℕ) (f : Formula A) → i < length parts → f ≡ get_or parts i f → weight (plain_formula f) < weights (formulas_of (map plain_formula parts)) + 1
-  part_lighter [] i f low is = absurd (omega arith)
-  part_lighter (g ∷ parts) zero f low is = let same : weight (plain_formula f) ≡ weight (plain_formula g) = ap (λ h. weight (plain_formula h)) is in omega arith
-  part_lighter (g ∷ parts) (suc i) f low is = let rest = part_lighter parts i f (omega arith) is in omega (arith, rest)
-
-  pub lighter_and : (f : Formula A) (v : Vec (Formula A) Global) (parts : List (Formula A)) (i : ℕ) (g : Formula A) → f ≡ And v → parts ≡ v.items → i < length parts → g ≡ get_or parts i g → weight (plain_formula g) < weight (plain_formula f)
-  lighter_and f v parts i g is same low at =
-      subst (λ w. weight (plain_formula g) < w) (sym (ap (λ h. weight (plain_formula h)) is ∙ ap weight (plain_and v) ∙ ap (λ fs. weights (formulas_of (map plain_formula fs)) + 1) (sym same))) (part_lighter parts i g low at)
-
-  pub lighter_or : (f : Formula A) (v : Vec (Formula A) Global) (parts : List (Formula A)) (i : ℕ) (g : Formula A) → f ≡ Or v → parts ≡ v.items → i < length parts → g ≡ get_or parts i g → weight (plain_formula g) < weight (plain_formula f)
-  lighter_or f v parts i g is same low at =
-      subst (λ w. weight (plain_formula g) < w) (sym (ap (λ h. weight (plain_formula h)) is ∙ ap weight (plain_or v) ∙ ap (λ fs. weights (formulas_of (map plain_formula fs)) + 1) (sym same))) (part_lighter parts i g low at)
-
 module _ {T A : Type 0} (is_into : T → Type 0) (fits : T → A → Type 0) where
   all_over : (made : T) → is_into made → (parts : List (Formula A)) → All (λ g. EveryAtom (fits made) (plain_formula g)) parts → All (λ g. IsOverMade is_into fits (plain_formula g)) parts
   all_over made into parts each = λ k d low. record { made = made; into = into; fit = each k d low }
 
   pub over_and : (f : Formula A) (v : Vec (Formula A) Global) (parts : List (Formula A)) → f ≡ And v → parts ≡ v.items → IsOverMade is_into fits (plain_formula f) → All (λ g. IsOverMade is_into fits (plain_formula g)) parts
-  over_and f v parts is same over =
-      all_over over.made over.into parts (subst (All (λ g. EveryAtom (fits over.made) (plain_formula g))) (sym same) (every_atom_of_and (fits over.made) v (subst (λ g. EveryAtom (fits over.made) (plain_formula g)) is over.fit)))
+  over_and f v parts is same over = all_over over.made over.into parts (every_and (fits over.made) f v parts is same over.fit)
 
   pub over_or : (f : Formula A) (v : Vec (Formula A) Global) (parts : List (Formula A)) → f ≡ Or v → parts ≡ v.items → IsOverMade is_into fits (plain_formula f) → All (λ g. IsOverMade is_into fits (plain_formula g)) parts
-  over_or f v parts is same over =
-      all_over over.made over.into parts (subst (All (λ g. EveryAtom (fits over.made) (plain_formula g))) (sym same) (every_atom_of_or (fits over.made) v (subst (λ g. EveryAtom (fits over.made) (plain_formula g)) is over.fit)))
+  over_or f v parts is same over = all_over over.made over.into parts (every_or (fits over.made) f v parts is same over.fit)
+
+  pub over_not : (f : Formula A) (b : Box (Formula A) Global) (g : Formula A) → f ≡ Not b → g ≡ b.value → IsOverMade is_into fits (plain_formula f) → IsOverMade is_into fits (plain_formula g)
+  over_not f b g is same over = record {
+    made = over.made;
+    into = over.into;
+    fit = every_not (fits over.made) f b g is same over.fit;
+  }
+
+  pub over_part : (parts : List (Formula A)) (i : ℕ) (f : Formula A) → i < length parts → f ≡ get_or parts i f → All (λ g. IsOverMade is_into fits (plain_formula g)) parts → IsOverMade is_into fits (plain_formula f)
+  over_part parts i f low is each = subst (λ g. IsOverMade is_into fits (plain_formula g)) (sym is) (each i f low)
 
 module _ {A X : Type 0} (of_atom : A → X → Type 0) where
   -- an atom of a part is one of all
@@ -115,9 +95,6 @@ module _ {A X : Type 0} (of_atom : A → X → Type 0) where
       by (inr later) none = none later
 
 module _ {A V W : Type 0} {label_of : V → Label} {holds : A → Label → Bool} (M : Meaning label_of holds W) (fits : A → Type 0) (of_kind : A → A → Type 0) (outside : A → ℤ → Type 0) (says : A → Label → Bool) where
-  abbrev pub IsPutFor : plain.Formula A → Put A → Type 0
-  IsPutFor f = IsPut M fits (OfSome of_kind f) (OfSome outside f) (λ l. formula_holds (λ a. says a l) f)
-
   pub none_put : (parts : List (Formula A)) → AreEachPut M fits of_kind outside says parts [] []
   none_put parts = record { hold = λ l h. refl; fit = All-nil (λ f. EveryAtom fits (plain_formula f)); of_parts = All-nil (λ f. EveryAtom (OfSomePart of_kind parts) (plain_formula f)); none = All-nil (λ f. (n : ℤ) → OfSome outside (plain_formula f) n → ⊥) }
 
@@ -128,7 +105,7 @@ module _ {A V W : Type 0} {label_of : V → Label} {holds : A → Label → Bool
     taken : take (i + 1) parts ≡ take i parts ++ f ∷ []
     taken = take_more parts i f low ∙ ap (λ g. take i parts ++ g ∷ []) (sym is)
 
-    pub more_put : (made new : List (Formula A)) (g : Formula A) → new ≡ made ++ g ∷ [] → AreEachPut M fits of_kind outside says parts (take i parts) made → IsPutFor (plain_formula f) (put.Formula g) → AreEachPut M fits of_kind outside says parts (take (i + 1) parts) new
+    pub more_put : (made new : List (Formula A)) (g : Formula A) → new ≡ made ++ g ∷ [] → AreEachPut M fits of_kind outside says parts (take i parts) made → IsPutFor M fits of_kind outside says (plain_formula f) (put.Formula g) → AreEachPut M fits of_kind outside says parts (take (i + 1) parts) new
     more_put made new g pushed before own =
         subst (λ fs. AreEachPut M fits of_kind outside says parts (take (i + 1) parts) fs) (sym pushed) (subst (λ fs. AreEachPut M fits of_kind outside says parts fs (made ++ g ∷ [])) (sym taken) (record {
           hold = λ l h. map-append (λ k. formula_holds (λ a. holds a l) (plain_formula k)) made (g ∷ []) ∙ ap₂ (λ bs b. bs ++ b ∷ []) (before.hold l h) (own.0 l h) ∙ sym (map-append (λ k. formula_holds (λ a. says a l) (plain_formula k)) (take i parts) (f ∷ []));
@@ -138,12 +115,13 @@ module _ {A V W : Type 0} {label_of : V → Label} {holds : A → Label → Bool
           none = All-append (λ k. (n : ℤ) → OfSome outside (plain_formula k) n → ⊥) (take i parts) (f ∷ []) before.none (All-cons (λ k. (n : ℤ) → OfSome outside (plain_formula k) n → ⊥) f [] own.3 (All-nil (λ k. (n : ℤ) → OfSome outside (plain_formula k) n → ⊥)));
         }))
 
-    pub outside_part : (n : ℤ) → OfSome outside (plain_formula f) n → OfSomePart outside parts n
-    outside_part n = of_part outside parts i f n low is
+    pub outside_part : (every : Bool) (n : ℤ) → OfSome outside (plain_formula f) n → OfSome outside (joined every parts) n
+    outside_part true n = of_part outside parts i f n low is
+    outside_part false n = of_part outside parts i f n low is
 
   -- the formulas joined
   module _ (parts made : List (Formula A)) (each : AreEachPut M fits of_kind outside says parts parts made) where
-    pub put_all : (g : Formula A) → plain_formula g ≡ all_of (formulas_of (map plain_formula made)) → IsPutFor (all_of (formulas_of (map plain_formula parts))) (put.Formula g)
+    put_all : (g : Formula A) → plain_formula g ≡ all_of (formulas_of (map plain_formula made)) → IsPutFor M fits of_kind outside says (all_of (formulas_of (map plain_formula parts))) (put.Formula g)
     put_all g is = (
       (λ l h. ap (formula_holds (λ a. holds a l)) is ∙ all_hold_of_list (λ a. holds a l) made ∙ all_as (λ f. formula_holds (λ a. holds a l) (plain_formula f)) (λ f. formula_holds (λ a. says a l) (plain_formula f)) made parts (each.hold l h) ∙ sym (all_hold_of_list (λ a. says a l) parts)),
       subst (EveryAtom fits) (sym is) (every_of fits made each.fit),
@@ -151,7 +129,7 @@ module _ {A V W : Type 0} {label_of : V → Label} {holds : A → Label → Bool
       none_of outside parts each.none,
     )
 
-    pub put_some : (g : Formula A) → plain_formula g ≡ some_of (formulas_of (map plain_formula made)) → IsPutFor (some_of (formulas_of (map plain_formula parts))) (put.Formula g)
+    put_some : (g : Formula A) → plain_formula g ≡ some_of (formulas_of (map plain_formula made)) → IsPutFor M fits of_kind outside says (some_of (formulas_of (map plain_formula parts))) (put.Formula g)
     put_some g is = (
       (λ l h. ap (formula_holds (λ a. holds a l)) is ∙ some_hold_of_list (λ a. holds a l) made ∙ any_as (λ f. formula_holds (λ a. holds a l) (plain_formula f)) (λ f. formula_holds (λ a. says a l) (plain_formula f)) made parts (each.hold l h) ∙ sym (some_hold_of_list (λ a. says a l) parts)),
       subst (EveryAtom fits) (sym is) (every_of fits made each.fit),
@@ -159,15 +137,23 @@ module _ {A V W : Type 0} {label_of : V → Label} {holds : A → Label → Bool
       none_of outside parts each.none,
     )
 
-  pub put_not : (f g h : Formula A) → plain_formula h ≡ negation (plain_formula g) → IsPutFor (plain_formula f) (put.Formula g) → IsPutFor (negation (plain_formula f)) (put.Formula h)
+    pub put_joined : (every : Bool) (g : Formula A) → plain_formula g ≡ joined every made → IsPutFor M fits of_kind outside says (joined every parts) (put.Formula g)
+    put_joined true g is = put_all g is
+    put_joined false g is = put_some g is
+
+  put_not : (f : plain.Formula A) (g h : Formula A) → plain_formula h ≡ negation (plain_formula g) → IsPutFor M fits of_kind outside says f (put.Formula g) → IsPutFor M fits of_kind outside says (negation f) (put.Formula h)
   put_not f g h is own = (
     (λ l has. ap (formula_holds (λ a. holds a l)) is ∙ ap not (own.0 l has)),
     subst (EveryAtom fits) (sym is) own.1,
-    subst (EveryAtom (OfSome of_kind (plain_formula f))) (sym is) own.2,
+    subst (EveryAtom (OfSome of_kind f)) (sym is) own.2,
     own.3,
   )
 
-  pub put_atom : (a : A) (r : Put A) → IsPut M fits (of_kind a) (outside a) (λ l. says a l) r → IsPutFor (atom a) r
+  pub put_denied : (f : plain.Formula A) (s r : Put A) → IsPutFor M fits of_kind outside says f s → IsDenied s r → IsPutFor M fits of_kind outside says (negation f) r
+  put_denied f (put.Formula g) r own is = subst (IsPutFor M fits of_kind outside says (negation f)) (sym is.1) (put_not f g is.0 is.2 own)
+  put_denied f (put.Range n) r own is = subst (IsPutFor M fits of_kind outside says (negation f)) (sym is) own
+
+  pub put_atom : (a : A) (r : Put A) → IsPut M fits (of_kind a) (outside a) (λ l. says a l) r → IsPutFor M fits of_kind outside says (atom a) r
   put_atom a (put.Formula g) own = (
     own.0,
     own.1,
@@ -179,7 +165,3 @@ module _ {A V W : Type 0} {label_of : V → Label} {holds : A → Label → Bool
       only b (zero, low, e) = sym e
       only b (suc k, low, e) = absurd (omega (arith, low))
   put_atom a (put.Range n) own = (a, (0, omega arith, refl), own)
-
-  -- the same of formulas that are equal
-  pub put_as : (f g : plain.Formula A) (r : Put A) → g ≡ f → IsPutFor f r → IsPutFor g r
-  put_as f g r is = subst (λ h. IsPutFor h r) (sym is)

@@ -49,8 +49,6 @@ module _ {P Q : Type 0} where
   pub right_taken : (xs : List (Lit (PairAtom P Q))) (i : ℕ) (x : Lit (PairAtom P Q)) (q : Q) → i < length xs → x ≡ get_or xs i x → x.atom ≡ Right q → right_lits (take (i + 1) xs) ≡ right_lits (take i xs) ++ record { atom = q; sign = x.sign } ∷ []
   right_taken xs i x q l e is = right_more xs i x l e ∙ ap (λ a. right_lits (take i xs) ++ right_lit a x.sign []) is
 
-pub ruleset on_pairs = (left_none, right_none, left_taken, right_taken)
-
 module _ {P Q : Type 0} (h : P → Label → Bool) (k : Q → Label → Bool) (l m : Label) where
   split_one : (a : PairAtom P Q) (s : Bool) (vs : List (Lit P)) (ws : List (Lit Q)) → SatisfiesAll h (left_lit a s vs) l → SatisfiesAll k (right_lit a s ws) m → (pair_holds h k a (pair l m) ≡ s) × SatisfiesAll h vs l × SatisfiesAll k ws m
   split_one (Left p) s vs ws x y = (x 0 (record { atom = p; sign = s }) (omega arith), λ i d b. x (suc i) d (omega (arith, b)), y)

@@ -1,6 +1,6 @@
 -- The plain formula that a value is.
-use Rattle.std.specs.Prelude.{List, [], ◌∷◌, ◌++◌}
-use Rattle.model_tree.specs.Formula.{yes, no, atom, negation, all_of, some_of, Formulas, no_formulas, formula}
+use Rattle.std.specs.Prelude.{Bool, true, false, List, [], ◌∷◌, ◌++◌, map}
+use Rattle.model_tree.specs.Formula.{yes, no, atom, negation, all_of, some_of, formulas_of, Formulas, no_formulas, formula}
 use Rattle.model_tree.specs.Formula as plain
 use Rattle.label_core.specs.declared.formula.Formula.{Formula, Yes, No, Atom, Not', And', Or', Row_of-Formula, end_of-Formula, more_of-Formula}
 
@@ -17,6 +17,11 @@ module _ {A : Type 0} where
     pub plain_formulas : {n : _} → Row_of-Formula A n → plain.Formulas A
     plain_formulas end_of-Formula = no_formulas
     plain_formulas (more_of-Formula f fs) = formula (plain_formula f) (plain_formulas fs)
+
+-- the formulas joined: each of them is to hold, or one
+abbrev pub joined : {A : Type 0} → Bool → List (Formula A) → plain.Formula A
+joined true fs = all_of (formulas_of (map plain_formula fs))
+joined false fs = some_of (formulas_of (map plain_formula fs))
 
 -- the atoms of a formula, from the left
 module _ {A : Type 0} where

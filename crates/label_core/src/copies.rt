@@ -1,9 +1,9 @@
 //! Copies of atoms and formulas.
 
-ghost use Rattle.std.specs.Prelude.{◌≡◌, IfOk, map};
-ghost use Rattle.label_core.specs.Formula.{plain_formula};
+ghost use Rattle.std.specs.Prelude.{◌≡◌, IfOk};
+ghost use Rattle.label_core.specs.Formula.{plain_formula, joined};
 
-use crate::formula::{DEEPEST, Formula, conjunction, disjunction, negation};
+use crate::formula::{DEEPEST, Formula, joined, negation};
 use fast_fault::Memory;
 use std::alloc::Global;
 
@@ -35,24 +35,25 @@ impl<A: Duplicate + Drop> Formula<A> {
             Formula::No => Ok(Formula::No),
             Formula::Atom(atom) => Ok(Formula::Atom(atom.duplicate(alloc)?)),
             Formula::Not(inner) => negation(alloc, inner.copy_within(alloc, most - 1)?),
-            Formula::And(parts) => Ok(conjunction(copy_each(alloc, parts, most - 1)?)),
-            Formula::Or(parts) => Ok(disjunction(copy_each(alloc, parts, most - 1)?)),
+            Formula::And(parts) => copy_each(alloc, parts, true, most - 1),
+            Formula::Or(parts) => copy_each(alloc, parts, false, most - 1),
         }
     }
 }
 
-/// The same formulas again, in order, if they nest no deeper.
+/// The same formulas again, in order, joined as `joined` does, if they nest no deeper.
 #[cycle(copies)]
 fn copy_each<A: Duplicate + Drop>(
     alloc: Global,
     parts: &[Formula<A>],
+    every: bool,
     most: usize,
-) -> Result<Vec<Formula<A>>, Memory>
-    ensures { IfOk result (λ copies. map plain_formula copies.items ≡ map plain_formula parts.now) }
+) -> Result<Formula<A>, Memory>
+    ensures { IfOk result (λ copy. plain_formula copy ≡ joined every parts.now) }
 {
     let mut copies = Vec::new(alloc);
     for part in parts {
         copies.push(part.copy_within(alloc, most)?)?;
     }
-    Ok(copies)
+    Ok(joined(every, copies))
 }

@@ -1,9 +1,9 @@
 //! Formulas over atoms.
 
-ghost use Rattle.std.specs.Prelude.{◌≡◌, IfOk, map};
+ghost use Rattle.std.specs.Prelude.{◌≡◌, IfOk, All, map};
 ghost use Rattle.model_tree.specs.Formula as plain;
 ghost use Rattle.model_tree.specs.Formula.{formula_holds, EveryAtom};
-ghost use Rattle.label_core.specs.Formula.{plain_formula};
+ghost use Rattle.label_core.specs.Formula.{plain_formula, joined};
 ghost use Rattle.label_core.specs.Meaning.{KeepsValue};
 
 use crate::theory::Theory;
@@ -48,9 +48,20 @@ pub fn disjunction<A>(formulas: Vec<Formula<A>>) -> Formula<A>
     Formula::Or(formulas)
 }
 
+/// Holds where each of the formulas does, or, if not `every`, where one of them does.
+pub(crate) fn joined<A>(every: bool, formulas: Vec<Formula<A>>) -> Formula<A>
+    ensures { plain_formula result ≡ joined every formulas.items }
+{
+    if every {
+        conjunction(formulas)
+    } else {
+        disjunction(formulas)
+    }
+}
+
 impl<A> Formula<A> {
-    #[tactic(auto, using(crate::proofs::Formulas::on_formulas))]
     /// Whether the formula holds of the value's label. Takes no memory.
+    #[cycle(holds)]
     pub fn holds<T: Theory<Atom = A>>(&self, theory: &T, value: &T::Value) -> bool
         requires atoms_fit { EveryAtom (T.atom_fits theory.now) (plain_formula self.now) }
         requires value_fits { KeepsValue (T.meaning theory.now) value.now }
@@ -61,22 +72,28 @@ impl<A> Formula<A> {
             Formula::No => false,
             Formula::Atom(atom) => theory.holds(atom, value),
             Formula::Not(inner) => !inner.holds(theory, value),
-            Formula::And(parts) => {
-                'every: for part in parts {
-                    if !part.holds(theory, value) {
-                        return false;
-                    }
-                }
-                true
-            }
-            Formula::Or(parts) => {
-                'some: for part in parts {
-                    if part.holds(theory, value) {
-                        return true;
-                    }
-                }
-                false
+            Formula::And(parts) => Self::each_holds(theory, value, parts, true),
+            Formula::Or(parts) => Self::each_holds(theory, value, parts, false),
+        }
+    }
+
+    /// Whether the formulas hold of the value's label, joined as `joined` does. Takes no memory.
+    #[cycle(holds)]
+    fn each_holds<T: Theory<Atom = A>>(
+        theory: &T,
+        value: &T::Value,
+        parts: &[Formula<A>],
+        every: bool,
+    ) -> bool
+        requires atoms_fit { All (λ f. EveryAtom (T.atom_fits theory.now) (plain_formula f)) parts.now }
+        requires value_fits { KeepsValue (T.meaning theory.now) value.now }
+        ensures { result ≡ formula_holds (λ a. T.atom_holds a (T.label_of value.now)) (joined every parts.now) }
+    {
+        for part in parts {
+            if part.holds(theory, value) != every {
+                return !every;
             }
         }
+        every
     }
 }

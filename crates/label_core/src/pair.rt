@@ -1,11 +1,9 @@
 //! Two theories side by side: a label has a part of each.
 
-ghost use Rattle.std.specs.Prelude.{◌≡◌, Bool, List, IfOk};
+ghost use Rattle.std.specs.Prelude.{◌≡◌, IfOk};
 ghost use Rattle.label_core.specs.Lit.{LitsFit};
-ghost use Rattle.label_core.specs.Pair.{left_lits, right_lits, pair_meaning};
+ghost use Rattle.label_core.specs.Pair.{left_lits, right_lits, IsJoined};
 ghost use Rattle.label_core.specs.Verdict.{DecidesAll};
-ghost use Rattle.label_core.specs.declared.pair.PairAtom.{PairAtom};
-ghost use Rattle.label_core.specs.declared.theory.Lit.{Lit};
 
 use crate::copies::Duplicate;
 use crate::theory::{Lit, Theory, Verdict};
@@ -60,7 +58,6 @@ impl<A, B> Pair<A, B> {
 }
 
 /// The literals that speak of the left part.
-#[tactic(auto, using(crate::proofs::Pairs::on_pairs))]
 fn left_literals<P: Duplicate + Drop, Q>(
     alloc: Global,
     literals: &[Lit<PairAtom<P, Q>>],
@@ -82,7 +79,6 @@ fn left_literals<P: Duplicate + Drop, Q>(
 }
 
 /// The literals that speak of the right part.
-#[tactic(auto, using(crate::proofs::Pairs::on_pairs))]
 fn right_literals<P, Q: Duplicate + Drop>(
     alloc: Global,
     literals: &[Lit<PairAtom<P, Q>>],
@@ -136,7 +132,7 @@ fn joined<A: Theory, B: Theory>(
     left: Verdict<A::Value, A::Chain>,
     right: Verdict<B::Value, B::Chain>,
 ) -> Verdict<PairValue<A::Value, B::Value>, PairChain<A::Chain, B::Chain>>
-    ensures { (equal : PairAtom A.Atom B.Atom → PairAtom A.Atom B.Atom → Bool) (literals : List (Lit (PairAtom A.Atom B.Atom))) → DecidesAll (A.meaning theory.now) (left_lits literals) left → DecidesAll (B.meaning _other.now) (right_lits literals) right → DecidesAll (pair_meaning (A.meaning theory.now) (B.meaning _other.now) equal) literals result }
+    ensures { IsJoined (A.meaning theory.now) (B.meaning _other.now) left right result }
 {
     match left {
         Verdict::Unsat => Verdict::Unsat,

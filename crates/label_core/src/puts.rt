@@ -1,12 +1,12 @@
 //! Formulas with a map's entries put for the fields.
 
-ghost use Rattle.std.specs.Prelude.{IfOk};
+ghost use Rattle.std.specs.Prelude.{IfOk, All};
 ghost use Rattle.model_tree.specs.Formula.{formula_holds};
-ghost use Rattle.label_core.specs.Formula.{plain_formula};
+ghost use Rattle.label_core.specs.Formula.{plain_formula, joined};
 ghost use Rattle.label_core.specs.Maps.{IsPut};
-ghost use Rattle.label_core.specs.Puts.{IsOverMade, OfSome};
+ghost use Rattle.label_core.specs.Puts.{IsOverMade, OfSome, IsPutFor, IsDenied};
 
-use crate::formula::{DEEPEST, Formula, conjunction, disjunction, negation};
+use crate::formula::{DEEPEST, Formula, joined, negation};
 use crate::labels::{Labels, Put};
 use fast_fault::Memory;
 use std::alloc::Global;
@@ -27,6 +27,7 @@ pub fn put_formula<L: Labels>(
 }
 
 /// The same, if the formula nests no deeper.
+#[cycle(puts)]
 fn put_within<L: Labels>(
     labels: &L,
     alloc: Global,
@@ -36,7 +37,7 @@ fn put_within<L: Labels>(
 ) -> Result<Put<L::Atom>, Memory>
     requires map_fits { L.map_fits labels.now map.now }
     requires formula_fits { IsOverMade (λ made. L.map_makes made map.now) L.atom_fits (plain_formula formula.now) }
-    ensures { IfOk result (IsPut (L.meaning labels.now) (L.atom_fits labels.now) (OfSome (L.is_put map.now) (plain_formula formula.now)) (OfSome (L.put_outside map.now) (plain_formula formula.now)) (λ l. formula_holds (λ a. L.atom_holds a (L.make map.now l)) (plain_formula formula.now))) }
+    ensures { IfOk result (IsPutFor (L.meaning labels.now) (L.atom_fits labels.now) (L.is_put map.now) (L.put_outside map.now) (λ a l. L.atom_holds a (L.make map.now l)) (plain_formula formula.now)) }
 {
     if most == 0 {
         return Err(Memory);
@@ -45,29 +46,42 @@ fn put_within<L: Labels>(
         Formula::Yes => Ok(Put::Formula(Formula::Yes)),
         Formula::No => Ok(Put::Formula(Formula::No)),
         Formula::Atom(atom) => labels.subst(alloc, map, atom),
-        Formula::Not(inner) => match put_within(labels, alloc, map, inner, most - 1)? {
-            Put::Formula(made) => Ok(Put::Formula(negation(alloc, made)?)),
-            Put::Range(number) => Ok(Put::Range(number)),
-        },
-        Formula::And(parts) => {
-            let mut made = Vec::new(alloc);
-            'every: for part in parts {
-                match put_within(labels, alloc, map, part, most - 1)? {
-                    Put::Formula(formula) => made.push(formula)?,
-                    Put::Range(number) => return Ok(Put::Range(number)),
-                }
-            }
-            Ok(Put::Formula(conjunction(made)))
+        Formula::Not(inner) => denied(alloc, put_within(labels, alloc, map, inner, most - 1)?),
+        Formula::And(parts) => put_each(labels, alloc, map, parts, true, most - 1),
+        Formula::Or(parts) => put_each(labels, alloc, map, parts, false, most - 1),
+    }
+}
+
+/// The same for formulas, joined as `joined` does, if they nest no deeper.
+#[cycle(puts)]
+fn put_each<L: Labels>(
+    labels: &L,
+    alloc: Global,
+    map: &L::Map,
+    parts: &[Formula<L::Atom>],
+    every: bool,
+    most: usize,
+) -> Result<Put<L::Atom>, Memory>
+    requires map_fits { L.map_fits labels.now map.now }
+    requires parts_fit { All (λ f. IsOverMade (λ made. L.map_makes made map.now) L.atom_fits (plain_formula f)) parts.now }
+    ensures { IfOk result (IsPutFor (L.meaning labels.now) (L.atom_fits labels.now) (L.is_put map.now) (L.put_outside map.now) (λ a l. L.atom_holds a (L.make map.now l)) (joined every parts.now)) }
+{
+    let mut made = Vec::new(alloc);
+    for part in parts {
+        match put_within(labels, alloc, map, part, most)? {
+            Put::Formula(formula) => made.push(formula)?,
+            Put::Range(number) => return Ok(Put::Range(number)),
         }
-        Formula::Or(parts) => {
-            let mut made = Vec::new(alloc);
-            'some: for part in parts {
-                match put_within(labels, alloc, map, part, most - 1)? {
-                    Put::Formula(formula) => made.push(formula)?,
-                    Put::Range(number) => return Ok(Put::Range(number)),
-                }
-            }
-            Ok(Put::Formula(disjunction(made)))
-        }
+    }
+    Ok(Put::Formula(joined(every, made)))
+}
+
+/// The denial of the formula; or the number that is outside its range.
+fn denied<A: Drop>(alloc: Global, put: Put<A>) -> Result<Put<A>, Memory>
+    ensures { IfOk result (IsDenied put) }
+{
+    match put {
+        Put::Formula(formula) => Ok(Put::Formula(negation(alloc, formula)?)),
+        Put::Range(number) => Ok(Put::Range(number)),
     }
 }

@@ -4,40 +4,50 @@ use Rattle.label_core.proofs.Pairs.{whole}
 use Rattle.label_core.proofs.pair.joined.Goals as goal
 
 pub returns-in-Unsat : goal.returns-in-Unsat
-returns-in-Unsat g c = λ equal literals l r. none_left g.A.Theory.atom_holds g.B.Theory.atom_holds literals (g.A.Theory.meaning c.args.theory.now).has (g.B.Theory.meaning c.args._other.now).has (rw c.in-Unsat.is at l)
+returns-in-Unsat g c = record { decides = λ equal literals l r. none_left g.A.Theory.atom_holds g.B.Theory.atom_holds literals (g.A.Theory.meaning c.args.theory.now).has (g.B.Theory.meaning c.args._other.now).has (rw c.in-Unsat.is at l) }
 
 pub returns-in-Unsat-right : goal.returns-in-Unsat-right
-returns-in-Unsat-right g c = λ equal literals l r. none_right g.A.Theory.atom_holds g.B.Theory.atom_holds literals (g.A.Theory.meaning c.args.theory.now).has (g.B.Theory.meaning c.args._other.now).has (rw c.in-Unsat-right.is at r)
+returns-in-Unsat-right g c = record { decides = λ equal literals l r. none_right g.A.Theory.atom_holds g.B.Theory.atom_holds literals (g.A.Theory.meaning c.args.theory.now).has (g.B.Theory.meaning c.args._other.now).has (rw c.in-Unsat-right.is at r) }
 
 pub returns-in-Unsat-right-2 : goal.returns-in-Unsat-right-2
-returns-in-Unsat-right-2 g c = λ equal literals l r. none_right g.A.Theory.atom_holds g.B.Theory.atom_holds literals (g.A.Theory.meaning c.args.theory.now).has (g.B.Theory.meaning c.args._other.now).has (rw c.in-Unsat-right-2.is at r)
+returns-in-Unsat-right-2 g c = record { decides = λ equal literals l r. none_right g.A.Theory.atom_holds g.B.Theory.atom_holds literals (g.A.Theory.meaning c.args.theory.now).has (g.B.Theory.meaning c.args._other.now).has (rw c.in-Unsat-right-2.is at r) }
 
 pub returns-in-Sat-right : goal.returns-in-Sat-right
-returns-in-Sat-right g c = λ equal literals l r.
-    let left = rw c.in-Sat.is at l in
-    let right = rw c.in-Sat-right.is at r in
-    ((left.0, right.0), whole g.A.Theory.atom_holds g.B.Theory.atom_holds (g.A.Theory.label_of c.in-Sat.left) (g.B.Theory.label_of c.in-Sat-right.right) literals left.1 right.1)
+returns-in-Sat-right g c = record {
+  decides = λ equal literals l r.
+      let left = rw c.in-Sat.is at l in
+      let right = rw c.in-Sat-right.is at r in
+      ((left.0, right.0), whole g.A.Theory.atom_holds g.B.Theory.atom_holds (g.A.Theory.label_of c.in-Sat.left) (g.B.Theory.label_of c.in-Sat-right.right) literals left.1 right.1);
+}
 
 pub returns-in-Sat : goal.returns-in-Sat
-returns-in-Sat g c = λ equal literals l r.
-    let left = rw c.in-Sat.is at l in
-    let right = rw c.in-Wide-right.is at r in
-    (right.0, λ far. far_right g.A.Theory.atom_holds g.B.Theory.atom_holds literals (g.A.Theory.meaning c.args.theory.now).has (g.B.Theory.meaning c.args._other.now).has (g.A.Theory.meaning c.args.theory.now).keeps (g.B.Theory.meaning c.args._other.now).keeps (right.1 far) (g.A.Theory.label_of c.in-Sat.left) (g.met.A.Theory.keeps_labels c.args.theory.now _ left.0) left.1)
+returns-in-Sat g c = record {
+  decides = λ equal literals l r.
+      let left = rw c.in-Sat.is at l in
+      let right = rw c.in-Wide-right.is at r in
+      (right.0, λ far. far_right g.A.Theory.atom_holds g.B.Theory.atom_holds literals (g.A.Theory.meaning c.args.theory.now).has (g.B.Theory.meaning c.args._other.now).has (g.A.Theory.meaning c.args.theory.now).keeps (g.B.Theory.meaning c.args._other.now).keeps (right.1 far) (g.A.Theory.label_of c.in-Sat.left) (g.met.A.Theory.keeps_labels c.args.theory.now _ left.0) left.1);
+}
 
 pub returns-in-Sat-right-2 : goal.returns-in-Sat-right-2
-returns-in-Sat-right-2 g c = λ equal literals l r.
-    let left = rw c.in-Wide.is at l in
-    let right = rw c.in-Sat-right-2.is at r in
-    (left.0, λ far. far_left g.A.Theory.atom_holds g.B.Theory.atom_holds literals (g.A.Theory.meaning c.args.theory.now).has (g.B.Theory.meaning c.args._other.now).has (g.A.Theory.meaning c.args.theory.now).keeps (g.B.Theory.meaning c.args._other.now).keeps (left.1 far) (g.B.Theory.label_of c.in-Sat-right-2.field-0) (g.met.B.Theory.keeps_labels c.args._other.now _ right.0) right.1)
+returns-in-Sat-right-2 g c = record {
+  decides = λ equal literals l r.
+      let left = rw c.in-Wide.is at l in
+      let right = rw c.in-Sat-right-2.is at r in
+      (left.0, λ far. far_left g.A.Theory.atom_holds g.B.Theory.atom_holds literals (g.A.Theory.meaning c.args.theory.now).has (g.B.Theory.meaning c.args._other.now).has (g.A.Theory.meaning c.args.theory.now).keeps (g.B.Theory.meaning c.args._other.now).keeps (left.1 far) (g.B.Theory.label_of c.in-Sat-right-2.field-0) (g.met.B.Theory.keeps_labels c.args._other.now _ right.0) right.1);
+}
 
 pub returns-then-far : goal.returns-then-far
-returns-then-far g c = λ equal literals l r.
-    let left = rw c.in-Wide.is at l in
-    let right = rw c.in-Wide-right-2.is at r in
-    let some = (left.1 ((c.far.ensures left.0.1).0 c.if-far.true)).0 in
-    (right.0, λ far. far_right g.A.Theory.atom_holds g.B.Theory.atom_holds literals (g.A.Theory.meaning c.args.theory.now).has (g.B.Theory.meaning c.args._other.now).has (g.A.Theory.meaning c.args.theory.now).keeps (g.B.Theory.meaning c.args._other.now).keeps (right.1 far) some.0 (some.1) some.2)
+returns-then-far g c = record {
+  decides = λ equal literals l r.
+      let left = rw c.in-Wide.is at l in
+      let right = rw c.in-Wide-right-2.is at r in
+      let some = (left.1 ((c.far.ensures left.0.1).0 c.if-far.true)).0 in
+      (right.0, λ far. far_right g.A.Theory.atom_holds g.B.Theory.atom_holds literals (g.A.Theory.meaning c.args.theory.now).has (g.B.Theory.meaning c.args._other.now).has (g.A.Theory.meaning c.args.theory.now).keeps (g.B.Theory.meaning c.args._other.now).keeps (right.1 far) some.0 (some.1) some.2);
+}
 
 pub returns : goal.returns
-returns g c = λ equal literals l r.
-    let left = rw c.in-Wide.is at l in
-    (left.0, λ far. let no : false ≡ true = sym c.if-far.false ∙ (c.far.ensures left.0.1).1 far in absurd cc)
+returns g c = record {
+  decides = λ equal literals l r.
+      let left = rw c.in-Wide.is at l in
+      (left.0, λ far. let no : false ≡ true = sym c.if-far.false ∙ (c.far.ensures left.0.1).1 far in absurd cc);
+}
