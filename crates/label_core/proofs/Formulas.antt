@@ -147,5 +147,3 @@ module _ {A : Type 0} (P : A → Type 0) where
 
   pub every_part : (fs : List (Formula A)) (i : ℕ) (f : Formula A) → i < length fs → f ≡ get_or fs i f → All (λ g. EveryAtom P (plain_formula g)) fs → EveryAtom P (plain_formula f)
   every_part fs i f low is each = subst (λ g. EveryAtom P (plain_formula g)) (sym is) (each i f low)
-
-pub ruleset on_parts = (plain_and, plain_or)

@@ -33,7 +33,6 @@ pub fn negation<A: Drop>(alloc: Global, formula: Formula<A>) -> Result<Formula<A
 }
 
 /// Holds where each of the formulas does.
-#[tactic(auto, using(crate::proofs::Formulas::on_parts))]
 pub fn conjunction<A>(formulas: Vec<Formula<A>>) -> Formula<A>
     ensures { plain_formula result ≡ plain.all_of (plain.formulas_of (map plain_formula formulas.items)) }
 {
@@ -41,7 +40,6 @@ pub fn conjunction<A>(formulas: Vec<Formula<A>>) -> Formula<A>
 }
 
 /// Holds where one of the formulas does.
-#[tactic(auto, using(crate::proofs::Formulas::on_parts))]
 pub fn disjunction<A>(formulas: Vec<Formula<A>>) -> Formula<A>
     ensures { plain_formula result ≡ plain.some_of (plain.formulas_of (map plain_formula formulas.items)) }
 {
