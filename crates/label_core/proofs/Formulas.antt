@@ -1,8 +1,8 @@
 -- A formula's parts as a list.
-use Rattle.std.proofs.Common.{◌≡◌, ℕ, zero, suc, ◌+◌, ◌<◌, ◌≤◌, Bool, true, false, not, ◌&&◌, ◌||◌, List, [], ◌∷◌, ◌++◌, map, length, take, drop, get_or, Box, Vec, Global, All, refl, sym, ap, ap₂, ◌∙◌, subst, arith}
+use Rattle.std.proofs.Common.{◌≡◌, ℕ, zero, suc, ◌+◌, ◌<◌, ◌≤◌, Bool, true, false, not, ◌&&◌, ◌||◌, List, [], ◌∷◌, map, length, drop, get_or, Box, Vec, Global, All, refl, sym, ap, ◌∙◌, subst, arith}
 use Rattle.std.proofs.Math.Bool.{beq}
 use Rattle.std.specs.List.{list_all, list_any}
-use Rattle.std.proofs.lemmas.List.{take_more, map-append, at_drop_more, at_drop_all}
+use Rattle.std.proofs.lemmas.List.{at_drop_more, at_drop_all}
 use Rattle.std.proofs.lemmas.List.Elements.{All-nil, All-cons}
 use Rattle.model_tree.specs.Formula as plain
 use Rattle.model_tree.specs.Formula.{yes, no, atom, no_formulas, negation, all_of, some_of, formulas_of, formula, formula_holds, all_hold, some_hold, EveryAtom, EveryAtomOfAll}
@@ -39,15 +39,6 @@ module _ {A : Type 0} where
   pub joined_same : (every : Bool) (fs gs : List (Formula A)) → map plain_formula fs ≡ map plain_formula gs → joined every fs ≡ joined every gs
   joined_same true fs gs e = ap (λ ps. all_of (formulas_of ps)) e
   joined_same false fs gs e = ap (λ ps. some_of (formulas_of ps)) e
-
-  -- one more that is the same
-  pub copies_more : (parts : List (Formula A)) (i : ℕ) (f : Formula A) → i < length parts → f ≡ get_or parts i f → (made new : List (Formula A)) (g : Formula A) → new ≡ made ++ g ∷ [] → map plain_formula made ≡ map plain_formula (take i parts) → plain_formula g ≡ plain_formula f → map plain_formula new ≡ map plain_formula (take (i + 1) parts)
-  copies_more parts i f low is made new g pushed before same =
-      ap (map plain_formula) pushed
-      ∙ map-append plain_formula made (g ∷ [])
-      ∙ ap₂ (λ ps p. ps ++ p ∷ []) before same
-      ∙ sym (map-append plain_formula (take i parts) (f ∷ []))
-      ∙ sym (ap (map plain_formula) (take_more parts i f low ∙ ap (λ h. take i parts ++ h ∷ []) (sym is)))
 
 module _ {A : Type 0} where
   abbrev mutual
@@ -147,3 +138,5 @@ module _ {A : Type 0} (P : A → Type 0) where
 
   pub every_part : (fs : List (Formula A)) (i : ℕ) (f : Formula A) → i < length fs → f ≡ get_or fs i f → All (λ g. EveryAtom P (plain_formula g)) fs → EveryAtom P (plain_formula f)
   every_part fs i f low is each = subst (λ g. EveryAtom P (plain_formula g)) (sym is) (each i f low)
+
+pub ruleset on_parts = (plain_and, plain_or)

@@ -8,9 +8,7 @@ use Rattle.std.specs.Ordering.{ordering_then}
 use Rattle.model_tree.specs.Label.{Label, row, pair}
 use Rattle.label_core.specs.Atoms.{has_equal, EachHasEqual}
 use Rattle.label_core.specs.Meaning.{Meaning}
-use Rattle.label_core.specs.Verdict.{DecidesAll}
 use Rattle.label_core.specs.declared.theory.Lit.{Lit}
-use Rattle.label_core.specs.declared.theory.Verdict.{Verdict}
 use Rattle.label_core.specs.declared.pair.PairAtom.{PairAtom}
 use Rattle.label_core.specs.declared.pair.PairAtom.TheVariants.{Left, Right}
 use Rattle.label_core.specs.declared.pair.PairChain.{PairChain}
@@ -79,11 +77,6 @@ pair_meaning M N equal = record {
   passes = OfChain M.passes N.passes;
   is_far = OfChain M.is_far N.is_far;
 }
-
--- the third verdict is on literals of which the others are on what they say of the parts
-module _ {P Q V W C D : Type 0} {u : V → Label} {v : W → Label} {h : P → Label → Bool} {k : Q → Label → Bool} (M : Meaning u h C) (N : Meaning v k D) (left : Verdict V C) (right : Verdict W D) (both : Verdict (PairValue V W) (PairChain C D)) where
-  pub record IsJoined : Type 0 where
-    pub decides : (equal : PairAtom P Q → PairAtom P Q → Bool) (literals : List (Lit (PairAtom P Q))) → DecidesAll M (left_lits literals) left → DecidesAll N (right_lits literals) right → DecidesAll (pair_meaning M N equal) literals both
 
 module _ {P Q : Type 0} (e : P → P → Bool) (f : Q → Q → Bool) where
   -- the equality that is derived

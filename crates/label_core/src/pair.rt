@@ -2,7 +2,7 @@
 
 ghost use Rattle.std.specs.Prelude.{◌≡◌, IfOk};
 ghost use Rattle.label_core.specs.Lit.{LitsFit};
-ghost use Rattle.label_core.specs.Pair.{left_lits, right_lits, IsJoined};
+ghost use Rattle.label_core.specs.Pair.{OfAtom, left_lits, right_lits, pair_meaning};
 ghost use Rattle.label_core.specs.Verdict.{DecidesAll};
 
 use crate::copies::Duplicate;
@@ -99,58 +99,62 @@ fn right_literals<P, Q: Duplicate + Drop>(
     Ok(rights)
 }
 
-/// The verdict on what the literals say of the left part.
-fn decide_left<A: Theory, Q>(
-    theory: &A,
-    alloc: Global,
-    literals: &[Lit<PairAtom<A::Atom, Q>>],
-) -> Result<Verdict<A::Value, A::Chain>, Memory>
-    requires { LitsFit (A.atom_fits theory.now) (left_lits literals.now) }
-    ensures { IfOk result (DecidesAll (A.meaning theory.now) (left_lits literals.now)) }
-{
-    let lefts = left_literals(alloc, literals)?;
-    theory.decide(alloc, &lefts)
-}
+impl<A: Theory, B: Theory> Pair<A, B> {
+    /// The verdict on what the literals say of the left part.
+    fn decide_left(
+        &self,
+        alloc: Global,
+        literals: &[Lit<PairAtom<A::Atom, B::Atom>>],
+    ) -> Result<Verdict<A::Value, A::Chain>, Memory>
+        requires { LitsFit (OfAtom (A.atom_fits self.now.left) (B.atom_fits self.now.right)) literals.now }
+        ensures { IfOk result (DecidesAll (A.meaning self.now.left) (left_lits literals.now)) }
+    {
+        let lefts = left_literals(alloc, literals)?;
+        self.left.decide(alloc, &lefts)
+    }
 
-/// The verdict on what the literals say of the right part.
-fn decide_right<P, B: Theory>(
-    theory: &B,
-    alloc: Global,
-    literals: &[Lit<PairAtom<P, B::Atom>>],
-) -> Result<Verdict<B::Value, B::Chain>, Memory>
-    requires { LitsFit (B.atom_fits theory.now) (right_lits literals.now) }
-    ensures { IfOk result (DecidesAll (B.meaning theory.now) (right_lits literals.now)) }
-{
-    let rights = right_literals(alloc, literals)?;
-    theory.decide(alloc, &rights)
-}
+    /// The verdict on what the literals say of the right part.
+    fn decide_right(
+        &self,
+        alloc: Global,
+        literals: &[Lit<PairAtom<A::Atom, B::Atom>>],
+    ) -> Result<Verdict<B::Value, B::Chain>, Memory>
+        requires { LitsFit (OfAtom (A.atom_fits self.now.left) (B.atom_fits self.now.right)) literals.now }
+        ensures { IfOk result (DecidesAll (B.meaning self.now.right) (right_lits literals.now)) }
+    {
+        let rights = right_literals(alloc, literals)?;
+        self.right.decide(alloc, &rights)
+    }
 
-/// The verdict on literals, from those on what they say of the two parts.
-fn joined<A: Theory, B: Theory>(
-    theory: &A,
-    _other: &B,
-    left: Verdict<A::Value, A::Chain>,
-    right: Verdict<B::Value, B::Chain>,
-) -> Verdict<PairValue<A::Value, B::Value>, PairChain<A::Chain, B::Chain>>
-    ensures { IsJoined (A.meaning theory.now) (B.meaning _other.now) left right result }
-{
-    match left {
-        Verdict::Unsat => Verdict::Unsat,
-        Verdict::Sat(left) => match right {
+    /// The verdict on the literals, from those on what they say of the two parts.
+    fn joined(
+        &self,
+        _literals: &[Lit<PairAtom<A::Atom, B::Atom>>],
+        left: Verdict<A::Value, A::Chain>,
+        right: Verdict<B::Value, B::Chain>,
+    ) -> Verdict<PairValue<A::Value, B::Value>, PairChain<A::Chain, B::Chain>>
+        requires left { DecidesAll (A.meaning self.now.left) (left_lits _literals.now) left }
+        requires right { DecidesAll (B.meaning self.now.right) (right_lits _literals.now) right }
+        ensures { DecidesAll (pair_meaning (A.meaning self.now.left) (B.meaning self.now.right) ⟦<PairAtom<A::Atom, B::Atom> as PartialEq>⟧.eq) _literals.now result }
+    {
+        match left {
             Verdict::Unsat => Verdict::Unsat,
-            Verdict::Sat(right) => Verdict::Sat(PairValue { left, right }),
-            Verdict::Wide(chain) => Verdict::Wide(PairChain::Right(chain)),
-        },
-        Verdict::Wide(left) => match right {
-            Verdict::Unsat => Verdict::Unsat,
-            Verdict::Sat(_) => Verdict::Wide(PairChain::Left(left)),
-            Verdict::Wide(right) => {
-                if theory.far(&left) {
-                    return Verdict::Wide(PairChain::Right(right));
+            Verdict::Sat(left) => match right {
+                Verdict::Unsat => Verdict::Unsat,
+                Verdict::Sat(right) => Verdict::Sat(PairValue { left, right }),
+                Verdict::Wide(chain) => Verdict::Wide(PairChain::Right(chain)),
+            },
+            Verdict::Wide(left) => match right {
+                Verdict::Unsat => Verdict::Unsat,
+                Verdict::Sat(_) => Verdict::Wide(PairChain::Left(left)),
+                Verdict::Wide(right) => {
+                    if self.left.far(&left) {
+                        return Verdict::Wide(PairChain::Right(right));
+                    }
+                    Verdict::Wide(PairChain::Left(left))
                 }
-                Verdict::Wide(PairChain::Left(left))
-            }
-        },
+            },
+        }
     }
 }
 
@@ -199,9 +203,9 @@ impl<A: Theory, B: Theory> Theory for Pair<A, B> {
         alloc: Global,
         literals: &[Lit<PairAtom<A::Atom, B::Atom>>],
     ) -> Result<Verdict<PairValue<A::Value, B::Value>, PairChain<A::Chain, B::Chain>>, Memory> {
-        let left = decide_left(&self.left, alloc, literals)?;
-        let right = decide_right(&self.right, alloc, literals)?;
-        Ok(joined(&self.left, &self.right, left, right))
+        let left = self.decide_left(alloc, literals)?;
+        let right = self.decide_right(alloc, literals)?;
+        Ok(self.joined(literals, left, right))
     }
 
     fn copy_value(

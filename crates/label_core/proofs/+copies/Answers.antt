@@ -2,7 +2,8 @@ use Rattle.std.proofs.Common.{rules, arith, map, ap, ◌∙◌, subst, take_all}
 use Rattle.std.specs.Prelude.{IfOk, ◌≡◌}
 use Rattle.model_tree.specs.Formula.{negation}
 use Rattle.label_core.specs.Formula.{plain_formula}
-use Rattle.label_core.proofs.Formulas.{not_of, and_of, or_of, joined_same, copies_more}
+use Rattle.label_core.proofs.Formulas.{not_of, and_of, or_of, joined_same}
+use Rattle.label_core.proofs.Elements.{made_more}
 use Rattle.label_core.proofs.+copies.Goals as goal
 
 pub copies::copy_each-copy_within-requires : goal.copies::copy_each-copy_within-requires
@@ -12,7 +13,7 @@ copies::copy_each-copy_within-requires g t c κs within =
 
 pub copies::copy_each-loop-part-preserved : goal.copies::copy_each-loop-part-preserved
 copies::copy_each-loop-part-preserved g t c =
-    copies_more c.args.parts.now c.loop-part.part-index c.part-item.result c.loop-part-test.true c.part-item.is c.loop-part.copies.items c.push.new.self.items c.in_ok-copy_within.field-0 c.in_ok-push.ensures.items c.loop-part.invariant (c.in_ok-copy_within.ensures {u = tt})
+    made_more plain_formula plain_formula c.args.parts.now c.loop-part.part-index c.part-item.result c.loop-part-test.true c.part-item.is c.loop-part.copies.items c.push.new.self.items c.in_ok-copy_within.field-0 c.in_ok-push.ensures.items c.loop-part.invariant (c.in_ok-copy_within.ensures {u = tt})
 
 pub copies::copy_each-returns : goal.copies::copy_each-returns
 copies::copy_each-returns g t c =
