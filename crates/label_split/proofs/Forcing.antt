@@ -1,11 +1,13 @@
 -- What follows for atoms from what formulas are.
-use Rattle.std.proofs.Common.{◌≡◌, ◌≢◌, Bool, true, false, not, ◌&&◌, ◌||◌, Option, Some, None, IsSome, List, [], ◌∷◌, All, length, ℕ, zero, suc, ◌<◌, ◌⊎◌, inl, inr, refl, sym, ap, ◌∙◌, subst, get_or, arith}
+use Rattle.std.proofs.Common.{◌≡◌, ◌≢◌, Bool, true, false, not, ◌&&◌, ◌||◌, Option, Some, None, IsSome, List, [], ◌∷◌, All, length, ℕ, zero, suc, ◌<◌, ◌⊎◌, inl, inr, refl, sym, ap, ◌∙◌, subst, get_or, arith, Box, Vec, Global}
 use Rattle.std.proofs.Math.ListN.{set}
 use Rattle.std.proofs.lemmas.List.{length-set, get_or-set_same, get_or-set_other}
 use Rattle.std.specs.List.{list_all, list_any}
 use Rattle.std.proofs.lemmas.Bool.{cases_eq}
+use Rattle.model_tree.specs.Formula.{formula_holds}
 use Rattle.label_core.specs.declared.formula.Formula.{Formula}
-use Rattle.label_core.proofs.Formulas.{formula_holds_and, formula_holds_or, every_atom_of_and, every_atom_of_or}
+use Rattle.label_core.specs.declared.formula.Formula.TheVariants.{Not, And, Or}
+use Rattle.label_core.proofs.Formulas.{not_of, and_of, or_of, all_hold_of_list, some_hold_of_list}
 use Rattle.label_split.specs.Known.{Agrees, known_at, truth_at, Follows, holds_at, joined, Forces, IsOnly}
 use Rattle.label_split.proofs.Truths.{settled_holds}
 
@@ -90,4 +92,18 @@ only_of_joined value holds truths known fs k f only is differs follows e =
     by here m d low (inl e) = ap (holds_at truths) (ap (λ n. get_or fs n d) e ∙ same_default fs k d f only.low ∙ sym is) ∙ here
     by here m d low (inr n) = settled_holds known truths (get_or fs m d) value (only.others m d low n) follows
 
-pub ruleset on_forcing = (formula_holds_and, formula_holds_or, every_atom_of_and, every_atom_of_or)
+-- what a formula says by its parts
+pub forces_and : (holds : Bool) (f : Formula ℕ) (v : Vec (Formula ℕ) Global) (fs : List (Formula ℕ)) → f ≡ And v → fs ≡ v.items → (a b : List (Option Bool)) → Forces (λ truths. joined true truths fs ≡ holds) a b → Forces (λ truths. holds_at truths f ≡ holds) a b
+forces_and holds f v fs is same a b = forces_by (λ truths. holds_at truths f ≡ holds) (λ truths. joined true truths fs ≡ holds) a b (λ truths e follows. sym (all_hold_of_list (truth_at truths) fs) ∙ ap (formula_holds (truth_at truths)) (and_of f v fs is same) ∙ e)
+
+pub forces_or : (holds : Bool) (f : Formula ℕ) (v : Vec (Formula ℕ) Global) (fs : List (Formula ℕ)) → f ≡ Or v → fs ≡ v.items → (a b : List (Option Bool)) → Forces (λ truths. joined false truths fs ≡ holds) a b → Forces (λ truths. holds_at truths f ≡ holds) a b
+forces_or holds f v fs is same a b = forces_by (λ truths. holds_at truths f ≡ holds) (λ truths. joined false truths fs ≡ holds) a b (λ truths e follows. sym (some_hold_of_list (truth_at truths) fs) ∙ ap (formula_holds (truth_at truths)) (or_of f v fs is same) ∙ e)
+
+pub forces_not : (holds : Bool) (f : Formula ℕ) (b : Box (Formula ℕ) Global) (g : Formula ℕ) → f ≡ Not b → g ≡ b.value → (a c : List (Option Bool)) → Forces (λ truths. holds_at truths g ≡ not holds) a c → Forces (λ truths. holds_at truths f ≡ holds) a c
+forces_not holds f b g is same a c = forces_by (λ truths. holds_at truths f ≡ holds) (λ truths. holds_at truths g ≡ not holds) a c (λ truths e follows. turned (holds_at truths g) holds (ap (formula_holds (truth_at truths)) (not_of f b g is same) ∙ e))
+  where
+    turned : (x y : Bool) → not x ≡ y → x ≡ not y
+    turned true true e = cc
+    turned true false e = refl
+    turned false true e = refl
+    turned false false e = cc

@@ -10,3 +10,4 @@ pub mod Numbering
 pub mod RowLists
 pub mod Signs
 pub mod Verdicts
+pub mod Settled

@@ -27,7 +27,7 @@ fn add_atom<A: Eq + Hash + Duplicate + Drop>(
 }
 
 /// Adds copies of the formula's atoms that are not there yet.
-#[tactic(auto, using(crate::proofs::SameAtoms::on_atoms))]
+#[cycle(atoms)]
 fn add_atoms<A: Eq + Hash + Duplicate + Drop>(
     alloc: Global,
     formula: &Formula<A>,
@@ -40,23 +40,27 @@ fn add_atoms<A: Eq + Hash + Duplicate + Drop>(
         Formula::No => Ok(()),
         Formula::Atom(atom) => add_atom(alloc, atom, atoms),
         Formula::Not(inner) => add_atoms(alloc, inner, atoms),
-        Formula::And(parts) => {
-            'every: for part in parts {
-                add_atoms(alloc, part, atoms)?;
-            }
-            Ok(())
-        }
-        Formula::Or(parts) => {
-            'some: for part in parts {
-                add_atoms(alloc, part, atoms)?;
-            }
-            Ok(())
-        }
+        Formula::And(parts) => add_each(alloc, parts, atoms),
+        Formula::Or(parts) => add_each(alloc, parts, atoms),
     }
 }
 
+/// Adds copies of the formulas' atoms that are not there yet.
+#[cycle(atoms)]
+fn add_each<A: Eq + Hash + Duplicate + Drop>(
+    alloc: Global,
+    formulas: &[Formula<A>],
+    atoms: &mut IndexSet<A>,
+) -> Result<(), Memory>
+    ensures { OnOk result ((a : A) → has_equal A.eq atoms.new.keys a ≡ (has_equal A.eq atoms.old.keys a || has_equal A.eq (atoms_in_each formulas.now) a)) }
+{
+    for formula in formulas {
+        add_atoms(alloc, formula, atoms)?;
+    }
+    Ok(())
+}
+
 /// Copies of the different atoms of the formulas.
-#[tactic(auto, using(crate::proofs::SameAtoms::on_atoms))]
 pub fn atoms_of_each<A: Eq + Hash + Duplicate + Drop>(
     alloc: Global,
     formulas: &[Formula<A>],
@@ -64,8 +68,6 @@ pub fn atoms_of_each<A: Eq + Hash + Duplicate + Drop>(
     ensures { IfOk result (λ atoms. (a : A) → has_equal A.eq atoms.keys a ≡ has_equal A.eq (atoms_in_each formulas.now) a) }
 {
     let mut atoms = IndexSet::new(alloc);
-    for formula in formulas {
-        add_atoms(alloc, formula, &mut atoms)?;
-    }
+    add_each(alloc, formulas, &mut atoms)?;
     Ok(atoms)
 }

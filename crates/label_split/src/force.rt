@@ -33,7 +33,6 @@ fn only_open(parts: &[Formula<usize>], value: bool, known: &Known) -> Option<usi
 }
 
 /// Puts down what is known of atoms, if the formula has this truth value.
-#[tactic(auto, using(crate::proofs::Forcing::on_forcing))]
 #[cycle(force)]
 pub fn force(formula: &Formula<usize>, holds: bool, known: &mut Known)
     ensures { Forces (λ truths. holds_at truths formula.now ≡ holds) known.old.signs.items known.new.signs.items }

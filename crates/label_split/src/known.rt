@@ -2,7 +2,8 @@
 
 ghost use Rattle.std.specs.Prelude.{◌≡◌, ◌<◌, ℕ, false, None, Some, IfNone, IfOk, IfSome, IsSome, length, replicate, slice_set};
 ghost use Rattle.std.specs.List.{All};
-ghost use Rattle.label_split.specs.Known.{IsWithin, Forces, known_at, truth_at, settled};
+ghost use Rattle.label_core.specs.Formula.{joined};
+ghost use Rattle.label_split.specs.Known.{IsWithin, Forces, known_at, truth_at, formula_known, settled};
 
 use fast_fault::Memory;
 use label_core::Formula;
@@ -55,7 +56,7 @@ impl Known {
 }
 
 /// The truth value of the formula, where those that are known settle it.
-#[tactic(auto, using(label_core::proofs::Formulas::on_formulas))]
+#[cycle(settled)]
 pub fn settled(formula: &Formula<usize>, known: &Known) -> Option<bool>
     ensures { result ≡ settled known.now.signs.items formula.now }
 {
@@ -67,29 +68,28 @@ pub fn settled(formula: &Formula<usize>, known: &Known) -> Option<bool>
             Some(holds) => Some(!holds),
             None => None,
         },
-        Formula::And(parts) => {
-            let mut open = false;
-            'every: for part in parts {
-                match settled(part, known) {
-                    Some(true) => {}
-                    Some(false) => return Some(false),
-                    None => open = true,
+        Formula::And(parts) => settled_each(parts, true, known),
+        Formula::Or(parts) => settled_each(parts, false, known),
+    }
+}
+
+/// The same of whether all of the formulas hold, or, if not `every`, one of them.
+#[cycle(settled)]
+fn settled_each(parts: &[Formula<usize>], every: bool, known: &Known) -> Option<bool>
+    ensures { result ≡ formula_known (known_at known.now.signs.items) (joined every parts.now) }
+{
+    let mut open = false;
+    for part in parts {
+        match settled(part, known) {
+            None => open = true,
+            Some(holds) => {
+                if holds != every {
+                    return Some(!every);
                 }
             }
-            if open { None } else { Some(true) }
-        }
-        Formula::Or(parts) => {
-            let mut open = false;
-            'some: for part in parts {
-                match settled(part, known) {
-                    Some(true) => return Some(true),
-                    Some(false) => {}
-                    None => open = true,
-                }
-            }
-            if open { None } else { Some(false) }
         }
     }
+    if open { None } else { Some(every) }
 }
 
 /// An atom of the formula that isn't known, unless the formula is settled.

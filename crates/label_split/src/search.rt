@@ -3,9 +3,11 @@
 //! that has another sign.
 
 ghost use Rattle.std.specs.Prelude.{◌≡◌, ◌<◌, ◌+◌, ◌⊎◌, Bool, false, List, None, Some, length, IfOk, OnOk, IfSome, IfNone, All, slice_set, replicate, [], ◌∷◌};
+ghost use Rattle.model_tree.specs.Formula.{formula_holds};
+ghost use Rattle.label_core.specs.Formula.{joined};
 ghost use Rattle.label_core.specs.Meaning.{KeepsValue};
 ghost use Rattle.label_core.specs.declared.theory.Verdict.TheVariants.{Sat, Wide};
-ghost use Rattle.label_split.specs.Known.{Forces, Follows, known_at, holds_at, settled};
+ghost use Rattle.label_split.specs.Known.{Forces, Follows, known_at, truth_at, holds_at, settled};
 ghost use Rattle.label_split.specs.Numbers.{truths_at, AreAsked, HaveSigns, IsUnsettled, IsWrong, AreLiterals};
 ghost use Rattle.label_split.specs.Search.{branch_lists, Covers, DecidesKnown, DecidesSigns, IsNearer, IsNext, Looks};
 ghost use Rattle.label_split.specs.Weights.{weight, open_weight};
@@ -35,7 +37,7 @@ pub enum Look<V, W> {
 }
 
 /// Whether the formula holds of the value's label.
-#[tactic(auto, using(label_core::proofs::Formulas::on_formulas))]
+#[cycle(holds)]
 pub fn holds_of<T: Theory>(
     theory: &T,
     atoms: &[T::Atom],
@@ -51,23 +53,30 @@ pub fn holds_of<T: Theory>(
         Formula::No => false,
         Formula::Atom(atom) => *atom < atoms.len() && theory.holds(&atoms[*atom], value),
         Formula::Not(inner) => !holds_of(theory, atoms, inner, value),
-        Formula::And(parts) => {
-            'every: for part in parts {
-                if !holds_of(theory, atoms, part, value) {
-                    return false;
-                }
-            }
-            true
-        }
-        Formula::Or(parts) => {
-            'some: for part in parts {
-                if holds_of(theory, atoms, part, value) {
-                    return true;
-                }
-            }
-            false
+        Formula::And(parts) => each_holds(theory, atoms, parts, true, value),
+        Formula::Or(parts) => each_holds(theory, atoms, parts, false, value),
+    }
+}
+
+/// Whether all of the formulas hold of the value's label, or, if not `every`, one of them.
+#[cycle(holds)]
+fn each_holds<T: Theory>(
+    theory: &T,
+    atoms: &[T::Atom],
+    parts: &[Formula<usize>],
+    every: bool,
+    value: &T::Value,
+) -> bool
+    requires fit { All (T.atom_fits theory.now) atoms.now }
+    requires kept { KeepsValue (T.meaning theory.now) value.now }
+    ensures { result ≡ formula_holds (truth_at (truths_at T.atom_holds atoms.now (T.label_of value.now))) (joined every parts.now) }
+{
+    for part in parts {
+        if holds_of(theory, atoms, part, value) != every {
+            return !every;
         }
     }
+    every
 }
 
 /// Puts down what the formula says of atoms, if it has its sign; whether it may have it.
