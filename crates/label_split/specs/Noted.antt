@@ -1,5 +1,6 @@
 -- Rows with notes, and samples for the last of some formulas.
-use Rattle.std.specs.Prelude.{◌≡◌, Bool, List, [], ◌∷◌, ◌++◌, map}
+use Rattle.std.specs.Prelude.{◌≡◌, Bool, Option, List, [], ◌∷◌, ◌++◌, map}
+use Rattle.std.specs.Option.{MatchOption}
 use Rattle.model_tree.specs.Label.{Label}
 use Rattle.label_core.specs.Meaning.{Meaning}
 use Rattle.label_split.specs.declared.rows.SignRow.{SignRow}
@@ -23,3 +24,12 @@ abbrev pub ShowsSigns : {V : Type 0} → (V → Label) → Sample V → List Boo
 ShowsSigns label_of sample signs Nowhere = sample ≡ Nowhere
 ShowsSigns {V} label_of sample signs (At noted) = (found : Noted V) × (sample ≡ At found) × (found.row.signs.items ≡ signs) × (noted.row.signs.items ≡ signs) × (label_of noted.row.value ≡ label_of found.row.value)
 ShowsSigns label_of sample signs Unknown = Unit {0}
+
+-- the other row is added, if there is one, and then the row with one more sign
+pub record AreAdded {V : Type 0} (row : SignRow V) (sign : Bool) (other : Option (Noted V)) (old new : List (Noted V)) : Type 0 where
+  pub longer : Noted V
+  pub value : longer.row.value ≡ row.value
+  pub signs : longer.row.signs.items ≡ row.signs.items ++ sign ∷ []
+  pub between : List (Noted V)
+  pub found : MatchOption other (between ≡ old) (λ noted. between ≡ old ++ noted ∷ [])
+  pub pushed : new ≡ between ++ longer ∷ []

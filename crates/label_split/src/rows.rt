@@ -9,7 +9,7 @@ ghost use Rattle.label_split.specs.Numbers.{number_holds, AreAsked};
 ghost use Rattle.label_split.specs.Search.{DecidesSigns};
 ghost use Rattle.label_split.specs.Signs.{FormulasFit, signs_at};
 ghost use Rattle.label_split.specs.Split.{SplitsInto, IsRow, Stops, StopsFor, HasMoreRows, Extends};
-ghost use Rattle.label_split.specs.Noted.{rows_of, IsSample, ShowsSigns};
+ghost use Rattle.label_split.specs.Noted.{rows_of, IsSample, ShowsSigns, AreAdded};
 
 use crate::numbers::number_all;
 use crate::search::{Asked, holds_of, note, search};
@@ -443,6 +443,21 @@ fn add_found<V: Drop>(rows: &mut Vec<Noted<V>>, found: Option<Noted<V>>) -> Resu
     Ok(())
 }
 
+/// Adds the other row, if there is one, and the row with one more sign.
+fn add_rows<V: Drop>(
+    rows: &mut Vec<Noted<V>>,
+    other: Option<Noted<V>>,
+    sample: &Sample<V>,
+    row: Noted<V>,
+    sign: bool,
+) -> Result<(), Memory>
+    ensures { OnOk result (AreAdded row.row sign other rows.old.items rows.new.items) }
+{
+    add_found(rows, other)?;
+    rows.push(noted_with_sign(sample, row, sign)?)?;
+    Ok(())
+}
+
 /// Adds the rows of the formulas that begin with this row of all but the last formula.
 fn extend<T: Theory>(
     theory: &T,
@@ -463,9 +478,7 @@ fn extend<T: Theory>(
     let number = last.formulas.len() - 1;
     let holds = holds_of(theory, atoms, &last.formulas[number], &row.row.value);
     let other = longer_row(theory, alloc, atoms, last, &mut row, !holds)?;
-    add_found(rows, other)?;
-    rows.push(noted_with_sign(last.of(holds), row, holds)?)?;
-    Ok(())
+    Ok(add_rows(rows, other, last.of(holds), row, holds)?)
 }
 
 /// The rows of the formulas, from those of all but the last.
@@ -512,6 +525,17 @@ fn refine<T: Theory>(
     extend_each(theory, alloc, atoms, &last, rows)
 }
 
+/// The rows, without the numbers.
+fn without_notes<V: Drop>(alloc: Global, noted: Vec<Noted<V>>) -> Result<Vec<SignRow<V>>, Memory>
+    ensures { IfOk result (λ rows. rows.items ≡ rows_of noted.items) }
+{
+    let mut rows = Vec::new(alloc);
+    for one in noted {
+        rows.push(one.row)?;
+    }
+    Ok(rows)
+}
+
 /// The rows of formulas over the numbers of the atoms.
 fn split_numbered<T: Theory>(
     theory: &T,
@@ -519,11 +543,11 @@ fn split_numbered<T: Theory>(
     atoms: &[T::Atom],
     formulas: &[Formula<usize>],
     most: u32,
-) -> Result<Vec<Noted<T::Value>>, SplitStop<T::Chain>>
+) -> Result<Vec<SignRow<T::Value>>, SplitStop<T::Chain>>
     requires within { All (IsWithin (length atoms.now)) formulas.now }
     requires fit { All (T.atom_fits theory.now) atoms.now }
-    ensures rows { IfOk result (λ rows. SplitsInto (T.meaning theory.now) (signs_at (number_holds T.atom_holds atoms.now) formulas.now) (rows_of rows.items)) }
-    ensures few { IfOk result (λ rows. length (rows_of rows.items) ≤ most) }
+    ensures rows { IfOk result (λ rows. SplitsInto (T.meaning theory.now) (signs_at (number_holds T.atom_holds atoms.now) formulas.now) rows.items) }
+    ensures few { IfOk result (λ rows. length rows.items ≤ most) }
     ensures stop { IfErr result (Stops (T.meaning theory.now) (HasMoreRows (T.meaning theory.now) (signs_at (number_holds T.atom_holds atoms.now) formulas.now) most) (signs_at (number_holds T.atom_holds atoms.now) formulas.now) atoms.now) }
 {
     let mut rows = start(theory, alloc, atoms)?;
@@ -534,20 +558,9 @@ fn split_numbered<T: Theory>(
         rows = refine(theory, alloc, atoms, &formulas[..i + 1], rows)?;
     }
     if rows.len() <= most as usize {
-        return Ok(rows);
+        return Ok(without_notes(alloc, rows)?);
     }
     Err(SplitStop::TooMany)
-}
-
-/// The rows, without the numbers.
-fn without_notes<V: Drop>(alloc: Global, noted: Vec<Noted<V>>) -> Result<Vec<SignRow<V>>, Memory>
-    ensures { IfOk result (λ rows. rows.items ≡ rows_of noted.items) }
-{
-    let mut rows = Vec::new(alloc);
-    for one in noted {
-        rows.push(one.row)?;
-    }
-    Ok(rows)
 }
 
 /// Exactly the rows of signs that labels have, each once, each with a value that has these signs; no list where there are
@@ -564,12 +577,11 @@ pub fn split<T: Theory>(
     ensures stop { IfErr result (StopsFor (T.meaning theory.now) (HasMoreRows (T.meaning theory.now) (signs_at T.atom_holds formulas.now) most) formulas.now) }
 {
     let numbered = number_all(alloc, formulas)?;
-    let rows = split_numbered(
+    split_numbered(
         theory,
         alloc,
         numbered.atoms.as_slice(),
         &numbered.formulas,
         most,
-    )?;
-    Ok(without_notes(alloc, rows)?)
+    )
 }

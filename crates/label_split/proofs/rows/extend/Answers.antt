@@ -13,8 +13,9 @@ returns-clause-added g c =
     let last = λ (l : Label). holds_at (truths_at g.T.Theory.atom_holds c.args.atoms.now l) c.index-last-number.result in
     let more = λ (l : Label). last_sign (number_holds g.T.Theory.atom_holds c.args.atoms.now) c.args.last.now.formulas.now c.index-last-number.result l c.requires.some c.index-last-number.is in
     let same : c.longer_row.new.row.row ≡ c.args.row.row = c.in_ok-other.ensures.kept in
-    let made = c.in_ok-noted_with_sign.field-0 in
-    let value_is : g.T.Theory.label_of made.row.value ≡ g.T.Theory.label_of c.args.row.row.value = ap g.T.Theory.label_of (c.in_ok-noted_with_sign.ensures.value ∙ ap (λ r. r.value) same) in
+    let added = c.in_ok-add_rows.ensures in
+    let made = added.longer in
+    let value_is : g.T.Theory.label_of made.row.value ≡ g.T.Theory.label_of c.args.row.row.value = ap g.T.Theory.label_of (added.value ∙ ap (λ r. r.value) same) in
     let b_is : c.holds_of-holds.result ≡ last (g.T.Theory.label_of c.args.row.row.value) = c.holds_of-holds.ensures ∙ ap (holds_at (truths_at g.T.Theory.atom_holds c.args.atoms.now (g.T.Theory.label_of c.args.row.row.value))) (sym c.index-last-number.is) in
-    let signs_are : made.row.signs.items ≡ c.args.row.row.signs.items ++ c.holds_of-holds.result ∷ [] = c.in_ok-noted_with_sign.ensures.signs ∙ ap (λ r. r.signs.items ++ c.holds_of-holds.result ∷ []) same in
-    extends_found (g.T.Theory.meaning c.args.theory.now) (signs (take (length c.args.last.now.formulas.now - 1) c.args.last.now.formulas.now)) (signs c.args.last.now.formulas.now) last more c.args.row.row made.row c.holds_of-holds.result c.requires.row value_is b_is signs_are c.args.rows.now.items c.add_found.new.rows.items c.push.new.self.items made refl c.in_ok-push.ensures.items c.in_ok-other.other c.in_ok-add_found.ensures c.in_ok-other.ensures.row
+    let signs_are : made.row.signs.items ≡ c.args.row.row.signs.items ++ c.holds_of-holds.result ∷ [] = added.signs ∙ ap (λ r. r.signs.items ++ c.holds_of-holds.result ∷ []) same in
+    extends_found (g.T.Theory.meaning c.args.theory.now) (signs (take (length c.args.last.now.formulas.now - 1) c.args.last.now.formulas.now)) (signs c.args.last.now.formulas.now) last more c.args.row.row made.row c.holds_of-holds.result c.requires.row value_is b_is signs_are c.args.rows.now.items added.between c.add_rows.new.rows.items made refl added.pushed c.in_ok-other.other added.found c.in_ok-other.ensures.row

@@ -37,8 +37,5 @@ returns-clause-stop g c =
 pub loop-i-preserved : goal.loop-i-preserved
 loop-i-preserved g c = c.in_ok-rows-2.ensures.rows
 
-pub returns-then-len-most-2-clause-rows : goal.returns-then-len-most-2-clause-rows
-returns-then-len-most-2-clause-rows g c = subst (λ fs. SplitsInto (g.T.Theory.meaning c.args.theory.now) (signs_at (number_holds g.T.Theory.atom_holds c.args.atoms.now) fs) (rows_of c.loop-i.rows.items)) (take_all c.loop-i.i c.args.formulas.now (omega (arith, c.loop-i-test.false))) c.loop-i.invariant
-
 pub loop-i-init : goal.loop-i-init
 loop-i-init g c = c.in_ok-rows.ensures.rows
