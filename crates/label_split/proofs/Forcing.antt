@@ -11,6 +11,9 @@ use Rattle.label_core.proofs.Formulas.{not_of, and_of, or_of, all_hold_of_list, 
 use Rattle.label_split.specs.Known.{Agrees, known_at, truth_at, Follows, holds_at, joined, Forces, IsOnly}
 use Rattle.label_split.proofs.Truths.{settled_holds}
 
+pub forces_none : (P : List Bool → Type 0) (known : List (Option Bool)) → Forces P known known
+forces_none P known = record { many = refl; grown = λ i s. refl; follow = λ truths p h. h }
+
 pub forces_more : (P : List Bool → Type 0) (a b c : List (Option Bool)) → Forces P a b → Forces P b c → Forces P a c
 forces_more P a b c f g = record {
   many = g.many ∙ f.many;

@@ -19,3 +19,15 @@ returns-clause-added g c =
     let b_is : c.holds_of-holds.result ≡ last (g.T.Theory.label_of c.args.row.row.value) = c.holds_of-holds.ensures ∙ ap (holds_at (truths_at g.T.Theory.atom_holds c.args.atoms.now (g.T.Theory.label_of c.args.row.row.value))) (sym c.index-last-number.is) in
     let signs_are : made.row.signs.items ≡ c.args.row.row.signs.items ++ c.holds_of-holds.result ∷ [] = added.signs ∙ ap (λ r. r.signs.items ++ c.holds_of-holds.result ∷ []) same in
     extends_found (g.T.Theory.meaning c.args.theory.now) (signs (take (length c.args.last.now.formulas.now - 1) c.args.last.now.formulas.now)) (signs c.args.last.now.formulas.now) last more c.args.row.row made.row c.holds_of-holds.result c.requires.row value_is b_is signs_are c.args.rows.now.items added.between c.add_rows.new.rows.items made refl added.pushed c.in_ok-other.other added.found c.in_ok-other.ensures.row
+
+pub holds_of-holds-requires-clause-fit : goal.holds_of-holds-requires-clause-fit
+holds_of-holds-requires-clause-fit g c = c.requires.fit
+
+pub longer_row-requires-clause-within : goal.longer_row-requires-clause-within
+longer_row-requires-clause-within g c = c.requires.within
+
+pub longer_row-requires-clause-fit : goal.longer_row-requires-clause-fit
+longer_row-requires-clause-fit g c = c.requires.fit
+
+pub longer_row-requires-clause-samples : goal.longer_row-requires-clause-samples
+longer_row-requires-clause-samples g c = c.requires.samples

@@ -15,3 +15,15 @@ returns-clause-rows g c = partly_done (g.T.Theory.meaning c.args.theory.now) (si
 
 pub extend-requires-clause-row : goal.extend-requires-clause-row
 extend-requires-clause-row g c = row_of_rest (IsRow (g.T.Theory.meaning c.args.theory.now) (signs_at (number_holds g.T.Theory.atom_holds c.args.atoms.now) (take (length c.args.last.now.formulas.now - 1) c.args.last.now.formulas.now))) c.rest.rows.items c.pop.new.self.items c.in-Some.row c.in-Some.ensures.items c.rest.invariant.rest_sound
+
+pub extend-requires-clause-within : goal.extend-requires-clause-within
+extend-requires-clause-within g c = c.requires.within
+
+pub extend-requires-clause-fit : goal.extend-requires-clause-fit
+extend-requires-clause-fit g c = c.requires.fit
+
+pub extend-requires-clause-some : goal.extend-requires-clause-some
+extend-requires-clause-some g c = c.requires.some
+
+pub extend-requires-clause-samples : goal.extend-requires-clause-samples
+extend-requires-clause-samples g c = c.requires.samples

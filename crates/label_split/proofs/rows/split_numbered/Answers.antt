@@ -1,6 +1,8 @@
-use Rattle.std.proofs.Common.{◌<◌, ◌+◌, [], take, length, refl, subst, arith}
-use Rattle.std.proofs.lemmas.List.{take_all}
+use Rattle.std.proofs.Common.{◌<◌, ◌+◌, [], take, length, refl, sym, subst, arith}
+use Rattle.std.proofs.lemmas.List.{take_all, length-take-le}
+use Rattle.std.proofs.lemmas.List.Elements.{All-take}
 use Rattle.std.proofs.lemmas.Result.{err_from_is_err_and}
+use Rattle.label_split.specs.Known.{IsWithin}
 use Rattle.label_split.specs.Numbers.{number_holds}
 use Rattle.label_split.specs.Signs.{signs_at}
 use Rattle.label_split.specs.Split.{SplitsInto, HasMoreRows}
@@ -37,5 +39,17 @@ returns-clause-stop g c =
 pub loop-i-preserved : goal.loop-i-preserved
 loop-i-preserved g c = c.in_ok-rows-2.ensures.rows
 
+pub returns-then-len-most-2-clause-rows : goal.returns-then-len-most-2-clause-rows
+returns-then-len-most-2-clause-rows g c = subst (λ rows. SplitsInto (g.T.Theory.meaning c.args.theory.now) (signs_at (number_holds g.T.Theory.atom_holds c.args.atoms.now) c.args.formulas.now) rows) (sym c.in_ok-without_notes.ensures) (subst (λ fs. SplitsInto (g.T.Theory.meaning c.args.theory.now) (signs_at (number_holds g.T.Theory.atom_holds c.args.atoms.now) fs) (rows_of c.loop-i.rows.items)) (take_all c.loop-i.i c.args.formulas.now (omega (arith, c.loop-i-test.false))) c.loop-i.invariant)
+
 pub loop-i-init : goal.loop-i-init
 loop-i-init g c = c.in_ok-rows.ensures.rows
+
+pub refine-requires-clause-within : goal.refine-requires-clause-within
+refine-requires-clause-within g c = All-take (IsWithin (length c.args.atoms.now)) (c.loop-i.i + 1) c.args.formulas.now c.requires.within
+
+pub refine-requires-clause-fit : goal.refine-requires-clause-fit
+refine-requires-clause-fit g c = c.requires.fit
+
+pub refine-requires-clause-some : goal.refine-requires-clause-some
+refine-requires-clause-some g c = let many = length-take-le (c.loop-i.i + 1) c.args.formulas.now (omega arith) in omega (arith, many)

@@ -1,3 +1,4 @@
+use Rattle.label_core.specs.Lit.{LitsFit}
 use Rattle.std.proofs.Common.{sym, subst}
 use Rattle.label_core.specs.Atoms.{EachHasEqual}
 use Rattle.label_core.specs.Meaning.{IsChainOver}
@@ -19,3 +20,9 @@ returns g c =
     say.say (λ l h f. say.said l f)
     (λ w over. (literals, subst (λ equal. EachHasEqual equal (atoms_of literals) c.args.atoms.now) (sym (g.met.T.Theory.equal_is_own c.args.theory.now)) (say.among g.T.Atom.PartialEq.eq g.met.T.Atom.Eq.laws), over)))
     c.decide.result (rw c.deref.ensures.value at c.decide.ensures)
+
+pub literals_of-requires : goal.literals_of-requires
+literals_of-requires g c = c.requires.many
+
+pub decide-requires : goal.decide-requires
+decide-requires g c = subst (LitsFit (g.T.Theory.atom_fits c.args.theory.now)) (sym c.deref.ensures.value) (c.in_ok-literals.ensures.fit c.requires.fit)

@@ -1,4 +1,5 @@
-use Rattle.label_split.specs.Numbers.{HaveSigns}
+use Rattle.std.proofs.Common.{sym, subst, ◌∙◌}
+use Rattle.label_split.specs.Numbers.{truths_at, AreAsked, HaveSigns}
 use Rattle.label_split.proofs.Forcing.{forces_more}
 use Rattle.label_split.proofs.Looking.{looks_more}
 use Rattle.label_split.proofs.search.look_at.Goals as goal
@@ -14,3 +15,33 @@ returns-in-Wide-clause-forces g c = forces_more (HaveSigns c.args.asked.now.form
 
 pub returns-in-Wide-clause-looks : goal.returns-in-Wide-clause-looks
 returns-in-Wide-clause-looks g c = looks_more (g.T.Theory.meaning c.args.theory.now) c.args.atoms.now (HaveSigns c.args.asked.now.formulas.now c.args.asked.now.signs.now) c.args.known.now.signs.items c.take_signs.new.known.signs.items c.look_at_chain.new.known.signs.items c.take_signs.ensures.forces c.look_at_chain.result c.look_at_chain.ensures.looks
+
+pub take_signs-requires : goal.take_signs-requires
+take_signs-requires g c = record { asked = c.requires.asked }
+
+pub returns-then-not-take_signs-clause-forces : goal.returns-then-not-take_signs-clause-forces
+returns-then-not-take_signs-clause-forces g c = c.take_signs.ensures.forces
+
+pub returns-then-not-take_signs-clause-looks : goal.returns-then-not-take_signs-clause-looks
+returns-then-not-take_signs-clause-looks g c = λ l has follows. c.take_signs.ensures.may c.if-not-take_signs.true (truths_at g.T.Theory.atom_holds c.args.atoms.now l) follows
+
+pub decide_known-requires-clause-many : goal.decide_known-requires-clause-many
+decide_known-requires-clause-many g c = c.take_signs.ensures.forces.many ∙ c.requires.many
+
+pub decide_known-requires-clause-fit : goal.decide_known-requires-clause-fit
+decide_known-requires-clause-fit g c = c.requires.fit
+
+pub look_at_value-requires-clause-asked : goal.look_at_value-requires-clause-asked
+look_at_value-requires-clause-asked g c = subst (λ n. AreAsked n c.args.asked.now.formulas.now c.args.asked.now.signs.now) (sym c.take_signs.ensures.forces.many) c.requires.asked
+
+pub look_at_value-requires-clause-many : goal.look_at_value-requires-clause-many
+look_at_value-requires-clause-many g c = c.take_signs.ensures.forces.many ∙ c.requires.many
+
+pub look_at_value-requires-clause-fit : goal.look_at_value-requires-clause-fit
+look_at_value-requires-clause-fit g c = c.requires.fit
+
+pub look_at_chain-requires-clause-asked : goal.look_at_chain-requires-clause-asked
+look_at_chain-requires-clause-asked g c = subst (λ n. AreAsked n c.args.asked.now.formulas.now c.args.asked.now.signs.now) (sym c.take_signs.ensures.forces.many) c.requires.asked
+
+pub returns-in-Unsat-clause-forces : goal.returns-in-Unsat-clause-forces
+returns-in-Unsat-clause-forces g c = c.take_signs.ensures.forces

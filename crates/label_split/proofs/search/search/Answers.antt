@@ -84,3 +84,9 @@ branches-preserved-in-TooWide-1 g c =
           (λ l s h. (covers_again (HaveSigns c.args.asked.now.formulas.now c.args.asked.now.signs.now) (branch_lists c.pop.new.self.items) c.in-Some.known.signs.items c.look_on.new.known.signs.items c.in_ok-value.ensures.forces (branch_lists c.branches.branches.items) before (truths_at g.T.Theory.atom_holds c.args.atoms.now l) s h)) found c.nearer.ensures c.branches.invariant.left;
       many = (many_last (length c.args.atoms.now) (branch_lists c.pop.new.self.items) c.in-Some.known.signs.items (subst (All (λ known. length known ≡ length c.args.atoms.now)) before c.branches.invariant.many)).0;
     }
+
+pub look_on-requires-clause-fit : goal.look_on-requires-clause-fit
+look_on-requires-clause-fit g c = c.requires.fit
+
+pub returns-in-Found : goal.returns-in-Found
+returns-in-Found g c = rw c.in-Found.is at c.in_ok-value.ensures.looks

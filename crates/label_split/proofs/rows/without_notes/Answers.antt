@@ -1,0 +1,9 @@
+use Rattle.std.proofs.Common.{◌++◌, ◌∷◌, [], ap, sym, ◌∙◌}
+use Rattle.std.proofs.lemmas.List.{map-append}
+use Rattle.label_split.proofs.rows.without_notes.Goals as goal
+
+pub loop-one-init : goal.loop-one-init
+loop-one-init g c = c.new-rows.ensures.items
+
+pub loop-one-preserved : goal.loop-one-preserved
+loop-one-preserved g c = c.in_ok-push.ensures.items ∙ ap (λ rows. rows ++ c.in-Some.one.row ∷ []) c.loop-one.invariant ∙ sym (map-append (λ n. n.row) c.loop-one.yielded (c.in-Some.one ∷ []))
