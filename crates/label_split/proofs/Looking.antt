@@ -1,8 +1,7 @@
 -- What is found in a branch, from what is found once more is known there.
 use Rattle.std.proofs.Common.{◌≡◌, Bool, Option, Some, None, IsSome, List, length, ℕ, ◌<◌, refl, sym, ap, ◌∙◌, subst}
 use Rattle.model_tree.specs.Label.{Label}
-use Rattle.label_core.specs.Meaning.{Meaning, IsChainOver}
-use Rattle.label_core.specs.Verdict.{OnlyFar}
+use Rattle.label_core.specs.Meaning.{Meaning}
 use Rattle.label_split.specs.Known.{Follows, Forces, known_at}
 use Rattle.label_split.specs.Numbers.{truths_at}
 use Rattle.label_split.specs.Search.{DecidesKnown, IsNext, Looks}
