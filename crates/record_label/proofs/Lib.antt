@@ -12,3 +12,4 @@ pub mod LabelFacts
 pub mod EntryFacts
 pub mod ChainFacts
 pub mod Pieces
+pub mod Merging
