@@ -1,9 +1,16 @@
 -- Which expressions have the same pieces.
-use Rattle.std.proofs.Common.{◌≡◌, List, [], ◌++◌, refl, ap, sym, ◌∙◌, append_assoc, append-nil}
+use Rattle.std.proofs.Common.{◌≡◌, List, [], ◌∷◌, ◌++◌, ◌⊎◌, inl, inr, map, Vec, Global, refl, ap, sym, ◌∙◌, append_assoc, append-nil}
+use Rattle.fast_fault.specs.declared.place.Pos.{Pos}
+use Rattle.fast_syntax.specs.Plain.{plain_expr, plain_node}
+use Rattle.fast_syntax.specs.declared.expressions.Expr as Expr'
+use Rattle.fast_syntax.specs.declared.expressions.Node.{Node}
+use Rattle.fast_syntax.specs.declared.expressions.Node.TheVariants.{Or, And}
 use Rattle.model_grammar.specs.Places.{nowhere, bare, bare_parts}
 use Rattle.model_grammar.specs.Syntax.{Expr, field, number, text, truth, negation, compare, minus, chain, Parts, no_parts, part}
+use Rattle.record_label.specs.Parts.{unmarked}
+use Rattle.record_label.proofs.ExprParts.{plain_or, plain_and}
 use Rattle.record_label.specs.declared.written.Mark.{Mark}
-use Rattle.record_label.specs.Written.{marks_of, marks_of_parts, WrittenAlike}
+use Rattle.record_label.specs.Written.{marks_of, marks_of_parts, first_mark, later_marks, WrittenAlike}
 
 mutual
   -- an expression is all that stands in front of what follows its pieces
@@ -41,3 +48,27 @@ mutual
 -- expressions with the same pieces are the same, places aside
 pub alike : WrittenAlike
 alike a b e = (in_front a b [] [] (append-nil (marks_of a) ∙ e ∙ sym (append-nil (marks_of b)))).0
+
+-- the first piece and those behind it are all
+whole : (e : Expr) → marks_of e ≡ first_mark e ∷ later_marks e
+whole (field p s) = refl
+whole (number p n) = refl
+whole (text p s) = refl
+whole (truth p b) = refl
+whole (negation p a) = refl
+whole (compare p r a b) = refl
+whole (minus p a) = refl
+whole (chain k p ps) = refl
+
+pub all_added : (e : Expr) (old pushed new rest : List Mark) (m : Mark) → m ≡ first_mark e → pushed ≡ old ++ m ∷ [] → rest ≡ later_marks e → new ≡ pushed ++ rest → new ≡ old ++ marks_of e
+all_added e old pushed new rest m first push behind added =
+    added
+    ∙ ap (λ ms. ms ++ rest) push
+    ∙ append_assoc old (m ∷ []) rest
+    ∙ ap (λ n. old ++ n ∷ rest) first
+    ∙ ap (λ ms. old ++ first_mark e ∷ ms) behind
+    ∙ sym (ap (λ ms. old ++ ms) (whole e))
+
+pub operands_behind : (n : Node) (p : Pos) (v : Vec Expr'.Expr Global) → (n ≡ Or v) ⊎ (n ≡ And v) → later_marks (plain_node n p) ≡ marks_of_parts (unmarked (map plain_expr v.items))
+operands_behind n p v (inl is) = ap later_marks (ap (λ m. plain_node m p) is ∙ plain_or v p)
+operands_behind n p v (inr is) = ap later_marks (ap (λ m. plain_node m p) is ∙ plain_and v p)

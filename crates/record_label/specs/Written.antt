@@ -23,8 +23,26 @@ abbrev mutual
   marks_of_parts no_parts = mark.End ∷ []
   marks_of_parts (part marked e parts) = mark.Part marked ∷ (marks_of e ++ marks_of_parts parts)
 
-abbrev pub chain_marks : Chain → Parts → List Mark
-chain_marks kind parts = mark.Chain kind ∷ marks_of_parts parts
+-- the piece that stands first, and those behind it
+abbrev pub first_mark : Expr → Mark
+first_mark (field place name) = mark.Field name
+first_mark (number place n) = mark.Number n
+first_mark (text place t) = mark.Constant t
+first_mark (truth place b) = mark.Truth b
+first_mark (negation place e) = mark.Not
+first_mark (compare place rel a b) = mark.Compare rel
+first_mark (minus place e) = mark.Minus
+first_mark (chain kind place parts) = mark.Chain kind
+
+abbrev pub later_marks : Expr → List Mark
+later_marks (field place name) = []
+later_marks (number place n) = []
+later_marks (text place t) = []
+later_marks (truth place b) = []
+later_marks (negation place e) = marks_of e
+later_marks (compare place rel a b) = marks_of a ++ marks_of b
+later_marks (minus place e) = marks_of e
+later_marks (chain kind place parts) = marks_of_parts parts
 
 abbrev pub plain_written : Written → List Mark
 plain_written w = w.marks.items

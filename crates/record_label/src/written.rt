@@ -3,9 +3,8 @@
 ghost use Rattle.std.specs.Prelude.{◌≡◌, ◌++◌, [], IfOk, OnOk, map};
 ghost use Rattle.fast_syntax.specs.Plain.{plain_expr};
 ghost use Rattle.fast_syntax.specs.Slices.{plain_sum_parts, plain_prod_parts};
-ghost use Rattle.model_grammar.specs.declared.Chain.{Chain};
 ghost use Rattle.record_label.specs.Parts.{unmarked};
-ghost use Rattle.record_label.specs.Written.{marks_of, chain_marks, WrittenAlike};
+ghost use Rattle.record_label.specs.Written.{first_mark, marks_of, marks_of_parts, WrittenAlike};
 
 use fast_fault::{Memory, Text};
 use fast_syntax::expressions::{Expr, Node, ProdPart, SumPart};
@@ -33,47 +32,49 @@ pub struct Written {
     pub marks: Vec<Mark>,
 }
 
+/// The piece that stands first: what joins the parts of the expression, or all of it where it has none.
+fn first_mark(alloc: Global, expr: &Expr) -> Result<Mark, Memory>
+    ensures { IfOk result (λ mark. mark ≡ first_mark (plain_expr expr.now)) }
+{
+    match &expr.node {
+        Node::Field(name) => Ok(Mark::Field(name.copy(alloc)?)),
+        Node::Num(value) => Ok(Mark::Number(*value)),
+        Node::Str(text) => Ok(Mark::Constant(text.copy(alloc)?)),
+        Node::Truth(value) => Ok(Mark::Truth(*value)),
+        Node::Not(_) => Ok(Mark::Not),
+        Node::Minus(_) => Ok(Mark::Minus),
+        Node::Compare(rel, _, _) => Ok(Mark::Compare(*rel)),
+        Node::Or(_) => Ok(Mark::Chain(Chain::Disjunction)),
+        Node::And(_) => Ok(Mark::Chain(Chain::Conjunction)),
+        Node::Sum(_) => Ok(Mark::Chain(Chain::Sum)),
+        Node::Prod(_) => Ok(Mark::Chain(Chain::Product)),
+    }
+}
+
 /// Adds the pieces of the expression.
 #[cycle(written)]
 fn add_marks(alloc: Global, expr: &Expr, marks: &mut Vec<Mark>) -> Result<(), Memory>
     ensures { OnOk result (marks.new.items ≡ marks.old.items ++ marks_of (plain_expr expr.now)) }
 {
+    marks.push(first_mark(alloc, expr)?)?;
     match &expr.node {
-        Node::Field(name) => Ok(marks.push(Mark::Field(name.copy(alloc)?))?),
-        Node::Num(value) => Ok(marks.push(Mark::Number(*value))?),
-        Node::Str(text) => Ok(marks.push(Mark::Constant(text.copy(alloc)?))?),
-        Node::Truth(value) => Ok(marks.push(Mark::Truth(*value))?),
-        Node::Not(part) => {
-            marks.push(Mark::Not)?;
-            add_marks(alloc, part, marks)
-        }
-        Node::Minus(part) => {
-            marks.push(Mark::Minus)?;
-            add_marks(alloc, part, marks)
-        }
-        Node::Compare(rel, left, right) => {
-            marks.push(Mark::Compare(*rel))?;
+        Node::Field(_) | Node::Num(_) | Node::Str(_) | Node::Truth(_) => Ok(()),
+        Node::Not(part) | Node::Minus(part) => add_marks(alloc, part, marks),
+        Node::Compare(_, left, right) => {
             add_marks(alloc, left, marks)?;
             add_marks(alloc, right, marks)
         }
-        Node::Or(parts) => add_operands(alloc, Chain::Disjunction, parts, marks),
-        Node::And(parts) => add_operands(alloc, Chain::Conjunction, parts, marks),
+        Node::Or(parts) | Node::And(parts) => add_operands(alloc, parts, marks),
         Node::Sum(parts) => add_summands(alloc, parts, marks),
         Node::Prod(parts) => add_factors(alloc, parts, marks),
     }
 }
 
-/// Adds the pieces of a conjunction or a disjunction.
+/// Adds the pieces of the parts of a conjunction or a disjunction.
 #[cycle(written)]
-fn add_operands(
-    alloc: Global,
-    kind: Chain,
-    parts: &[Expr],
-    marks: &mut Vec<Mark>,
-) -> Result<(), Memory>
-    ensures { OnOk result (marks.new.items ≡ marks.old.items ++ chain_marks kind (unmarked (map plain_expr parts.now))) }
+fn add_operands(alloc: Global, parts: &[Expr], marks: &mut Vec<Mark>) -> Result<(), Memory>
+    ensures { OnOk result (marks.new.items ≡ marks.old.items ++ marks_of_parts (unmarked (map plain_expr parts.now))) }
 {
-    marks.push(Mark::Chain(kind))?;
     for part in parts {
         marks.push(Mark::Part(false))?;
         add_marks(alloc, part, marks)?;
@@ -81,12 +82,11 @@ fn add_operands(
     Ok(marks.push(Mark::End)?)
 }
 
-/// Adds the pieces of a sum.
+/// Adds the pieces of the parts of a sum.
 #[cycle(written)]
 fn add_summands(alloc: Global, parts: &[SumPart], marks: &mut Vec<Mark>) -> Result<(), Memory>
-    ensures { OnOk result (marks.new.items ≡ marks.old.items ++ chain_marks Chain.Sum (plain_sum_parts parts.now)) }
+    ensures { OnOk result (marks.new.items ≡ marks.old.items ++ marks_of_parts (plain_sum_parts parts.now)) }
 {
-    marks.push(Mark::Chain(Chain::Sum))?;
     for part in parts {
         marks.push(Mark::Part(part.minus))?;
         add_marks(alloc, &part.part, marks)?;
@@ -94,12 +94,11 @@ fn add_summands(alloc: Global, parts: &[SumPart], marks: &mut Vec<Mark>) -> Resu
     Ok(marks.push(Mark::End)?)
 }
 
-/// Adds the pieces of a product.
+/// Adds the pieces of the parts of a product.
 #[cycle(written)]
 fn add_factors(alloc: Global, parts: &[ProdPart], marks: &mut Vec<Mark>) -> Result<(), Memory>
-    ensures { OnOk result (marks.new.items ≡ marks.old.items ++ chain_marks Chain.Product (plain_prod_parts parts.now)) }
+    ensures { OnOk result (marks.new.items ≡ marks.old.items ++ marks_of_parts (plain_prod_parts parts.now)) }
 {
-    marks.push(Mark::Chain(Chain::Product))?;
     for part in parts {
         marks.push(Mark::Part(part.remainder))?;
         add_marks(alloc, &part.part, marks)?;

@@ -30,13 +30,13 @@ remove-requires-in-Text c = let some : 0 < length c.loop-sort.texts.items = has_
 
 pub loop-sort-preserved : goal.loop-sort-preserved
 loop-sort-preserved c = elim c.match-sort.branch [
-  in-Int w ↦
-    let fits : FitsSigned w64 w.remove.result = search rules in
-    with_number c.args.sorts.now c.loop-sort.sort-index c.loop-sort.numbers.items c.loop-sort.truths.items c.loop-sort.texts.items c.loop-sort.values.items _ c.loop-sort-test.true c.loop-sort.invariant c.match-sort.value c.push.new.self.items c.in_ok-push.ensures.items c.match-sort.numbers.items c.match-sort.truths.items c.match-sort.texts.items w.in-Int.is w.remove.result w.remove.ensures.value (w.value-is ∙ ap Int (to_z-of_z w64 w.remove.result fits)) (ap (λ (v : Vec ℤ Global). v.items) w.numbers-is ∙ w.remove.ensures.items) (ap (λ (v : Vec Bool Global). v.items) w.truths-is) (ap (λ (v : Vec (List ℕ) Global). v.items) w.texts-is)
+  | in-Int w ↦
+      let fits : FitsSigned w64 w.remove.result = search rules in
+      with_number c.args.sorts.now c.loop-sort.sort-index c.loop-sort.numbers.items c.loop-sort.truths.items c.loop-sort.texts.items c.loop-sort.values.items _ c.loop-sort-test.true c.loop-sort.invariant c.match-sort.value c.push.new.self.items c.in_ok-push.ensures.items c.match-sort.numbers.items c.match-sort.truths.items c.match-sort.texts.items w.in-Int.is w.remove.result w.remove.ensures.value (w.value-is ∙ ap Int (to_z-of_z w64 w.remove.result fits)) (ap (λ (v : Vec ℤ Global). v.items) w.numbers-is ∙ w.remove.ensures.items) (ap (λ (v : Vec Bool Global). v.items) w.truths-is) (ap (λ (v : Vec (List ℕ) Global). v.items) w.texts-is)
   | in-Bool w ↦
-    with_truth c.args.sorts.now c.loop-sort.sort-index c.loop-sort.numbers.items c.loop-sort.truths.items c.loop-sort.texts.items c.loop-sort.values.items _ c.loop-sort-test.true c.loop-sort.invariant c.match-sort.value c.push.new.self.items c.in_ok-push.ensures.items c.match-sort.numbers.items c.match-sort.truths.items c.match-sort.texts.items w.in-Bool.is w.remove-in-Bool.result w.remove-in-Bool.ensures.value w.value-is (ap (λ (v : Vec ℤ Global). v.items) w.numbers-is) (ap (λ (v : Vec Bool Global). v.items) w.truths-is ∙ w.remove-in-Bool.ensures.items) (ap (λ (v : Vec (List ℕ) Global). v.items) w.texts-is)
+      with_truth c.args.sorts.now c.loop-sort.sort-index c.loop-sort.numbers.items c.loop-sort.truths.items c.loop-sort.texts.items c.loop-sort.values.items _ c.loop-sort-test.true c.loop-sort.invariant c.match-sort.value c.push.new.self.items c.in_ok-push.ensures.items c.match-sort.numbers.items c.match-sort.truths.items c.match-sort.texts.items w.in-Bool.is w.remove-in-Bool.result w.remove-in-Bool.ensures.value w.value-is (ap (λ (v : Vec ℤ Global). v.items) w.numbers-is) (ap (λ (v : Vec Bool Global). v.items) w.truths-is ∙ w.remove-in-Bool.ensures.items) (ap (λ (v : Vec (List ℕ) Global). v.items) w.texts-is)
   | in-Text w ↦
-    with_text c.args.sorts.now c.loop-sort.sort-index c.loop-sort.numbers.items c.loop-sort.truths.items c.loop-sort.texts.items c.loop-sort.values.items _ c.loop-sort-test.true c.loop-sort.invariant c.match-sort.value c.push.new.self.items c.in_ok-push.ensures.items c.match-sort.numbers.items c.match-sort.truths.items c.match-sort.texts.items w.in-Text.is w.remove-in-Text.result w.remove-in-Text.ensures.value w.value-is (ap (λ (v : Vec ℤ Global). v.items) w.numbers-is) (ap (λ (v : Vec Bool Global). v.items) w.truths-is) (ap (λ (v : Vec (List ℕ) Global). v.items) w.texts-is ∙ w.remove-in-Text.ensures.items)
+      with_text c.args.sorts.now c.loop-sort.sort-index c.loop-sort.numbers.items c.loop-sort.truths.items c.loop-sort.texts.items c.loop-sort.values.items _ c.loop-sort-test.true c.loop-sort.invariant c.match-sort.value c.push.new.self.items c.in_ok-push.ensures.items c.match-sort.numbers.items c.match-sort.truths.items c.match-sort.texts.items w.in-Text.is w.remove-in-Text.result w.remove-in-Text.ensures.value w.value-is (ap (λ (v : Vec ℤ Global). v.items) w.numbers-is) (ap (λ (v : Vec Bool Global). v.items) w.truths-is) (ap (λ (v : Vec (List ℕ) Global). v.items) w.texts-is ∙ w.remove-in-Text.ensures.items)
 ]
 
 pub returns : goal.returns
