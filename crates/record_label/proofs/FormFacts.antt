@@ -1,6 +1,8 @@
 -- The steps by which the form of a whole number is made.
 use Rattle.std.proofs.Common.{◌≡◌, ℕ, suc, ◌<◌, ◌+◌, ◌++◌, ◌==◌, List, [], ◌∷◌, map, length, get_or, drop, Bool, true, false, Result, Ok, Err, MatchResult, refl, ap, sym, ◌∙◌, subst, append_assoc, arith}
 use Rattle.std.proofs.Math.IntN.{ℤ, pos}
+use Rattle.std.specs.Result.{IsErrAnd}
+use Rattle.lin_form.specs.declared.stop.FormStop.TheVariants.{Memory}
 use Rattle.std.proofs.lemmas.Bool.{eqb-true}
 use Rattle.std.proofs.lemmas.Bool.Decides.{nat_tests}
 use Rattle.std.proofs.lemmas.List.{at_drop_more}
@@ -44,6 +46,11 @@ outside_rest f fs n h = outside_right (f ∷ []) fs n h
 pub passed : {A : Type 0} (r : Result A FormStop) (P P' : A → Type 0) (Q Q' : ℤ → Type 0) → ((a : A) → P a → P' a) → ((n : ℤ) → Q n → Q' n) → MatchResult r P (StopsAt Q) → MatchResult r P' (StopsAt Q')
 passed (Ok a) P P' Q Q' f g h = f a h
 passed (Err e) P P' Q Q' f g h = stops_weaker Q Q' e g h
+
+-- want of memory tells nothing of numbers
+pub stopped : {A : Type 0} (r : Result A FormStop) (P : A → Type 0) (Q : ℤ → Type 0) → IsErrAnd r (λ e. e ≡ Memory) → MatchResult r P (StopsAt Q)
+stopped (Ok a) P Q h = absurd h
+stopped (Err e) P Q h = subst (StopsAt Q) (sym h) tt
 
 -- ---- forms alone
 

@@ -17,7 +17,7 @@ use Rattle.fast_tree.specs.Signatures.{plain_signature}
 use Rattle.fast_syntax.specs.Plain.{plain_expr, plain_node}
 use Rattle.fast_syntax.specs.Slices.{plain_sum_parts, plain_prod_parts}
 use Rattle.fast_syntax.proofs.Rows.{plain_sum_of, plain_product_of}
-use Rattle.record_label.proofs.FormFacts.{outside_left, outside_right, outside_first, passed, sum_at, product_at, added_more, in_first, in_rest, multiplied_more, step_first, step_rest}
+use Rattle.record_label.proofs.FormFacts.{outside_left, outside_right, outside_first, passed, stopped, sum_at, product_at, added_more, in_first, in_rest, multiplied_more, step_first, step_rest}
 use Rattle.record_label.proofs.forms.+forms.Goals as goal
 
 pub added-returns-in_err-form : goal.added-returns-in_err-form
@@ -129,3 +129,27 @@ multiplied-loop-part-preserved t c =
       λ n o. c.loop-part.invariant.1 n (in_rest fields it.remainder e rest (plain_prod_parts (drop i ps)) n at o),
       λ n o. c.loop-part.invariant.2 n (step_rest fields c.loop-part.form c.in_ok-form-2.form it.remainder e rest (plain_prod_parts (drop i ps)) n now at o),
     )
+
+pub form_of-returns-in_err-field-in-Field : goal.form_of-returns-in_err-field-in-Field
+form_of-returns-in_err-field-in-Field t c = stopped c.from_residual.result _ _ c.from_residual.ensures.1
+
+pub form_of-returns-in_err-number-in_default : goal.form_of-returns-in_err-number-in_default
+form_of-returns-in_err-number-in_default t c = stopped c.from_residual-in_err-number-in_default.result _ _ c.from_residual-in_err-number-in_default.ensures.1
+
+pub added-returns-in_err-push : goal.added-returns-in_err-push
+added-returns-in_err-push t c = stopped c.from_residual-in_err-push.result _ _ c.from_residual-in_err-push.ensures.1
+
+pub multiplied-returns-in_err-form : goal.multiplied-returns-in_err-form
+multiplied-returns-in_err-form t c = stopped c.from_residual.result _ _ c.from_residual.ensures.1
+
+pub form_of-returns-in_err-form_of-in-Minus : goal.form_of-returns-in_err-form_of-in-Minus
+form_of-returns-in_err-form_of-in-Minus t c =
+    let fields = (plain_signature c.args.signature.now).fields in
+    let e = plain_expr c.in-Minus.part.value in
+    let p = err_from_is_err_and c.from_residual-in_err-form_of-in-Minus.result c.from_residual-in_err-form_of-in-Minus.ensures.1 in
+    let out : (n : ℤ) → HasOutside (forms_in fields (plain_expr c.deref.result.now)) n → HasOutside (forms_in fields (plain_expr c.args.expr.now)) n = λ n o.
+    subst (λ m. HasOutside (forms_in fields (plain_node m c.args.expr.now.place)) n) (sym c.in-Minus.is) (outside_left (forms_in fields e) (product_form (negsuc 0) (form_of fields e) ∷ []) n (subst (λ d. HasOutside (forms_in fields (plain_expr d)) n) c.deref.ensures o)) in
+    rw (p.1, p.2) (stops_weaker (HasOutside (forms_in fields (plain_expr c.deref.result.now))) (HasOutside (forms_in fields (plain_expr c.args.expr.now))) c.in_err-form_of-in-Minus.field-0.0 out (c.in_err-form_of-in-Minus.ensures {u = tt}))
+
+pub form_of-returns-in_ok-field-in-Field : goal.form_of-returns-in_ok-field-in-Field
+form_of-returns-in_ok-field-in-Field t c = c.in_ok-field-in-Field.ensures {u = tt} ∙ sym (ap (λ n. form_of (plain_signature c.args.signature.now).fields (plain_node n c.args.expr.now.place)) c.in-Field.is)
