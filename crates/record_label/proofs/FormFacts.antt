@@ -1,5 +1,5 @@
 -- The steps by which the form of a whole number is made.
-use Rattle.std.proofs.Common.{◌≡◌, ℕ, suc, ◌<◌, ◌+◌, ◌++◌, ◌==◌, List, [], ◌∷◌, map, length, get_or, drop, Bool, true, false, Result, Ok, Err, MatchResult, refl, ap, sym, ◌∙◌, subst, append_assoc, arith}
+use Rattle.std.proofs.Common.{◌≡◌, ℕ, suc, ◌<◌, ◌+◌, ◌++◌, ◌==◌, List, [], ◌∷◌, map, length, get_or, drop, Bool, true, false, Result, Ok, Err, MatchResult, ◌⊎◌, inl, inr, refl, ap, sym, ◌∙◌, subst, append_assoc, arith}
 use Rattle.std.proofs.Math.IntN.{ℤ, pos}
 use Rattle.std.specs.Result.{IsErrAnd}
 use Rattle.lin_form.specs.declared.stop.FormStop.TheVariants.{Memory}
@@ -51,6 +51,14 @@ passed (Err e) P P' Q Q' f g h = stops_weaker Q Q' e g h
 pub stopped : {A : Type 0} (r : Result A FormStop) (P : A → Type 0) (Q : ℤ → Type 0) → IsErrAnd r (λ e. e ≡ Memory) → MatchResult r P (StopsAt Q)
 stopped (Ok a) P Q h = absurd h
 stopped (Err e) P Q h = subst (StopsAt Q) (sym h) tt
+
+-- of two that are made side by side, one that is there, and the stop of one that isn't
+pub given : {A : Type 0} (r : Result A FormStop) (P : A → Type 0) (Q : ℤ → Type 0) (a : A) → r ≡ Ok a → MatchResult r P (StopsAt Q) → P a
+given r P Q a is h = subst (λ s. MatchResult s P (StopsAt Q)) is h
+
+pub either_stops : {A : Type 0} (r s : Result A FormStop) (P P' : A → Type 0) (fs gs : List Form) (e : FormStop) → MatchResult r P (StopsAt (HasOutside fs)) → MatchResult s P' (StopsAt (HasOutside gs)) → (r ≡ Err e) ⊎ (s ≡ Err e) → StopsAt (HasOutside (fs ++ gs)) e
+either_stops r s P P' fs gs e h k (inl is) = stops_weaker (HasOutside fs) (HasOutside (fs ++ gs)) e (outside_left fs gs) (subst (λ t. MatchResult t P (StopsAt (HasOutside fs))) is h)
+either_stops r s P P' fs gs e h k (inr is) = stops_weaker (HasOutside gs) (HasOutside (fs ++ gs)) e (outside_right fs gs) (subst (λ t. MatchResult t P' (StopsAt (HasOutside gs))) is k)
 
 -- ---- forms alone
 

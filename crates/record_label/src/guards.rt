@@ -13,6 +13,7 @@ ghost use Rattle.fast_syntax.specs.Plain.{plain_expr};
 ghost use Rattle.record_label.specs.Guards.{IsGuardOf, formula_in, pair_of, agreement_of, compared_by, compared_by_forms, comparison_of, is_numeric, side_of};
 ghost use Rattle.record_label.specs.Parts.{AreWithin, unmarked};
 
+use crate::both::{both, two};
 use crate::forms::form_of;
 use crate::lookups::{has_field, number_of};
 use crate::rows::RowAtom;
@@ -73,9 +74,8 @@ fn neither(
 ) -> Result<Formula<RowAtom>, Memory>
     ensures { IfOk result (λ made. plain_formula made ≡ plain.negation (plain.some_of (pair_of (plain_formula first.now) (plain_formula second.now)))) }
 {
-    let first = first.copy(alloc)?;
-    let second = second.copy(alloc)?;
-    negation(alloc, disjunction(vec![in alloc; first, second]?))
+    let (first, second) = both(first.copy(alloc), second.copy(alloc))?;
+    negation(alloc, disjunction(two(alloc, first, second)?))
 }
 
 /// Both hold, or neither does.
@@ -86,9 +86,9 @@ fn agreement(
 ) -> Result<Formula<RowAtom>, Memory>
     ensures { IfOk result (λ made. plain_formula made ≡ agreement_of (plain_formula first) (plain_formula second)) }
 {
-    let neither = neither(alloc, &first, &second)?;
-    let both = conjunction(vec![in alloc; first, second]?);
-    Ok(disjunction(vec![in alloc; both, neither]?))
+    let neither = neither(alloc, &first, &second);
+    let (all, neither) = both(two(alloc, first, second), neither)?;
+    Ok(disjunction(two(alloc, conjunction(all), neither)?))
 }
 
 /// What the comparison asks for, where the formula says that the two sides are the same.
@@ -147,8 +147,10 @@ fn compared_numbers(
     requires { length signature.now.fields.items ≤ most_fields }
     ensures { MatchResult result (λ made. plain_formula made ≡ compared_by_forms rel (form_of (plain_signature signature.now).fields (plain_expr left.now)) (form_of (plain_signature signature.now).fields (plain_expr right.now))) (λ stop. StopsAt (HasOutside (forms_in (plain_signature signature.now).fields (plain_expr left.now) ++ forms_in (plain_signature signature.now).fields (plain_expr right.now))) stop) }
 {
-    let first = form_of(alloc, left, signature)?;
-    let second = form_of(alloc, right, signature)?;
+    let (first, second) = both(
+        form_of(alloc, left, signature),
+        form_of(alloc, right, signature),
+    )?;
     Ok(compared_forms(alloc, rel, first, second)?)
 }
 

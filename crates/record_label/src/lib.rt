@@ -7,6 +7,7 @@
 #![tactic(auto)]
 
 mod applies;
+mod both;
 mod copies;
 mod fits;
 mod forms;

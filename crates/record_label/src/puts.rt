@@ -9,6 +9,7 @@ ghost use Rattle.record_label.specs.PlainMaps.{plain_entry, Gives};
 ghost use Rattle.record_label.specs.Written.{plain_written};
 ghost use Rattle.label_core.specs.declared.pair.PairAtom.{PairAtom};
 
+use crate::both::both;
 use crate::copies::copy_written;
 use crate::maps::{RowEntry, RowMap};
 use crate::rows::RowAtom;
@@ -121,8 +122,10 @@ fn put_texts(
 ) -> Result<Formula<RowAtom>, Memory>
     ensures { IfOk result (λ made. plain_formula made ≡ are_one (put_side (map plain_entry entries.now) atom.now.left) (put_side (map plain_entry entries.now) atom.now.right)) }
 {
-    let left = put_side(alloc, &atom.left, entries)?;
-    let right = put_side(alloc, &atom.right, entries)?;
+    let (left, right) = both(
+        put_side(alloc, &atom.left, entries),
+        put_side(alloc, &atom.right, entries),
+    )?;
     Ok(are_one(left, right))
 }
 
@@ -130,8 +133,10 @@ fn put_texts(
 fn put_compare(alloc: Global, compare: &Compare, forms: &[Form]) -> Result<Compare, FormStop>
     ensures { Gives (λ made. made) (put_compare forms.now compare.now) (IsOutsideCompared forms.now compare.now) result }
 {
-    let left = compare.left.subst(alloc, forms)?;
-    let right = compare.right.subst(alloc, forms)?;
+    let (left, right) = both(
+        compare.left.subst(alloc, forms),
+        compare.right.subst(alloc, forms),
+    )?;
     Ok(Compare {
         left,
         relation: compare.relation,

@@ -1,16 +1,28 @@
-use Rattle.std.proofs.Common.{◌++◌}
+use Rattle.std.proofs.Common.{◌≡◌, ◌++◌, ◌∙◌}
 use Rattle.std.proofs.lemmas.Result.{err_from_is_err_and}
-use Rattle.model_guard.specs.Forms.{forms_in, HasOutside}
-use Rattle.lin_form.proofs.Putting.{stops_weaker}
+use Rattle.model_guard.specs.Forms.{form_of, forms_in, HasOutside}
 use Rattle.fast_tree.specs.Signatures.{plain_signature}
 use Rattle.fast_syntax.specs.Plain.{plain_expr}
-use Rattle.record_label.proofs.FormFacts.{outside_right}
+use Rattle.record_label.specs.Guards.{compared_by_forms}
+use Rattle.record_label.proofs.FormFacts.{given, either_stops, stopped}
 use Rattle.record_label.proofs.guards.compared_numbers.Goals as goal
 
-pub returns-in_err-second : goal.returns-in_err-second
-returns-in_err-second c =
+pub returns-in_err-first : goal.returns-in_err-first
+returns-in_err-first c =
     let fields = (plain_signature c.args.signature.now).fields in
-    let left = forms_in fields (plain_expr c.args.left.now) in
-    let right = forms_in fields (plain_expr c.args.right.now) in
-    let p = err_from_is_err_and c.from_residual-in_err-second.result c.from_residual-in_err-second.ensures.1 in
-    rw (p.1, p.2) (stops_weaker (HasOutside right) (HasOutside (left ++ right)) c.in_err-second.field-0.0 (outside_right left right) (c.in_err-second.ensures {u = tt}))
+    let left = plain_expr c.args.left.now in
+    let right = plain_expr c.args.right.now in
+    let p = err_from_is_err_and c.from_residual.result c.from_residual.ensures.1 in
+    rw (p.1, p.2) (either_stops c.form_of.result c.form_of-2.result (λ f. f ≡ form_of fields left) (λ f. f ≡ form_of fields right) (forms_in fields left) (forms_in fields right) c.in_err-first.field-0.0 c.form_of.ensures c.form_of-2.ensures c.in_err-first.ensures)
+
+pub returns-in_err-compared_forms : goal.returns-in_err-compared_forms
+returns-in_err-compared_forms c = stopped c.from_residual-in_err-compared_forms.result _ _ c.from_residual-in_err-compared_forms.ensures.1
+
+pub returns : goal.returns
+returns c =
+    let fields = (plain_signature c.args.signature.now).fields in
+    let left = plain_expr c.args.left.now in
+    let right = plain_expr c.args.right.now in
+    let first = given c.form_of.result (λ f. f ≡ form_of fields left) (HasOutside (forms_in fields left)) c.in_ok-first.first c.in_ok-first.ensures.0 c.form_of.ensures in
+    let second = given c.form_of-2.result (λ f. f ≡ form_of fields right) (HasOutside (forms_in fields right)) c.in_ok-first.second c.in_ok-first.ensures.1 c.form_of-2.ensures in
+    c.in_ok-compared_forms.ensures {u = tt} ∙ (λ i. compared_by_forms c.args.rel (first i) (second i))
