@@ -2,7 +2,7 @@
 use Rattle.std.specs.Prelude.{◌≡◌, Bool, true, false, ◌&&◌, cond, List, [], ◌∷◌, ◌++◌, map, Contains, Option, Some, None}
 use Rattle.model_tree.specs.Label.{Field, row}
 use Rattle.model_tree.specs.Signature.{PlainField, sort_of, wholes, truths, texts}
-use Rattle.model_tree.specs.Formula.{Formula, Formulas, yes, no, atom, negation, all_of, some_of, formula, no_formulas, formula_holds, EveryAtom}
+use Rattle.model_tree.specs.Formula.{Formula, Formulas, yes, no, atom, negation, all_of, some_of, formula, formulas_of, no_formulas, formula_holds, EveryAtom}
 use Rattle.model_grammar.specs.declared.Rel.{Rel}
 use Rattle.model_grammar.specs.declared.Rel.TheVariants.{Equal, NotEqual, Less, AtMost, Greater, AtLeast}
 use Rattle.model_grammar.specs.declared.Chain.TheVariants.{Disjunction, Conjunction, Sum, Product}
@@ -13,6 +13,8 @@ use Rattle.model_label.specs.Meaning.{value_of, same_value, is_true}
 use Rattle.model_label.specs.Tests.{is_text}
 use Rattle.model_form.specs.Form.{Form}
 use Rattle.model_guard.specs.Forms.{form_of}
+use Rattle.label_core.specs.Formula.{plain_formula}
+use Rattle.label_core.specs.declared.formula.Formula as code
 use Rattle.label_core.specs.declared.pair.PairAtom.TheVariants.{Left, Right}
 use Rattle.flat_label.specs.declared.texts.TextAtom.{TextAtom}
 use Rattle.flat_label.specs.declared.texts.TextSide.{TextSide}
@@ -121,6 +123,20 @@ IsEqualityOf fields a b f = IsGuard fields (λ values. same_value (value_of fiel
 abbrev pub compared_as : Rel → Option TextAtom → Formula RowAtom → Formula RowAtom → Formula RowAtom
 compared_as rel None f g = compared_by rel (agreement_of f g)
 compared_as rel (Some a) f g = compared_by rel (atom (Right (Right a)))
+
+-- all of the formulas, or one of them
+abbrev pub joined_of : Bool → List (Formula RowAtom) → Formula RowAtom
+joined_of true fs = all_of (formulas_of fs)
+joined_of false fs = some_of (formulas_of fs)
+
+-- what a comparison asks for, where its sides have these formulas if they are tests
+abbrev pub compared_in : List PlainField → Rel → Expr → Expr → Formula RowAtom → Formula RowAtom → Formula RowAtom
+compared_in fields rel a b f g = cond (is_numeric fields a) (compared_by_forms rel (form_of fields a) (form_of fields b)) (compared_as rel (comparison_of fields a b) f g)
+
+-- that, if it takes no formulas of tests, and else nothing
+abbrev pub SaysAlone : List PlainField → Rel → Expr → Expr → Option (code.Formula RowAtom) → Type 0
+SaysAlone fields rel a b None = (f g : Formula RowAtom) → compared_in fields rel a b f g ≡ compared_by rel (agreement_of f g)
+SaysAlone fields rel a b (Some made) = (f g : Formula RowAtom) → plain_formula made ≡ compared_in fields rel a b f g
 
 module _ (fields : List PlainField) where
   abbrev mutual

@@ -1,7 +1,6 @@
 -- What is written in a label expression, places aside: its pieces, of which what joins parts stands in front of them.
 use Rattle.std.specs.Prelude.{◌≡◌, List, [], ◌∷◌, ◌++◌}
 use Rattle.model_tree.specs.Signature.{Sort, wholes, truths, texts}
-use Rattle.model_grammar.specs.declared.Chain.{Chain}
 use Rattle.model_grammar.specs.Places.{bare}
 use Rattle.model_grammar.specs.Syntax.{Expr, field, number, text, truth, negation, compare, minus, chain, Parts, no_parts, part}
 use Rattle.record_label.specs.declared.written.Mark.{Mark}

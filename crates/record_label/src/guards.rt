@@ -10,7 +10,7 @@ ghost use Rattle.lin_form.specs.Stops.{StopsAt};
 ghost use Rattle.label_core.specs.Formula.{plain_formula};
 ghost use Rattle.fast_tree.specs.Signatures.{plain_signature};
 ghost use Rattle.fast_syntax.specs.Plain.{plain_expr};
-ghost use Rattle.record_label.specs.Guards.{IsGuardOf, formula_in, pair_of, agreement_of, compared_by, compared_by_forms, comparison_of, is_numeric, side_of};
+ghost use Rattle.record_label.specs.Guards.{IsGuardOf, SaysAlone, joined_of, formula_in, pair_of, agreement_of, compared_by, compared_by_forms, comparison_of, is_numeric, side_of};
 ghost use Rattle.record_label.specs.Parts.{AreWithin, unmarked};
 
 use crate::both::{both, two};
@@ -154,6 +154,42 @@ fn compared_numbers(
     Ok(compared_forms(alloc, rel, first, second)?)
 }
 
+/// The formula of a comparison of whole numbers or of texts. That of tests takes their formulas.
+fn compared_sides(
+    alloc: Global,
+    rel: Rel,
+    left: &Expr,
+    right: &Expr,
+    signature: &Signature,
+) -> Result<Option<Formula<RowAtom>>, FormStop>
+    requires { length signature.now.fields.items ≤ most_fields }
+    ensures { MatchResult result (SaysAlone (plain_signature signature.now).fields rel (plain_expr left.now) (plain_expr right.now)) (λ stop. StopsAt (HasOutside (forms_in (plain_signature signature.now).fields (plain_expr left.now) ++ forms_in (plain_signature signature.now).fields (plain_expr right.now))) stop) }
+{
+    if is_numeric(left, signature) {
+        let made = compared_numbers(alloc, rel, left, right, signature)?;
+        return Ok(Some(made));
+    }
+    match comparison(alloc, left, right, signature)? {
+        Some(atom) => {
+            let atom = PairAtom::Right(PairAtom::Right(atom));
+            Ok(Some(compared(alloc, rel, Formula::Atom(atom))?))
+        }
+        None => Ok(None),
+    }
+}
+
+/// What the comparison asks for of two tests with these formulas.
+fn compared_tests(
+    alloc: Global,
+    rel: Rel,
+    first: Formula<RowAtom>,
+    second: Formula<RowAtom>,
+) -> Result<Formula<RowAtom>, Memory>
+    ensures { IfOk result (λ made. plain_formula made ≡ compared_by rel (agreement_of (plain_formula first) (plain_formula second))) }
+{
+    compared(alloc, rel, agreement(alloc, first, second)?)
+}
+
 /// The formula of the expression, which is its guard where the expression is one.
 #[cycle(formulas)]
 fn formula_of(
@@ -171,41 +207,50 @@ fn formula_of(
             Ok(Formula::Atom(PairAtom::Right(atom)))
         }
         Node::Truth(true) => Ok(Formula::Yes),
-        Node::Truth(false) => Ok(Formula::No),
         Node::Not(part) => Ok(negation(alloc, formula_of(alloc, part, signature)?)?),
-        Node::And(parts) => Ok(conjunction(formulas_of(alloc, parts, signature)?)),
-        Node::Or(parts) => Ok(disjunction(formulas_of(alloc, parts, signature)?)),
+        Node::And(parts) => formulas_of(alloc, parts, signature, true),
+        Node::Or(parts) => formulas_of(alloc, parts, signature, false),
         Node::Compare(rel, left, right) => {
-            if is_numeric(left, signature) {
-                return compared_numbers(alloc, *rel, left, right, signature);
+            if let Some(made) = compared_sides(alloc, *rel, left, right, signature)? {
+                return Ok(made);
             }
-            if let Some(atom) = comparison(alloc, left, right, signature)? {
-                let atom = PairAtom::Right(PairAtom::Right(atom));
-                return Ok(compared(alloc, *rel, Formula::Atom(atom))?);
-            }
-            let first = formula_of(alloc, left, signature)?;
-            let second = formula_of(alloc, right, signature)?;
-            Ok(compared(alloc, *rel, agreement(alloc, first, second)?)?)
+            let (first, second) = both(
+                formula_of(alloc, left, signature),
+                formula_of(alloc, right, signature),
+            )?;
+            Ok(compared_tests(alloc, *rel, first, second)?)
         }
         _ => Ok(Formula::No),
     }
 }
 
-/// The formulas of the expressions.
+/// That all of the expressions hold, or, if not `every`, that one of them does.
 #[cycle(formulas)]
 fn formulas_of(
     alloc: Global,
     parts: &[Expr],
     signature: &Signature,
-) -> Result<Vec<Formula<RowAtom>>, FormStop>
+    every: bool,
+) -> Result<Formula<RowAtom>, FormStop>
     requires { length signature.now.fields.items ≤ most_fields }
-    ensures { MatchResult result (λ made. map plain_formula made.items ≡ map (formula_in (plain_signature signature.now).fields) (map plain_expr parts.now)) (λ stop. StopsAt (HasOutside (forms_in_all (plain_signature signature.now).fields (unmarked (map plain_expr parts.now)))) stop) }
+    ensures { MatchResult result (λ made. plain_formula made ≡ joined_of every (map (formula_in (plain_signature signature.now).fields) (map plain_expr parts.now))) (λ stop. StopsAt (HasOutside (forms_in_all (plain_signature signature.now).fields (unmarked (map plain_expr parts.now)))) stop) }
 {
     let mut formulas = Vec::new(alloc);
     for part in parts {
         formulas.push(formula_of(alloc, part, signature)?)?;
     }
-    Ok(formulas)
+    Ok(joined(every, formulas))
+}
+
+/// Holds where each of the formulas does, or, if not `every`, where one of them does.
+fn joined(every: bool, formulas: Vec<Formula<RowAtom>>) -> Formula<RowAtom>
+    ensures { plain_formula result ≡ joined_of every (map plain_formula formulas.items) }
+{
+    if every {
+        conjunction(formulas)
+    } else {
+        disjunction(formulas)
+    }
 }
 
 /// The guard that an expression is.

@@ -1,89 +1,38 @@
-use Rattle.std.proofs.Common.{◌≡◌, ◌+◌, ◌++◌, true, false, cond, map, drop, Some, None, sym, subst, ap, ◌∙◌}
+use Rattle.std.proofs.Common.{◌≡◌, ◌+◌, true, false, map, drop, sym, subst, ap, ◌∙◌}
 use Rattle.std.proofs.Math.IntN.{ℤ}
 use Rattle.std.proofs.lemmas.Result.{err_from_is_err_and}
 use Rattle.model_grammar.specs.declared.Chain.TheVariants.{Conjunction, Disjunction}
 use Rattle.model_grammar.specs.Syntax.{chain}
-use Rattle.model_guard.specs.Forms.{form_of, forms_in, forms_in_all, HasOutside}
+use Rattle.model_guard.specs.Forms.{forms_in, forms_in_all, HasOutside}
+use Rattle.model_tree.specs.Formula.{all_of, some_of}
 use Rattle.label_core.specs.Formula.{plain_formula}
 use Rattle.lin_form.proofs.Putting.{stops_weaker}
-use Rattle.fast_syntax.specs.declared.expressions.Node.TheVariants.{Compare}
 use Rattle.fast_syntax.specs.Plain.{plain_expr, plain_node}
 use Rattle.fast_tree.specs.Signatures.{plain_signature}
-use Rattle.record_label.specs.Guards.{formula_in, comparison_of, compared_as, compared_by, compared_by_forms, agreement_of, is_numeric}
+use Rattle.record_label.specs.Guards.{joined_of, formula_in}
 use Rattle.record_label.specs.Parts.{unmarked}
 use Rattle.record_label.proofs.ExprParts.{plain_and, plain_or}
-use Rattle.record_label.proofs.FormFacts.{outside_left, outside_right, passed, operand_at, in_first, in_rest}
-use Rattle.record_label.proofs.GuardFacts.{conjunction_of, disjunction_of, formulas_more, compared_other}
+use Rattle.record_label.proofs.FormFacts.{either_stops, passed, operand_at, in_first, in_rest}
+use Rattle.record_label.proofs.GuardFacts.{operands_in, formulas_more}
 use Rattle.record_label.proofs.guards.+formulas.Goals as goal
 
-pub formula_of-returns-in_err-formulas_of-in-And : goal.formula_of-returns-in_err-formulas_of-in-And
-formula_of-returns-in_err-formulas_of-in-And t c =
+pub formula_of-returns-in-And : goal.formula_of-returns-in-And
+formula_of-returns-in-And t c =
     let fields = (plain_signature c.args.signature.now).fields in
     let place = c.args.expr.now.place in
-    let parts = c.in-And.parts in
-    let whole : plain_expr c.args.expr.now ≡ chain Conjunction place (unmarked (map plain_expr parts.items)) = ap (λ n. plain_node n place) c.in-And.is ∙ plain_and parts place in
-    let p = err_from_is_err_and c.from_residual-in_err-formulas_of-in-And.result c.from_residual-in_err-formulas_of-in-And.ensures.1 in
-    let out : (n : ℤ) → HasOutside (forms_in_all fields (unmarked (map plain_expr c.deref-in-And.result.now))) n → HasOutside (forms_in fields (plain_expr c.args.expr.now)) n = λ n o.
-    subst (λ e. HasOutside (forms_in fields e) n) (sym whole) (subst (λ es. HasOutside (forms_in_all fields (unmarked (map plain_expr es))) n) c.deref-in-And.ensures.value o) in
-    rw (p.1, p.2) (stops_weaker (HasOutside (forms_in_all fields (unmarked (map plain_expr c.deref-in-And.result.now)))) (HasOutside (forms_in fields (plain_expr c.args.expr.now))) c.in_err-formulas_of-in-And.field-0.0 out (c.in_err-formulas_of-in-And.ensures {u = tt}))
+    let es = c.deref-in-And.result.now in
+    let whole : plain_expr c.args.expr.now ≡ chain Conjunction place (unmarked (map plain_expr es)) = ap (λ n. plain_node n place) c.in-And.is ∙ plain_and c.in-And.parts place ∙ ap (λ xs. chain Conjunction place (unmarked (map plain_expr xs))) (sym c.deref-in-And.ensures.value) in
+    passed c.formulas_of.result (λ made. plain_formula made ≡ joined_of true (map (formula_in fields) (map plain_expr es))) (λ made. plain_formula made ≡ formula_in fields (plain_expr c.args.expr.now)) (HasOutside (forms_in_all fields (unmarked (map plain_expr es)))) (HasOutside (forms_in fields (plain_expr c.args.expr.now)))
+    (λ made is. is ∙ ap all_of (operands_in fields (map plain_expr es)) ∙ sym (ap (formula_in fields) whole)) (λ n o. subst (λ e. HasOutside (forms_in fields e) n) (sym whole) o) c.formulas_of.ensures
 
-pub formula_of-returns-in_err-formulas_of-in-Or : goal.formula_of-returns-in_err-formulas_of-in-Or
-formula_of-returns-in_err-formulas_of-in-Or t c =
+pub formula_of-returns-in-Or : goal.formula_of-returns-in-Or
+formula_of-returns-in-Or t c =
     let fields = (plain_signature c.args.signature.now).fields in
     let place = c.args.expr.now.place in
-    let parts = c.in-Or.parts in
-    let whole : plain_expr c.args.expr.now ≡ chain Disjunction place (unmarked (map plain_expr parts.items)) = ap (λ n. plain_node n place) c.in-Or.is ∙ plain_or parts place in
-    let p = err_from_is_err_and c.from_residual-in_err-formulas_of-in-Or.result c.from_residual-in_err-formulas_of-in-Or.ensures.1 in
-    let out : (n : ℤ) → HasOutside (forms_in_all fields (unmarked (map plain_expr c.deref-in-Or.result.now))) n → HasOutside (forms_in fields (plain_expr c.args.expr.now)) n = λ n o.
-    subst (λ e. HasOutside (forms_in fields e) n) (sym whole) (subst (λ es. HasOutside (forms_in_all fields (unmarked (map plain_expr es))) n) c.deref-in-Or.ensures.value o) in
-    rw (p.1, p.2) (stops_weaker (HasOutside (forms_in_all fields (unmarked (map plain_expr c.deref-in-Or.result.now)))) (HasOutside (forms_in fields (plain_expr c.args.expr.now))) c.in_err-formulas_of-in-Or.field-0.0 out (c.in_err-formulas_of-in-Or.ensures {u = tt}))
-
-pub formula_of-returns-then-is_numeric : goal.formula_of-returns-then-is_numeric
-formula_of-returns-then-is_numeric t c =
-    let fields = (plain_signature c.args.signature.now).fields in
-    let place = c.args.expr.now.place in
-    let rel = c.in-Compare.rel in
-    let a = plain_expr c.in-Compare.left.value in
-    let b = plain_expr c.in-Compare.right.value in
-    let node = plain_node (Compare rel c.in-Compare.left c.in-Compare.right) place in
-    let numeric : is_numeric fields a ≡ true = sym (rw c.deref-in-Compare.ensures at c.is_numeric.ensures) ∙ c.if-is_numeric.true in
-    rw c.in-Compare.is (passed c.compared_numbers.result (λ made. plain_formula made ≡ compared_by_forms rel (form_of fields a) (form_of fields b)) (λ made. plain_formula made ≡ formula_in fields node) (HasOutside (forms_in fields a ++ forms_in fields b)) (HasOutside (forms_in fields a ++ forms_in fields b))
-    (λ made is. is ∙ ap (λ w. cond w (compared_by_forms rel (form_of fields a) (form_of fields b)) (compared_as rel (comparison_of fields a b) (formula_in fields a) (formula_in fields b))) (sym numeric)) (λ n o. o) (rw (c.deref-then-is_numeric.ensures, c.deref-then-is_numeric-2.ensures) at c.compared_numbers.ensures))
-
-pub formula_of-returns-in-Some : goal.formula_of-returns-in-Some
-formula_of-returns-in-Some t c =
-    let fields = (plain_signature c.args.signature.now).fields in
-    let place = c.args.expr.now.place in
-    let rel = c.in-Compare.rel in
-    let a = plain_expr c.in-Compare.left.value in
-    let b = plain_expr c.in-Compare.right.value in
-    let other : is_numeric fields a ≡ false = sym (rw c.deref-in-Compare.ensures at c.is_numeric.ensures) ∙ c.if-is_numeric.false in
-    let found : Some c.in-Some.atom ≡ comparison_of fields a b = sym c.in-Some.is ∙ (rw (c.deref-in-Compare-2.ensures, c.deref-in-Compare-3.ensures) at (c.in_ok-atom-in-Compare.ensures {u = tt})) in
-    rw c.in-Compare.is (c.in_ok-compared-in-Compare.ensures {u = tt} ∙ compared_other fields a b place rel other (Some c.in-Some.atom) found)
-
-pub formula_of-returns-in_ok-formulas_of-in-And : goal.formula_of-returns-in_ok-formulas_of-in-And
-formula_of-returns-in_ok-formulas_of-in-And t c =
-    rw (c.in-And.is, c.conjunction.ensures) (conjunction_of (plain_signature c.args.signature.now).fields c.in-And.parts c.args.expr.now.place (map plain_formula c.in_ok-formulas_of-in-And.field-0.items) (rw c.deref-in-And.ensures.value at (c.in_ok-formulas_of-in-And.ensures {u = tt})))
-
-pub formula_of-returns-in_ok-formulas_of-in-Or : goal.formula_of-returns-in_ok-formulas_of-in-Or
-formula_of-returns-in_ok-formulas_of-in-Or t c =
-    rw (c.in-Or.is, c.disjunction.ensures) (disjunction_of (plain_signature c.args.signature.now).fields c.in-Or.parts c.args.expr.now.place (map plain_formula c.in_ok-formulas_of-in-Or.field-0.items) (rw c.deref-in-Or.ensures.value at (c.in_ok-formulas_of-in-Or.ensures {u = tt})))
-
-pub formula_of-returns-in_ok-compared-in-Compare-2 : goal.formula_of-returns-in_ok-compared-in-Compare-2
-formula_of-returns-in_ok-compared-in-Compare-2 t c =
-    let fields = (plain_signature c.args.signature.now).fields in
-    let place = c.args.expr.now.place in
-    let rel = c.in-Compare.rel in
-    let a = plain_expr c.in-Compare.left.value in
-    let b = plain_expr c.in-Compare.right.value in
-    let other : is_numeric fields a ≡ false = sym (rw c.deref-in-Compare.ensures at c.is_numeric.ensures) ∙ c.if-is_numeric.false in
-    let none : None ≡ comparison_of fields a b = sym c.in_default-2.is ∙ (rw (c.deref-in-Compare-2.ensures, c.deref-in-Compare-3.ensures) at (c.in_ok-atom-in-Compare.ensures {u = tt})) in
-    let f = plain_formula c.in_ok-first-in-Compare.first in
-    let g = plain_formula c.in_ok-second-in-Compare.second in
-    let first : f ≡ formula_in fields a = rw c.deref-in-Compare-4.ensures at (c.in_ok-first-in-Compare.ensures {u = tt}) in
-    let second : g ≡ formula_in fields b = rw c.deref-in-Compare-5.ensures at (c.in_ok-second-in-Compare.ensures {u = tt}) in
-    let made : plain_formula c.in_ok-compared-in-Compare-2.field-0 ≡ compared_by rel (agreement_of f g) = c.in_ok-compared-in-Compare-2.ensures {u = tt} ∙ ap (compared_by rel) (c.in_ok-agreement-in-Compare.ensures {u = tt}) in
-    rw c.in-Compare.is (made ∙ (λ i. compared_by rel (agreement_of (first i) (second i))) ∙ compared_other fields a b place rel other None none)
+    let es = c.deref-in-Or.result.now in
+    let whole : plain_expr c.args.expr.now ≡ chain Disjunction place (unmarked (map plain_expr es)) = ap (λ n. plain_node n place) c.in-Or.is ∙ plain_or c.in-Or.parts place ∙ ap (λ xs. chain Disjunction place (unmarked (map plain_expr xs))) (sym c.deref-in-Or.ensures.value) in
+    passed c.formulas_of-in-Or.result (λ made. plain_formula made ≡ joined_of false (map (formula_in fields) (map plain_expr es))) (λ made. plain_formula made ≡ formula_in fields (plain_expr c.args.expr.now)) (HasOutside (forms_in_all fields (unmarked (map plain_expr es)))) (HasOutside (forms_in fields (plain_expr c.args.expr.now)))
+    (λ made is. is ∙ ap some_of (operands_in fields (map plain_expr es)) ∙ sym (ap (formula_in fields) whole)) (λ n o. subst (λ e. HasOutside (forms_in fields e) n) (sym whole) o) c.formulas_of-in-Or.ensures
 
 pub formula_of-returns-in_err-first-in-Compare : goal.formula_of-returns-in_err-first-in-Compare
 formula_of-returns-in_err-first-in-Compare t c =
@@ -91,15 +40,9 @@ formula_of-returns-in_err-first-in-Compare t c =
     let a = plain_expr c.in-Compare.left.value in
     let b = plain_expr c.in-Compare.right.value in
     let p = err_from_is_err_and c.from_residual-in_err-first-in-Compare.result c.from_residual-in_err-first-in-Compare.ensures.1 in
-    rw (p.1, p.2, c.in-Compare.is) (stops_weaker (HasOutside (forms_in fields a)) (HasOutside (forms_in fields a ++ forms_in fields b)) c.in_err-first-in-Compare.field-0.0 (outside_left (forms_in fields a) (forms_in fields b)) (rw c.deref-in-Compare-4.ensures at (c.in_err-first-in-Compare.ensures {u = tt})))
-
-pub formula_of-returns-in_err-second-in-Compare : goal.formula_of-returns-in_err-second-in-Compare
-formula_of-returns-in_err-second-in-Compare t c =
-    let fields = (plain_signature c.args.signature.now).fields in
-    let a = plain_expr c.in-Compare.left.value in
-    let b = plain_expr c.in-Compare.right.value in
-    let p = err_from_is_err_and c.from_residual-in_err-second-in-Compare.result c.from_residual-in_err-second-in-Compare.ensures.1 in
-    rw (p.1, p.2, c.in-Compare.is) (stops_weaker (HasOutside (forms_in fields b)) (HasOutside (forms_in fields a ++ forms_in fields b)) c.in_err-second-in-Compare.field-0.0 (outside_right (forms_in fields a) (forms_in fields b)) (rw c.deref-in-Compare-5.ensures at (c.in_err-second-in-Compare.ensures {u = tt})))
+    let left = rw c.deref-in-Compare-3.ensures at c.formula_of-in-Compare.ensures in
+    let right = rw c.deref-in-Compare-4.ensures at c.formula_of-in-Compare-2.ensures in
+    rw (p.1, p.2, c.in-Compare.is) (either_stops c.formula_of-in-Compare.result c.formula_of-in-Compare-2.result (λ f. plain_formula f ≡ formula_in fields a) (λ f. plain_formula f ≡ formula_in fields b) (forms_in fields a) (forms_in fields b) c.in_err-first-in-Compare.field-0.0 left right c.in_err-first-in-Compare.ensures)
 
 pub formulas_of-returns-in_err-formula_of : goal.formulas_of-returns-in_err-formula_of
 formulas_of-returns-in_err-formula_of t c =
