@@ -1,5 +1,6 @@
 -- A copy of a map is equal to it.
 use Rattle.std.proofs.Common.{◌≡◌, ◌&&◌, List, [], ◌∷◌, map, Bool, true, refl, subst, Result, Ok, Err, IfOk}
+use Rattle.std.specs.Result.{IsErrAnd}
 use Rattle.std.specs.Cmp.Lexicographic.{pointwise}
 use Rattle.label_core.specs.Formula.{plain_formula}
 use Rattle.label_core.specs.declared.formula.Formula.{Formula}
@@ -56,3 +57,8 @@ same_written (x ∷ xs) (y ∷ ys) e =
 pub if_both : {T E : Type 0} (r : Result T E) (P R Q : T → Type 0) → ((x : T) → P x → R x → Q x) → IfOk r P → IfOk r R → IfOk r Q
 if_both (Ok x) P R Q f h k = f x h k
 if_both (Err e) P R Q f h k = h
+
+-- what was not made says nothing
+pub no_result : {A E : Type 0} (r : Result A E) (P : A → Type 0) (Q : E → Type 0) → IsErrAnd r Q → IfOk r P
+no_result (Ok a) P Q h = absurd h
+no_result (Err e) P Q h = tt

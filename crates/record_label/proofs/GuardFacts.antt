@@ -342,22 +342,10 @@ module _ (fields : List PlainField) where
             fit = (first.fit, rest.fit);
           }
 
-  -- the formula of a comparison of others than whole numbers
-  pub compared_other : (a b : syntax.Expr) (p : Pos) (rel : Rel) → is_numeric fields a ≡ false → (found : Option TextAtom) → found ≡ comparison_of fields a b → compared_as rel found (formula_in fields a) (formula_in fields b) ≡ formula_in fields (syntax.compare p rel a b)
-  compared_other a b p rel other found is =
-      ap (λ o. compared_as rel o (formula_in fields a) (formula_in fields b)) is
-      ∙ ap (λ w. cond w (compared_by_forms rel (form_of fields a) (form_of fields b)) (compared_as rel (comparison_of fields a b) (formula_in fields a) (formula_in fields b))) (sym other)
-
   -- the formulas of operands, in order
   pub operands_in : (es : List syntax.Expr) → formulas_of (map (formula_in fields) es) ≡ formulas_of_parts fields (unmarked es)
   operands_in [] = refl
   operands_in (e ∷ es) = ap (formula (formula_in fields e)) (operands_in es)
-
-  pub conjunction_of : (v : Vec Expr Global) (p : Pos) (fs : List (Formula RowAtom)) → fs ≡ map (formula_in fields) (map plain_expr v.items) → all_of (formulas_of fs) ≡ formula_in fields (plain_node (And v) p)
-  conjunction_of v p fs are = ap (λ gs. all_of (formulas_of gs)) are ∙ ap all_of (operands_in (map plain_expr v.items)) ∙ sym (ap (formula_in fields) (plain_and v p))
-
-  pub disjunction_of : (v : Vec Expr Global) (p : Pos) (fs : List (Formula RowAtom)) → fs ≡ map (formula_in fields) (map plain_expr v.items) → some_of (formulas_of fs) ≡ formula_in fields (plain_node (Or v) p)
-  disjunction_of v p fs are = ap (λ gs. some_of (formulas_of gs)) are ∙ ap some_of (operands_in (map plain_expr v.items)) ∙ sym (ap (formula_in fields) (plain_or v p))
 
   -- one more formula at the end
   pub formulas_more : (es : List Expr) (i : ℕ) (e : Expr) (fs : List (code.Formula RowAtom)) (f : code.Formula RowAtom) → i < length es → e ≡ get_or es i e
