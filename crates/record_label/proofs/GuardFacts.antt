@@ -1,5 +1,5 @@
 -- Guards made of guards.
-use Rattle.std.proofs.Common.{◌≡◌, ◌<◌, ◌≤◌, ◌+◌, ℕ, Vec, Global, length, take, Bool, true, false, not, ◌&&◌, ◌||◌, cond, List, [], ◌∷◌, ◌++◌, map, get_or, Contains, Option, Some, None, refl, ap, sym, ◌∙◌, subst, arith}
+use Rattle.std.proofs.Common.{◌≡◌, ◌<◌, ◌≤◌, ◌+◌, ℕ, length, take, Bool, true, false, not, ◌&&◌, ◌||◌, cond, List, [], ◌∷◌, ◌++◌, map, get_or, Contains, Option, Some, None, refl, ap, sym, ◌∙◌, subst, arith}
 use Rattle.std.proofs.lemmas.Bool.{and_parts}
 use Rattle.std.proofs.Math.IntN.{ℤ}
 use Rattle.std.specs.Prelude.{int_lt, int_le}
@@ -35,13 +35,11 @@ use Rattle.record_label.specs.Rows.{truths_in, texts_in, RowAtom, RowFits, count
 use Rattle.model_guard.specs.Compares.{comparison}
 use Rattle.record_label.specs.Guards.{compare_of, is_numeric, side_of, written_in, written_in_all, written_in_both, comparison_of, compared_by_forms, compared_by, pair_of, agreement_of, compared_as, formula_in, formulas_of_parts, IsGuard, IsGuardOf, IsEqualityOf}
 use Rattle.record_label.proofs.FieldFacts.{truth_field, text_field, number_low, truth_no_text, truth_no_whole, text_no_whole}
-use Rattle.fast_syntax.specs.Plain.{plain_expr, plain_node}
+use Rattle.fast_syntax.specs.Plain.{plain_expr}
 use Rattle.fast_syntax.specs.declared.expressions.Expr.{Expr}
-use Rattle.fast_syntax.specs.declared.expressions.Node.TheVariants.{Or, And}
 use Rattle.label_core.specs.Formula.{plain_formula}
 use Rattle.label_core.specs.declared.formula.Formula as code
 use Rattle.record_label.specs.Parts.{unmarked}
-use Rattle.record_label.proofs.ExprParts.{plain_or, plain_and}
 
 module _ {A : Type 0} (P Q : A → Type 0) (weaker : (a : A) → P a → Q a) where
   mutual

@@ -1,5 +1,5 @@
 -- Which expressions have the same pieces.
-use Rattle.std.proofs.Common.{◌≡◌, List, [], ◌∷◌, ◌++◌, ◌⊎◌, inl, inr, map, Vec, Global, refl, ap, sym, ◌∙◌, append_assoc, append-nil}
+use Rattle.std.proofs.Common.{◌≡◌, Bool, List, [], ◌∷◌, ◌++◌, ◌⊎◌, inl, inr, map, Vec, Global, refl, ap, sym, ◌∙◌, append_assoc, append-nil}
 use Rattle.fast_fault.specs.declared.place.Pos.{Pos}
 use Rattle.fast_syntax.specs.Plain.{plain_expr, plain_node}
 use Rattle.fast_syntax.specs.declared.expressions.Expr as Expr'
@@ -10,6 +10,7 @@ use Rattle.model_grammar.specs.Syntax.{Expr, field, number, text, truth, negatio
 use Rattle.record_label.specs.Parts.{unmarked}
 use Rattle.record_label.proofs.ExprParts.{plain_or, plain_and}
 use Rattle.record_label.specs.declared.written.Mark.{Mark}
+use Rattle.record_label.specs.declared.written.Mark.TheVariants as mark
 use Rattle.record_label.specs.Written.{marks_of, marks_of_parts, first_mark, later_marks, WrittenAlike}
 
 mutual
@@ -72,3 +73,14 @@ all_added e old pushed new rest m first push behind added =
 pub operands_behind : (n : Node) (p : Pos) (v : Vec Expr'.Expr Global) → (n ≡ Or v) ⊎ (n ≡ And v) → later_marks (plain_node n p) ≡ marks_of_parts (unmarked (map plain_expr v.items))
 operands_behind n p v (inl is) = ap later_marks (ap (λ m. plain_node m p) is ∙ plain_or v p)
 operands_behind n p v (inr is) = ap later_marks (ap (λ m. plain_node m p) is ∙ plain_and v p)
+
+-- one more part, and no more parts
+pub one_part : (m : Bool) (e : Expr) (rest at : Parts) (marks pushed new all : List Mark) → at ≡ part m e rest → pushed ≡ marks ++ mark.Part m ∷ [] → new ≡ pushed ++ marks_of e → marks ++ marks_of_parts at ≡ all → new ++ marks_of_parts rest ≡ all
+one_part m e rest at marks pushed new all here push added before =
+    ap (λ ms. ms ++ marks_of_parts rest) (added ∙ ap (λ ms. ms ++ marks_of e) push ∙ append_assoc marks (mark.Part m ∷ []) (marks_of e))
+    ∙ append_assoc marks (mark.Part m ∷ marks_of e) (marks_of_parts rest)
+    ∙ sym (ap (λ ps. marks ++ marks_of_parts ps) here)
+    ∙ before
+
+pub no_part : (at : Parts) (marks new all : List Mark) → at ≡ no_parts → new ≡ marks ++ mark.End ∷ [] → marks ++ marks_of_parts at ≡ all → new ≡ all
+no_part at marks new all none push before = push ∙ sym (ap (λ ps. marks ++ marks_of_parts ps) none) ∙ before
