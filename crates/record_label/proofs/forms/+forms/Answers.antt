@@ -1,4 +1,5 @@
-use Rattle.std.proofs.Common.{◌≡◌, ◌+◌, ◌++◌, rules, ◌∷◌, [], drop, ap, sym, subst, ◌∙◌}
+use Rattle.std.proofs.lemmas.List.{at_drop_all}
+use Rattle.std.proofs.Common.{append-nil, ◌≡◌, ◌+◌, ◌++◌, rules, ◌∷◌, [], drop, ap, sym, subst, ◌∙◌}
 use Rattle.std.proofs.Math.IntN.{ℤ, pos, negsuc}
 use Rattle.std.proofs.Common.{MatchResult, to_z, of_z}
 use Rattle.std.specs.Prelude.{FitsSigned}
@@ -10,7 +11,7 @@ use Rattle.lin_form.specs.Stops.{StopsAt}
 use Rattle.std.proofs.lemmas.Result.{err_from_is_err_and}
 use Rattle.model_form.specs.Ranges.{IsOutside}
 use Rattle.model_form.specs.Sums.{number_form, product_form, sum_form}
-use Rattle.model_guard.specs.Forms.{step, form_of, added, steps, forms_in, forms_in_all, HasOutside}
+use Rattle.model_guard.specs.Forms.{step, form_of, added, multiplied, steps, forms_in, forms_in_all, HasOutside}
 use Rattle.lin_form.specs.Gathered.{plain_parts}
 use Rattle.lin_form.proofs.Putting.{stops_weaker}
 use Rattle.fast_tree.specs.Signatures.{plain_signature}
@@ -153,3 +154,21 @@ form_of-returns-in_err-form_of-in-Minus t c =
 
 pub form_of-returns-in_ok-field-in-Field : goal.form_of-returns-in_ok-field-in-Field
 form_of-returns-in_ok-field-in-Field t c = c.in_ok-field-in-Field.ensures {u = tt} ∙ sym (ap (λ n. form_of (plain_signature c.args.signature.now).fields (plain_node n c.args.expr.now.place)) c.in-Field.is)
+
+pub added-loop-part-init : goal.added-loop-part-init
+added-loop-part-init t c = (ap (λ made. plain_parts made ++ added (plain_signature c.args.signature.now).fields (plain_sum_parts c.args.parts.now)) c.new-made.ensures.items, λ n o. o)
+
+pub added-returns : goal.added-returns
+added-returns t c =
+    let made = plain_parts c.loop-part.made.items in
+    sym (append-nil made) ∙ sym (at_drop_all (λ ps. made ++ added (plain_signature c.args.signature.now).fields (plain_sum_parts ps)) c.args.parts.now c.loop-part.part-index c.loop-part-test.false) ∙ c.loop-part.invariant.0
+
+pub multiplied-loop-part-init : goal.multiplied-loop-part-init
+multiplied-loop-part-init t c =
+    let fields = (plain_signature c.args.signature.now).fields in
+    let parts = plain_prod_parts c.args.parts.now in
+    let one = c.in_ok-form.ensures {u = tt} in
+    (ap (λ f. multiplied fields f parts) one, λ n o. o, λ n o. subst (λ f. HasOutside (steps fields f parts) n) one o)
+
+pub multiplied-returns : goal.multiplied-returns
+multiplied-returns t c = sym (at_drop_all (λ ps. multiplied (plain_signature c.args.signature.now).fields c.loop-part.form (plain_prod_parts ps)) c.args.parts.now c.loop-part.part-index c.loop-part-test.false) ∙ c.loop-part.invariant.0
