@@ -18,5 +18,3 @@ module _ {A : Type 0} where
 
   pub fixed_or : (v : Vec (code.Formula A) Global) → is_fixed (plain_formula (Or v)) ≡ list_all (λ f. is_fixed (plain_formula f)) v.items
   fixed_or v = ap is_fixed (plain_or v) ∙ of_list v.items
-
-pub ruleset on_fixed = (fixed_and, fixed_or)

@@ -18,22 +18,6 @@ pub struct Known<V> {
     pub places: Vec<Vec<Place>>,
 }
 
-/// The places of a constructor.
-fn places_of<A>(
-    alloc: Global,
-    rules: &[Vec<StaRule<A>>],
-    constructor: u32,
-    rank: u32,
-) -> Result<Vec<Place>, Memory>
-    ensures { IfOk result (λ places. ArePlaces rules.now [] constructor rank places.items) }
-{
-    let mut places = Vec::new(alloc);
-    'places: for place in 0..rank {
-        places.push(Place::new(alloc, rules, constructor, place as usize)?)?;
-    }
-    Ok(places)
-}
-
 /// The places of each constructor.
 fn all_places<A>(
     alloc: Global,
@@ -47,7 +31,11 @@ fn all_places<A>(
     let mut all = Vec::new(alloc);
     'constructors: for constructor in 0..ranks.len() {
         let rank = ranks[constructor];
-        all.push(places_of(alloc, rules, constructor as u32, rank)?)?;
+        let mut places = Vec::new(alloc);
+        'places: for place in 0..rank {
+            places.push(Place::new(alloc, rules, constructor as u32, place as usize)?)?;
+        }
+        all.push(places)?;
     }
     Ok(all)
 }

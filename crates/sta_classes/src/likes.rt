@@ -1,6 +1,6 @@
 //! Rules with one guard. Labels that tell guards apart are found once for each set of guards, whichever rules have them.
 
-ghost use Rattle.std.specs.Prelude.{◌≡◌, ◌<◌, ◌++◌, ◌∷◌, [], ℕ, length, IfOk, OnOk};
+ghost use Rattle.std.specs.Prelude.{◌≡◌, ◌<◌, length, IfOk};
 ghost use Rattle.sta_classes.specs.Applying.{IsLike, AreLike, AreLow, AreLikes};
 
 use crate::row::Row;
@@ -65,37 +65,24 @@ fn like_of<A: Eq>(list: &[Owned<A>], number: usize, other: usize) -> usize
     }
 }
 
-/// Adds the number of a rule with the same guard: of the first one of this print, or the rule's own.
-fn add_like<A: Eq + Hash>(
-    list: &[Owned<A>],
-    number: usize,
-    firsts: &mut IndexMap<u64, usize>,
-    likes: &mut Vec<usize>,
-) -> Result<(), Memory>
-    requires { number < length list.now }
-    ensures { OnOk result ((like : ℕ) × (likes.new.items ≡ likes.old.items ++ like ∷ []) × IsLike A.eq list.now number like) }
-{
-    let rule = list[number].rule;
-    let print = print_of(&rule.guard);
-    match firsts.get(&print) {
-        Some(first) => likes.push(like_of(list, number, *first))?,
-        None => {
-            firsts.insert(print, number)?;
-            likes.push(like_of(list, number, number))?;
-        }
-    }
-    Ok(())
-}
-
-/// For each rule the number of one with the same guard. All rules with one guard have the same one, but for those whose
-/// guard has the print of another.
+/// For each rule the number of one with the same guard: of the first one of its guard's print, or its own. All rules with
+/// one guard have the same one, but for those whose guard has the print of another.
 pub fn likes_of<A: Eq + Hash>(alloc: Global, list: &[Owned<A>]) -> Result<Vec<usize>, Memory>
     ensures { IfOk result (λ likes. AreLike A.eq list.now likes.items) }
 {
     let mut firsts = IndexMap::new(alloc);
     let mut likes = Vec::new(alloc);
     for number in 0..list.len() {
-        add_like(list, number, &mut firsts, &mut likes)?;
+        let rule = list[number].rule;
+        let print = print_of(&rule.guard);
+        let first = match firsts.get(&print) {
+            Some(first) => *first,
+            None => {
+                firsts.insert(print, number)?;
+                number
+            }
+        };
+        likes.push(like_of(list, number, first))?;
     }
     Ok(likes)
 }

@@ -38,15 +38,6 @@ fn choices(
     Ok(classes)
 }
 
-/// The list with one more behind it.
-fn with_last(alloc: Global, list: &[usize], class: usize) -> Result<Vec<usize>, Memory>
-    ensures { IfOk result (λ made. made.items ≡ list.now ++ class ∷ []) }
-{
-    let mut made = Vec::from_slice(alloc, list)?;
-    made.push(class)?;
-    Ok(made)
-}
-
 /// Adds the list with each of the classes behind it.
 fn add_longer(
     alloc: Global,
@@ -57,7 +48,9 @@ fn add_longer(
     ensures { OnOk result (Grown (lists_of lists.old.items) (lists_of lists.new.items) (λ ks. (k : ℕ) × Contains classes.now k × (list.now ++ k ∷ [] ≡ ks))) }
 {
     'classes: for class in classes {
-        lists.push(with_last(alloc, list, *class)?)?;
+        let mut longer = Vec::from_slice(alloc, list)?;
+        longer.push(*class)?;
+        lists.push(longer)?;
     }
     Ok(())
 }

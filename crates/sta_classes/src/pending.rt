@@ -30,18 +30,19 @@ pub struct Pending<V> {
 }
 
 impl Over<'_> {
-    /// The tree with a copy of the label.
+    /// The tree with this set, with copies of it and of the label.
     fn class<T: Theory>(
         &self,
         theory: &T,
         alloc: Global,
-        row: Row,
+        row: &Row,
         value: &T::Value,
     ) -> Result<Class<T::Value>, Memory>
-        ensures { IfOk result (λ c. found_of T.label_of c ≡ record { row = row; nodes = self.now.nodes; constructor = self.now.constructor; label = T.label_of value.now; children = self.now.children.now }) }
+        ensures { IfOk result (λ c. found_of T.label_of c ≡ record { row = row.now; nodes = self.now.nodes; constructor = self.now.constructor; label = T.label_of value.now; children = self.now.children.now }) }
     {
         let value = theory.copy_value(alloc, value)?;
         let children = Vec::from_slice(alloc, self.children)?;
+        let row = row.copy(alloc)?;
         let constructor = self.constructor;
         let nodes = self.nodes;
         Ok(Class {
@@ -123,10 +124,8 @@ impl<V: Drop> Pending<V> {
             return Ok(());
         }
         self.order.push((CAP - over.nodes, number))?;
-        let row = self.sets.as_slice()[number].copy(alloc)?;
-        let class = over.class(theory, alloc, row, value)?;
-        keep(&mut self.best, number, class)?;
-        Ok(())
+        let class = over.class(theory, alloc, &self.sets.as_slice()[number], value)?;
+        keep(&mut self.best, number, class)
     }
 
     /// Takes the cheapest candidate.

@@ -61,8 +61,7 @@ fn add_of_rule<A>(
     if place >= rule.demands.len() {
         return Ok(());
     }
-    add_states(&rule.demands[place], list)?;
-    Ok(())
+    add_states(&rule.demands[place], list)
 }
 
 /// Adds the states that the rules with the constructor demand at the place.

@@ -40,21 +40,6 @@ pub struct Rules<'a, A> {
     pub likes: Vec<usize>,
 }
 
-/// Adds the rule, if it has the constructor.
-fn add_rule<'a, A>(
-    rule: &'a StaRule<A>,
-    state: usize,
-    constructor: u32,
-    list: &mut Vec<Owned<'a, A>>,
-) -> Result<(), Memory>
-    ensures { OnOk result (Grown (map plain_owned list.old.items) (map plain_owned list.new.items) (IsOwned constructor state rule.now)) }
-{
-    if rule.constructor == constructor {
-        list.push(Owned { state, rule })?;
-    }
-    Ok(())
-}
-
 /// Adds those of the rules that have the constructor.
 fn add_rules<'a, A>(
     rules: &'a [StaRule<A>],
@@ -65,7 +50,9 @@ fn add_rules<'a, A>(
     ensures { OnOk result (Grown (map plain_owned list.old.items) (map plain_owned list.new.items) (Some (IsOwned constructor state) rules.now)) }
 {
     'rules: for rule in rules {
-        add_rule(rule, state, constructor, list)?;
+        if rule.constructor == constructor {
+            list.push(Owned { state, rule })?;
+        }
     }
     Ok(())
 }
@@ -98,7 +85,6 @@ fn all_of<A>(alloc: Global, list: &[Owned<A>]) -> Result<Row, Memory>
 
 /// Whether no atom stands in the formula, so that no label needs to be asked.
 #[cycle(fixed)]
-#[tactic(auto, using(crate::proofs::Fixed::on_fixed))]
 fn is_fixed<A>(formula: &Formula<A>) -> bool
     ensures { result ≡ is_fixed (plain_formula formula.now) }
 {

@@ -104,35 +104,8 @@ impl<T: Theory> Search<'_, T> {
         Ok(())
     }
 
-    /// Offers the trees over these children with labels that tell the guards apart which the children leave open.
-    fn offer_each(
-        &self,
-        known: &Known<T::Value>,
-        pending: &mut Pending<T::Value>,
-        splits: &mut Vec<Splits<T::Value>>,
-        over: &Over<'_>,
-    ) -> Result<(), ClassStop<T::Chain>>
-        requires ready { IsReady T.Atom.eq (T.atom_fits self.now.theory.now) self.now.ranks.now self.now.rules.now self.now.own.now }
-        requires low { over.now.constructor < length self.now.ranks.now }
-        requires wide { length over.now.children.now ≡ get_or self.now.ranks.now over.now.constructor 0 }
-        requires children { All (λ k. k < length known.now.classes.items) over.now.children.now }
-        requires nodes { over.now.nodes ≡ cost CAP (nodes_at (founds T.label_of known.now.classes.items) over.now.children.now) }
-        requires above { (k : ℕ) → k < length known.now.classes.items → get_or (counts_of (founds T.label_of known.now.classes.items)) k 0 ≤ over.now.nodes }
-        requires sound { IsSound self.now.ranks.now (T.meaning self.now.theory.now).has (T.meaning self.now.theory.now).keeps (meaning_of T.atom_holds (plain_rules self.now.rules.now)) T.label_of known.now.classes.items pending.old }
-        requires splits { AreSplit (T.meaning self.now.theory.now) self.now.ranks.now self.now.own.now (class_rows known.now.classes.items) splits.old.items }
-        ensures sound { OnOk result (IsSound self.now.ranks.now (T.meaning self.now.theory.now).has (T.meaning self.now.theory.now).keeps (meaning_of T.atom_holds (plain_rules self.now.rules.now)) T.label_of known.now.classes.items pending.new) }
-        ensures better { OnOk result (IsBetter pending.old pending.new) }
-        ensures opened { OnOk result (IsOpened self.now.ranks.now (T.meaning self.now.theory.now).has (T.meaning self.now.theory.now).keeps (meaning_of T.atom_holds (plain_rules self.now.rules.now)) T.label_of known.now.classes.items pending.new over.now.constructor over.now.children.now) }
-        ensures splits { OnOk result (AreSplit (T.meaning self.now.theory.now) self.now.ranks.now self.now.own.now (class_rows known.now.classes.items) splits.new.items) }
-        ensures stop { IfErr result (ClassStopsFor (T.meaning self.now.theory.now) (HasMoreClasses (T.meaning self.now.theory.now) (record { ranks = self.now.ranks.now; rules = plain_rules self.now.rules.now }) self.now.most) (all_guards (plain_rules self.now.rules.now))) }
-    {
-        let (key, number) = self.told(known, splits, over)?;
-        let told = &splits[over.constructor as usize].told[number];
-        self.offer_told(known, pending, over, &key, told)?;
-        Ok(())
-    }
-
-    /// Offers the trees over these children, and sees whether there are too many sets then.
+    /// Offers the trees over these children with labels that tell the guards apart which the children leave open, and sees
+    /// whether there are too many sets then.
     fn open(
         &self,
         known: &Known<T::Value>,
@@ -162,7 +135,9 @@ impl<T: Theory> Search<'_, T> {
             nodes,
             children,
         };
-        self.offer_each(known, pending, splits, &over)?;
+        let (key, number) = self.told(known, splits, &over)?;
+        let told = &splits[over.constructor as usize].told[number];
+        self.offer_told(known, pending, &over, &key, told)?;
         if pending.sets.len() > self.most as usize {
             return Err(ClassStop::Classes);
         }
@@ -227,37 +202,6 @@ impl<T: Theory> Search<'_, T> {
         Ok(())
     }
 
-    /// Offers the trees of this constructor over lists of kinds of which the last class is one.
-    fn open_last(
-        &self,
-        known: &Known<T::Value>,
-        pending: &mut Pending<T::Value>,
-        splits: &mut Vec<Splits<T::Value>>,
-        constructor: usize,
-    ) -> Result<(), ClassStop<T::Chain>>
-        requires ready { IsReady T.Atom.eq (T.atom_fits self.now.theory.now) self.now.ranks.now self.now.rules.now self.now.own.now }
-        requires kinds { AreKinds self.now.ranks.now self.now.rules.now known.now.classes.items known.now.places.items }
-        requires some { 0 < length known.now.classes.items }
-        requires low { constructor < length self.now.ranks.now }
-        requires sound { IsSound self.now.ranks.now (T.meaning self.now.theory.now).has (T.meaning self.now.theory.now).keeps (meaning_of T.atom_holds (plain_rules self.now.rules.now)) T.label_of known.now.classes.items pending.old }
-        requires few { length pending.old.sets.keys ≤ self.now.most }
-        requires splits { AreSplit (T.meaning self.now.theory.now) self.now.ranks.now self.now.own.now (class_rows known.now.classes.items) splits.old.items }
-        ensures sound { OnOk result (IsSound self.now.ranks.now (T.meaning self.now.theory.now).has (T.meaning self.now.theory.now).keeps (meaning_of T.atom_holds (plain_rules self.now.rules.now)) T.label_of known.now.classes.items pending.new) }
-        ensures better { OnOk result (IsBetter pending.old pending.new) }
-        ensures opened { OnOk result ((j : ℕ) (ks : List ℕ) → j < get_or self.now.ranks.now constructor 0 → IsListWith (firsts_of (get_or (lists_of known.now.places.items) constructor [])) j (length known.now.classes.items - 1) (get_or self.now.ranks.now constructor 0) ks → IsOpened self.now.ranks.now (T.meaning self.now.theory.now).has (T.meaning self.now.theory.now).keeps (meaning_of T.atom_holds (plain_rules self.now.rules.now)) T.label_of known.now.classes.items pending.new constructor ks) }
-        ensures few { OnOk result (length pending.new.sets.keys ≤ self.now.most) }
-        ensures splits { OnOk result (AreSplit (T.meaning self.now.theory.now) self.now.ranks.now self.now.own.now (class_rows known.now.classes.items) splits.new.items) }
-        ensures stop { IfErr result (ClassStopsFor (T.meaning self.now.theory.now) (HasMoreClasses (T.meaning self.now.theory.now) (record { ranks = self.now.ranks.now; rules = plain_rules self.now.rules.now }) self.now.most) (all_guards (plain_rules self.now.rules.now))) }
-    {
-        let last = known.classes.len() - 1;
-        'places: for place in 0..known.places[constructor].len() {
-            if known.places[constructor][place].begins(last) {
-                self.open_place(known, pending, splits, constructor, place)?;
-            }
-        }
-        Ok(())
-    }
-
     /// Offers the trees over lists of kinds of which the last class is one.
     fn open_new(
         &self,
@@ -278,21 +222,15 @@ impl<T: Theory> Search<'_, T> {
         ensures splits { OnOk result (AreSplit (T.meaning self.now.theory.now) self.now.ranks.now self.now.own.now (class_rows known.now.classes.items) splits.new.items) }
         ensures stop { IfErr result (ClassStopsFor (T.meaning self.now.theory.now) (HasMoreClasses (T.meaning self.now.theory.now) (record { ranks = self.now.ranks.now; rules = plain_rules self.now.rules.now }) self.now.most) (all_guards (plain_rules self.now.rules.now))) }
     {
+        let last = known.classes.len() - 1;
         'constructors: for constructor in 0..self.ranks.len() {
-            self.open_last(known, pending, splits, constructor)?;
+            'places: for place in 0..known.places[constructor].len() {
+                if known.places[constructor][place].begins(last) {
+                    self.open_place(known, pending, splits, constructor, place)?;
+                }
+            }
         }
         Ok(())
-    }
-
-    /// Nothing is known of the rules of each constructor.
-    fn no_splits(&self) -> Result<Vec<Splits<T::Value>>, Memory>
-        ensures { IfOk result (λ splits. AreSplit (T.meaning self.now.theory.now) self.now.ranks.now self.now.own.now [] splits.items) }
-    {
-        let mut splits = Vec::new(self.alloc);
-        'constructors: for _ in 0..self.ranks.len() {
-            splits.push(Splits::new(self.alloc))?;
-        }
-        Ok(splits)
     }
 
     /// Tells which rules of each constructor a child of one more class meets.
@@ -309,7 +247,7 @@ impl<T: Theory> Search<'_, T> {
         Ok(())
     }
 
-    /// No class is found yet, and no tree is offered.
+    /// No class is found yet, no tree is offered, and nothing is known of the rules of each constructor.
     fn begin(&self) -> Result<Course<T::Value>, Memory>
         requires ready { IsReady T.Atom.eq (T.atom_fits self.now.theory.now) self.now.ranks.now self.now.rules.now self.now.own.now }
         ensures none { IfOk result (λ course. course.known.classes.items ≡ []) }
@@ -318,7 +256,10 @@ impl<T: Theory> Search<'_, T> {
         ensures few { IfOk result (λ course. length course.pending.sets.keys ≤ self.now.most) }
         ensures splits { IfOk result (λ course. AreSplit (T.meaning self.now.theory.now) self.now.ranks.now self.now.own.now (class_rows course.known.classes.items) course.splits.items) }
     {
-        let splits = self.no_splits()?;
+        let mut splits = Vec::new(self.alloc);
+        'constructors: for _ in 0..self.ranks.len() {
+            splits.push(Splits::new(self.alloc))?;
+        }
         let known = Known::new(self.alloc, self.ranks, self.rules)?;
         let pending = Pending::new(self.alloc);
         Ok(Course {
@@ -343,8 +284,7 @@ impl<T: Theory> Search<'_, T> {
     {
         self.add_to_splits(&mut course.splits, &class.row)?;
         course.known.add(self.alloc, class)?;
-        self.open_new(&course.known, &mut course.pending, &mut course.splits)?;
-        Ok(())
+        self.open_new(&course.known, &mut course.pending, &mut course.splits)
     }
 
     /// Offers the trees of no children, and takes turns until no candidate is left.

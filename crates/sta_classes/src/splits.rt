@@ -3,13 +3,11 @@
 ghost use Rattle.std.specs.Prelude.{◌≡◌, ◌<◌, ◌++◌, ◌∷◌, [], Bool, List, true, All, length, map, get_or, IfOk, IfErr, OnOk};
 ghost use Rattle.model_sta.specs.Sets.{rows_meet};
 ghost use Rattle.model_tree.specs.Formula.{EveryAtom};
-ghost use Rattle.label_split.specs.Split.{SplitsInto};
 ghost use Rattle.sta_core.specs.Machine.{plain_rule};
-ghost use Rattle.sta_classes.specs.Applying.{chosen, guards_in, truth_at, AreLike};
+ghost use Rattle.sta_classes.specs.Applying.{guards_in, AreLike};
 ghost use Rattle.sta_classes.specs.Bits.{both};
-ghost use Rattle.sta_classes.specs.Guards.{truths};
 ghost use Rattle.sta_classes.specs.Rows.{lists_of};
-ghost use Rattle.sta_classes.specs.Splits.{IsMetBy, AreMet, AreTelling, AreTold, AreAllTold};
+ghost use Rattle.sta_classes.specs.Splits.{AreMet, AreTelling, AreTold, AreAllTold};
 ghost use Rattle.sta_classes.specs.Stop.{ClassStopsFor};
 
 use crate::row::Row;
@@ -39,36 +37,7 @@ pub struct Splits<V> {
     pub told: Vec<Vec<Told<V>>>,
 }
 
-/// For each place, the numbers of the rules whose demands the row meets there.
-fn met_by<A>(alloc: Global, list: &[Owned<A>], places: u32, row: &Row) -> Result<Vec<Row>, Memory>
-    ensures { IfOk result (λ made. IsMetBy list.now places row.now made.items) }
-{
-    let mut made = Vec::new(alloc);
-    'places: for place in 0..places {
-        made.push(met_at(alloc, list, place as usize, row)?)?;
-    }
-    Ok(made)
-}
-
-/// The row with the rules whose guards hold of its label in place of the signs.
-fn tell<T: Theory>(
-    theory: &T,
-    alloc: Global,
-    list: &[Owned<T::Atom>],
-    row: SignRow<T::Value>,
-) -> Result<Told<T::Value>, Memory>
-    requires fit { All (λ x. EveryAtom (T.atom_fits theory.now) (plain_rule x.rule.now).guard) list.now }
-    requires kept { (T.meaning theory.now).keeps (T.label_of row.value) }
-    ensures { IfOk result (λ t. (t.value ≡ row.value) × (t.holds ≡ map (truth_at T.atom_holds (T.label_of t.value)) list.now)) }
-{
-    let holds = held_at(theory, alloc, list, &row.value)?;
-    Ok(Told {
-        holds,
-        value: row.value,
-    })
-}
-
-/// The same of each of the rows, in order. None of them is left.
+/// Each of the rows, in order, with the rules whose guards hold of its label in place of the signs. None of them is left.
 fn tell_each<T: Theory>(
     theory: &T,
     alloc: Global,
@@ -83,29 +52,13 @@ fn tell_each<T: Theory>(
     // the last one is taken first
     rows.reverse();
     'rows: while let Some(row) = rows.pop() {
-        told.push(tell(theory, alloc, list, row)?)?;
+        let holds = held_at(theory, alloc, list, &row.value)?;
+        told.push(Told {
+            holds,
+            value: row.value,
+        })?;
     }
     Ok(told)
-}
-
-/// The rows of signs of the guards of the rules with these numbers.
-fn rows_of<T: Theory>(
-    theory: &T,
-    alloc: Global,
-    list: &[Owned<T::Atom>],
-    numbers: &Row,
-) -> Result<Vec<SignRow<T::Value>>, ClassStop<T::Chain>>
-    requires fit { All (λ x. EveryAtom (T.atom_fits theory.now) (plain_rule x.rule.now).guard) list.now }
-    ensures rows { IfOk result (λ rows. SplitsInto (T.meaning theory.now) (truths T.atom_holds (chosen numbers.now (guards_in list.now))) rows.items) }
-    ensures stop { IfErr result (ClassStopsFor (T.meaning theory.now) ⊥ (guards_in list.now)) }
-{
-    let guards = guards_of(alloc, list, numbers)?;
-    match split(theory, alloc, &guards, u32::MAX) {
-        Ok(rows) => Ok(rows),
-        Err(SplitStop::Wide(chain)) => Err(ClassStop::Wide(chain)),
-        Err(SplitStop::TooMany) => Err(ClassStop::Memory),
-        Err(SplitStop::Memory) => Err(ClassStop::Memory),
-    }
 }
 
 /// Labels that tell the guards of the rules with these numbers apart.
@@ -119,8 +72,13 @@ fn told_of<T: Theory>(
     ensures told { IfOk result (λ told. AreTold (T.meaning theory.now) list.now numbers.now told.items) }
     ensures stop { IfErr result (ClassStopsFor (T.meaning theory.now) ⊥ (guards_in list.now)) }
 {
-    let mut rows = rows_of(theory, alloc, list, numbers)?;
-    Ok(tell_each(theory, alloc, list, &mut rows)?)
+    let rows = split(theory, alloc, &guards_of(alloc, list, numbers)?, u32::MAX);
+    match rows {
+        Ok(mut rows) => Ok(tell_each(theory, alloc, list, &mut rows)?),
+        Err(SplitStop::Wide(chain)) => Err(ClassStop::Wide(chain)),
+        Err(SplitStop::TooMany) => Err(ClassStop::Memory),
+        Err(SplitStop::Memory) => Err(ClassStop::Memory),
+    }
 }
 
 impl<V: Drop> Splits<V> {
@@ -148,7 +106,11 @@ impl<V: Drop> Splits<V> {
         ensures met { OnOk result ((rows : List (List Bool)) → AreMet list.now places rows self.old.met.items → AreMet list.now places (rows ++ row.now ∷ []) self.new.met.items) }
         ensures kept { OnOk result ((self.new.sets ≡ self.old.sets) × (self.new.told ≡ self.old.told)) }
     {
-        self.met.push(met_by(alloc, list, places, row)?)?;
+        let mut made = Vec::new(alloc);
+        'places: for place in 0..places {
+            made.push(met_at(alloc, list, place as usize, row)?)?;
+        }
+        self.met.push(made)?;
         Ok(())
     }
 

@@ -153,15 +153,14 @@ impl<A: Duplicate + Drop, V> Table<'_, A, V> {
     {
         let children = places(alloc, children)?;
         let row = &self.known.classes[class as usize].row;
-        let formula = row_formula(
+        row_formula(
             alloc,
             self.sta.rules(),
             constructor,
             &self.known.classes,
             &children,
             row,
-        )?;
-        Ok(formula)
+        )
     }
 }
 

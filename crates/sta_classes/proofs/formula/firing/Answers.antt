@@ -1,3 +1,4 @@
+use Rattle.std.proofs.lemmas.Result.{IfOk-from_err}
 use Rattle.std.proofs.Common.{sym, ap, ◌==◌, ◌&&◌, ◌∙◌, map, take_all, []}
 use Rattle.model_sta.specs.Sets.{rows_meet}
 use Rattle.sta_core.specs.Machine.{plain_rule}
@@ -19,3 +20,12 @@ loop-rule-preserved g c = elim c.if-lets_fire.branch [
 
 pub returns : goal.returns
 returns g c = c.loop-rule.invariant ∙ ap (λ z. firing_guards c.args.constructor (class_rows_at c.args.found.now c.args.children.now) (map plain_rule z)) (take_all c.loop-rule.rule-index c.args.rules.now c.loop-rule-test.false)
+
+pub returns-in_err-copy : goal.returns-in_err-copy
+returns-in_err-copy g c = IfOk-from_err c.from_residual.result _ c.from_residual.ensures.0
+
+pub returns-in_err-push : goal.returns-in_err-push
+returns-in_err-push g c = IfOk-from_err c.from_residual-in_err-push.result _ c.from_residual-in_err-push.ensures.0
+
+pub lets_fire-requires : goal.lets_fire-requires
+lets_fire-requires g c = record { children = c.requires.children }

@@ -1,3 +1,4 @@
+use Rattle.std.proofs.lemmas.Result.{IfOk-from_err}
 use Rattle.std.proofs.Common.{arith, ap, ap₂, sym, map, get_or, false, length, ◌<◌, ◌≤◌, ◌∙◌, ◌++◌, ◌∷◌, [], take_all}
 use Rattle.std.proofs.lemmas.List.{map-append}
 use Rattle.model_tree.specs.Formula.{all_of, formulas_of}
@@ -23,3 +24,12 @@ returns g c =
     let high : length c.args.row.now ≤ c.loop-i.i = omega (arith, c.loop-i-test.false, c.requires.row) in
     c.conjunction.ensures
     ∙ ap (λ fs. all_of (formulas_of fs)) (c.loop-i.invariant ∙ ap₂ (λ rs bs. state_formulas c.args.constructor (class_rows_at c.args.found.now c.args.children.now) (plain_rules rs) bs) (take_all c.loop-i.i c.args.rules.now c.loop-i-test.false) (take_all c.loop-i.i c.args.row.now high))
+
+pub returns-in_err-part : goal.returns-in_err-part
+returns-in_err-part g c = IfOk-from_err c.from_residual.result _ c.from_residual.ensures.0
+
+pub returns-in_err-push : goal.returns-in_err-push
+returns-in_err-push g c = IfOk-from_err c.from_residual-in_err-push.result _ c.from_residual-in_err-push.ensures.0
+
+pub state_formula-requires : goal.state_formula-requires
+state_formula-requires g c = record { children = c.requires.children }

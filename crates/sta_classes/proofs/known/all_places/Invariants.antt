@@ -8,3 +8,6 @@ invariant-constructors g l = record {
   many : length l.all.items ≡ l.constructor;
   each : (c : ℕ) → c < length l.all.items → ArePlaces l.rules [] c (get_or l.ranks c 0) (get_or (lists_of l.all.items) c []);
 }
+
+abbrev pub invariant-places : goal.invariant-places
+invariant-places g l = ArePlaces l.rules [] l.constructor l.place l.places.items

@@ -1,3 +1,4 @@
+use Rattle.std.proofs.lemmas.Result.{IfOk-from_err}
 use Rattle.std.proofs.Common.{map, ap, sym, arith, ◌∙◌, ◌∷◌, []}
 use Rattle.std.proofs.lemmas.List.{map-append}
 use Rattle.label_core.specs.Formula.{plain_formula}
@@ -20,3 +21,9 @@ loop-i-preserved g c =
 
 pub returns : goal.returns
 returns g c = chosen_all (λ x. (plain_rule x.rule.now).guard) c.args.numbers.now c.args.list.now c.loop-i.i (omega (arith, c.loop-i-test.false)) (map plain_formula c.loop-i.guards.items) c.loop-i.invariant
+
+pub returns-in_err-copy : goal.returns-in_err-copy
+returns-in_err-copy g c = IfOk-from_err c.from_residual.result _ c.from_residual.ensures.0
+
+pub returns-in_err-push : goal.returns-in_err-push
+returns-in_err-push g c = IfOk-from_err c.from_residual-in_err-push.result _ c.from_residual-in_err-push.ensures.0

@@ -1,3 +1,4 @@
+use Rattle.std.proofs.lemmas.Result.{IfOk-from_err}
 use Rattle.std.proofs.Common.{length, ap, sym, ◌∙◌, arith}
 use Rattle.sta_classes.specs.Applying.{truth_at}
 use Rattle.sta_classes.proofs.Loops.{filled_length, filled_more, filled_all}
@@ -12,3 +13,6 @@ loop-i-preserved g c =
 
 pub returns : goal.returns
 returns g c = filled_all (truth_at g.T.Theory.atom_holds (g.T.Theory.label_of c.args.value.now)) c.loop-i.i c.args.list.now c.loop-i.made (omega (arith, c.loop-i-test.false)) c.loop-i.invariant
+
+pub returns-in_err-made : goal.returns-in_err-made
+returns-in_err-made g c = IfOk-from_err c.from_residual.result _ c.from_residual.ensures.0

@@ -1,6 +1,7 @@
-use Rattle.std.proofs.Common.{◌<◌, length, set, true, sym, ap, ◌∙◌, subst, arith}
-use Rattle.std.proofs.lemmas.List.{length-set}
-use Rattle.sta_classes.proofs.Numbers.{fired_more, fired_last}
+use Rattle.std.proofs.lemmas.Result.{IfOk-from_err}
+use Rattle.std.proofs.Common.{◌<◌, length, set, true, false, sym, ap, ◌∙◌, subst, arith}
+use Rattle.std.proofs.lemmas.List.{length-set, length-replicate}
+use Rattle.sta_classes.proofs.Numbers.{fired_more, fired_last, fired_first}
 use Rattle.sta_classes.proofs.rules.states_of.Goals as goal
 
 pub numbers-preserved : goal.numbers-preserved
@@ -21,3 +22,18 @@ insert-requires g c = omega (arith, c.requires.low c.numbers.i c.index-list-i.re
 
 pub returns-clause-many : goal.returns-clause-many
 returns-clause-many g c = c.numbers.invariant.many
+
+pub returns-in_err-row-clause-many : goal.returns-in_err-row-clause-many
+returns-in_err-row-clause-many g c = IfOk-from_err c.from_residual.result _ c.from_residual.ensures.0
+
+pub returns-in_err-row-clause-fired : goal.returns-in_err-row-clause-fired
+returns-in_err-row-clause-fired g c = IfOk-from_err c.from_residual.result _ c.from_residual.ensures.0
+
+pub numbers-init : goal.numbers-init
+numbers-init g c = record { many = ap length c.in_ok-row.ensures ∙ length-replicate c.args.states false; fired = fired_first (λ x. x.state) c.args.list.now c.args.numbers.now c.in_ok-row.row c.args.states c.next-i.result c.in_ok-row.ensures c.next-i.ensures.none; here = c.next-i.ensures.some }
+
+pub bounds-list-i : goal.bounds-list-i
+bounds-list-i g c = c.numbers-test.true
+
+pub bounds-list-i-in-numbers : goal.bounds-list-i-in-numbers
+bounds-list-i-in-numbers g c = c.numbers-test.true

@@ -1,4 +1,4 @@
-use Rattle.std.proofs.lemmas.Result.{err_from_is_err_and}
+use Rattle.std.proofs.lemmas.Result.{IfOk-from_err}
 use Rattle.std.proofs.lemmas.List.{length-map}
 use Rattle.std.proofs.Common.{ℕ, ◌≡◌, ◌<◌, ◌∙◌, get_or, refl, ap, sym, subst, arith, length}
 use Rattle.sta_core.specs.Sta.{automaton_of}
@@ -13,6 +13,7 @@ use Rattle.sta_classes.specs.declared.rules.Rules.{Rules}
 use Rattle.sta_classes.specs.declared.class.TheConstants.{CAP}
 use Rattle.sta_classes.proofs.Built.{table_is, built_is}
 use Rattle.sta_classes.proofs.Shapes.{shaped, has_kinds}
+use Rattle.sta_classes.proofs.Keeping.{passed}
 use Rattle.sta_classes.proofs.table.classes.Goals as goal
 
 pub run-requires : goal.run-requires
@@ -48,8 +49,7 @@ returns-clause-kinds g c =
 pub returns-in_err-known-clause-stop : goal.returns-in_err-known-clause-stop
 returns-in_err-known-clause-stop g c =
     let machine : (record { ranks = c.ranks-ranks.result.now; rules = plain_rules c.rules-rules.result.now }) ≡ c.args.sta.now = λ i. record { ranks = c.ranks-ranks.ensures i; rules = c.rules-rules.ensures.rules i } in
-    let got = err_from_is_err_and c.from_residual-in_err-known.result c.from_residual-in_err-known.ensures.1 in
-    rw (got.1, got.2) (subst (λ (m : Machine g.row.T-Atom.Denot). StopsClasses (g.T.Theory.meaning c.args.theory.now) m c.args.most c.in_err-known.field-0.0) machine c.in_err-known.ensures.stop)
+    passed c.from_residual-in_err-known.result _ c.in_err-known.field-0.0 c.from_residual-in_err-known.ensures.1 (subst (λ (m : Machine g.row.T-Atom.Denot). StopsClasses (g.T.Theory.meaning c.args.theory.now) m c.args.most c.in_err-known.field-0.0) machine c.in_err-known.ensures.stop)
 
 pub returns-clause-few : goal.returns-clause-few
 returns-clause-few g c = omega (arith, length-map c.in_ok-known.known.classes.items plain_class, c.in_ok-known.ensures.few)
@@ -58,4 +58,34 @@ pub returns-clause-machine : goal.returns-clause-machine
 returns-clause-machine g c = refl
 
 pub returns-in_err-own-clause-stop : goal.returns-in_err-own-clause-stop
-returns-in_err-own-clause-stop g c = let got = err_from_is_err_and c.from_residual.result c.from_residual.ensures.1 in rw (got.1, got.2) tt
+returns-in_err-own-clause-stop g c = passed c.from_residual.result _ _ c.from_residual.ensures.1 tt
+
+pub returns-in_err-own-clause-table : goal.returns-in_err-own-clause-table
+returns-in_err-own-clause-table g c = IfOk-from_err c.from_residual.result _ c.from_residual.ensures.0
+
+pub returns-in_err-own-clause-few : goal.returns-in_err-own-clause-few
+returns-in_err-own-clause-few g c = IfOk-from_err c.from_residual.result _ c.from_residual.ensures.0
+
+pub returns-in_err-own-clause-built : goal.returns-in_err-own-clause-built
+returns-in_err-own-clause-built g c = IfOk-from_err c.from_residual.result _ c.from_residual.ensures.0
+
+pub returns-in_err-own-clause-kinds : goal.returns-in_err-own-clause-kinds
+returns-in_err-own-clause-kinds g c = IfOk-from_err c.from_residual.result _ c.from_residual.ensures.0
+
+pub returns-in_err-own-clause-machine : goal.returns-in_err-own-clause-machine
+returns-in_err-own-clause-machine g c = IfOk-from_err c.from_residual.result _ c.from_residual.ensures.0
+
+pub returns-in_err-known-clause-table : goal.returns-in_err-known-clause-table
+returns-in_err-known-clause-table g c = IfOk-from_err c.from_residual-in_err-known.result _ c.from_residual-in_err-known.ensures.0
+
+pub returns-in_err-known-clause-few : goal.returns-in_err-known-clause-few
+returns-in_err-known-clause-few g c = IfOk-from_err c.from_residual-in_err-known.result _ c.from_residual-in_err-known.ensures.0
+
+pub returns-in_err-known-clause-built : goal.returns-in_err-known-clause-built
+returns-in_err-known-clause-built g c = IfOk-from_err c.from_residual-in_err-known.result _ c.from_residual-in_err-known.ensures.0
+
+pub returns-in_err-known-clause-kinds : goal.returns-in_err-known-clause-kinds
+returns-in_err-known-clause-kinds g c = IfOk-from_err c.from_residual-in_err-known.result _ c.from_residual-in_err-known.ensures.0
+
+pub returns-in_err-known-clause-machine : goal.returns-in_err-known-clause-machine
+returns-in_err-known-clause-machine g c = IfOk-from_err c.from_residual-in_err-known.result _ c.from_residual-in_err-known.ensures.0

@@ -66,3 +66,21 @@ places-preserved c =
 
 pub returns-clause-some : goal.returns-clause-some
 returns-clause-some c inside = absurd (omega (arith, inside, c.places-test.false, ap length (sym c.self.view_is), bits_length c.self.inside.places c.self.inside.words.items))
+
+pub places-init : goal.places-init
+places-init c = record { from = omega arith; none = λ i low high. absurd (omega (arith, low, high)) }
+
+pub returns-then-word-place-eq1-clause-from : goal.returns-then-word-place-eq1-clause-from
+returns-then-word-place-eq1-clause-from c = c.places.invariant.from
+
+pub returns-then-word-place-eq1-clause-none : goal.returns-then-word-place-eq1-clause-none
+returns-then-word-place-eq1-clause-none c = c.places.invariant.none
+
+pub returns-clause-from : goal.returns-clause-from
+returns-clause-from c = c.places.invariant.from
+
+pub returns-clause-none : goal.returns-clause-none
+returns-clause-none c = c.places.invariant.none
+
+pub returns-then-skipped-places-clause-from : goal.returns-then-skipped-places-clause-from
+returns-then-skipped-places-clause-from c = omega (arith, c.places-test.true, c.places.invariant.from)

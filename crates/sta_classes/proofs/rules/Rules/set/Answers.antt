@@ -1,4 +1,5 @@
-use Rattle.std.proofs.Common.{ℕ, ◌≡◌, ◌∙◌, ◌↔◌, true, length, sym, ap, subst, IfOk}
+use Rattle.std.proofs.lemmas.Result.{IfOk-from_err}
+use Rattle.std.proofs.Common.{ℕ, ◌≡◌, ◌∙◌, ◌↔◌, true, length, sym, ap, subst, IfOk, All, ◌<◌}
 use Rattle.model_sta.specs.Sets.{has}
 use Rattle.sta_classes.specs.Applying.{IsFired}
 use Rattle.sta_classes.specs.Bits.{both}
@@ -13,3 +14,18 @@ pub returns-clause-fired : goal.returns-clause-fired
 returns-clause-fired g c =
     subst (λ l. IfOk c.states_of.result (λ row. (s : ℕ) → has row s ≡ true ↔ IsFired l (both c.args.met.now c.args.held.now) s)) c.deref.ensures.value
     (subst (λ n. IfOk c.states_of.result (λ row. (s : ℕ) → has row s ≡ true ↔ IsFired c.deref.result.now n s)) (c.meet.ensures ∙ ap (λ f. both f c.args.held.now) c.in_ok-firing.ensures) c.states_of.ensures.fired)
+
+pub returns-in_err-firing-clause-many : goal.returns-in_err-firing-clause-many
+returns-in_err-firing-clause-many g c = IfOk-from_err c.from_residual.result _ c.from_residual.ensures.0
+
+pub returns-in_err-firing-clause-fired : goal.returns-in_err-firing-clause-fired
+returns-in_err-firing-clause-fired g c = IfOk-from_err c.from_residual.result _ c.from_residual.ensures.0
+
+pub meet-requires : goal.meet-requires
+meet-requires g c = c.requires.held ∙ ap length (sym c.in_ok-firing.ensures)
+
+pub states_of-requires-clause-low : goal.states_of-requires-clause-low
+states_of-requires-clause-low g c = subst (All (λ x. x.state < c.args.states)) (sym c.deref.ensures.value) c.requires.low
+
+pub returns-clause-many : goal.returns-clause-many
+returns-clause-many g c = c.states_of.ensures.many

@@ -1,3 +1,4 @@
+use Rattle.std.proofs.lemmas.Result.{IfOk-from_err}
 use Rattle.std.proofs.Common.{ℕ, ◌≡◌, ◌<◌, ◌∙◌, ◌↔◌, true, inl, inr, All, Contains, length, get_or, sym, ap, subst, arith}
 use Rattle.std.proofs.lemmas.Bool.{cases_lt}
 use Rattle.std.proofs.lemmas.List.{length-map}
@@ -67,3 +68,24 @@ returns-clause-sound g c = c.labels.invariant.sound
 
 pub returns-clause-better : goal.returns-clause-better
 returns-clause-better g c = c.labels.invariant.better
+
+pub returns-in_err-row-clause-sound : goal.returns-in_err-row-clause-sound
+returns-in_err-row-clause-sound g c = IfOk-from_err c.from_residual.result _ c.from_residual.ensures.0
+
+pub returns-in_err-row-clause-better : goal.returns-in_err-row-clause-better
+returns-in_err-row-clause-better g c = IfOk-from_err c.from_residual.result _ c.from_residual.ensures.0
+
+pub returns-in_err-row-clause-opened : goal.returns-in_err-row-clause-opened
+returns-in_err-row-clause-opened g c = IfOk-from_err c.from_residual.result _ c.from_residual.ensures.0
+
+pub returns-in_err-offer-clause-sound : goal.returns-in_err-offer-clause-sound
+returns-in_err-offer-clause-sound g c = IfOk-from_err c.from_residual-in_err-offer.result _ c.from_residual-in_err-offer.ensures.0
+
+pub returns-in_err-offer-clause-better : goal.returns-in_err-offer-clause-better
+returns-in_err-offer-clause-better g c = IfOk-from_err c.from_residual-in_err-offer.result _ c.from_residual-in_err-offer.ensures.0
+
+pub returns-in_err-offer-clause-opened : goal.returns-in_err-offer-clause-opened
+returns-in_err-offer-clause-opened g c = IfOk-from_err c.from_residual-in_err-offer.result _ c.from_residual-in_err-offer.ensures.0
+
+pub bounds-self-over : goal.bounds-self-over
+bounds-self-over g c = omega (arith, c.requires.low, c.requires.ready.many)

@@ -1,11 +1,12 @@
-use Rattle.std.proofs.Common.{◌≤◌, ◌∙◌, [], length, sym, subst, arith}
-use Rattle.std.proofs.lemmas.Result.{err_from_is_err_and}
+use Rattle.std.proofs.lemmas.Result.{IfOk-from_err}
+use Rattle.std.proofs.Common.{◌≤◌, ◌∙◌, [], length, sym, subst, arith, ap}
 use Rattle.model_sta.proofs.Reached.{same_default}
 use Rattle.sta_classes.specs.Rules.{plain_rules, meaning_of}
 use Rattle.sta_classes.specs.Pending.{IsBetter}
 use Rattle.sta_classes.specs.Rows.{class_rows}
 use Rattle.sta_classes.specs.Searched.{AreSplit, IsSound, IsOpened}
 use Rattle.sta_classes.proofs.Runs.{leaves_more}
+use Rattle.sta_classes.proofs.Keeping.{passed}
 use Rattle.sta_classes.proofs.search.Search.open_leaves.Goals as goal
 use Rattle.sta_classes.proofs.search.Search.open_leaves.Goals.{then-self-constructor-eq0+in_ok-open, else-self-constructor-eq0}
 
@@ -29,7 +30,7 @@ constructors-preserved g c =
     ]
 
 pub returns-in_err-open-clause-stop : goal.returns-in_err-open-clause-stop
-returns-in_err-open-clause-stop g c = let got = err_from_is_err_and c.from_residual.result c.from_residual.ensures.1 in rw (got.1, got.2) c.in_err-open.ensures.stop
+returns-in_err-open-clause-stop g c = passed c.from_residual.result _ c.in_err-open.field-0.0 c.from_residual.ensures.1 c.in_err-open.ensures.stop
 
 pub open-requires-clause-ready : goal.open-requires-clause-ready
 open-requires-clause-ready g c = c.requires.ready
@@ -48,3 +49,33 @@ returns-clause-sound g c = c.constructors.invariant.sound
 
 pub returns-clause-splits : goal.returns-clause-splits
 returns-clause-splits g c = c.constructors.invariant.splits
+
+pub returns-in_err-open-clause-sound : goal.returns-in_err-open-clause-sound
+returns-in_err-open-clause-sound g c = IfOk-from_err c.from_residual.result _ c.from_residual.ensures.0
+
+pub returns-in_err-open-clause-opened : goal.returns-in_err-open-clause-opened
+returns-in_err-open-clause-opened g c = IfOk-from_err c.from_residual.result _ c.from_residual.ensures.0
+
+pub returns-in_err-open-clause-few : goal.returns-in_err-open-clause-few
+returns-in_err-open-clause-few g c = IfOk-from_err c.from_residual.result _ c.from_residual.ensures.0
+
+pub returns-in_err-open-clause-splits : goal.returns-in_err-open-clause-splits
+returns-in_err-open-clause-splits g c = IfOk-from_err c.from_residual.result _ c.from_residual.ensures.0
+
+pub open-requires-clause-low : goal.open-requires-clause-low
+open-requires-clause-low g c = c.constructors-test.true
+
+pub open-requires-clause-wide : goal.open-requires-clause-wide
+open-requires-clause-wide g c = sym c.if-self-constructor-eq0.true
+
+pub open-requires-clause-children : goal.open-requires-clause-children
+open-requires-clause-children g c = λ k d low. absurd (omega (arith, low))
+
+pub open-requires-clause-above : goal.open-requires-clause-above
+open-requires-clause-above g c = λ k low. absurd (omega (arith, low, ap length c.requires.none))
+
+pub returns-clause-opened : goal.returns-clause-opened
+returns-clause-opened g c = λ n low none. c.constructors.invariant.opened n (omega (arith, low, c.constructors-test.false)) none
+
+pub returns-clause-few : goal.returns-clause-few
+returns-clause-few g c = c.constructors.invariant.few

@@ -1,5 +1,5 @@
+use Rattle.std.proofs.lemmas.Result.{IfOk-from_err}
 use Rattle.std.proofs.Common.{◌≡◌, ◌<◌, ◌≤◌, ◌-◌, ◌∙◌, [], inl, inr, length, get_or, All, Contains, sym, ap, subst, arith}
-use Rattle.std.proofs.lemmas.Result.{err_from_is_err_and}
 use Rattle.std.proofs.lemmas.Bool.{cases_lt}
 use Rattle.std.proofs.lemmas.List.{length-map}
 use Rattle.model_sta.specs.Least.{counts_of, nodes_at, cost}
@@ -12,6 +12,7 @@ use Rattle.sta_theory.proofs.Lists.{in_map}
 use Rattle.sta_classes.proofs.Rows.{list_at}
 use Rattle.sta_classes.proofs.Opens.{lists_same, list_low, list_has, above_all}
 use Rattle.sta_classes.proofs.Turns.{opened_later}
+use Rattle.sta_classes.proofs.Keeping.{passed}
 use Rattle.sta_classes.proofs.search.Search.open_place.Goals as goal
 
 pub open-requires-clause-wide : goal.open-requires-clause-wide
@@ -82,7 +83,37 @@ pub returns-clause-splits : goal.returns-clause-splits
 returns-clause-splits g c = c.lists.invariant.splits
 
 pub returns-in_err-open-clause-stop : goal.returns-in_err-open-clause-stop
-returns-in_err-open-clause-stop g c = let got = err_from_is_err_and c.from_residual-in_err-open.result c.from_residual-in_err-open.ensures.1 in rw (got.1, got.2) c.in_err-open.ensures.stop
+returns-in_err-open-clause-stop g c = passed c.from_residual-in_err-open.result _ c.in_err-open.field-0.0 c.from_residual-in_err-open.ensures.1 c.in_err-open.ensures.stop
 
 pub returns-in_err-lists-clause-stop : goal.returns-in_err-lists-clause-stop
-returns-in_err-lists-clause-stop g c = let got = err_from_is_err_and c.from_residual.result c.from_residual.ensures.1 in rw (got.1, got.2) tt
+returns-in_err-lists-clause-stop g c = passed c.from_residual.result _ _ c.from_residual.ensures.1 tt
+
+pub returns-in_err-lists-clause-sound : goal.returns-in_err-lists-clause-sound
+returns-in_err-lists-clause-sound g c = IfOk-from_err c.from_residual.result _ c.from_residual.ensures.0
+
+pub returns-in_err-lists-clause-better : goal.returns-in_err-lists-clause-better
+returns-in_err-lists-clause-better g c = IfOk-from_err c.from_residual.result _ c.from_residual.ensures.0
+
+pub returns-in_err-lists-clause-opened : goal.returns-in_err-lists-clause-opened
+returns-in_err-lists-clause-opened g c = IfOk-from_err c.from_residual.result _ c.from_residual.ensures.0
+
+pub returns-in_err-lists-clause-few : goal.returns-in_err-lists-clause-few
+returns-in_err-lists-clause-few g c = IfOk-from_err c.from_residual.result _ c.from_residual.ensures.0
+
+pub returns-in_err-lists-clause-splits : goal.returns-in_err-lists-clause-splits
+returns-in_err-lists-clause-splits g c = IfOk-from_err c.from_residual.result _ c.from_residual.ensures.0
+
+pub returns-in_err-open-clause-sound : goal.returns-in_err-open-clause-sound
+returns-in_err-open-clause-sound g c = IfOk-from_err c.from_residual-in_err-open.result _ c.from_residual-in_err-open.ensures.0
+
+pub returns-in_err-open-clause-better : goal.returns-in_err-open-clause-better
+returns-in_err-open-clause-better g c = IfOk-from_err c.from_residual-in_err-open.result _ c.from_residual-in_err-open.ensures.0
+
+pub returns-in_err-open-clause-opened : goal.returns-in_err-open-clause-opened
+returns-in_err-open-clause-opened g c = IfOk-from_err c.from_residual-in_err-open.result _ c.from_residual-in_err-open.ensures.0
+
+pub returns-in_err-open-clause-few : goal.returns-in_err-open-clause-few
+returns-in_err-open-clause-few g c = IfOk-from_err c.from_residual-in_err-open.result _ c.from_residual-in_err-open.ensures.0
+
+pub returns-in_err-open-clause-splits : goal.returns-in_err-open-clause-splits
+returns-in_err-open-clause-splits g c = IfOk-from_err c.from_residual-in_err-open.result _ c.from_residual-in_err-open.ensures.0

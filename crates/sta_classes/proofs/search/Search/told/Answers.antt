@@ -1,6 +1,6 @@
+use Rattle.std.proofs.lemmas.Result.{IfOk-from_err}
 use Rattle.std.proofs.Common.{◌≡◌, ◌<◌, ◌∙◌, true, All, length, get_or, map, ap, sym, subst, arith}
 use Rattle.std.proofs.lemmas.List.{length-map}
-use Rattle.std.proofs.lemmas.Result.{err_from_is_err_and}
 use Rattle.model_tree.specs.Formula.{EveryAtom}
 use Rattle.model_sta.proofs.Reached.{same_default}
 use Rattle.sta_core.specs.Machine.{plain_rule}
@@ -13,6 +13,7 @@ use Rattle.sta_classes.specs.Splits.{AreMet, AreAllTold}
 use Rattle.sta_classes.specs.Stop.{ClassStopsFor}
 use Rattle.sta_classes.proofs.Keys.{split_set, met_at, all_told_at, told_found}
 use Rattle.sta_classes.proofs.Told.{guards_fit, guards_of_all, stop_within}
+use Rattle.sta_classes.proofs.Keeping.{passed}
 use Rattle.sta_classes.proofs.search.Search.told.Goals as goal
 
 pub number-requires-clause-fit : goal.number-requires-clause-fit
@@ -24,8 +25,7 @@ number-requires-clause-fit g c =
 pub returns-in_err-number-clause-stop : goal.returns-in_err-number-clause-stop
 returns-in_err-number-clause-stop g c =
     let is : IsRules g.T.Atom.PartialEq.eq c.args.self.now.rules.now c.args.over.now.constructor c.index-self-over.result = c.requires.ready.own_are c.args.over.now.constructor c.index-self-over.result (omega (arith, c.requires.low, c.requires.ready.many)) (sym c.index-self-over.is) in
-    let got = err_from_is_err_and c.from_residual-in_err-number.result c.from_residual-in_err-number.ensures.1 in
-    rw (got.1, got.2) (stop_within (guards_in c.index-self-over.result.list.items) (all_guards (plain_rules c.args.self.now.rules.now)) (λ P h. guards_of_all c.args.self.now.rules.now c.args.over.now.constructor c.index-self-over.result.list.items is.owned P h) (g.T.Theory.meaning c.args.self.now.theory.now) g.T.Atom.PartialEq.eq (g.met.T.Theory.equal_is_own c.args.self.now.theory.now) g.met.T.Atom.Eq.laws (HasMoreClasses (g.T.Theory.meaning c.args.self.now.theory.now) (record { ranks = c.args.self.now.ranks.now; rules = plain_rules c.args.self.now.rules.now }) c.args.self.now.most) c.in_err-number.field-0.0
+    passed c.from_residual-in_err-number.result _ c.in_err-number.field-0.0 c.from_residual-in_err-number.ensures.1 (stop_within (guards_in c.index-self-over.result.list.items) (all_guards (plain_rules c.args.self.now.rules.now)) (λ P h. guards_of_all c.args.self.now.rules.now c.args.over.now.constructor c.index-self-over.result.list.items is.owned P h) (g.T.Theory.meaning c.args.self.now.theory.now) g.T.Atom.PartialEq.eq (g.met.T.Theory.equal_is_own c.args.self.now.theory.now) g.met.T.Atom.Eq.laws (HasMoreClasses (g.T.Theory.meaning c.args.self.now.theory.now) (record { ranks = c.args.self.now.ranks.now; rules = plain_rules c.args.self.now.rules.now }) c.args.self.now.most) c.in_err-number.field-0.0
     (subst (λ R. ClassStopsFor (g.T.Theory.meaning c.args.self.now.theory.now) ⊥ (guards_in R.list.items) c.in_err-number.field-0.0) (sym c.index-self-over.is) c.in_err-number.ensures.stop))
 
 pub returns-clause-splits : goal.returns-clause-splits
@@ -70,7 +70,7 @@ returns-clause-found g c R s of at =
     (c.in_ok-key.ensures (class_rows c.args.known.now.classes.items) met) c.in_ok-number.ensures.number
 
 pub returns-in_err-key-clause-stop : goal.returns-in_err-key-clause-stop
-returns-in_err-key-clause-stop g c = let got = err_from_is_err_and c.from_residual.result c.from_residual.ensures.1 in rw (got.1, got.2) tt
+returns-in_err-key-clause-stop g c = passed c.from_residual.result _ _ c.from_residual.ensures.1 tt
 
 pub number-requires-clause-likes : goal.number-requires-clause-likes
 number-requires-clause-likes g c =
@@ -81,3 +81,21 @@ pub number-requires-clause-guarded : goal.number-requires-clause-guarded
 number-requires-clause-guarded g c =
     let is : IsRules g.T.Atom.PartialEq.eq c.args.self.now.rules.now c.args.over.now.constructor c.index-self-over.result = c.requires.ready.own_are c.args.over.now.constructor c.index-self-over.result (omega (arith, c.requires.low, c.requires.ready.many)) (sym c.index-self-over.is) in
     subst (λ R. length R.guarded ≡ length R.list.items) c.index-self-over.is (ap length is.guarded_are ∙ length-map _ _)
+
+pub returns-in_err-key-clause-splits : goal.returns-in_err-key-clause-splits
+returns-in_err-key-clause-splits g c = IfOk-from_err c.from_residual.result _ c.from_residual.ensures.0
+
+pub returns-in_err-key-clause-found : goal.returns-in_err-key-clause-found
+returns-in_err-key-clause-found g c = IfOk-from_err c.from_residual.result _ c.from_residual.ensures.0
+
+pub returns-in_err-number-clause-splits : goal.returns-in_err-number-clause-splits
+returns-in_err-number-clause-splits g c = IfOk-from_err c.from_residual-in_err-number.result _ c.from_residual-in_err-number.ensures.0
+
+pub returns-in_err-number-clause-found : goal.returns-in_err-number-clause-found
+returns-in_err-number-clause-found g c = IfOk-from_err c.from_residual-in_err-number.result _ c.from_residual-in_err-number.ensures.0
+
+pub bounds-self-over : goal.bounds-self-over
+bounds-self-over g c = omega (arith, c.requires.low, c.requires.ready.many)
+
+pub index_mut-split-requires : goal.index_mut-split-requires
+index_mut-split-requires g c = omega (arith, c.requires.low, c.requires.splits.many, c.args.splits.now.ok.0)

@@ -1,8 +1,9 @@
-use Rattle.std.proofs.lemmas.Result.{err_from_is_err_and}
+use Rattle.std.proofs.lemmas.Result.{IfOk-from_err, IfOk-at_ok}
 use Rattle.std.proofs.Common.{◌≤◌, ◌∙◌, ◌∷◌, [], length, sym, ap, subst}
 use Rattle.std.proofs.lemmas.List.{length_push, map-append}
 use Rattle.sta_classes.specs.Rows.{class_rows}
 use Rattle.sta_classes.specs.Searched.{AreSplit}
+use Rattle.sta_classes.proofs.Keeping.{passed, with_value}
 use Rattle.sta_classes.proofs.Runs.{run_sound, run_kinds, run_some, run_opened}
 use Rattle.sta_classes.proofs.search.Search.turn.Goals as goal
 
@@ -33,24 +34,39 @@ open_new-requires-clause-few g c =
     subst (λ z. length z.keys ≤ c.args.self.now.most) (sym taken.sets_are) going.few
 
 pub returns-clause-going : goal.returns-clause-going
-returns-clause-going g c =
+returns-clause-going g c = with_value c.open_new.result _ (λ x e.
     let (before, going, taken) = c.requires.taken in
     record {
-      sound = c.in_ok-open_new.ensures.sound;
+      sound = IfOk-at_ok _ e c.open_new.ensures.sound;
       kinds = run_kinds (g.T.Theory.meaning c.args.self.now.theory.now) c.args.self.now.ranks.now c.args.self.now.rules.now c.args.course.now.known.classes.items c.args.course.now.known.places.items before c.args.course.now.pending going.sound going.kinds going.opened c.args.class taken c.requires.kept c.add.new.self.classes.items c.add.new.self.places.items c.in_ok-add.ensures.classes c.in_ok-add.ensures.many c.in_ok-add.ensures.each;
-      splits = c.in_ok-open_new.ensures.splits;
-      few = c.in_ok-open_new.ensures.few;
-      opened = run_opened (g.T.Theory.meaning c.args.self.now.theory.now) c.args.self.now.ranks.now c.args.self.now.rules.now c.args.course.now.known.classes.items c.args.course.now.known.places.items before c.args.course.now.pending going.sound going.kinds going.opened c.args.class taken c.requires.kept c.add.new.self.classes.items c.add.new.self.places.items c.in_ok-add.ensures.classes c.in_ok-add.ensures.many c.in_ok-add.ensures.each c.open_new.new.pending c.in_ok-open_new.ensures.better c.in_ok-open_new.ensures.opened;
-    }
+      splits = IfOk-at_ok _ e c.open_new.ensures.splits;
+      few = IfOk-at_ok _ e c.open_new.ensures.few;
+      opened = run_opened (g.T.Theory.meaning c.args.self.now.theory.now) c.args.self.now.ranks.now c.args.self.now.rules.now c.args.course.now.known.classes.items c.args.course.now.known.places.items before c.args.course.now.pending going.sound going.kinds going.opened c.args.class taken c.requires.kept c.add.new.self.classes.items c.add.new.self.places.items c.in_ok-add.ensures.classes c.in_ok-add.ensures.many c.in_ok-add.ensures.each c.open_new.new.pending (IfOk-at_ok _ e c.open_new.ensures.better) (IfOk-at_ok _ e c.open_new.ensures.opened);
+    })
 
 pub returns-clause-grown : goal.returns-clause-grown
-returns-clause-grown g c = ap length c.in_ok-add.ensures.classes ∙ length_push c.args.course.now.known.classes.items c.args.class
+returns-clause-grown g c = with_value c.open_new.result _ (λ x e. ap length c.in_ok-add.ensures.classes ∙ length_push c.args.course.now.known.classes.items c.args.class)
+
+pub returns-clause-stop : goal.returns-clause-stop
+returns-clause-stop g c = c.open_new.ensures.stop
+
+pub returns-in_err-add_to_splits-clause-going : goal.returns-in_err-add_to_splits-clause-going
+returns-in_err-add_to_splits-clause-going g c = IfOk-from_err c.from_residual.result _ c.from_residual.ensures.0
+
+pub returns-in_err-add_to_splits-clause-grown : goal.returns-in_err-add_to_splits-clause-grown
+returns-in_err-add_to_splits-clause-grown g c = IfOk-from_err c.from_residual.result _ c.from_residual.ensures.0
 
 pub returns-in_err-add_to_splits-clause-stop : goal.returns-in_err-add_to_splits-clause-stop
-returns-in_err-add_to_splits-clause-stop g c = let got = err_from_is_err_and c.from_residual.result c.from_residual.ensures.1 in rw (got.1, got.2) tt
+returns-in_err-add_to_splits-clause-stop g c = passed c.from_residual.result _ _ c.from_residual.ensures.1 tt
+
+pub returns-in_err-add-clause-going : goal.returns-in_err-add-clause-going
+returns-in_err-add-clause-going g c = IfOk-from_err c.from_residual-in_err-add.result _ c.from_residual-in_err-add.ensures.0
+
+pub returns-in_err-add-clause-grown : goal.returns-in_err-add-clause-grown
+returns-in_err-add-clause-grown g c = IfOk-from_err c.from_residual-in_err-add.result _ c.from_residual-in_err-add.ensures.0
 
 pub returns-in_err-add-clause-stop : goal.returns-in_err-add-clause-stop
-returns-in_err-add-clause-stop g c = let got = err_from_is_err_and c.from_residual-in_err-add.result c.from_residual-in_err-add.ensures.1 in rw (got.1, got.2) tt
+returns-in_err-add-clause-stop g c = passed c.from_residual-in_err-add.result _ _ c.from_residual-in_err-add.ensures.1 tt
 
-pub returns-in_err-open_new-clause-stop : goal.returns-in_err-open_new-clause-stop
-returns-in_err-open_new-clause-stop g c = let got = err_from_is_err_and c.from_residual-in_err-open_new.result c.from_residual-in_err-open_new.ensures.1 in rw (got.1, got.2) c.in_err-open_new.ensures.stop
+pub open_new-requires-clause-ready : goal.open_new-requires-clause-ready
+open_new-requires-clause-ready g c = c.requires.ready

@@ -1,3 +1,4 @@
+use Rattle.std.proofs.lemmas.Result.{IfOk-from_err}
 use Rattle.std.proofs.Common.{◌<◌, ◌∙◌, [], length, get_or, map, ap, sym, arith, take_all}
 use Rattle.std.proofs.lemmas.List.{length-map}
 use Rattle.model_sta.specs.Sets.{rows_meet}
@@ -28,3 +29,6 @@ loop-place-preserved g c rows met =
 
 pub returns : goal.returns
 returns g c rows met = c.loop-place.invariant rows met ∙ ap (λ z. map (λ x. rows_meet (map (λ k. get_or rows k []) z) (plain_rule x.rule.now).demands) c.args.own.now.list.items) (take_all c.loop-place.place c.args.children.now (omega (arith, c.loop-place-test.false)))
+
+pub returns-in_err-key : goal.returns-in_err-key
+returns-in_err-key g c = IfOk-from_err c.from_residual.result _ c.from_residual.ensures.0

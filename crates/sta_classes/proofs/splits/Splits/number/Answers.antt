@@ -1,5 +1,9 @@
-use Rattle.std.proofs.lemmas.Result.{err_from_is_err_and}
-use Rattle.std.proofs.Common.{◌≡◌, ◌<◌, ◌∙◌, [], length, get_or, ap, sym, subst, refl}
+use Rattle.sta_classes.specs.Stop.{ClassStopsFor}
+use Rattle.sta_classes.specs.Applying.{guards_in}
+use Rattle.sta_core.specs.Machine.{plain_rule}
+use Rattle.model_tree.specs.Formula.{EveryAtom}
+use Rattle.std.proofs.lemmas.Result.{IfOk-from_err}
+use Rattle.std.proofs.Common.{◌≡◌, ◌<◌, ◌∙◌, [], length, get_or, ap, sym, subst, refl, All}
 use Rattle.std.proofs.lemmas.Option.{slice_get_within}
 use Rattle.model_sta.proofs.Reached.{same_default}
 use Rattle.sta_classes.specs.Bits.{both}
@@ -9,6 +13,7 @@ use Rattle.sta_classes.proofs.Keys.{all_told_more, all_told_same, told_numbered}
 use Rattle.sta_classes.proofs.Meet.{both_length}
 use Rattle.sta_classes.proofs.Offered.{row_at, is_new, was_there}
 use Rattle.sta_classes.proofs.SameGuards.{told_likes, likes_low}
+use Rattle.sta_classes.proofs.Keeping.{passed}
 use Rattle.sta_classes.proofs.splits.Splits.number.Goals as goal
 use Rattle.sta_classes.proofs.splits.Splits.number.Goals.{then-new+in_ok-told+in_ok-push, else-new}
 
@@ -52,10 +57,52 @@ pub returns-clause-met : goal.returns-clause-met
 returns-clause-met g c = elim c.if-new.branch [ then-new+in_ok-told+in_ok-push w ↦ ap (λ s. s.met) w.self-is | else-new w ↦ ap (λ s. s.met) w.self-is ]
 
 pub returns-in_err-open-clause-stop : goal.returns-in_err-open-clause-stop
-returns-in_err-open-clause-stop g c = let got = err_from_is_err_and c.from_residual.result c.from_residual.ensures.1 in rw (got.1, got.2) tt
+returns-in_err-open-clause-stop g c = passed c.from_residual.result _ _ c.from_residual.ensures.1 tt
 
 pub returns-in_err-number-clause-stop : goal.returns-in_err-number-clause-stop
-returns-in_err-number-clause-stop g c = let got = err_from_is_err_and c.from_residual-in_err-number.result c.from_residual-in_err-number.ensures.1 in rw (got.1, got.2) tt
+returns-in_err-number-clause-stop g c = passed c.from_residual-in_err-number.result _ _ c.from_residual-in_err-number.ensures.1 tt
 
 pub returns-in_err-push-clause-stop : goal.returns-in_err-push-clause-stop
-returns-in_err-push-clause-stop g c = let got = err_from_is_err_and c.from_residual-in_err-push.result c.from_residual-in_err-push.ensures.1 in rw (got.1, got.2) tt
+returns-in_err-push-clause-stop g c = passed c.from_residual-in_err-push.result _ _ c.from_residual-in_err-push.ensures.1 tt
+
+pub returns-in_err-open-clause-told : goal.returns-in_err-open-clause-told
+returns-in_err-open-clause-told g c = IfOk-from_err c.from_residual.result _ c.from_residual.ensures.0
+
+pub returns-in_err-open-clause-met : goal.returns-in_err-open-clause-met
+returns-in_err-open-clause-met g c = IfOk-from_err c.from_residual.result _ c.from_residual.ensures.0
+
+pub returns-in_err-open-clause-number : goal.returns-in_err-open-clause-number
+returns-in_err-open-clause-number g c = IfOk-from_err c.from_residual.result _ c.from_residual.ensures.0
+
+pub returns-in_err-number-clause-told : goal.returns-in_err-number-clause-told
+returns-in_err-number-clause-told g c = IfOk-from_err c.from_residual-in_err-number.result _ c.from_residual-in_err-number.ensures.0
+
+pub returns-in_err-number-clause-met : goal.returns-in_err-number-clause-met
+returns-in_err-number-clause-met g c = IfOk-from_err c.from_residual-in_err-number.result _ c.from_residual-in_err-number.ensures.0
+
+pub returns-in_err-number-clause-number : goal.returns-in_err-number-clause-number
+returns-in_err-number-clause-number g c = IfOk-from_err c.from_residual-in_err-number.result _ c.from_residual-in_err-number.ensures.0
+
+pub returns-in_err-told-clause-told : goal.returns-in_err-told-clause-told
+returns-in_err-told-clause-told g c = IfOk-from_err c.from_residual-in_err-told.result _ c.from_residual-in_err-told.ensures.0
+
+pub returns-in_err-told-clause-met : goal.returns-in_err-told-clause-met
+returns-in_err-told-clause-met g c = IfOk-from_err c.from_residual-in_err-told.result _ c.from_residual-in_err-told.ensures.0
+
+pub returns-in_err-told-clause-number : goal.returns-in_err-told-clause-number
+returns-in_err-told-clause-number g c = IfOk-from_err c.from_residual-in_err-told.result _ c.from_residual-in_err-told.ensures.0
+
+pub returns-in_err-push-clause-told : goal.returns-in_err-push-clause-told
+returns-in_err-push-clause-told g c = IfOk-from_err c.from_residual-in_err-push.result _ c.from_residual-in_err-push.ensures.0
+
+pub returns-in_err-push-clause-met : goal.returns-in_err-push-clause-met
+returns-in_err-push-clause-met g c = IfOk-from_err c.from_residual-in_err-push.result _ c.from_residual-in_err-push.ensures.0
+
+pub returns-in_err-push-clause-number : goal.returns-in_err-push-clause-number
+returns-in_err-push-clause-number g c = IfOk-from_err c.from_residual-in_err-push.result _ c.from_residual-in_err-push.ensures.0
+
+pub told_of-requires : goal.told_of-requires
+told_of-requires g c = record { fit = subst (λ l. All (λ x. EveryAtom (g.T.Theory.atom_fits c.args.theory.now) (plain_rule x.rule.now).guard) l) (sym c.deref.ensures.value) c.requires.fit }
+
+pub returns-in_err-told-clause-stop : goal.returns-in_err-told-clause-stop
+returns-in_err-told-clause-stop g c = passed c.from_residual-in_err-told.result _ c.in_err-told.field-0.0 c.from_residual-in_err-told.ensures.1 (subst (λ l. ClassStopsFor (g.T.Theory.meaning c.args.theory.now) ⊥ (guards_in l) c.in_err-told.field-0.0) c.deref.ensures.value c.in_err-told.ensures.stop)
