@@ -27,7 +27,7 @@ or_assoc false b c = refl
 pub sorted_more : (s : Scope) (sort : Sort) (e : Expr) (m : Bool) (all rest : Parts) (whole : List Refusal) (a b c : Checker) → all ≡ part m e rest → Noted b c (sorted_failures s sort e)
     → LeftOver a b whole (operands_failures s sort all) → LeftOver a c whole (operands_failures s sort rest)
 sorted_more s sort e m all rest whole a b c split noted left =
-    more (λ _. sorted_failures s sort e) (operands_failures s sort rest) noted (ap (operands_failures s sort) split ∙ sym (append_assoc (label_failures s e) (needs_sort s sort e) (operands_failures s sort rest))) left
+    more (operands_failures s sort rest) noted (ap (operands_failures s sort) split ∙ sym (append_assoc (label_failures s e) (needs_sort s sort e) (operands_failures s sort rest))) left
 
 pub sorted_done : (s : Scope) (sort : Sort) (none : Parts) (whole : List Refusal) (a b : Checker) → none ≡ no_parts → LeftOver a b whole (operands_failures s sort none) → Noted a b whole
 sorted_done s sort none whole a b empty left = done (ap (operands_failures s sort) empty) left
@@ -46,7 +46,7 @@ steps_split s place has before m e rest =
 pub steps_more : (s : Scope) (place : Pos) (e : Expr) (m : Bool) (all rest : Parts) (has has2 : Bool) (form form2 : Option Form) (whole : List Refusal) (a b c : Checker) → all ≡ part m e rest → has2 ≡ (has || has_field s e) → form2 ≡ step_form s has form m e
     → Noted b c (step_failures s place has form m e) → LeftOver a b whole (steps_failures s place has form all) → LeftOver a c whole (steps_failures s place has2 form2 rest)
 steps_more s place e m all rest has has2 form form2 whole a b c split has_is form_is noted left =
-    more (λ _. step_failures s place has form m e) (steps_failures s place has2 form2 rest) noted
+    more (steps_failures s place has2 form2 rest) noted
     (ap (steps_failures s place has form) split ∙ steps_split s place has form m e rest ∙ ap₂ (λ h f. step_failures s place has form m e ++ steps_failures s place h f rest) (sym has_is) (sym form_is)) left
 
 pub steps_done : (s : Scope) (place : Pos) (none : Parts) (has : Bool) (form : Option Form) (whole : List Refusal) (a b : Checker) → none ≡ no_parts → LeftOver a b whole (steps_failures s place has form none) → Noted a b whole

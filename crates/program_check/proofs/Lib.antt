@@ -18,5 +18,6 @@ pub mod Stands
 pub mod Standing
 pub mod XParts
 pub mod Numbering
+pub mod Signing
 pub mod Weights
 mod Ranked

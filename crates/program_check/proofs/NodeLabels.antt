@@ -20,7 +20,7 @@ first_label s (f ∷ fields) (suc i) e rest = first_label s fields i e rest
 pub label_more : (s : Scope) (fields : List FieldItem) (i : ℕ) (e : Expr) (all rest : List Expr) (whole : List Refusal) (a b c : Checker) → all ≡ e ∷ rest → Noted b c (label_at s (slice_get fields i) e)
     → LeftOver a b whole (labels_failures s (drop i fields) all) → LeftOver a c whole (labels_failures s (drop (i + 1) fields) rest)
 label_more s fields i e all rest whole a b c split noted left =
-    more (λ _. label_at s (slice_get fields i) e) (labels_failures s (drop (i + 1) fields) rest) noted
+    more (labels_failures s (drop (i + 1) fields) rest) noted
     (ap (labels_failures s (drop i fields)) split ∙ first_label s fields i e rest ∙ ap (λ n. label_at s (slice_get fields i) e ++ labels_failures s (drop n fields) rest) (sym (add-one i))) left
 
 none_left : (s : Scope) (fields : List FieldItem) → labels_failures s fields [] ≡ []

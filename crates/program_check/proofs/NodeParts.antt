@@ -10,22 +10,20 @@ use Rattle.model_checks.specs.Rules.{type_at, scope_of, fields_of, constructor_f
 use Rattle.program_check.specs.Nodes.{node_failures}
 use Rattle.program_check.specs.Notes.{Noted}
 use Rattle.program_check.specs.declared.checker.Checker.{Checker}
-use Rattle.program_check.specs.Contexts.{items_of}
-use Rattle.program_check.proofs.Noting.{then, next, same}
+use Rattle.program_check.proofs.Noting.{next, same}
 
 pub outs_counted : (outs : List code.Out) → length outs ≡ count_outs (plain_outputs outs)
 outs_counted [] = refl
 outs_counted (out ∷ outs) = ap suc (outs_counted outs)
 
-pub node_noted : (from into : Name) (vars : List Name) (name : Name) (labels : List Expr) (outs : Outs) (n : ℕ) (a b c : Checker) → n ≡ count_outs outs
-    → Noted a b (node_failures (items_of a.context) from into name labels n) → Noted b c (outs_failures (items_of b.context) from into vars outs) → Noted a c (out_failures (items_of a.context) from into vars (node name labels outs))
-node_noted from into vars name labels outs n a b c counted one two =
-    let items = items_of a.context in
+pub node_noted : (items : List Item) (from into : Name) (vars : List Name) (name : Name) (labels : List Expr) (outs : Outs) (n : ℕ) (a b c : Checker) → n ≡ count_outs outs
+    → Noted a b (node_failures items from into name labels n) → Noted b c (outs_failures items from into vars outs) → Noted a c (out_failures items from into vars (node name labels outs))
+node_noted items from into vars name labels outs n a b c counted one two =
     let ctor = constructor_failures (type_at items into) name (count_outs outs) in
     let count = label_count_failures (type_at items into) name (length labels) in
     let own = labels_failures (scope_of (type_at items from)) (fields_of (type_at items into)) labels in
     let rest = outs_failures items from into vars outs in
-    same (append_assoc ctor (count ++ own) rest ∙ ap (λ l. ctor ++ l) (append_assoc count own rest)) (then (λ d. outs_failures (items_of d) from into vars outs) (same (ap (node_failures items from into name labels) counted) one) two)
+    same (append_assoc ctor (count ++ own) rest ∙ ap (λ l. ctor ++ l) (append_assoc count own rest)) (next (same (ap (node_failures items from into name labels) counted) one) two)
 
 pub node_made : (items : List Item) (from into : Name) (name : Name) (labels : List Expr) (n m : ℕ) (t : Option TypeItem) (s : Scope) (fields : List FieldItem) (a b c d : Checker)
     → t ≡ type_at items into → s ≡ scope_of (type_at items from) → fields ≡ fields_of t → m ≡ length labels

@@ -1,52 +1,39 @@
 -- Failing conditions that are noted, one list after another.
 use Rattle.std.proofs.Common.{◌≡◌, ℕ, ◌+◌, ◌<◌, List, [], ◌∷◌, ◌++◌, length, map, drop, get_or, Option, refl, sym, ap, ◌∙◌, Bool, true, false, true≢false, subst}
-use Rattle.std.specs.Prelude.{Result, Ok, Err, IfOk, IsOk, MatchResult}
+use Rattle.std.specs.Prelude.{Result, Ok, Err, IfOk, IsOk, MatchResult, Some, None, is_some}
+use Rattle.std.specs.Option.{option_map}
 use Rattle.std.specs.List.{flat_map}
 use Rattle.fast_fault.specs.declared.refusal.Refusal.{Refusal}
 use Rattle.model_checks.specs.Failures.{first_of, first_among}
 use Rattle.fast_syntax.proofs.Appending.{drop_at}
 use Rattle.program_check.specs.declared.checker.Checker.{Checker}
-use Rattle.program_check.specs.declared.context.Context.{Context}
 use Rattle.program_check.specs.Notes.{HasMemory, Noted, Notes, LeftOver, Left}
 
 pub first_among-append : (known : Option Refusal) (xs ys : List Refusal) → first_among known (xs ++ ys) ≡ first_among (first_among known xs) ys
 first_among-append known [] ys = refl
 first_among-append known (x ∷ xs) ys = first_among-append (first_of known x) xs ys
 
--- these and then those, which depend on the program
-pub then : {a b c : Checker} {xs : List Refusal} (ys : Context → List Refusal) → Noted a b xs → Noted b c (ys b.context) → Noted a c (xs ++ ys a.context)
-then {a} {b} {c} {xs} ys one two = record {
-  is = two.is ∙ ap (λ k. first_among k (ys b.context)) one.is ∙ ap (λ d. first_among (first_among a.known xs) (ys d)) one.same ∙ sym (first_among-append a.known xs (ys a.context));
-  same = two.same ∙ one.same;
-  had = one.had;
-}
-
--- these and then those, whatever the program is
+-- these and then those
 pub next : {a b c : Checker} {xs ys : List Refusal} → Noted a b xs → Noted b c ys → Noted a c (xs ++ ys)
 next {a} {b} {c} {xs} {ys} one two = record {
   is = two.is ∙ ap (λ k. first_among k ys) one.is ∙ sym (first_among-append a.known xs ys);
-  same = two.same ∙ one.same;
   had = one.had;
 }
 
 -- none
 pub nothing : (a : Checker) → HasMemory a → Noted a a []
-nothing a h = record { is = refl; same = refl; had = h }
+nothing a h = record { is = refl; had = h }
 
 -- none more
 pub and_none : {a b c : Checker} {xs : List Refusal} → Noted a b xs → Noted b c [] → Noted a c xs
-and_none one two = record { is = two.is ∙ one.is; same = two.same ∙ one.same; had = one.had }
+and_none one two = record { is = two.is ∙ one.is; had = one.had }
 
 pub none_and : {a b c : Checker} {xs : List Refusal} → Noted a b [] → Noted b c xs → Noted a c xs
-none_and {a} {b} {c} {xs} one two = record { is = two.is ∙ ap (λ k. first_among k xs) one.is; same = two.same ∙ one.same; had = one.had }
+none_and {a} {b} {c} {xs} one two = record { is = two.is ∙ ap (λ k. first_among k xs) one.is; had = one.had }
 
 -- the same ones
 pub same : {a b : Checker} {xs ys : List Refusal} → xs ≡ ys → Noted a b xs → Noted a b ys
-same {a} e one = record { is = one.is ∙ ap (first_among a.known) e; same = one.same; had = one.had }
-
--- those of a program that is the same
-pub of_same : {b c : Checker} {d : Context} (ys : Context → List Refusal) → b.context ≡ d → Noted b c (ys b.context) → Noted b c (ys d)
-of_same ys e two = same (ap ys e) two
+same {a} e one = record { is = one.is ∙ ap (first_among a.known) e; had = one.had }
 
 -- unless memory ran out, the same ones, and these and then those
 pub as_same : {a b : Checker} {xs ys : List Refusal} → xs ≡ ys → Notes a b xs → Notes a b ys
@@ -58,6 +45,11 @@ and_next one two h = let last = two h in next (one last.had) last
 -- memory ran out
 pub ran : {A : Type 0} {b : Bool} → b ≡ true → b ≡ false → A
 ran is isnt = absurd (true≢false (sym is ∙ isnt))
+
+-- whether there is something, seen another way
+pub some_mapped : {A B : Type 0} (f : A → B) (o : Option A) → is_some o ≡ is_some (option_map f o)
+some_mapped f None = refl
+some_mapped f (Some x) = refl
 
 -- ---- what was made, unless memory ran out
 
@@ -75,30 +67,25 @@ either_way (Err e) one other made = other made
 -- ---- one after another
 
 pub at_first : (a : Checker) (all : List Refusal) → Left a a all all
-at_first a all h = record { is = refl; same = refl; had = h }
+at_first a all h = record { is = refl; had = h }
 
-pub more : {a b c : Checker} {all left : List Refusal} (xs : Context → List Refusal) (rest : List Refusal) → Noted b c (xs b.context) → left ≡ xs a.context ++ rest → LeftOver a b all left → LeftOver a c all rest
-more {a} {b} {c} {all} {left} xs rest one split so_far = record {
-  is = ap (λ k. first_among k rest) (one.is ∙ ap (λ d. first_among b.known (xs d)) so_far.same) ∙ sym (first_among-append b.known (xs a.context) rest) ∙ ap (first_among b.known) (sym split) ∙ so_far.is;
-  same = one.same ∙ so_far.same;
+pub more : {a b c : Checker} {all left xs : List Refusal} (rest : List Refusal) → Noted b c xs → left ≡ xs ++ rest → LeftOver a b all left → LeftOver a c all rest
+more {a} {b} {c} {all} {left} {xs} rest one split so_far = record {
+  is = ap (λ k. first_among k rest) one.is ∙ sym (first_among-append b.known xs rest) ∙ ap (first_among b.known) (sym split) ∙ so_far.is;
   had = so_far.had;
 }
 
 -- what is left of what was left
-pub left_then : {a b c : Checker} {all : List Refusal} (mid rest : Context → List Refusal) → LeftOver b c (mid b.context) (rest b.context) → LeftOver a b all (mid a.context) → LeftOver a c all (rest a.context)
-left_then {a} {b} {c} {all} mid rest one so_far = record {
-  is = ap (λ d. first_among c.known (rest d)) (sym so_far.same) ∙ one.is ∙ ap (λ d. first_among b.known (mid d)) so_far.same ∙ so_far.is;
-  same = one.same ∙ so_far.same;
-  had = so_far.had;
-}
+pub left_then : {a b c : Checker} {all mid rest : List Refusal} → LeftOver b c mid rest → LeftOver a b all mid → LeftOver a c all rest
+left_then one so_far = record { is = one.is ∙ so_far.is; had = so_far.had }
 
 -- these, before what is left
 pub left_by : {a b : Checker} {all xs : List Refusal} (rest : List Refusal) → all ≡ xs ++ rest → Noted a b xs → LeftOver a b all rest
-left_by {a} {b} {all} {xs} rest split one = more (λ _. xs) rest one split (at_first a all one.had)
+left_by {a} {b} {all} {xs} rest split one = more rest one split (at_first a all one.had)
 
 -- nothing is left
 pub done : {a b : Checker} {all none : List Refusal} → none ≡ [] → LeftOver a b all none → Noted a b all
-done {a} {b} empty so_far = record { is = ap (first_among b.known) (sym empty) ∙ so_far.is; same = so_far.same; had = so_far.had }
+done {a} {b} empty so_far = record { is = ap (first_among b.known) (sym empty) ∙ so_far.is; had = so_far.had }
 
 -- one more element of a list
 pub one_of : {A B : Type 0} (f : B → List Refusal) (plain : A → B) (xs : List A) (i : ℕ) (x : A) → i < length xs → x ≡ get_or xs i x → flat_map f (map plain (drop i xs)) ≡ f (plain x) ++ flat_map f (map plain (drop (i + 1) xs))

@@ -52,7 +52,7 @@ one_more_of : {A : Type 0} (f : A → Name) (code : Code) (all : List A) (i : �
 one_more_of f code all i x start a b old new low is noted adds so_far =
     let before : map f (take (i + 1) all) ≡ map f (take i all) ++ f x ∷ [] = ap (map f) (take_at all i x low is) ∙ map-append f (take i all) (x ∷ []) in
     record {
-      noted = more (λ _. fails_if (is_some (place_in old (f x).text)) code (f x).place) (repeated_behind code (map f (take (i + 1) all)) (map f (drop (i + 1) all))) noted
+      noted = more (repeated_behind code (map f (take (i + 1) all)) (map f (drop (i + 1) all))) noted
           (ap (λ xs. repeated_behind code (map f (take i all)) (map f xs)) (drop_at all i x low is)
           ∙ ap₂ (λ b xs. fails_if b code (f x).place ++ repeated_behind code xs (map f (drop (i + 1) all))) (sym (ap is_some (so_far.there (f x).text) ∙ placed_among (map f (take i all)) (f x).text)) (sym before)) so_far.noted;
       there = λ text. places_more (map f (take i all)) (f x) old new i (length-map (take i all) f ∙ length_taken all i (omega (arith, low))) adds so_far.there text ∙ ap (λ names. name_place names text) (sym before);

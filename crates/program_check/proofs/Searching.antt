@@ -1,16 +1,15 @@
 -- What is found by its number, and what a rule is made of.
-use Rattle.std.proofs.Common.{◌≡◌, Bool, true, false, cond, List, [], ◌∷◌, Option, Some, None, length, refl, sym, ap, ap₂, ◌∙◌, suc, find}
+use Rattle.std.proofs.Common.{◌≡◌, ℕ, Bool, true, false, cond, List, [], ◌∷◌, Option, Some, None, length, refl, sym, ap, ap₂, ◌∙◌, suc, find}
 use Rattle.std.specs.Prelude.{MatchOption, slice_get}
 use Rattle.std.specs.Option.{option_map, option_and_then}
 use Rattle.std.specs.List.{flat_map}
 use Rattle.fast_fault.specs.declared.code.Code.TheVariants.{DuplicateVariable}
 use Rattle.model_program.specs.Syntax.{Name, TypeItem}
-use Rattle.model_grammar.specs.Syntax.{Rule}
+use Rattle.model_grammar.specs.Syntax.{Rule, Item}
 use Rattle.model_checks.specs.Sorts.{Scope}
 use Rattle.model_checks.specs.Types.{repeated}
 use Rattle.model_checks.specs.Rules.{constructor_failures, scope_of, guard_failures, type_at, demand_failures, rule_failures}
 use Rattle.program_check.specs.declared.checker.Checker.{Checker}
-use Rattle.program_check.specs.Contexts.{items_of}
 use Rattle.program_check.specs.Notes.{Noted}
 use Rattle.program_check.specs.Numbered.{place_by}
 use Rattle.program_check.proofs.Found.{at_next}
@@ -30,9 +29,9 @@ pub either_way : {A B : Type 0} (f : A → B) (r : Option A) (o : Option B) → 
 either_way f None o e = sym e
 either_way f (Some x) o e = sym e
 
-pub rule_noted : (of : Name) (r : Rule) (t : Option TypeItem) (s : Scope) (vars : List Name) (a b c d e : Checker) → t ≡ type_at (items_of a.context) of → s ≡ scope_of t → vars ≡ r.vars
-    → Noted a b (constructor_failures t r.ctor (length r.vars)) → Noted b c (repeated DuplicateVariable r.vars) → Noted c d (guard_failures s r.guard) → Noted d e (flat_map (demand_failures (items_of d.context) of vars) r.given) → Noted a e (rule_failures (items_of a.context) of r)
-rule_noted of r t s vars a b c d e t_is s_is vars_are one two three four =
-    next (same (ap (λ o. constructor_failures o r.ctor (length r.vars)) t_is) one)
+pub rule_noted : (items : List Item) (of : Name) (r : Rule) (t : Option TypeItem) (s : Scope) (vars : List Name) (n : ℕ) (a b c d e : Checker) → t ≡ type_at items of → s ≡ scope_of t → vars ≡ r.vars → n ≡ length r.vars
+    → Noted a b (constructor_failures t r.ctor n) → Noted b c (repeated DuplicateVariable r.vars) → Noted c d (guard_failures s r.guard) → Noted d e (flat_map (demand_failures items of vars) r.given) → Noted a e (rule_failures items of r)
+rule_noted items of r t s vars n a b c d e t_is s_is vars_are many one two three four =
+    next (same (ap₂ (λ o m. constructor_failures o r.ctor m) t_is many) one)
     (next two (next (same (ap (λ x. guard_failures x r.guard) (s_is ∙ ap scope_of t_is)) three)
-    (same (ap₂ (λ c vs. flat_map (demand_failures (items_of c) of vs) r.given) (three.same ∙ two.same ∙ one.same) vars_are) four)))
+    (same (ap (λ vs. flat_map (demand_failures items of vs) r.given) vars_are) four)))

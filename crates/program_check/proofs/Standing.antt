@@ -1,7 +1,8 @@
 -- What operations stand for.
-use Rattle.std.proofs.Common.{◌≡◌, ℕ, Bool, true, false, cond, List, Option, Some, None, refl, ap, ap₂, ◌∙◌}
+use Rattle.std.proofs.Common.{◌≡◌, ℕ, Bool, true, false, cond, List, ◌++◌, Option, Some, None, refl, ap, ap₂, ◌∙◌}
 use Rattle.std.specs.Borrow.{Bor}
 use Rattle.std.specs.Option.{option_map}
+use Rattle.fast_fault.specs.declared.code.Code.TheVariants.{WrongKind, WrongType}
 use Rattle.fast_fault.specs.declared.place.Pos.{Pos}
 use Rattle.model_grammar.specs.declared.Op1.{Op1}
 use Rattle.model_grammar.specs.declared.Op1.TheVariants.{Complement, Minimize, GetWitness, Domain}
@@ -10,12 +11,14 @@ use Rattle.model_grammar.specs.declared.Op2.TheVariants.{Intersect, Union, Diffe
 use Rattle.model_grammar.specs.Syntax.{X, one, two, Item}
 use Rattle.model_names.specs.Kinds.{same_kind, if_kind, taken_by_one, kind_of, type_of, output_of}
 use Rattle.model_names.specs.Kinds as model
-use Rattle.model_checks.specs.Expressions.{wanted_second}
+use Rattle.model_checks.specs.Failures.{fails_if}
+use Rattle.model_checks.specs.Rules.{differ}
+use Rattle.model_checks.specs.Expressions.{place_of_x, is_other_kind, needs_be, wanted_second}
 use Rattle.program_check.specs.declared.expressions.Kind.{Kind}
 use Rattle.program_check.specs.declared.expressions.Kind.TheVariants.{Language, Transformation}
 use Rattle.program_check.specs.declared.expressions.Standing.{Standing}
 use Rattle.program_check.specs.Typed.{type_name}
-use Rattle.program_check.specs.Standings.{plain_kind, IsStanding, only_as, kind_taken, second_wanted, standing_of_one, standing_of_two}
+use Rattle.program_check.specs.Standings.{plain_kind, IsStanding, only_as, be_failures, kind_taken, second_wanted, standing_of_one, standing_of_two}
 
 pub kind_is : (op : Op1) → plain_kind (kind_taken op) ≡ taken_by_one op
 kind_is Complement = refl
@@ -36,6 +39,12 @@ pub only_is : (k : Kind) (known : Option Kind) (t : Option (Bor (List ℕ))) (ki
 only_is k known t kind name kind_is name_is = only_name k known t ∙ ap₂ (λ o n. if_kind (plain_kind k) o n) kind_is name_is
 
 module _ (items before : List Item) where
+  -- what isn't of this type and this kind
+  pub be_is : (type : Option (List ℕ)) (k : Kind) (x : X) (place : Pos) (s : Standing) → IsStanding items x s → place ≡ place_of_x x → be_failures type k place s ≡ needs_be items before type (plain_kind k) x
+  be_is type k x place s h at =
+      ap₂ (λ a b. a ++ b) (ap₂ (λ o p. fails_if (is_other_kind (plain_kind k) o) WrongKind p) h.kind at)
+      (ap₂ (λ n p. fails_if (differ type n) WrongType p) (only_is k s.kind s.input _ _ h.kind h.input) at)
+
   pub one_stands : (op : Op1) (place : Pos) (x : X) (s : Standing) → IsStanding items x s → IsStanding items (one op place x) (standing_of_one op s)
   one_stands op place x s h = record {
     kind = given op;

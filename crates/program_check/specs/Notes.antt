@@ -8,10 +8,9 @@ use Rattle.program_check.specs.declared.checker.Checker.{Checker}
 abbrev pub HasMemory : Checker → Type 0
 HasMemory c = c.ran_out ≡ false
 
--- what is noted now is the first of what was noted before and of these, and the program is the same
+-- what is noted now is the first of what was noted before and of these
 pub record Noted (old new : Checker) (failures : List Refusal) : Type 0 where
   pub is : new.known ≡ first_among old.known failures
-  pub same : new.context ≡ old.context
   pub had : HasMemory old
 
 -- unless memory ran out, these are noted
@@ -21,7 +20,6 @@ Notes old new failures = HasMemory new → Noted old new failures
 -- of all that is to be noted this is left
 pub record LeftOver (start now : Checker) (all rest : List Refusal) : Type 0 where
   pub is : first_among now.known rest ≡ first_among start.known all
-  pub same : now.context ≡ start.context
   pub had : HasMemory start
 
 -- unless memory ran out, this is left

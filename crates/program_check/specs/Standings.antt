@@ -2,6 +2,8 @@
 use Rattle.std.specs.Prelude.{◌≡◌, ℕ, ◌++◌, List, [], Option, Some, None, cond, length}
 use Rattle.std.specs.Borrow.{Bor}
 use Rattle.std.specs.Option.{option_map}
+use Rattle.fast_fault.specs.declared.code.Code.TheVariants.{WrongKind, WrongType}
+use Rattle.fast_fault.specs.declared.place.Pos.{Pos}
 use Rattle.fast_fault.specs.declared.refusal.Refusal.{Refusal}
 use Rattle.model_program.specs.Syntax.{Name}
 use Rattle.model_program.specs.Syntax as model
@@ -13,9 +15,10 @@ use Rattle.model_grammar.specs.declared.Op2.{Op2}
 use Rattle.model_grammar.specs.declared.Op2.TheVariants.{Intersect, Union, Difference, PreImage, Compose, Restrict, RestrictOut, Apply}
 use Rattle.model_names.specs.Kinds.{language, transformation, a_tree, same_kind, kind_of, type_of, output_of}
 use Rattle.model_names.specs.Kinds as model_kinds
+use Rattle.model_checks.specs.Failures.{fails_if}
 use Rattle.model_checks.specs.Labels.{labels_failures}
-use Rattle.model_checks.specs.Rules.{constructor_failures, label_count_failures, fields_of}
-use Rattle.model_checks.specs.Expressions.{expected_as, needs_be, x_failures}
+use Rattle.model_checks.specs.Rules.{constructor_failures, label_count_failures, fields_of, differ}
+use Rattle.model_checks.specs.Expressions.{expected_as, is_other_kind, needs_be, type_as, whole_failures, x_failures}
 use Rattle.program_check.specs.declared.expressions.Kind.{Kind}
 use Rattle.program_check.specs.declared.expressions.Kind.TheVariants.{Language, Transformation, Tree}
 use Rattle.program_check.specs.declared.expressions.Standing.{Standing}
@@ -40,6 +43,16 @@ only_as kind (Some found) name = cond (same_kind (plain_kind found) (plain_kind 
 -- an expression, inside so many operations, that is to be of this type and this kind
 abbrev pub as_failures : List Item → List Item → ℕ → Option (List ℕ) → model_kinds.Kind → X → List Refusal
 as_failures items before around type kind x = x_failures items before around (expected_as kind type) x ++ needs_be items before type kind x
+
+-- what stands for this isn't of this type and this kind
+abbrev pub be_failures : Option (List ℕ) → Kind → Pos → Standing → List Refusal
+be_failures type kind place s =
+    fails_if (is_other_kind (plain_kind kind) (option_map plain_kind s.kind)) WrongKind place
+    ++ fails_if (differ type (type_name (only_as kind s.kind s.input))) WrongType place
+
+-- a language, and what is to be of this kind and of the type of its trees
+abbrev pub beside_failures : List Item → List Item → X → model_kinds.Kind → X → List Refusal
+beside_failures items before y kind x = whole_failures items before None language y ++ whole_failures items before (type_as items before language y) kind x
 
 -- the constructor of a literal of this type, with its labels
 abbrev pub literal_failures : Option model.TypeItem → Name → List plain.Expr → ℕ → List Refusal

@@ -1,27 +1,25 @@
 //! What goes through a program: it keeps the first failing condition of those that it noted, in whatever order they were
-//! found.
+//! found. The program itself is passed beside it, where a condition speaks of it.
 
 ghost use Rattle.std.specs.Prelude.{◌≡◌, None, Some, IsOk, []};
 ghost use Rattle.model_checks.specs.Failures.{failure, fails_if, goes_before};
 ghost use Rattle.program_check.specs.Notes.{HasMemory, Notes};
 
-use crate::context::Context;
 use fast_fault::{Code, Memory, Pos, Refusal};
 use std::alloc::Global;
 
-/// The failing condition that goes before all others that were noted, where some were, and the program.
+/// The failing condition that goes before all others that were noted, where some were.
 ///
 /// It keeps in mind that memory ran out, so that no method has to say so: the check goes on to its end, and its caller asks.
 #[derive(Drop)]
-pub(crate) struct Checker<'p> {
+pub(crate) struct Checker {
     pub(crate) known: Option<Refusal>,
     /// Whether memory ran out. From then on what is noted says nothing.
     pub(crate) ran_out: bool,
     pub(crate) alloc: Global,
-    pub(crate) context: Context<'p>,
 }
 
-impl Checker<'_> {
+impl Checker {
     /// The condition of this code fails at this place.
     pub(crate) fn note(&mut self, code: Code, place: Pos)
         ensures { Notes self.old self.new (failure code place) }

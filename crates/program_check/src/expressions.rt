@@ -11,12 +11,12 @@ ghost use Rattle.model_names.specs.Kinds.{taken_by_one, given_by_one, taken_firs
 ghost use Rattle.fast_syntax.specs.View.{plain_name, plain_field, plain_type};
 ghost use Rattle.fast_syntax.specs.Plain.{plain_expr, plain_x, plain_item, plain_into};
 ghost use Rattle.fast_syntax.specs.Slices.{plain_children};
-ghost use Rattle.model_checks.specs.Expressions.{place_of_x, is_other_kind, is_known_later, expected_as, nesting_failures, name_failures, needs_kind, needs_type, needs_be, x_failures, xs_failures};
+ghost use Rattle.model_checks.specs.Expressions.{place_of_x, is_other_kind, is_known_later, expected_as, nesting_failures, name_failures, x_failures, xs_failures};
 ghost use Rattle.program_check.specs.Notes.{HasMemory, Notes, Left};
 ghost use Rattle.program_check.specs.Typed.{type_name};
 ghost use Rattle.program_check.specs.Contexts.{items_of, before_of};
 ghost use Rattle.program_check.specs.Waiting.{plain_waiting, weight, weights};
-ghost use Rattle.program_check.specs.Standings.{plain_kind, IsStanding, only_as, as_failures, input_of_two, output_of_two, second_wanted, kind_taken, kind_given, kind_given_by_two, standing_of_one, standing_of_two, literal_failures};
+ghost use Rattle.program_check.specs.Standings.{plain_kind, IsStanding, only_as, as_failures, input_of_two, output_of_two, second_wanted, be_failures, kind_taken, kind_given, kind_given_by_two, standing_of_one, standing_of_two, literal_failures};
 
 use crate::checker::Checker;
 use crate::context::Context;
@@ -139,18 +139,6 @@ fn expected_as<'p>(kind: Kind, of: Option<&'p Text>) -> Option<&'p Text>
     match kind {
         Kind::Language | Kind::Transformation => None,
         Kind::Tree => of,
-    }
-}
-
-/// One operation more around; where there are too many already, it doesn't matter how many.
-fn deeper(around: usize) -> usize
-    ensures few { around < most_around → result ≡ around + 1 }
-    ensures many { most_around ≤ around → result ≡ around }
-{
-    if around < MOST_AROUND {
-        around + 1
-    } else {
-        around
     }
 }
 
@@ -310,33 +298,35 @@ fn standing_of_nothing<'p>(context: &Context<'p>, name: &Name) -> Standing<'p>
     }
 }
 
-impl<'p> Checker<'p> {
-    /// The expression is of this kind and the type of this name.
-    fn check_be(&mut self, of: Option<&Text>, kind: Kind, x: &X, standing: &Standing)
-        requires { HasMemory self.old → IsStanding (items_of self.old.context) (plain_x x.now) standing.now }
-        ensures { Notes self.old self.new (needs_be (items_of self.old.context) (before_of self.old.context) (type_name of.entry) (plain_kind kind) (plain_x x.now)) }
+impl Checker {
+    /// The expression at this place, which stands for this, is of this kind and the type of this name.
+    fn check_be(&mut self, of: Option<&Text>, kind: Kind, place: Pos, standing: &Standing)
+        ensures { Notes self.old self.new (be_failures (type_name of.entry) kind place standing.now) }
     {
-        let place = place_of(x);
         self.note_if(is_other_kind(kind, standing.kind), Code::WrongKind, place);
         let found = only_as(kind, standing.kind, standing.input);
         self.note_if(differ(of, found), Code::WrongType, place);
     }
 
-    /// An operation isn't inside too many others. How many are around its operands comes back.
+    /// An operation isn't inside too many others. How many are around its operands comes back: one more, unless there are too
+    /// many already.
     fn check_nested(&mut self, around: usize, place: Pos) -> usize
         ensures noted { Notes self.old self.new (nesting_failures around place) }
         ensures few { around < most_around → result ≡ around + 1 }
         ensures many { most_around ≤ around → result ≡ around }
     {
-        self.note_if(around >= MOST_AROUND, Code::TooMany, place);
-        deeper(around)
+        if around < MOST_AROUND {
+            return around + 1;
+        }
+        self.note(Code::TooMany, place);
+        around
     }
 
     /// A name of a definition or a tree is known from the next item on.
-    fn check_known(&mut self, name: &Name, item: &Item)
-        ensures { Notes self.old self.new (fails_if (is_known_later (plain_item item.now).body && not (is_some (find_item (before_of self.old.context) name.now.text))) code.UsedTooEarly name.now.place) }
+    fn check_known(&mut self, context: &Context, name: &Name, item: &Item)
+        ensures { Notes self.old self.new (fails_if (is_known_later (plain_item item.now).body && not (is_some (find_item (before_of context.now) name.now.text))) code.UsedTooEarly name.now.place) }
     {
-        let known = self.context.has_item_before(&name.text);
+        let known = context.has_item_before(&name.text);
         self.note_if(
             both(is_known_later(item), !known),
             Code::UsedTooEarly,
@@ -344,19 +334,19 @@ impl<'p> Checker<'p> {
         );
     }
 
-    fn check_word(&mut self, name: &Name) -> Standing<'p>
-        ensures noted { Notes self.old self.new (name_failures (items_of self.old.context) (before_of self.old.context) (plain_name name.now)) }
-        ensures standing { IsStanding (items_of self.old.context) (plain.named (plain_name name.now)) result }
+    fn check_word<'p>(&mut self, context: &Context<'p>, name: &Name) -> Standing<'p>
+        ensures noted { Notes self.old self.new (name_failures (items_of context.now) (before_of context.now) (plain_name name.now)) }
+        ensures standing { IsStanding (items_of context.now) (plain.named (plain_name name.now)) result }
     {
-        let found = self.context.find_item(&name.text);
+        let found = context.find_item(&name.text);
         match found {
             Some(item) => {
-                let standing = standing_of(&self.context, name, item);
-                self.check_known(name, item);
+                let standing = standing_of(context, name, item);
+                self.check_known(context, name, item);
                 standing
             }
             None => {
-                let standing = standing_of_nothing(&self.context, name);
+                let standing = standing_of_nothing(context, name);
                 self.note(Code::UnknownName, name.place);
                 standing
             }
@@ -364,10 +354,17 @@ impl<'p> Checker<'p> {
     }
 
     /// The constructor of a literal of this type, and its labels, which have no names of fields.
-    fn check_literal(&mut self, expected: Option<&Text>, name: &Name, labels: &[Expr], count: usize)
-        ensures { Notes self.old self.new (literal_failures (option_and_then (find_type (items_of self.old.context)) (type_name expected.entry)) (plain_name name.now) (map plain_expr labels.now) count) }
+    fn check_literal(
+        &mut self,
+        context: &Context,
+        expected: Option<&Text>,
+        name: &Name,
+        labels: &[Expr],
+        count: usize,
+    )
+        ensures { Notes self.old self.new (literal_failures (option_and_then (find_type (items_of context.now)) (type_name expected.entry)) (plain_name name.now) (map plain_expr labels.now) count) }
     {
-        let of = self.context.type_called(expected);
+        let of = context.type_called(expected);
         self.check_constructor(&of, name, count);
         self.check_label_count(&of, name, labels.len());
         let scope = Scope { fields: Some(&[]) };
@@ -377,35 +374,36 @@ impl<'p> Checker<'p> {
     /// Notes what fails in an expression inside so many operations, and tells what it stands for. A literal has the type
     /// that is expected of it.
     #[cycle(check_x)]
-    pub(crate) fn check_x(
+    pub(crate) fn check_x<'p>(
         &mut self,
+        context: &Context<'p>,
         around: usize,
         expected: Option<&'p Text>,
         x: &X,
     ) -> Standing<'p>
-        ensures noted { Notes self.old self.new (x_failures (items_of self.old.context) (before_of self.old.context) around (type_name expected.entry) (plain_x x.now)) }
-        ensures standing { HasMemory self.new → IsStanding (items_of self.old.context) (plain_x x.now) result }
+        ensures noted { Notes self.old self.new (x_failures (items_of context.now) (before_of context.now) around (type_name expected.entry) (plain_x x.now)) }
+        ensures standing { HasMemory self.new → IsStanding (items_of context.now) (plain_x x.now) result }
     {
         match x {
-            X::Named(name) => self.check_word(name),
+            X::Named(name) => self.check_word(context, name),
             X::One(op, place, inside) => {
                 let deep = self.check_nested(around, *place);
                 let kind = taken_by_one(*op);
-                let operand = self.check_as(deep, None, kind, inside);
+                let operand = self.check_as(context, deep, None, kind, inside);
                 of_one(*op, &operand)
             }
             X::Two(op, place, first, second) => {
                 let deep = self.check_nested(around, *place);
                 let kind = taken_first(*op);
-                let left = self.check_as(deep, None, kind, first);
+                let left = self.check_as(context, deep, None, kind, first);
                 let wanted = wanted_second(*op, &left);
                 let kind = taken_second(*op);
-                let right = self.check_as(deep, wanted, kind, second);
+                let right = self.check_as(context, deep, wanted, kind, second);
                 of_two(*op, &left, &right)
             }
             X::Literal(name, labels, children) => {
-                self.check_literal(expected, name, labels, children.len());
-                self.check_children(around, expected, children);
+                self.check_literal(context, expected, name, labels, children.len());
+                self.check_children(context, around, expected, children);
                 Standing {
                     kind: Some(Kind::Tree),
                     input: None,
@@ -417,50 +415,58 @@ impl<'p> Checker<'p> {
 
     /// An expression, inside so many operations, that is to be of this kind and this type.
     #[cycle(check_x)]
-    pub(crate) fn check_as(
+    pub(crate) fn check_as<'p>(
         &mut self,
+        context: &Context<'p>,
         around: usize,
         of: Option<&'p Text>,
         kind: Kind,
         x: &X,
     ) -> Standing<'p>
-        ensures noted { Notes self.old self.new (as_failures (items_of self.old.context) (before_of self.old.context) around (type_name of.entry) (plain_kind kind) (plain_x x.now)) }
-        ensures standing { HasMemory self.new → IsStanding (items_of self.old.context) (plain_x x.now) result }
+        ensures noted { Notes self.old self.new (as_failures (items_of context.now) (before_of context.now) around (type_name of.entry) (plain_kind kind) (plain_x x.now)) }
+        ensures standing { HasMemory self.new → IsStanding (items_of context.now) (plain_x x.now) result }
     {
         let expected = expected_as(kind, of);
-        let standing = self.check_x(around, expected, x);
-        self.check_be(of, kind, x, &standing);
+        let standing = self.check_x(context, around, expected, x);
+        self.check_be(of, kind, place_of(x), &standing);
         standing
     }
 
     /// The children of a literal of this type, and those of the literals in it.
     #[cycle(check_x)]
-    fn check_children(&mut self, around: usize, expected: Option<&'p Text>, children: &[X])
-        ensures { Notes self.old self.new (xs_failures (items_of self.old.context) (before_of self.old.context) around (type_name expected.entry) (plain_children children.now)) }
+    fn check_children<'p>(
+        &mut self,
+        context: &Context<'p>,
+        around: usize,
+        expected: Option<&'p Text>,
+        children: &[X],
+    )
+        ensures { Notes self.old self.new (xs_failures (items_of context.now) (before_of context.now) around (type_name expected.entry) (plain_children children.now)) }
     {
         let mut waiting = Waiting::new(self.alloc, children);
         'children: while let Some(child) = waiting.next() {
-            self.check_next_child(around, expected, child, &mut waiting);
+            self.check_next_child(context, around, expected, child, &mut waiting);
         }
     }
 
     /// A child of a literal of this type. Where it is a literal, its own children wait.
     #[cycle(check_x)]
-    fn check_next_child<'x>(
+    fn check_next_child<'p, 'x>(
         &mut self,
+        context: &Context<'p>,
         around: usize,
         expected: Option<&'p Text>,
         child: &'x X,
         waiting: &mut Waiting<'x>,
     )
-        ensures noted { Left self.old self.new (xs_failures (items_of self.old.context) (before_of self.old.context) around (type_name expected.entry) (plain.and_x (plain_x child.now) (plain_waiting waiting.old))) (xs_failures (items_of self.old.context) (before_of self.old.context) around (type_name expected.entry) (plain_waiting waiting.new)) }
+        ensures noted { Left self.old self.new (xs_failures (items_of context.now) (before_of context.now) around (type_name expected.entry) (plain.and_x (plain_x child.now) (plain_waiting waiting.old))) (xs_failures (items_of context.now) (before_of context.now) around (type_name expected.entry) (plain_waiting waiting.new)) }
         ensures less { weights (plain_waiting waiting.new) < weight (plain_x child.now) + weights (plain_waiting waiting.old) }
     {
         let X::Literal(name, labels, children) = child else {
-            self.check_as(around, expected, Kind::Tree, child);
+            self.check_as(context, around, expected, Kind::Tree, child);
             return;
         };
-        self.check_literal(expected, name, labels, children.len());
+        self.check_literal(context, expected, name, labels, children.len());
         let added = waiting.add(children);
         self.note_want(added);
     }

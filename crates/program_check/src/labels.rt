@@ -256,7 +256,7 @@ fn remainder(
     }
 }
 
-impl Checker<'_> {
+impl Checker {
     /// The form that was made, or none where memory ran out, which is kept in mind.
     fn take_form(&mut self, made: Result<Option<Form>, Memory>) -> Option<Form>
         ensures noted { Notes self.old self.new [] }
@@ -430,16 +430,6 @@ impl Checker<'_> {
         self.keep(made, place)
     }
 
-    /// A step of a product by a factor.
-    fn check_factor(&mut self, before: &Factor, factor: &Known, place: Pos) -> Option<Form>
-        ensures noted { Notes self.old self.new (multiplied place before.now.has_field before.now.form factor.now.has_field factor.now.form) }
-        ensures form { HasMemory self.new → result ≡ kept (product_of before.now.has_field before.now.form factor.now.has_field factor.now.form) }
-    {
-        let both = both(before.has_field, factor.has_field);
-        self.note_if(both, Code::NotLinear, place);
-        self.multiply(before, factor, place)
-    }
-
     /// A step of a product to a remainder.
     #[tactic(auto, using(crate::proofs::Places::place_is))]
     fn check_remainder(&mut self, before: Factor, e: &Expr) -> Option<Form>
@@ -466,7 +456,9 @@ impl Checker<'_> {
         if part.remainder {
             self.check_remainder(before, &part.part)
         } else {
-            self.check_factor(&before, known, place)
+            let both = both(before.has_field, known.has_field);
+            self.note_if(both, Code::NotLinear, place);
+            self.multiply(&before, known, place)
         }
     }
 

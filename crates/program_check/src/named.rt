@@ -52,7 +52,7 @@ impl Named for CtorItem {
     }
 }
 
-impl Checker<'_> {
+impl Checker {
     /// Notes a name that is there already, and adds it otherwise.
     fn add_name(&mut self, code: Code, names: &mut Names, name: &Name, place: usize)
         ensures noted { Notes self.old self.new (fails_if (is_some (place_in names.old name.now.text)) code name.now.place) }

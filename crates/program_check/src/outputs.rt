@@ -16,8 +16,9 @@ ghost use Rattle.program_check.specs.Typed.{plain_option};
 ghost use Rattle.program_check.specs.Nodes.{field_at, label_at, node_failures};
 
 use crate::checker::Checker;
+use crate::context::Context;
 use crate::declared_type::DeclaredType;
-use crate::labels::{Scope, Side, differ_in_sort};
+use crate::labels::{Scope, differ_in_sort};
 use crate::rules::{Between, scope_of, types_differ};
 use crate::types::sort_named;
 use crate::vars::Vars;
@@ -36,27 +37,16 @@ pub(crate) fn fields_of<'p>(of: &Option<DeclaredType<'p>>) -> &'p [FieldItem]
     }
 }
 
-impl Checker<'_> {
-    /// A label is of its field's sort.
-    fn check_field_sort(&mut self, field: &FieldItem, label: Side)
-        ensures { Notes self.old self.new (field_sort_failures (plain_field field.now) label) }
-    {
-        let sort = sort_named(&field.sort.text);
-        self.note_if(
-            differ_in_sort(sort, label.sort),
-            Code::WrongSort,
-            label.place,
-        );
-    }
-
+impl Checker {
     /// The label of this number.
     fn check_label_at(&mut self, scope: &Scope, fields: &[FieldItem], number: usize, e: &Expr)
         ensures { Notes self.old self.new (label_at (plain_scope scope.now) (field_at (map plain_field fields.now) number) (plain_expr e.now)) }
     {
-        let known = self.check_label(scope, e);
+        let label = self.check_label(scope, e).side(e.place);
         if number < fields.len() {
-            self.check_field_sort(&fields[number], known.side(e.place));
-            return;
+            let sort = sort_named(&fields[number].sort.text);
+            let differ = differ_in_sort(sort, label.sort);
+            self.note_if(differ, Code::WrongSort, label.place);
         }
     }
 
@@ -70,66 +60,80 @@ impl Checker<'_> {
     }
 
     /// A child that is given as it is: the types of inputs and outputs are the same.
-    fn check_child(&mut self, types: &Between, vars: &Vars, name: &Name)
-        ensures { Notes self.old self.new (out_failures (items_of self.old.context) (plain_name types.now.from.now) (plain_name types.now.into.now) (map plain_name vars.now.all.now) (plain.child (plain_name name.now))) }
+    fn check_child(&mut self, context: &Context, types: &Between, vars: &Vars, name: &Name)
+        ensures { Notes self.old self.new (out_failures (items_of context.now) (plain_name types.now.from.now) (plain_name types.now.into.now) (map plain_name vars.now.all.now) (plain.child (plain_name name.now))) }
     {
-        let differ = types_differ(&self.context, types.from, types.into);
+        let differ = types_differ(context, types.from, types.into);
         self.check_variable(vars, name);
         self.note_if(differ, Code::WrongType, name.place);
     }
 
     /// A call of a transformation for a child.
-    fn check_call(&mut self, types: &Between, vars: &Vars, name: &Name, child: &Name)
-        ensures { Notes self.old self.new (out_failures (items_of self.old.context) (plain_name types.now.from.now) (plain_name types.now.into.now) (map plain_name vars.now.all.now) (plain.call (plain_name name.now) (plain_name child.now))) }
+    fn check_call(
+        &mut self,
+        context: &Context,
+        types: &Between,
+        vars: &Vars,
+        name: &Name,
+        child: &Name,
+    )
+        ensures { Notes self.old self.new (out_failures (items_of context.now) (plain_name types.now.from.now) (plain_name types.now.into.now) (map plain_name vars.now.all.now) (plain.call (plain_name name.now) (plain_name child.now))) }
     {
-        self.check_transformation(types, name);
+        self.check_transformation(context, types, name);
         self.check_variable(vars, child);
     }
 
     /// An output term of a rule between these types.
     #[cycle(check_out)]
-    fn check_out(&mut self, types: &Between, vars: &Vars, out: &Out)
-        ensures { Notes self.old self.new (out_failures (items_of self.old.context) (plain_name types.now.from.now) (plain_name types.now.into.now) (map plain_name vars.now.all.now) (plain_out out.now)) }
+    fn check_out(&mut self, context: &Context, types: &Between, vars: &Vars, out: &Out)
+        ensures { Notes self.old self.new (out_failures (items_of context.now) (plain_name types.now.from.now) (plain_name types.now.into.now) (map plain_name vars.now.all.now) (plain_out out.now)) }
     {
         match out {
             Out::Child(name) => {
-                self.check_child(types, vars, name);
+                self.check_child(context, types, vars, name);
             }
             Out::Call(name, child) => {
-                self.check_call(types, vars, name, child);
+                self.check_call(context, types, vars, name, child);
             }
             Out::Node(name, labels, outs) => {
-                self.check_node(types, name, labels, outs.len());
-                self.check_outs(types, vars, outs)
+                self.check_node(context, types, name, labels, outs.len());
+                self.check_outs(context, types, vars, outs)
             }
         }
     }
 
     #[cycle(check_out)]
-    fn check_outs(&mut self, types: &Between, vars: &Vars, outs: &[Out])
-        ensures { Notes self.old self.new (outs_failures (items_of self.old.context) (plain_name types.now.from.now) (plain_name types.now.into.now) (map plain_name vars.now.all.now) (plain_outputs outs.now)) }
+    fn check_outs(&mut self, context: &Context, types: &Between, vars: &Vars, outs: &[Out])
+        ensures { Notes self.old self.new (outs_failures (items_of context.now) (plain_name types.now.from.now) (plain_name types.now.into.now) (map plain_name vars.now.all.now) (plain_outputs outs.now)) }
     {
         'outs: for out in outs {
-            self.check_out(types, vars, out);
+            self.check_out(context, types, vars, out);
         }
     }
 
     /// The constructor of a node, and its labels, which speak of the input.
-    fn check_node(&mut self, types: &Between, name: &Name, labels: &[Expr], count: usize)
-        ensures { Notes self.old self.new (node_failures (items_of self.old.context) (plain_name types.now.from.now) (plain_name types.now.into.now) (plain_name name.now) (map plain_expr labels.now) count) }
+    fn check_node(
+        &mut self,
+        context: &Context,
+        types: &Between,
+        name: &Name,
+        labels: &[Expr],
+        count: usize,
+    )
+        ensures { Notes self.old self.new (node_failures (items_of context.now) (plain_name types.now.from.now) (plain_name types.now.into.now) (plain_name name.now) (map plain_expr labels.now) count) }
     {
-        let from = self.context.find_type(&types.from.text);
-        let into = self.context.find_type(&types.into.text);
+        let from = context.find_type(&types.from.text);
+        let into = context.find_type(&types.into.text);
         self.check_constructor(&into, name, count);
         self.check_label_count(&into, name, labels.len());
         self.check_labels(&scope_of(&from), fields_of(&into), labels)
     }
 
     /// A rule of a transformation between these types.
-    pub(crate) fn check_out_rule(&mut self, types: &Between, rule: &OutRule)
-        ensures { Notes self.old self.new (out_rule_failures (items_of self.old.context) (plain_name types.now.from.now) (plain_name types.now.into.now) (plain_out_rule rule.now)) }
+    pub(crate) fn check_out_rule(&mut self, context: &Context, types: &Between, rule: &OutRule)
+        ensures { Notes self.old self.new (out_rule_failures (items_of context.now) (plain_name types.now.from.now) (plain_name types.now.into.now) (plain_out_rule rule.now)) }
     {
-        let vars = self.check_rule(types.from, &rule.rule);
-        self.check_out(types, &vars, &rule.out)
+        let vars = self.check_rule(context, types.from, &rule.rule);
+        self.check_out(context, types, &vars, &rule.out)
     }
 }

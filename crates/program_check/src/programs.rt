@@ -84,9 +84,8 @@ fn check_item(
         known,
         ran_out: false,
         alloc,
-        context,
     };
-    checker.check_body(&items[before].body);
+    checker.check_body(&context, &items[before].body);
     if checker.ran_out {
         return Err(Memory);
     }
@@ -109,16 +108,20 @@ fn find_refusal(
     Ok(known)
 }
 
-/// The declarations of a program that passes.
-fn declared_by(alloc: Global, program: &Program) -> Result<Declarations, CheckStop>
-    ensures well_formed { OnOk result (is_well_formed (plain_program program.now) ≡ true) }
-    ensures numbered { IfOk result (AreNumbered (plain_program program.now)) }
-    ensures refused { IfErr result (IsStop (refusal_of (plain_program program.now))) }
+/// The signatures of the types of a program that passes, whose names are numbered.
+fn signed_if_passing(
+    alloc: Global,
+    items: &[Item],
+    declared: &Declarations,
+) -> Result<Vec<Option<Signature>>, CheckStop>
+    requires { AreNumbered (map plain_item items.now) declared.now }
+    ensures well_formed { OnOk result (is_well_formed (map plain_item items.now) ≡ true) }
+    ensures signed { IfOk result (λ made. map (option_map plain_signature) made.items ≡ map own_signature (map plain_item items.now)) }
+    ensures refused { IfErr result (IsStop (refusal_of (map plain_item items.now))) }
 {
-    let declared = number_items(alloc, &program.items)?;
-    match find_refusal(alloc, &program.items, &declared)? {
+    match find_refusal(alloc, items, declared)? {
         Some(refusal) => Err(CheckStop::Refused(refusal)),
-        None => Ok(declared),
+        None => Ok(signatures_of(alloc, items)?),
     }
 }
 
@@ -129,8 +132,8 @@ pub fn check(alloc: Global, program: Program) -> Result<Checked, CheckStop>
     ensures same { IfOk result (λ checked. checked.program ≡ program) }
     ensures refused { IfErr result (IsStop (refusal_of (plain_program program))) }
 {
-    let declared = declared_by(alloc, &program)?;
-    let signatures = signatures_of(alloc, &program.items)?;
+    let declared = number_items(alloc, &program.items)?;
+    let signatures = signed_if_passing(alloc, &program.items, &declared)?;
     Ok(Checked {
         program,
         declared,

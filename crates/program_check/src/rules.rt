@@ -95,24 +95,19 @@ pub(crate) fn types_differ(context: &Context, left: &Name, right: &Name) -> bool
     differ(left, right)
 }
 
-impl Checker<'_> {
+impl Checker {
     /// A constructor of a type has as many children as its rank says.
-    fn check_ctor(&mut self, of: &DeclaredType, name: &Name, count: usize)
-        ensures { Notes self.old self.new (constructor_failures (Some (plain_of of.now)) (plain_name name.now) count) }
+    pub(crate) fn check_constructor(&mut self, of: &Option<DeclaredType>, name: &Name, count: usize)
+        ensures { Notes self.old self.new (constructor_failures (plain_option of.now) (plain_name name.now) count) }
     {
+        let Some(of) = of else {
+            return;
+        };
         match of.ctor(&name.text) {
             Some(ctor) => {
                 self.note_if(!is_rank(count, ctor.rank), Code::WrongRank, name.place);
             }
             None => self.note(Code::UnknownName, name.place),
-        }
-    }
-
-    pub(crate) fn check_constructor(&mut self, of: &Option<DeclaredType>, name: &Name, count: usize)
-        ensures { Notes self.old self.new (constructor_failures (plain_option of.now) (plain_name name.now) count) }
-    {
-        if let Some(of) = of {
-            self.check_ctor(of, name, count);
         }
     }
 
@@ -126,10 +121,10 @@ impl Checker<'_> {
     }
 
     /// The name of a type.
-    pub(crate) fn check_type_name(&mut self, name: &Name)
-        ensures { Notes self.old self.new (type_name_failures (items_of self.old.context) (plain_name name.now)) }
+    pub(crate) fn check_type_name(&mut self, context: &Context, name: &Name)
+        ensures { Notes self.old self.new (type_name_failures (items_of context.now) (plain_name name.now)) }
     {
-        let known = self.context.find_type(&name.text).is_some();
+        let known = context.find_type(&name.text).is_some();
         self.note_if(!known, Code::UnknownName, name.place);
     }
 
@@ -137,7 +132,7 @@ impl Checker<'_> {
     pub(crate) fn check_variable(&mut self, vars: &Vars, name: &Name)
         ensures { Notes self.old self.new (variable_failures (map plain_name vars.now.all.now) (plain_name name.now)) }
     {
-        let known = vars.has(name);
+        let known = vars.names.place(&name.text).is_some();
         self.note_if(!known, Code::UnknownName, name.place);
     }
 
@@ -151,22 +146,22 @@ impl Checker<'_> {
     }
 
     /// In a rule for trees of this type a demanded language is a `lang` of trees of the type.
-    fn check_language(&mut self, of: &Name, name: &Name)
-        ensures { Notes self.old self.new (language_failures (items_of self.old.context) (plain_name of.now) (plain_name name.now)) }
+    fn check_language(&mut self, context: &Context, of: &Name, name: &Name)
+        ensures { Notes self.old self.new (language_failures (items_of context.now) (plain_name of.now) (plain_name name.now)) }
     {
-        let found = self.context.find_item(&name.text);
+        let found = context.find_item(&name.text);
         match found {
-            Some(item) => self.check_demanded(of, name, item),
+            Some(item) => self.check_demanded(context, of, name, item),
             None => self.note(Code::UnknownName, name.place),
         }
     }
 
-    fn check_demanded(&mut self, of: &Name, name: &Name, item: &Item)
-        ensures { Notes self.old self.new (lang_failures_of (items_of self.old.context) (plain_name of.now) (plain_name name.now) (plain_item item.now)) }
+    fn check_demanded(&mut self, context: &Context, of: &Name, name: &Name, item: &Item)
+        ensures { Notes self.old self.new (lang_failures_of (items_of context.now) (plain_name of.now) (plain_name name.now) (plain_item item.now)) }
     {
         match own_lang(item) {
             Some(lang) => {
-                let differ = types_differ(&self.context, &lang.of, of);
+                let differ = types_differ(context, &lang.of, of);
                 self.note_if(differ, Code::WrongType, name.place);
             }
             None => self.note(Code::WrongKind, name.place),
@@ -174,41 +169,35 @@ impl Checker<'_> {
     }
 
     /// In a rule between these types a call is of a `trans` between them.
-    pub(crate) fn check_transformation(&mut self, types: &Between, name: &Name)
-        ensures { Notes self.old self.new (transformation_failures (items_of self.old.context) (plain_name types.now.from.now) (plain_name types.now.into.now) (plain_name name.now)) }
+    pub(crate) fn check_transformation(&mut self, context: &Context, types: &Between, name: &Name)
+        ensures { Notes self.old self.new (transformation_failures (items_of context.now) (plain_name types.now.from.now) (plain_name types.now.into.now) (plain_name name.now)) }
     {
-        let found = self.context.find_item(&name.text);
+        let found = context.find_item(&name.text);
         match found {
-            Some(item) => self.check_called(types, name, item),
+            Some(item) => self.check_called(context, types, name, item),
             None => self.note(Code::UnknownName, name.place),
         }
     }
 
-    fn check_called(&mut self, types: &Between, name: &Name, item: &Item)
-        ensures { Notes self.old self.new (trans_failures_of (items_of self.old.context) (plain_name types.now.from.now) (plain_name types.now.into.now) (plain_name name.now) (plain_item item.now)) }
+    fn check_called(&mut self, context: &Context, types: &Between, name: &Name, item: &Item)
+        ensures { Notes self.old self.new (trans_failures_of (items_of context.now) (plain_name types.now.from.now) (plain_name types.now.into.now) (plain_name name.now) (plain_item item.now)) }
     {
         match own_trans(item) {
             Some(trans) => {
-                let inputs = types_differ(&self.context, &trans.from, types.from);
-                let outputs = types_differ(&self.context, &trans.into, types.into);
+                let inputs = types_differ(context, &trans.from, types.from);
+                let outputs = types_differ(context, &trans.into, types.into);
                 self.note_if(either(inputs, outputs), Code::WrongType, name.place);
             }
             None => self.note(Code::WrongKind, name.place),
         }
     }
 
-    fn check_demand(&mut self, of: &Name, vars: &Vars, demand: &Demand)
-        ensures { Notes self.old self.new (demand_failures (items_of self.old.context) (plain_name of.now) (map plain_name vars.now.all.now) (plain_demand demand.now)) }
-    {
-        self.check_language(of, &demand.language);
-        self.check_variable(vars, &demand.child);
-    }
-
-    fn check_given(&mut self, of: &Name, vars: &Vars, rule: &Rule)
-        ensures { Notes self.old self.new (flat_map (demand_failures (items_of self.old.context) (plain_name of.now) (map plain_name vars.now.all.now)) (plain_rule rule.now).given) }
+    fn check_given(&mut self, context: &Context, of: &Name, vars: &Vars, rule: &Rule)
+        ensures { Notes self.old self.new (flat_map (demand_failures (items_of context.now) (plain_name of.now) (map plain_name vars.now.all.now)) (plain_rule rule.now).given) }
     {
         'given: for demand in &rule.given {
-            self.check_demand(of, vars, demand);
+            self.check_language(context, of, &demand.language);
+            self.check_variable(vars, &demand.child);
         }
     }
 
@@ -219,29 +208,33 @@ impl Checker<'_> {
     {
         let names = self.check_repeated(Code::DuplicateVariable, &rule.vars);
         if self.ran_out {
-            return Vars::new(&[], Names::new(self.alloc));
+            return Vars {
+                all: &[],
+                names: Names::new(self.alloc),
+            };
         }
-        Vars::new(&rule.vars, names)
-    }
-
-    /// The constructor of a rule.
-    fn check_head(&mut self, of: &Option<DeclaredType>, rule: &Rule)
-        ensures { Notes self.old self.new (constructor_failures (plain_option of.now) (plain_rule rule.now).ctor (length (plain_rule rule.now).vars)) }
-    {
-        self.check_constructor(of, &rule.ctor, rule.vars.len());
+        Vars {
+            all: &rule.vars,
+            names,
+        }
     }
 
     /// A rule for trees of a type. Its variables come back.
-    pub(crate) fn check_rule<'r>(&mut self, of: &Name, rule: &'r Rule) -> Vars<'r>
-        ensures noted { Notes self.old self.new (rule_failures (items_of self.old.context) (plain_name of.now) (plain_rule rule.now)) }
+    pub(crate) fn check_rule<'r>(
+        &mut self,
+        context: &Context,
+        of: &Name,
+        rule: &'r Rule,
+    ) -> Vars<'r>
+        ensures noted { Notes self.old self.new (rule_failures (items_of context.now) (plain_name of.now) (plain_rule rule.now)) }
         ensures same { HasMemory self.new → map plain_name result.all.now ≡ (plain_rule rule.now).vars }
     {
-        let item = self.context.find_type(&of.text);
+        let item = context.find_type(&of.text);
         let scope = scope_of(&item);
-        self.check_head(&item, rule);
+        self.check_constructor(&item, &rule.ctor, rule.vars.len());
         let vars = self.check_vars(rule);
         self.check_guard(&scope, &rule.guard);
-        self.check_given(of, &vars, rule);
+        self.check_given(context, of, &vars, rule);
         vars
     }
 }

@@ -10,6 +10,7 @@ ghost use Rattle.model_names.specs.Sorts.{sort_named};
 ghost use Rattle.model_checks.specs.Types.{is_rank, is_rank_in_range, repeated, field_failures, ctor_failures, field_limit, type_failures};
 ghost use Rattle.fast_fault.specs.declared.code.Code.TheVariants as code;
 ghost use Rattle.program_check.specs.Notes.{Notes};
+ghost use Rattle.program_check.specs.Nodes.{ctors_failures};
 
 use crate::checker::Checker;
 use crate::declared_type::DeclaredType;
@@ -47,20 +48,14 @@ fn is_rank_in_range(rank: i128) -> bool
     0 <= rank && rank <= MOST_CHILDREN
 }
 
-impl Checker<'_> {
-    fn check_own_sort(&mut self, field: &FieldItem)
-        ensures { Notes self.old self.new (field_failures (plain_field field.now)) }
-    {
-        let known = sort_named(&field.sort.text).is_some();
-        self.note_if(!known, Code::UnknownName, field.sort.place);
-    }
-
+impl Checker {
     /// The sorts of the fields are known.
     fn check_own_sorts(&mut self, item: &TypeItem)
         ensures { Notes self.old self.new (flat_map field_failures (plain_type item.now).fields) }
     {
         'fields: for field in &item.fields {
-            self.check_own_sort(field);
+            let known = sort_named(&field.sort.text).is_some();
+            self.note_if(!known, Code::UnknownName, field.sort.place);
         }
     }
 
@@ -83,18 +78,15 @@ impl Checker<'_> {
     fn check_field_limit(&mut self, item: &TypeItem)
         ensures { Notes self.old self.new (field_limit (plain_type item.now).fields) }
     {
-        if let Some(ninth) = item.fields.get(MOST_FIELDS) {
-            self.note(Code::TooMany, ninth.name.place);
+        if item.fields.len() > MOST_FIELDS {
+            self.note(Code::TooMany, item.fields[MOST_FIELDS].name.place);
         }
     }
 
-    /// Notes what fails in a type.
-    pub(crate) fn check_type(&mut self, item: &TypeItem)
-        ensures { Notes self.old self.new (type_failures (plain_type item.now)) }
+    /// The names of the constructors are different, and one of them has no children.
+    fn check_ctors(&mut self, item: &TypeItem)
+        ensures { Notes self.old self.new (ctors_failures (plain_type item.now)) }
     {
-        self.check_repeated(Code::DuplicateName, &item.fields);
-        self.check_own_sorts(item);
-        self.check_field_limit(item);
         let ctors = self.check_repeated(Code::DuplicateName, &item.ctors);
         if self.ran_out {
             return;
@@ -104,6 +96,16 @@ impl Checker<'_> {
             ctors: &ctors,
         };
         self.note_if(!declared.has_leaf(), Code::NoLeaf, item.name.place);
+    }
+
+    /// Notes what fails in a type.
+    pub(crate) fn check_type(&mut self, item: &TypeItem)
+        ensures { Notes self.old self.new (type_failures (plain_type item.now)) }
+    {
+        self.check_repeated(Code::DuplicateName, &item.fields);
+        self.check_own_sorts(item);
+        self.check_field_limit(item);
+        self.check_ctors(item);
         self.check_ranks(item);
     }
 }

@@ -16,19 +16,3 @@ pub(crate) struct Vars<'r> {
     pub(crate) names: Names,
     ghost there: { (text : List ℕ) → is_some (place_in names text) ≡ is_among (map plain_name all.now) text } by { Prim.hlevel props },
 }
-
-impl<'r> Vars<'r> {
-    pub(crate) fn new(all: &'r [Name], names: Names) -> Vars<'r>
-        requires { (text : List ℕ) → is_some (place_in names text) ≡ is_among (map plain_name all.now) text }
-        ensures { result.all.now ≡ all.now }
-    {
-        Vars { all, names }
-    }
-
-    /// Whether it is one of them.
-    pub(crate) fn has(&self, name: &Name) -> bool
-        ensures { result ≡ is_among (map plain_name self.now.all.now) name.now.text }
-    {
-        self.names.place(&name.text).is_some()
-    }
-}

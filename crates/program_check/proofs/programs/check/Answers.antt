@@ -1,11 +1,18 @@
-use Rattle.std.proofs.Common.{map, ap, ◌∙◌}
+use Rattle.std.proofs.Common.{List, map, ◌∙◌, sym, ap, subst}
+use Rattle.fast_syntax.specs.declared.items.Item.{Item}
 use Rattle.fast_syntax.specs.Plain.{plain_item}
+use Rattle.model_grammar.specs.Syntax as plain
+use Rattle.model_checks.specs.Programs.{is_well_formed}
+use Rattle.program_check.specs.Numbered.{AreNumbered}
 use Rattle.program_check.specs.Signed.{own_signature}
 use Rattle.program_check.proofs.programs.check.Goals as goal
 
 pub invariant_of-result : goal.invariant_of-result
-invariant_of-result c = record {
-  well_formed = c.in_ok-declared.ensures.well_formed;
-  numbered = c.in_ok-declared.ensures.numbered;
-  signed = c.in_ok-signatures.ensures ∙ ap (λ xs. map own_signature (map plain_item xs)) c.deref.ensures.value;
-}
+invariant_of-result c =
+    let same = ap (λ (xs : List Item). map plain_item xs) c.deref.ensures.value in
+    let same-2 = ap (λ (xs : List Item). map plain_item xs) c.deref-2.ensures.value in
+    record {
+      well_formed = ap is_well_formed (sym same-2) ∙ c.in_ok-signatures.ensures.well_formed;
+      numbered = subst (λ (items : List plain.Item). AreNumbered items c.in_ok-declared.declared) same c.in_ok-declared.ensures;
+      signed = c.in_ok-signatures.ensures.signed ∙ ap (map own_signature) same-2;
+    }

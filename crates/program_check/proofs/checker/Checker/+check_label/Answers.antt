@@ -7,6 +7,7 @@ use Rattle.model_tree.specs.Signature.{wholes, truths}
 use Rattle.model_form.specs.Sums.{product_form, sum_form, number_form}
 use Rattle.model_grammar.specs.declared.Chain.TheVariants.{Disjunction, Conjunction, Sum, Product}
 use Rattle.model_grammar.specs.Syntax as plain
+use Rattle.fast_syntax.specs.declared.expressions.Node.{Node}
 use Rattle.fast_syntax.specs.Plain.{plain_node, plain_expr}
 use Rattle.fast_syntax.specs.Slices.{plain_operands, plain_sum_parts, plain_prod_parts}
 use Rattle.fast_syntax.proofs.Appending.{drop_at}
@@ -169,6 +170,15 @@ check_step-returns-clause-noted t c h =
     let last = c.check_next-form.ensures.noted h in
     let known = c.check_sorted-known.ensures.known last.had in
     step_noted (plain_scope c.args.scope.now) c.args.place c.args.before.has_field c.args.before.form c.args.part.now.remainder (plain_expr c.args.part.now.part) c.check_sorted-known.result.has_field c.check_sorted-known.result.form _ _ _ known.has known.form (c.check_sorted-known.ensures.noted last.had) last
+
+pub check_label-returns-in-Field-clause-noted : goal.check_label-returns-in-Field-clause-noted
+check_label-returns-in-Field-clause-noted t c h = same (ap (λ n. label_failures (plain_scope c.args.scope.now) (plain_node n c.args.e.now.place)) (sym c.in-Field.is)) (c.check_field.ensures.noted h)
+
+pub check_label-returns-in-Field-clause-known : goal.check_label-returns-in-Field-clause-known
+check_label-returns-in-Field-clause-known t c h = subst (λ (n : Node). IsKnown c.args.scope.now (plain_node n c.args.e.now.place) c.check_field.result) (sym c.in-Field.is) (c.check_field.ensures.known h)
+
+pub check_label-returns-in-Str-clause-noted : goal.check_label-returns-in-Str-clause-noted
+check_label-returns-in-Str-clause-noted t c h = same (ap (λ n. label_failures (plain_scope c.args.scope.now) (plain_node n c.args.e.now.place)) (sym c.in-Str.is)) (c.check_text.ensures.noted h)
 
 pub check_label-returns-in-Compare-clause-noted : goal.check_label-returns-in-Compare-clause-noted
 check_label-returns-in-Compare-clause-noted t c h =

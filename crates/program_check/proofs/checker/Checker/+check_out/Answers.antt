@@ -22,17 +22,17 @@ check_outs-outs-preserved t c h =
     let from = plain_name c.args.types.now.from.now in
     let into = plain_name c.args.types.now.into.now in
     let vars = map plain_name c.args.vars.now.all.now in
-    more (λ d. out_failures (items_of d) from into vars (plain_out x)) _ one (ap (λ l. outs_failures (items_of c.args.self.now.context) from into vars (plain_outputs l)) (drop_at items i x c.outs-test.true c.out-item.is)) (c.outs.invariant one.had)
+    more _ one (ap (λ l. outs_failures (items_of c.args.context.now) from into vars (plain_outputs l)) (drop_at items i x c.outs-test.true c.out-item.is)) (c.outs.invariant one.had)
 
 pub check_outs-returns : goal.check_outs-returns
 check_outs-returns t c h =
-    let each = outs_failures (items_of c.args.self.now.context) (plain_name c.args.types.now.from.now) (plain_name c.args.types.now.into.now) (map plain_name c.args.vars.now.all.now) in
+    let each = outs_failures (items_of c.args.context.now) (plain_name c.args.types.now.from.now) (plain_name c.args.types.now.into.now) (map plain_name c.args.vars.now.all.now) in
     done (ap (λ l. each (plain_outputs l)) (drop_all c.outs.out-index c.args.outs.now c.outs-test.false)) (c.outs.invariant h)
 
 pub check_out-returns-in-Node : goal.check_out-returns-in-Node
 check_out-returns-in-Node t c h =
     let last = c.check_outs.ensures h in
-    let items = items_of c.args.self.now.context in
+    let items = items_of c.args.context.now in
     let from = plain_name c.args.types.now.from.now in
     let into = plain_name c.args.types.now.into.now in
     let vars = map plain_name c.args.vars.now.all.now in
@@ -42,4 +42,4 @@ check_out-returns-in-Node t c h =
     let is = ap plain_out c.in-Node.is ∙ plain_made name c.in-Node.labels c.in-Node.outs in
     let node = same (ap (λ xs. node_failures items from into (plain_name name) (map plain_expr xs) c.len.result) c.deref.ensures.value) (c.check_node.ensures last.had) in
     same (ap (out_failures items from into vars) (sym is))
-    (node_noted from into vars (plain_name name) labels outs c.len.result _ _ _ (c.len.ensures ∙ sym c.deref-in-Node.ensures.len ∙ outs_counted c.deref-in-Node.result.now ∙ ap (λ xs. count_outs (plain_outputs xs)) c.deref-in-Node.ensures.value) node (same (ap (λ xs. outs_failures (items_of c.check_node.new.self.context) from into vars (plain_outputs xs)) c.deref-in-Node.ensures.value) last))
+    (node_noted items from into vars (plain_name name) labels outs c.len.result _ _ _ (c.len.ensures ∙ sym c.deref-in-Node.ensures.len ∙ outs_counted c.deref-in-Node.result.now ∙ ap (λ xs. count_outs (plain_outputs xs)) c.deref-in-Node.ensures.value) node (same (ap (λ xs. outs_failures items from into vars (plain_outputs xs)) c.deref-in-Node.ensures.value) last))

@@ -8,5 +8,5 @@ use Rattle.program_check.proofs.checker.Checker.+check_out.Given as goal
 
 abbrev pub invariant-check_outs-outs : goal.invariant-check_outs-outs
 invariant-check_outs-outs l =
-    let each = outs_failures (items_of l.initial.self.context) (plain_name l.types.from.now) (plain_name l.types.into.now) (map plain_name l.vars.all.now) in
+    let each = outs_failures (items_of l.context) (plain_name l.types.from.now) (plain_name l.types.into.now) (map plain_name l.vars.all.now) in
     Left l.initial.self l.self (each (plain_outputs l.outs)) (each (plain_outputs (drop l.out-index l.outs)))

@@ -2,15 +2,14 @@ use Rattle.std.proofs.Common.{◌≡◌, ◌∙◌, suc, ◌++◌, None, refl, s
 use Rattle.fast_syntax.specs.View.{plain_name}
 use Rattle.fast_syntax.specs.Plain.{plain_x, plain_expr}
 use Rattle.fast_syntax.specs.Slices.{plain_children}
-use Rattle.model_checks.specs.Expressions.{type_called, x_failures, xs_failures, needs_be}
+use Rattle.model_checks.specs.Expressions.{type_called, x_failures, xs_failures}
 use Rattle.program_check.specs.Contexts.{items_of, before_of}
 use Rattle.program_check.specs.Typed.{type_name}
-use Rattle.program_check.specs.Standings.{plain_kind, as_failures, IsStanding}
-use Rattle.program_check.proofs.Noting.{next, same, of_same, and_none, was_done, either_way}
-use Rattle.program_check.proofs.Standing.{wanted_is, one_stands, two_stands, kind_is}
+use Rattle.program_check.specs.Standings.{plain_kind, IsStanding}
+use Rattle.program_check.proofs.Noting.{next, same, and_none, was_done, either_way}
+use Rattle.program_check.proofs.Standing.{be_is, wanted_is, one_stands, two_stands, kind_is}
 use Rattle.fast_syntax.proofs.Rows.{plain_literal}
 use Rattle.model_grammar.specs.Syntax.{X}
-use Rattle.program_check.specs.declared.context.Context.{Context}
 use Rattle.program_check.specs.Standings.{literal_failures}
 use Rattle.program_check.proofs.XParts.{xs_counted, one_noted, two_noted, literal_noted, literal_child, other_child}
 use Rattle.program_check.proofs.Stands.{as_deep}
@@ -21,87 +20,73 @@ use Rattle.program_check.proofs.checker.Checker.+check_x.Goals as goal
 pub check_as-returns-clause-noted : goal.check_as-returns-clause-noted
 check_as-returns-clause-noted t c h =
     let last = c.check_be.ensures h in
-    let items = items_of c.args.self.now.context in
-    let before = before_of c.args.self.now.context in
-    let x = plain_x c.args.x.now in
     let one = c.check_x-standing.ensures.noted last.had in
+    let is = c.check_x-standing.ensures.standing last.had in
+    let items = items_of c.args.context.now in
+    let before = before_of c.args.context.now in
+    let x = plain_x c.args.x.now in
     next (same (ap (λ n. x_failures items before c.args.around n x) c.expected_as-expected.ensures) one)
-    (of_same (λ d. needs_be (items_of d) (before_of d) (type_name c.args.of) (plain_kind c.args.kind) x) one.same last)
+    (same (be_is items before (type_name c.args.of) c.args.kind x c.place_of.result c.check_x-standing.result is c.place_of.ensures) last)
 
 pub check_as-returns-clause-standing : goal.check_as-returns-clause-standing
 check_as-returns-clause-standing t c h = c.check_x-standing.ensures.standing (c.check_be.ensures h).had
 
-pub check_as-check_be-requires : goal.check_as-check_be-requires
-check_as-check_be-requires t c h = subst (λ (d : Context). IsStanding (items_of d) (plain_x c.args.x.now) c.check_x-standing.result) (sym (c.check_x-standing.ensures.noted h).same) (c.check_x-standing.ensures.standing h)
-
 pub check_x-returns-in-One-clause-noted : goal.check_x-returns-in-One-clause-noted
 check_x-returns-in-One-clause-noted t c h =
     let last = c.check_as-operand.ensures.noted h in
-    let items = items_of c.args.self.now.context in
-    let before = before_of c.args.self.now.context in
+    let items = items_of c.args.context.now in
+    let before = before_of c.args.context.now in
     let e = type_name c.args.expected in
     let deep = c.check_nested-deep in
-    let one = deep.ensures.noted last.had in
-    let two = of_same (λ d. as_failures (items_of d) (before_of d) deep.result None (plain_kind c.taken_by_one-kind.result) (plain_x c.deref.result.now)) one.same last in
     same (ap (x_failures items before c.args.around e) (sym (ap plain_x c.in-One.is)))
     (one_noted items before c.in-One.op c.in-One.place c.args.around deep.result e (plain_x c.in-One.inside.value) _ (plain_kind c.taken_by_one-kind.result) _ _ _ (ap plain_x c.deref.ensures) (ap plain_kind c.taken_by_one-kind.ensures ∙ kind_is c.in-One.op)
-    (λ n z. as_deep items before c.args.around deep.result n z deep.ensures.few deep.ensures.many) one two)
+    (λ n z. as_deep items before c.args.around deep.result n z deep.ensures.few deep.ensures.many) (deep.ensures.noted last.had) last)
 
 pub check_x-returns-in-One-clause-standing : goal.check_x-returns-in-One-clause-standing
 check_x-returns-in-One-clause-standing t c h =
-    let last = c.check_as-operand.ensures.noted h in
-    let x = plain_x c.in-One.inside.value in
-    let is = subst (λ (d : Context). IsStanding (items_of d) (plain_x c.deref.result.now) c.check_as-operand.result) (c.check_nested-deep.ensures.noted last.had).same (c.check_as-operand.ensures.standing h) in
-    let here = subst (λ (z : X). IsStanding (items_of c.args.self.now.context) z c.check_as-operand.result) (ap plain_x c.deref.ensures) is in
-    subst (λ (z : X). IsStanding (items_of c.args.self.now.context) z c.of_one.result) (sym (ap plain_x c.in-One.is))
-    (rw c.of_one.ensures (one_stands (items_of c.args.self.now.context) (before_of c.args.self.now.context) c.in-One.op c.in-One.place x c.check_as-operand.result here))
+    let items = items_of c.args.context.now in
+    let here = subst (λ (z : X). IsStanding items z c.check_as-operand.result) (ap plain_x c.deref.ensures) (c.check_as-operand.ensures.standing h) in
+    subst (λ (z : X). IsStanding items z c.of_one.result) (sym (ap plain_x c.in-One.is))
+    (rw c.of_one.ensures (one_stands items (before_of c.args.context.now) c.in-One.op c.in-One.place (plain_x c.in-One.inside.value) c.check_as-operand.result here))
 
 pub check_x-returns-in-Two-clause-noted : goal.check_x-returns-in-Two-clause-noted
 check_x-returns-in-Two-clause-noted t c h =
     let last = c.check_as-right.ensures.noted h in
     let middle = c.check_as-left.ensures.noted last.had in
-    let items = items_of c.args.self.now.context in
-    let before = before_of c.args.self.now.context in
+    let items = items_of c.args.context.now in
+    let before = before_of c.args.context.now in
     let e = type_name c.args.expected in
     let deep = c.check_nested-deep-in-Two in
     let left = c.check_as-left.result in
-    let wanted = c.wanted_second-wanted.result in
-    let one = deep.ensures.noted middle.had in
-    let two = of_same (λ d. as_failures (items_of d) (before_of d) deep.result None (plain_kind c.taken_first-kind.result) (plain_x c.deref-in-Two.result.now)) one.same middle in
-    let three = of_same (λ d. as_failures (items_of d) (before_of d) deep.result (type_name wanted) (plain_kind c.taken_second-kind.result) (plain_x c.deref-in-Two-2.result.now)) (two.same ∙ one.same) last in
-    let is = subst (λ (d : Context). IsStanding (items_of d) (plain_x c.deref-in-Two.result.now) left) one.same (c.check_as-left.ensures.standing last.had) in
     same (ap (x_failures items before c.args.around e) (sym (ap plain_x c.in-Two.is)))
-    (two_noted items before c.in-Two.op c.in-Two.place c.args.around deep.result e (type_name wanted) (plain_x c.in-Two.first.value) _ (plain_x c.deref-in-Two.result.now) (plain_x c.in-Two.second.value) _
+    (two_noted items before c.in-Two.op c.in-Two.place c.args.around deep.result e (type_name c.wanted_second-wanted.result) (plain_x c.in-Two.first.value) _ (plain_x c.deref-in-Two.result.now) (plain_x c.in-Two.second.value) _
     (plain_kind c.taken_first-kind.result) (plain_kind c.taken_second-kind.result) _ _ _ _ (ap plain_x c.deref-in-Two.ensures) (ap plain_x c.deref-in-Two.ensures) (ap plain_x c.deref-in-Two-2.ensures)
-    c.taken_first-kind.ensures c.taken_second-kind.ensures (ap type_name c.wanted_second-wanted.ensures ∙ wanted_is items before c.in-Two.op (plain_x c.deref-in-Two.result.now) left is) (λ n z. as_deep items before c.args.around deep.result n z deep.ensures.few deep.ensures.many)
-    one two three)
+    c.taken_first-kind.ensures c.taken_second-kind.ensures (ap type_name c.wanted_second-wanted.ensures ∙ wanted_is items before c.in-Two.op (plain_x c.deref-in-Two.result.now) left (c.check_as-left.ensures.standing last.had)) (λ n z. as_deep items before c.args.around deep.result n z deep.ensures.few deep.ensures.many)
+    (deep.ensures.noted middle.had) middle last)
 
 pub check_x-returns-in-Two-clause-standing : goal.check_x-returns-in-Two-clause-standing
 check_x-returns-in-Two-clause-standing t c h =
     let last = c.check_as-right.ensures.noted h in
-    let middle = c.check_as-left.ensures.noted last.had in
-    let items = items_of c.args.self.now.context in
+    let items = items_of c.args.context.now in
     let left = c.check_as-left.result in
     let right = c.check_as-right.result in
-    let one = (c.check_nested-deep-in-Two.ensures.noted middle.had).same in
-    let two = middle.same in
-    let first = subst (λ (z : X). IsStanding items z left) (ap plain_x c.deref-in-Two.ensures) (subst (λ (d : Context). IsStanding (items_of d) (plain_x c.deref-in-Two.result.now) left) one (c.check_as-left.ensures.standing last.had)) in
-    let second = subst (λ (z : X). IsStanding items z right) (ap plain_x c.deref-in-Two-2.ensures) (subst (λ (d : Context). IsStanding (items_of d) (plain_x c.deref-in-Two-2.result.now) right) (two ∙ one) (c.check_as-right.ensures.standing h)) in
+    let first = subst (λ (z : X). IsStanding items z left) (ap plain_x c.deref-in-Two.ensures) (c.check_as-left.ensures.standing last.had) in
+    let second = subst (λ (z : X). IsStanding items z right) (ap plain_x c.deref-in-Two-2.ensures) (c.check_as-right.ensures.standing h) in
     subst (λ (z : X). IsStanding items z c.of_two.result) (sym (ap plain_x c.in-Two.is))
-    (rw c.of_two.ensures (two_stands items (before_of c.args.self.now.context) c.in-Two.op c.in-Two.place (plain_x c.in-Two.first.value) (plain_x c.in-Two.second.value) left right first second))
+    (rw c.of_two.ensures (two_stands items (before_of c.args.context.now) c.in-Two.op c.in-Two.place (plain_x c.in-Two.first.value) (plain_x c.in-Two.second.value) left right first second))
 
 pub check_x-returns-in-Literal-clause-noted : goal.check_x-returns-in-Literal-clause-noted
 check_x-returns-in-Literal-clause-noted t c h =
     let last = c.check_children.ensures h in
-    let items = items_of c.args.self.now.context in
-    let before = before_of c.args.self.now.context in
+    let items = items_of c.args.context.now in
+    let before = before_of c.args.context.now in
     let e = type_name c.args.expected in
     let each = x_failures items before c.args.around e in
     let name = plain_name c.in-Literal.name in
     let t = type_called items before e in
     let xs = c.in-Literal.children.items in
     let one = same (ap₂ (λ ls n. literal_failures t name (map plain_expr ls) n) c.deref-in-Literal.ensures.value (c.len.ensures ∙ sym c.deref-in-Literal-2.ensures.len ∙ ap length c.deref-in-Literal-2.ensures.value)) (c.check_literal.ensures last.had) in
-    let two = same (ap (λ l. xs_failures items before c.args.around e (plain_children l)) c.deref-in-Literal-2.ensures.value) (of_same (λ d. xs_failures (items_of d) (before_of d) c.args.around e (plain_children c.deref-in-Literal-2.result.now)) one.same last) in
+    let two = same (ap (λ l. xs_failures items before c.args.around e (plain_children l)) c.deref-in-Literal-2.ensures.value) last in
     same (sym (ap each (ap plain_x c.in-Literal.is ∙ plain_literal c.in-Literal.name c.in-Literal.labels c.in-Literal.children)))
     (literal_noted items before c.args.around (length xs) e t name (map plain_expr c.in-Literal.labels.items) (plain_children xs) _ _ _
     refl (xs_counted xs) one two)
@@ -117,8 +102,8 @@ pub check_next_child-returns-clause-noted : goal.check_next_child-returns-clause
 check_next_child-returns-clause-noted t c h =
     let none = c.note_want.ensures.noted h in
     let more = was_done _ _ c.add-added.result (c.note_want.ensures.done h) c.add-added.ensures in
-    let items = items_of c.args.self.now.context in
-    let before = before_of c.args.self.now.context in
+    let items = items_of c.args.context.now in
+    let before = before_of c.args.context.now in
     let e = type_name c.args.expected in
     let name = plain_name c.in-Literal.name in
     let t = type_called items before e in
@@ -139,7 +124,7 @@ check_next_child-returns-clause-less t c =
 
 pub check_next_child-returns-in_default-clause-noted : goal.check_next_child-returns-in_default-clause-noted
 check_next_child-returns-in_default-clause-noted t c h =
-    other_child (items_of c.args.self.now.context) (before_of c.args.self.now.context) c.args.around (type_name c.args.expected) (plain_x c.args.child.now) (plain_waiting c.args.waiting.now) _ _ (c.check_as.ensures.noted h)
+    other_child (items_of c.args.context.now) (before_of c.args.context.now) c.args.around (type_name c.args.expected) (plain_x c.args.child.now) (plain_waiting c.args.waiting.now) _ _ (c.check_as.ensures.noted h)
 
 pub check_next_child-returns-in_default-clause-less : goal.check_next_child-returns-in_default-clause-less
 check_next_child-returns-in_default-clause-less t c = let some = some_weight (plain_x c.args.child.now) in omega (arith, some)

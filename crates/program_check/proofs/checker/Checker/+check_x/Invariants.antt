@@ -22,7 +22,7 @@ decreases-check_children l = 3 + weights (plain_children l.children.now)
 
 abbrev pub invariant-check_children-children : goal.invariant-check_children-children
 invariant-check_children-children l =
-    let each = xs_failures (items_of l.fn.self.context) (before_of l.fn.self.context) l.around (type_name l.expected) in
+    let each = xs_failures (items_of l.context) (before_of l.context) l.around (type_name l.expected) in
     record {
       noted : Left l.fn.self l.self (each (plain_children l.children)) (each (plain_waiting l.waiting));
       few : weights (plain_waiting l.waiting) ≤ weights (plain_children l.children);

@@ -8,5 +8,5 @@ use Rattle.program_check.proofs.checker.Checker.check_given.Given as goal
 
 abbrev pub invariant-given : goal.invariant-given
 invariant-given l =
-    let each = demand_failures (items_of l.initial.self.context) (plain_name l.of) (map plain_name l.vars.all.now) in
+    let each = demand_failures (items_of l.context) (plain_name l.of) (map plain_name l.vars.all.now) in
     Left l.initial.self l.self (flat_map each (map plain_demand l.rule.given.items)) (flat_map each (map plain_demand (drop l.demand-index l.rule.given.items)))

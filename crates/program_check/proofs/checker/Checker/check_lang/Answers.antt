@@ -1,21 +1,16 @@
-use Rattle.std.proofs.Common.{◌∙◌, ap, map}
+use Rattle.std.proofs.Common.{ap, map}
 use Rattle.std.specs.List.{flat_map}
 use Rattle.fast_syntax.specs.View.{plain_name}
 use Rattle.fast_syntax.specs.Plain.{plain_rule}
-use Rattle.model_checks.specs.Rules.{rule_failures, type_name_failures}
+use Rattle.model_checks.specs.Rules.{rule_failures}
 use Rattle.program_check.specs.Contexts.{items_of}
-use Rattle.program_check.proofs.Noting.{next, same, of_same}
+use Rattle.program_check.proofs.Noting.{next, same}
 use Rattle.program_check.proofs.checker.Checker.check_lang.Goals as goal
 
 pub returns : goal.returns
 returns c h =
-    let of = plain_name c.args.item.now.of in
-    let each = rule_failures (items_of c.args.self.now.context) of in
+    let each = rule_failures (items_of c.args.context.now) (plain_name c.args.item.now.of) in
     let last = c.check_rules.ensures h in
     let limit = c.check_rule_limit.ensures last.had in
     let type = c.check_type_name.ensures limit.had in
-    let one = c.check_new_name.ensures type.had in
-    let two = of_same (λ d. type_name_failures (items_of d) of) one.same type in
-    next one (next two (next limit
-    (same (ap (λ xs. flat_map each (map plain_rule xs)) c.deref.ensures.value)
-    (of_same (λ d. flat_map (rule_failures (items_of d) of) (map plain_rule c.deref.result.now)) (limit.same ∙ type.same ∙ one.same) last))))
+    next (c.check_new_name.ensures type.had) (next type (next limit (same (ap (λ xs. flat_map each (map plain_rule xs)) c.deref.ensures.value) last)))

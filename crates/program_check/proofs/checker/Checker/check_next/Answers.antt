@@ -1,4 +1,7 @@
-use Rattle.std.proofs.Common.{sym, subst}
+use Rattle.std.proofs.Common.{sym, ap, subst}
+use Rattle.fast_fault.specs.declared.code.Code.TheVariants.{NotLinear}
+use Rattle.model_checks.specs.Failures.{fails_if}
+use Rattle.program_check.proofs.Noting.{next, same}
 use Rattle.fast_syntax.specs.Plain.{plain_expr}
 use Rattle.std.proofs.Common.{Bool}
 use Rattle.program_check.specs.Notes.{Notes}
@@ -11,6 +14,7 @@ returns-then-part-clause-noted c =
     (sym c.if-part.true) c.check_remainder.ensures.noted
 
 pub returns-else-part-clause-noted : goal.returns-else-part-clause-noted
-returns-else-part-clause-noted c =
-    subst (λ (m : Bool). Notes c.args.self.now c.check_factor.new.self (next_failures c.args.place c.args.before.has_field c.args.before.form m c.args.known.now.has_field c.args.known.now.form (plain_expr c.args.part.now.part)))
-    (sym c.if-part.false) c.check_factor.ensures.noted
+returns-else-part-clause-noted c h =
+    let last = c.multiply.ensures.noted h in
+    same (ap (λ m. next_failures c.args.place c.args.before.has_field c.args.before.form m c.args.known.now.has_field c.args.known.now.form (plain_expr c.args.part.now.part)) (sym c.if-part.false))
+    (next (same (ap (λ b. fails_if b NotLinear c.args.place) c.both-both.ensures) (c.note_if.ensures last.had)) last)

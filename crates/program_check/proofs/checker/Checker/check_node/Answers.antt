@@ -13,5 +13,5 @@ pub returns : goal.returns
 returns c h =
     let last = c.check_labels.ensures h in
     let two = c.check_label_count.ensures last.had in
-    node_made (items_of c.args.self.now.context) (plain_name c.args.types.now.from.now) (plain_name c.args.types.now.into.now) (plain_name c.args.name.now) (map plain_expr c.args.labels.now) c.args.count (length c.args.labels.now) (plain_option c.find_type-into.result) (plain_scope c.scope_of.result) (map plain_field c.fields_of.result.now) _ _ _ _
+    node_made (items_of c.args.context.now) (plain_name c.args.types.now.from.now) (plain_name c.args.types.now.into.now) (plain_name c.args.name.now) (map plain_expr c.args.labels.now) c.args.count (length c.args.labels.now) (plain_option c.find_type-into.result) (plain_scope c.scope_of.result) (map plain_field c.fields_of.result.now) _ _ _ _
     c.find_type-into.ensures (c.scope_of.ensures ∙ ap scope_of c.find_type-from.ensures) c.fields_of.ensures (sym (length-map c.args.labels.now plain_expr)) (c.check_constructor.ensures two.had) two last

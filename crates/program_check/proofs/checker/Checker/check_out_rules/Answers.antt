@@ -11,10 +11,10 @@ use Rattle.program_check.proofs.checker.Checker.check_out_rules.Goals as goal
 pub rules-preserved : goal.rules-preserved
 rules-preserved c h =
     let one = c.check_out_rule.ensures h in
-    let each = out_rule_failures (items_of c.args.self.now.context) (plain_name c.args.types.now.from.now) (plain_name c.args.types.now.into.now) in
-    more (λ d. out_rule_failures (items_of d) (plain_name c.args.types.now.from.now) (plain_name c.args.types.now.into.now) (plain_out_rule c.rule-item.result)) _ one (one_of each plain_out_rule c.args.rules.now c.rules.rule-index c.rule-item.result c.rules-test.true c.rule-item.is) (c.rules.invariant one.had)
+    let each = out_rule_failures (items_of c.args.context.now) (plain_name c.args.types.now.from.now) (plain_name c.args.types.now.into.now) in
+    more _ one (one_of each plain_out_rule c.args.rules.now c.rules.rule-index c.rule-item.result c.rules-test.true c.rule-item.is) (c.rules.invariant one.had)
 
 pub returns : goal.returns
 returns c h =
-    let each = out_rule_failures (items_of c.args.self.now.context) (plain_name c.args.types.now.from.now) (plain_name c.args.types.now.into.now) in
+    let each = out_rule_failures (items_of c.args.context.now) (plain_name c.args.types.now.from.now) (plain_name c.args.types.now.into.now) in
     done (ap (λ xs. flat_map each (map plain_out_rule xs)) (drop_all c.rules.rule-index c.args.rules.now c.rules-test.false)) (c.rules.invariant h)

@@ -13,7 +13,7 @@ ctors-preserved c h =
     let one = c.check_rank.ensures h in
     let at = subst (λ (xs : List CtorItem). c.ctor-item.result ≡ get_or xs c.ctors.ctor-index c.ctor-item.result) c.deref-ctor-items.ensures.value c.ctor-item.is in
     let low = subst (λ (xs : List CtorItem). c.ctors.ctor-index < length xs) c.deref-ctor-items.ensures.value c.ctors-test.true in
-    more (λ _. ctor_failures (plain_ctor c.ctor-item.result)) _ one (one_of ctor_failures plain_ctor c.args.item.now.ctors.items c.ctors.ctor-index c.ctor-item.result low at) (c.ctors.invariant one.had)
+    more _ one (one_of ctor_failures plain_ctor c.args.item.now.ctors.items c.ctors.ctor-index c.ctor-item.result low at) (c.ctors.invariant one.had)
 
 pub returns : goal.returns
 returns c h =

@@ -11,10 +11,10 @@ use Rattle.program_check.proofs.checker.Checker.check_rules.Goals as goal
 pub rules-preserved : goal.rules-preserved
 rules-preserved c h =
     let one = c.check_rule.ensures.noted h in
-    let each = rule_failures (items_of c.args.self.now.context) (plain_name c.args.of.now) in
-    more (λ d. rule_failures (items_of d) (plain_name c.args.of.now) (plain_rule c.rule-item.result)) _ one (one_of each plain_rule c.args.rules.now c.rules.rule-index c.rule-item.result c.rules-test.true c.rule-item.is) (c.rules.invariant one.had)
+    let each = rule_failures (items_of c.args.context.now) (plain_name c.args.of.now) in
+    more _ one (one_of each plain_rule c.args.rules.now c.rules.rule-index c.rule-item.result c.rules-test.true c.rule-item.is) (c.rules.invariant one.had)
 
 pub returns : goal.returns
 returns c h =
-    let each = rule_failures (items_of c.args.self.now.context) (plain_name c.args.of.now) in
+    let each = rule_failures (items_of c.args.context.now) (plain_name c.args.of.now) in
     done (ap (λ xs. flat_map each (map plain_rule xs)) (drop_all c.rules.rule-index c.args.rules.now c.rules-test.false)) (c.rules.invariant h)

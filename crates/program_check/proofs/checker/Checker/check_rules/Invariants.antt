@@ -9,5 +9,5 @@ use Rattle.program_check.proofs.checker.Checker.check_rules.Given as goal
 
 abbrev pub invariant-rules : goal.invariant-rules
 invariant-rules l =
-    let each = rule_failures (items_of l.initial.self.context) (plain_name l.of) in
+    let each = rule_failures (items_of l.context) (plain_name l.of) in
     Left l.initial.self l.self (flat_map each (map plain_rule l.rules)) (flat_map each (map plain_rule (drop l.rule-index l.rules)))

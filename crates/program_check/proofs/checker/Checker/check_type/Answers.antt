@@ -1,28 +1,21 @@
-use Rattle.std.proofs.Common.{◌∙◌, sym, ap, map}
+use Rattle.std.proofs.Common.{◌∙◌, sym, ap, map, append_assoc, ◌++◌}
 use Rattle.std.specs.Prelude.{not}
-use Rattle.fast_syntax.specs.View.{plain_name, plain_field, plain_ctor}
+use Rattle.std.specs.List.{flat_map}
+use Rattle.fast_syntax.specs.View.{plain_name, plain_field, plain_type}
 use Rattle.model_checks.specs.Failures.{fails_if}
-use Rattle.model_checks.specs.Types.{repeated}
+use Rattle.model_checks.specs.Types.{repeated, field_failures, field_limit, has_leaf, ctor_failures}
 use Rattle.program_check.proofs.Noting.{next, same}
 use Rattle.std.proofs.lemmas.Simd.{map-map}
 use Rattle.fast_fault.specs.declared.code.Code.TheVariants.{DuplicateName, NoLeaf}
 use Rattle.model_program.specs.Syntax as plain
-use Rattle.program_check.specs.Numbered.{name_place}
-use Rattle.program_check.proofs.Repeating.{placed_ctors}
 use Rattle.program_check.proofs.checker.Checker.check_type.Goals as goal
-
-pub invariant_of-declared : goal.invariant_of-declared
-invariant_of-declared c = record { numbered = λ name. c.check_repeated-ctors.ensures.places c.if-self.false name ∙ ap (λ names. name_place names name) (ap (map (λ c. plain_name c.name)) c.deref-2.ensures.value ∙ sym (map-map (λ (c : plain.CtorItem). c.name) plain_ctor c.args.item.now.ctors.items)) ∙ placed_ctors (map plain_ctor c.args.item.now.ctors.items) name }
 
 pub returns : goal.returns
 returns c h =
-    let six = c.check_ranks.ensures h in
-    let five = c.note_if.ensures six.had in
-    let four = c.check_repeated-ctors.ensures.noted five.had in
+    let five = c.check_ranks.ensures h in
+    let four = c.check_ctors.ensures five.had in
     let three = c.check_field_limit.ensures four.had in
     let two = c.check_own_sorts.ensures three.had in
-    let item = c.args.item.now in
-    let fields = same (ap (repeated DuplicateName) (ap (map (λ f. plain_name f.name)) c.deref.ensures.value ∙ sym (map-map (λ (f : plain.FieldItem). f.name) plain_field item.fields.items))) (c.check_repeated.ensures.noted two.had) in
-    let ctors = same (ap (repeated DuplicateName) (ap (map (λ c. plain_name c.name)) c.deref-2.ensures.value ∙ sym (map-map (λ (c : plain.CtorItem). c.name) plain_ctor item.ctors.items))) four in
-    let leaf = same (ap (λ b. fails_if (not b) NoLeaf item.name.place) c.has_leaf.ensures) five in
-    next fields (next two (next three (next ctors (next leaf six))))
+    let item = plain_type c.args.item.now in
+    let fields = same (ap (repeated DuplicateName) (ap (map (λ f. plain_name f.name)) c.deref.ensures.value ∙ sym (map-map (λ (f : plain.FieldItem). f.name) plain_field c.args.item.now.fields.items))) (c.check_repeated.ensures.noted two.had) in
+    next fields (next two (next three (same (append_assoc (repeated DuplicateName (map (λ c. c.name) item.ctors)) (fails_if (not (has_leaf item.ctors)) NoLeaf item.name.place) (flat_map ctor_failures item.ctors)) (next four five))))

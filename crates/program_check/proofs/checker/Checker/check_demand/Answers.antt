@@ -1,5 +1,0 @@
-use Rattle.program_check.proofs.Noting.{and_next}
-use Rattle.program_check.proofs.checker.Checker.check_demand.Goals as goal
-
-pub returns : goal.returns
-returns c = and_next c.check_language.ensures c.check_variable.ensures
