@@ -44,19 +44,25 @@ sum_noted s parts place acc a b c is one two = next one (same (ap (λ x. fails_i
 -- what is known of a side of a comparison
 pub record IsSide (s : model.Scope) (e : Expr) (side : Side) : Type 0 where
   pub sort : option_map plain_sort side.sort ≡ model.sort_of s e
+  pub has : side.has_field ≡ has_field s e
   pub place : side.place ≡ place_of e
 
-pub side_is : (scope : Scope) (e : code.Expr) (known : Known) (side : Side) → side ≡ record { sort = known.sort; place = e.place } → IsKnown scope (plain_expr e) known → IsSide (plain_scope scope) (plain_expr e) side
+pub side_is : (scope : Scope) (e : code.Expr) (known : Known) (side : Side) → side ≡ record { sort = known.sort; has_field = known.has_field; place = e.place } → IsKnown scope (plain_expr e) known → IsSide (plain_scope scope) (plain_expr e) side
 side_is scope e known side is h = record {
   sort = ap (λ (x : Side). option_map plain_sort x.sort) is ∙ h.sort;
+  has = ap (λ (x : Side). x.has_field) is ∙ h.has;
   place = ap (λ (x : Side). x.place) is ∙ sym (place_is e);
 }
 
 abbrev side_of : Known → code.Expr → Side
-side_of known e = record { sort = known.sort; place = e.place }
+side_of known e = record { sort = known.sort; has_field = known.has_field; place = e.place }
 
-pub side_at : (scope : Scope) (e e1 e2 : code.Expr) (known : Known) (side : Side) → e1 ≡ e → e2 ≡ e → side ≡ record { sort = known.sort; place = e2.place } → IsKnown scope (plain_expr e1) known → IsSide (plain_scope scope) (plain_expr e) side
+pub side_at : (scope : Scope) (e e1 e2 : code.Expr) (known : Known) (side : Side) → e1 ≡ e → e2 ≡ e → side ≡ record { sort = known.sort; has_field = known.has_field; place = e2.place } → IsKnown scope (plain_expr e1) known → IsSide (plain_scope scope) (plain_expr e) side
 side_at scope e e1 e2 known side p q is h = side_is scope e known side (is ∙ ap (side_of known) q) (subst (λ (x : code.Expr). IsKnown scope (plain_expr x) known) p h)
+
+-- an expression of another sort than it is to be
+pub other_sort : (scope : Scope) (sort : Sort) (e : code.Expr) (known : Known) → IsKnown scope (plain_expr e) known → fails_if (is_other_sort sort (option_map plain_sort known.sort)) WrongSort e.place ≡ needs_sort (plain_scope scope) sort (plain_expr e)
+other_sort scope sort e known h = ap₂ (λ o p. fails_if (is_other_sort sort o) WrongSort p) h.sort (sym (place_is e))
 
 pub sort_are : (s : model.Scope) (sort : Sort) (e : Expr) (side : Side) → IsSide s e side → sort_failures sort side ≡ needs_sort s sort e
 sort_are s sort e side h = ap₂ (λ o p. fails_if (is_other_sort sort o) WrongSort p) h.sort h.place

@@ -76,8 +76,8 @@ more {a} {b} {c} {all} {left} {xs} rest one split so_far = record {
 }
 
 -- what is left of what was left
-pub left_then : {a b c : Checker} {all mid rest : List Refusal} → LeftOver b c mid rest → LeftOver a b all mid → LeftOver a c all rest
-left_then one so_far = record { is = one.is ∙ so_far.is; had = so_far.had }
+pub left_then : {a b c : Checker} {all mid left rest : List Refusal} → mid ≡ left → LeftOver b c left rest → LeftOver a b all mid → LeftOver a c all rest
+left_then {a} {b} split one so_far = record { is = one.is ∙ ap (first_among b.known) (sym split) ∙ so_far.is; had = so_far.had }
 
 -- these, before what is left
 pub left_by : {a b : Checker} {all xs : List Refusal} (rest : List Refusal) → all ≡ xs ++ rest → Noted a b xs → LeftOver a b all rest

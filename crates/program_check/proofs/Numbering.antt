@@ -63,12 +63,6 @@ numbered_item xs i x old new low is types names ctors so_far = record {
 pub numbered_items : (xs : List code.Item) (i : ℕ) (d : Declarations) → length xs ≤ i → AreNumbered (take i (map plain_item xs)) d → AreNumbered (map plain_item xs) d
 numbered_items xs i d end so_far = subst (λ items. AreNumbered items d) (take_all i (map plain_item xs) (rw length-map end)) so_far
 
--- an element that is there doesn't depend on what stands for a missing one
-pub same_element : {A : Type 0} (xs : List A) (i : ℕ) (d e : A) → i < length xs → get_or xs i d ≡ get_or xs i e
-same_element [] i d e low = absurd (omega (arith, low))
-same_element (x ∷ xs) zero d e low = refl
-same_element (x ∷ xs) (suc i) d e low = same_element xs i d e (omega (arith, low))
-
 -- one more item
 pub item_more : (xs : List code.Item) (i : ℕ) (x : code.Item) (a b whole : Option Refusal) → i < length xs → x ≡ get_or xs i x
     → b ≡ first_among a (body_failures (map plain_item xs) (take i (map plain_item xs)) (plain_item x).body)

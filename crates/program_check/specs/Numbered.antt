@@ -1,12 +1,12 @@
 -- Declarations with numbers, as the code keeps them.
-use Rattle.std.specs.Prelude.{◌≡◌, ℕ, suc, Bool, false, List, [], ◌∷◌, Option, Some, None, map, nat_lt, cond, slice_get}
+use Rattle.std.specs.Prelude.{◌≡◌, ℕ, suc, Bool, false, List, [], ◌∷◌, ◌++◌, Option, Some, None, map, nat_lt, cond, slice_get}
 use Rattle.std.specs.Option.{option_map, option_map_or, option_and_then}
 use Rattle.model_program.specs.Syntax.{Name, CtorItem, TypeItem}
 use Rattle.model_grammar.specs.Syntax.{Body, sorts, tree, lang, trans, def, assertion, Item}
 use Rattle.model_names.specs.Declared.{same_text, declares}
 use Rattle.program_check.specs.declared.names.Names.{Names}
 use Rattle.program_check.specs.declared.declarations.Declarations.{Declarations}
-use Rattle.program_check.specs.Naming.{place_in}
+use Rattle.program_check.specs.Naming.{place_in, Grows}
 
 -- the number of the first that passes
 abbrev pub place_by : {A : Type 0} → (A → Bool) → List A → Option ℕ
@@ -58,3 +58,9 @@ pub record AreNumbered (items : List Item) (d : Declarations) : Type 0 where
   pub types : (name : List ℕ) → place_in d.types name ≡ place_by (declares_type name) items
   pub names : (name : List ℕ) → place_in d.names name ≡ place_by (declares name) items
   pub ctors : map place_in d.ctors.items ≡ map (λ item. ctor_place (own_ctors item)) items
+
+-- what an item declares is added, with the item's number
+pub record Declares (old new : Declarations) (item : Item) (place : ℕ) : Type 0 where
+  pub types : Grows old.types new.types (λ name. declares_type name item) place
+  pub names : Grows old.names new.names (λ name. declares name item) place
+  pub ctors : map place_in new.ctors.items ≡ map place_in old.ctors.items ++ ctor_place (own_ctors item) ∷ []

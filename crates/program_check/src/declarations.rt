@@ -1,12 +1,12 @@
 //! What a program declares: each name is numbered once, and found in constant time from then on.
 
-ghost use Rattle.std.specs.Prelude.{◌≡◌, ◌++◌, ◌∷◌, [], Some, None, OnOk, IfOk, map};
+ghost use Rattle.std.specs.Prelude.{◌≡◌, [], Some, None, OnOk, IfOk, map};
 ghost use Rattle.std.specs.Option.{option_map};
 ghost use Rattle.model_names.specs.Declared.{own_name, declares};
 ghost use Rattle.fast_syntax.specs.View.{plain_name, plain_ctor, plain_type};
 ghost use Rattle.fast_syntax.specs.Plain.{plain_item};
 ghost use Rattle.program_check.specs.Naming.{place_in, Grows};
-ghost use Rattle.program_check.specs.Numbered.{declares_type, own_type_item, ctor_place, own_ctors, HasCtors, AreNumbered};
+ghost use Rattle.program_check.specs.Numbered.{declares_type, own_type_item, ctor_place, own_ctors, HasCtors, AreNumbered, Declares};
 
 use crate::names::Names;
 use fast_fault::Memory;
@@ -98,9 +98,7 @@ impl Declarations {
 
     /// Adds what the item at this place declares.
     fn add(&mut self, alloc: Global, item: &Item, place: usize) -> Result<(), Memory>
-        ensures types { OnOk result (Grows self.old.types self.new.types (λ name. declares_type name (plain_item item.now)) place) }
-        ensures names { OnOk result (Grows self.old.names self.new.names (λ name. declares name (plain_item item.now)) place) }
-        ensures ctors { OnOk result (map place_in self.new.ctors.items ≡ map place_in self.old.ctors.items ++ ctor_place (own_ctors (plain_item item.now)) ∷ []) }
+        ensures { OnOk result (Declares self.old self.new (plain_item item.now) place) }
     {
         number_type(alloc, &mut self.types, item, place)?;
         number_name(alloc, &mut self.names, item, place)?;

@@ -286,18 +286,6 @@ fn standing_of<'p>(context: &Context<'p>, name: &Name, item: &Item) -> Standing<
     }
 }
 
-/// What a name stands for that no item declares.
-fn standing_of_nothing<'p>(context: &Context<'p>, name: &Name) -> Standing<'p>
-    requires { find_item (items_of context.now) name.now.text ≡ None }
-    ensures { IsStanding (items_of context.now) (plain.named (plain_name name.now)) result }
-{
-    Standing {
-        kind: None,
-        input: None,
-        output: None,
-    }
-}
-
 impl Checker {
     /// The expression at this place, which stands for this, is of this kind and the type of this name.
     fn check_be(&mut self, of: Option<&Text>, kind: Kind, place: Pos, standing: &Standing)
@@ -346,9 +334,12 @@ impl Checker {
                 standing
             }
             None => {
-                let standing = standing_of_nothing(context, name);
                 self.note(Code::UnknownName, name.place);
-                standing
+                Standing {
+                    kind: None,
+                    input: None,
+                    output: None,
+                }
             }
         }
     }

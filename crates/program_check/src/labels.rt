@@ -19,7 +19,7 @@ ghost use Rattle.model_checks.specs.Failures.{failure, fails_if};
 ghost use Rattle.model_names.specs.Sorts.{sort_named, own_sort};
 ghost use Rattle.model_checks.specs.Sorts.{find_field, plain_fields, sort_of, place_of, is_other_sort, differ_in_sort, needs_sort};
 ghost use Rattle.model_tree.specs.Range.{is_label_number, IsLabelNumber};
-ghost use Rattle.model_checks.specs.Forms.{is_out_of_range, kept, has_field, have_field, form_in_range, form_numbered, product_of, remainder_of, divisor_in, divisor_of, with_part};
+ghost use Rattle.model_checks.specs.Forms.{is_out_of_range, kept, has_field, have_field, form_in_range, form_numbered, product_of, remainder_of, divisor_of, with_part};
 ghost use Rattle.model_checks.specs.Labels.{unknown_field, compared, label_failures, operands_failures, sorted_failures, multiplied, divided};
 ghost use Rattle.program_check.specs.Notes.{HasMemory, Notes};
 ghost use Rattle.program_check.specs.Known.{plain_scope, IsKnown, form_made, is_range, IsMade, AreTruths, plain_added, joined, sort_failures, sides_failures, next_failures, next_form, step_failures, step_form};
@@ -50,10 +50,11 @@ pub(crate) struct Known {
     pub(crate) form: Option<Form>,
 }
 
-/// A side of a comparison, or a label: its sort, and where it stands.
+/// A side of a comparison, or a label: its sort, whether it has the name of a field in it, and where it stands.
 #[derive(Clone, Copy)]
 pub(crate) struct Side {
     pub(crate) sort: Option<Sort>,
+    pub(crate) has_field: bool,
     pub(crate) place: Pos,
 }
 
@@ -174,12 +175,13 @@ impl Known {
         }
     }
 
-    /// It, as a side of a comparison that stands here.
-    pub(crate) fn side(&self, place: Pos) -> Side
-        ensures { result ≡ record { sort = self.now.sort; place = place } }
+    /// It, as a side of a comparison that stands here. Its form is let go.
+    pub(crate) fn into_side(self, place: Pos) -> Side
+        ensures { result ≡ record { sort = self.sort; has_field = self.has_field; place = place } }
     {
         Side {
             sort: self.sort,
+            has_field: self.has_field,
             place,
         }
     }
@@ -215,25 +217,20 @@ pub(crate) fn differ_in_sort(left: Option<Sort>, right: Option<Sort>) -> bool
     }
 }
 
-/// The number, where it is from 1 to 4,096.
-fn divisor_in(number: i128) -> Option<u32>
-    ensures is { result ≡ divisor_in number }
-    ensures within { IfSome result (λ k. (0 < k) × (k ≤ greatest_divisor)) }
-{
-    if 1 <= number && number <= GREATEST_DIVISOR {
-        Some(number as u32)
-    } else {
-        None
-    }
-}
-
 /// A written number from 1 to 4,096.
 fn divisor_of(e: &Expr) -> Option<u32>
     ensures is { result ≡ divisor_of (plain_expr e.now) }
     ensures within { IfSome result (λ k. (0 < k) × (k ≤ greatest_divisor)) }
 {
     match &e.node {
-        Node::Num(number) => divisor_in(*number),
+        Node::Num(number) => {
+            let number = *number;
+            if 1 <= number && number <= GREATEST_DIVISOR {
+                Some(number as u32)
+            } else {
+                None
+            }
+        }
         _ => None,
     }
 }
@@ -382,9 +379,9 @@ impl Checker {
     }
 
     /// A form with its sign changed.
-    fn negate(&mut self, form: &Option<Form>, place: Pos) -> Option<Form>
-        ensures noted { Notes self.old self.new (fails_if (is_out_of_range (option_map (product_form (negsuc 0)) form.now)) code.NumberRange place) }
-        ensures form { HasMemory self.new → result ≡ kept (option_map (product_form (negsuc 0)) form.now) }
+    fn negate(&mut self, form: Option<Form>, place: Pos) -> Option<Form>
+        ensures noted { Notes self.old self.new (fails_if (is_out_of_range (option_map (product_form (negsuc 0)) form)) code.NumberRange place) }
+        ensures form { HasMemory self.new → result ≡ kept (option_map (product_form (negsuc 0)) form) }
     {
         match form {
             Some(form) => {
@@ -476,9 +473,9 @@ impl Checker {
             Node::Not(inside) => self.check_not(scope, inside, e.place),
             Node::Minus(inside) => self.check_minus(scope, inside, e.place),
             Node::Compare(rel, left, right) => {
-                let of_left = self.check_label(scope, left);
-                let of_right = self.check_label(scope, right);
-                self.check_sides(*rel, of_left.side(left.place), of_right.side(right.place));
+                let of_left = self.check_label(scope, left).into_side(left.place);
+                let of_right = self.check_label(scope, right).into_side(right.place);
+                self.check_sides(*rel, of_left, of_right);
                 Known::of_truth(either(of_left.has_field, of_right.has_field))
             }
             Node::Or(parts) => self.check_truths(scope, parts),
@@ -495,7 +492,7 @@ impl Checker {
         ensures known { HasMemory self.new → IsKnown scope.now (plain_expr e.now) result }
     {
         let known = self.check_label(scope, e);
-        self.check_sort(sort, known.side(e.place));
+        self.note_if(is_other_sort(sort, known.sort), Code::WrongSort, e.place);
         known
     }
 
@@ -504,8 +501,10 @@ impl Checker {
         ensures noted { Notes self.old self.new (label_failures (plain_scope scope.now) (plain.negation place (plain_expr inside.now))) }
         ensures known { HasMemory self.new → IsKnown scope.now (plain.negation place (plain_expr inside.now)) result }
     {
-        let known = self.check_sorted(scope, Sort::Bool, inside);
-        Known::of_truth(known.has_field)
+        let truth = self
+            .check_sorted(scope, Sort::Bool, inside)
+            .into_side(place);
+        Known::of_truth(truth.has_field)
     }
 
     #[cycle(check_label)]
@@ -514,7 +513,7 @@ impl Checker {
         ensures known { HasMemory self.new → IsKnown scope.now (plain.minus place (plain_expr inside.now)) result }
     {
         let known = self.check_sorted(scope, Sort::Int, inside);
-        let form = self.negate(&known.form, place);
+        let form = self.negate(known.form, place);
         Known {
             sort: Some(Sort::Int),
             has_field: known.has_field,
@@ -530,8 +529,10 @@ impl Checker {
     {
         let mut has_field = false;
         'parts: for part in parts {
-            let known = self.check_sorted(scope, Sort::Bool, part);
-            has_field = either(has_field, known.has_field);
+            let truth = self
+                .check_sorted(scope, Sort::Bool, part)
+                .into_side(part.place);
+            has_field = either(has_field, truth.has_field);
         }
         Known::of_truth(has_field)
     }

@@ -63,35 +63,6 @@ fn over_limit(items: &[Item]) -> Option<Refusal>
     }
 }
 
-/// The first of what is known and of the conditions that fail in the item behind so many others.
-fn check_item(
-    alloc: Global,
-    items: &[Item],
-    declared: &Declarations,
-    before: usize,
-    known: Option<Refusal>,
-) -> Result<Option<Refusal>, Memory>
-    requires numbered { AreNumbered (map plain_item items.now) declared.now }
-    requires within { before < length items.now }
-    ensures { IfOk result (λ least. (x : _) → x ≡ get_or items.now before x → least ≡ first_among known (body_failures (map plain_item items.now) (take before (map plain_item items.now)) (plain_item x).body)) }
-{
-    let context = Context {
-        items,
-        declared,
-        before,
-    };
-    let mut checker = Checker {
-        known,
-        ran_out: false,
-        alloc,
-    };
-    checker.check_body(&context, &items[before].body);
-    if checker.ran_out {
-        return Err(Memory);
-    }
-    Ok(checker.known)
-}
-
 /// The first of the failing conditions.
 fn find_refusal(
     alloc: Global,
@@ -101,11 +72,23 @@ fn find_refusal(
     requires { AreNumbered (map plain_item items.now) declared.now }
     ensures { IfOk result (λ refusal. refusal ≡ refusal_of (map plain_item items.now)) }
 {
-    let mut known = over_limit(items);
+    let mut checker = Checker {
+        known: over_limit(items),
+        ran_out: false,
+        alloc,
+    };
     'items: for before in 0..items.len() {
-        known = check_item(alloc, items, declared, before, known)?;
+        let context = Context {
+            items,
+            declared,
+            before,
+        };
+        checker.check_body(&context, &items[before].body);
     }
-    Ok(known)
+    if checker.ran_out {
+        return Err(Memory);
+    }
+    Ok(checker.known)
 }
 
 /// The signatures of the types of a program that passes, whose names are numbered.

@@ -7,7 +7,7 @@ ghost use Rattle.fast_syntax.specs.View as syntax;
 ghost use Rattle.fast_syntax.specs.View.{plain_type};
 ghost use Rattle.fast_syntax.specs.Plain.{plain_item};
 ghost use Rattle.model_names.specs.Sorts.{own_sort};
-ghost use Rattle.model_meaning.specs.Types.{rank_of, signature_of};
+ghost use Rattle.model_meaning.specs.Types.{signature_of};
 ghost use Rattle.program_check.specs.Numbered.{own_type_item};
 ghost use Rattle.model_program.specs.Syntax as plain;
 ghost use Rattle.model_checks.specs.Types.{is_rank_in_range};
@@ -41,21 +41,13 @@ fn field_of(alloc: Global, field: &FieldItem) -> Result<FieldOf, Memory>
     })
 }
 
-/// A rank as a number.
-fn rank_of(rank: i128) -> u32
-    requires { is_rank_in_range rank ≡ true }
-    ensures { result ≡ rank_of rank }
-{
-    rank as u32
-}
-
 fn constructor_of(alloc: Global, ctor: &CtorItem) -> Result<CtorOf, Memory>
     requires { is_rank_in_range ctor.now.rank ≡ true }
     ensures { IfOk result (λ made. plain_constructor made ≡ constructor_of (syntax.plain_ctor ctor.now)) }
 {
     Ok(CtorOf {
         name: ctor.name.text.copy(alloc)?,
-        rank: rank_of(ctor.rank),
+        rank: ctor.rank as u32,
     })
 }
 

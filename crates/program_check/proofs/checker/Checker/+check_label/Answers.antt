@@ -19,23 +19,29 @@ use Rattle.program_check.specs.Known.{plain_scope, plain_added, next_form, IsKno
 use Rattle.program_check.specs.Notes.{HasMemory, Notes}
 use Rattle.program_check.proofs.Noting.{next, same, and_none, left_by, if_made}
 use Rattle.program_check.proofs.Chains.{sorted_more, sorted_done, has_more, has_done, added_more, added_done, steps_more, steps_done, form_more, form_done}
-use Rattle.program_check.proofs.Labelled.{side_is, side_at, sort_are, truth_known, minus_noted, sum_noted, compare_noted, step_noted, or_known, and_known, truths_known}
+use Rattle.fast_fault.specs.declared.code.Code.TheVariants.{WrongSort}
+use Rattle.model_checks.specs.Failures.{fails_if}
+use Rattle.program_check.specs.declared.labels.Side.{Side}
+use Rattle.program_check.proofs.Labelled.{other_sort, side_at, truth_known, minus_noted, sum_noted, compare_noted, step_noted, or_known, and_known, truths_known}
 use Rattle.program_check.proofs.checker.Checker.+check_label.Goals as goal
 
 pub check_sorted-returns-clause-noted : goal.check_sorted-returns-clause-noted
 check_sorted-returns-clause-noted t c h =
-    let last = c.check_sort.ensures h in
-    let side = side_is c.args.scope.now c.args.e.now c.check_label-known.result c.side.result c.side.ensures (c.check_label-known.ensures.known last.had) in
-    next (c.check_label-known.ensures.noted last.had) (same (sort_are (plain_scope c.args.scope.now) (plain_sort c.args.sort) (plain_expr c.args.e.now) c.side.result side) last)
+    let last = c.note_if.ensures h in
+    let known = c.check_label-known.ensures.known last.had in
+    let other = same (ap (λ b. fails_if b WrongSort c.args.e.now.place) c.is_other_sort.ensures) last in
+    next (c.check_label-known.ensures.noted last.had) (same (other_sort c.args.scope.now (plain_sort c.args.sort) c.args.e.now c.check_label-known.result known) other)
 
 pub check_sorted-returns-clause-known : goal.check_sorted-returns-clause-known
-check_sorted-returns-clause-known t c h = c.check_label-known.ensures.known (c.check_sort.ensures h).had
+check_sorted-returns-clause-known t c h = c.check_label-known.ensures.known (c.note_if.ensures h).had
 
 pub check_not-returns-clause-noted : goal.check_not-returns-clause-noted
-check_not-returns-clause-noted t c = c.check_sorted-known.ensures.noted
+check_not-returns-clause-noted t c = c.check_sorted.ensures.noted
 
 pub check_not-returns-clause-known : goal.check_not-returns-clause-known
-check_not-returns-clause-known t c h = truth_known c.args.scope.now (plain.negation c.args.place (plain_expr c.args.inside.now)) c.of_truth.result c.check_sorted-known.result.has_field c.of_truth.ensures refl (c.check_sorted-known.ensures.known h).has refl
+check_not-returns-clause-known t c h =
+    let has = ap (λ (x : Side). x.has_field) c.into_side-truth.ensures ∙ (c.check_sorted.ensures.known h).has in
+    truth_known c.args.scope.now (plain.negation c.args.place (plain_expr c.args.inside.now)) c.of_truth.result c.into_side-truth.result.has_field c.of_truth.ensures refl has refl
 
 pub check_minus-returns-clause-known : goal.check_minus-returns-clause-known
 check_minus-returns-clause-known t c h =
@@ -57,11 +63,11 @@ check_truths-parts-preserved t c =
     let items = c.args.parts.now in
     let i = c.parts.part-index in
     let x = c.part-item.result in
-    let one = c.check_sorted-known.ensures.noted in
+    let one = c.check_sorted.ensures.noted in
     let split = ap plain_operands (drop_at items i x c.parts-test.true c.part-item.is) in
     record {
       noted = λ h. sorted_more s truths (plain_expr x) false (plain_operands (drop i items)) (plain_operands (drop (i + 1) items)) _ _ _ _ split (one h) (c.parts.invariant.noted (one h).had);
-      has = λ h. has_more s (plain_expr x) false (plain_operands (drop i items)) (plain_operands (drop (i + 1) items)) _ _ _ _ split (c.check_sorted-known.ensures.known h).has c.either-has_field.ensures (c.parts.invariant.has (one h).had);
+      has = λ h. has_more s (plain_expr x) false (plain_operands (drop i items)) (plain_operands (drop (i + 1) items)) _ _ _ _ split (ap (λ (y : Side). y.has_field) c.into_side-truth.ensures ∙ (c.check_sorted.ensures.known h).has) c.either-has_field.ensures (c.parts.invariant.has (one h).had);
     }
 
 pub check_truths-returns-clause-noted : goal.check_truths-returns-clause-noted
@@ -185,13 +191,48 @@ check_label-returns-in-Compare-clause-noted t c h =
     let s = plain_scope c.args.scope.now in
     let place = c.args.e.now.place in
     let last = c.check_sides.ensures h in
-    let two = c.check_label-of_right.ensures.noted last.had in
-    let one = c.check_label-of_left.ensures.noted two.had in
-    let left = side_at c.args.scope.now c.in-Compare.left.value _ _ c.check_label-of_left.result c.side.result c.deref-in-Compare.ensures c.deref-in-Compare-3.ensures c.side.ensures (c.check_label-of_left.ensures.known two.had) in
-    let right = side_at c.args.scope.now c.in-Compare.right.value _ _ c.check_label-of_right.result c.side-in-Compare.result c.deref-in-Compare-2.ensures c.deref-in-Compare-4.ensures c.side-in-Compare.ensures (c.check_label-of_right.ensures.known last.had) in
+    let two = c.check_label-in-Compare.ensures.noted last.had in
+    let one = c.check_label.ensures.noted two.had in
+    let left = side_at c.args.scope.now c.in-Compare.left.value _ _ c.check_label.result c.into_side-of_left.result c.deref-in-Compare.ensures c.deref-in-Compare-2.ensures c.into_side-of_left.ensures (c.check_label.ensures.known two.had) in
+    let right = side_at c.args.scope.now c.in-Compare.right.value _ _ c.check_label-in-Compare.result c.into_side-of_right.result c.deref-in-Compare-3.ensures c.deref-in-Compare-4.ensures c.into_side-of_right.ensures (c.check_label-in-Compare.ensures.known last.had) in
     same (ap (λ n. label_failures s (plain_node n place)) (sym c.in-Compare.is))
     (compare_noted s c.in-Compare.rel place (plain_expr c.in-Compare.left.value) _ (plain_expr c.in-Compare.right.value) _ _ _ _ _ _ _
-    (ap plain_expr c.deref-in-Compare.ensures) (ap plain_expr c.deref-in-Compare-2.ensures) left right one two last)
+    (ap plain_expr c.deref-in-Compare.ensures) (ap plain_expr c.deref-in-Compare-3.ensures) left right one two last)
+
+pub check_label-returns-in-Compare-clause-known : goal.check_label-returns-in-Compare-clause-known
+check_label-returns-in-Compare-clause-known t c h =
+    let last = c.check_sides.ensures h in
+    let two = c.check_label-in-Compare.ensures.noted last.had in
+    let left = side_at c.args.scope.now c.in-Compare.left.value _ _ c.check_label.result c.into_side-of_left.result c.deref-in-Compare.ensures c.deref-in-Compare-2.ensures c.into_side-of_left.ensures (c.check_label.ensures.known two.had) in
+    let right = side_at c.args.scope.now c.in-Compare.right.value _ _ c.check_label-in-Compare.result c.into_side-of_right.result c.deref-in-Compare-3.ensures c.deref-in-Compare-4.ensures c.into_side-of_right.ensures (c.check_label-in-Compare.ensures.known last.had) in
+    let has = c.either.ensures ∙ ap₂ (λ a b. a || b) left.has right.has in
+    let place = c.args.e.now.place in
+    subst (λ (n : Node). IsKnown c.args.scope.now (plain_node n place) c.of_truth-in-Compare.result) (sym c.in-Compare.is)
+    (truth_known c.args.scope.now (plain.compare place c.in-Compare.rel (plain_expr c.in-Compare.left.value) (plain_expr c.in-Compare.right.value)) c.of_truth-in-Compare.result c.either.result c.of_truth-in-Compare.ensures refl has refl)
+
+pub check_label-returns-in-Not-clause-noted : goal.check_label-returns-in-Not-clause-noted
+check_label-returns-in-Not-clause-noted t c h =
+    let s = plain_scope c.args.scope.now in
+    let place = c.args.e.now.place in
+    same (ap (λ x. label_failures s (plain.negation place (plain_expr x))) c.deref.ensures ∙ sym (ap (λ n. label_failures s (plain_node n place)) c.in-Not.is)) (c.check_not.ensures.noted h)
+
+pub check_label-returns-in-Not-clause-known : goal.check_label-returns-in-Not-clause-known
+check_label-returns-in-Not-clause-known t c h =
+    let place = c.args.e.now.place in
+    let is = ap (λ x. plain.negation place (plain_expr x)) c.deref.ensures ∙ sym (ap (λ n. plain_node n place) c.in-Not.is) in
+    subst (λ (e : plain.Expr). IsKnown c.args.scope.now e c.check_not.result) is (c.check_not.ensures.known h)
+
+pub check_label-returns-in-Minus-clause-noted : goal.check_label-returns-in-Minus-clause-noted
+check_label-returns-in-Minus-clause-noted t c h =
+    let s = plain_scope c.args.scope.now in
+    let place = c.args.e.now.place in
+    same (ap (λ x. label_failures s (plain.minus place (plain_expr x))) c.deref-in-Minus.ensures ∙ sym (ap (λ n. label_failures s (plain_node n place)) c.in-Minus.is)) (c.check_minus.ensures.noted h)
+
+pub check_label-returns-in-Minus-clause-known : goal.check_label-returns-in-Minus-clause-known
+check_label-returns-in-Minus-clause-known t c h =
+    let place = c.args.e.now.place in
+    let is = ap (λ x. plain.minus place (plain_expr x)) c.deref-in-Minus.ensures ∙ sym (ap (λ n. plain_node n place) c.in-Minus.is) in
+    subst (λ (e : plain.Expr). IsKnown c.args.scope.now e c.check_minus.result) is (c.check_minus.ensures.known h)
 
 pub check_label-returns-in-Or-clause-noted : goal.check_label-returns-in-Or-clause-noted
 check_label-returns-in-Or-clause-noted t c =

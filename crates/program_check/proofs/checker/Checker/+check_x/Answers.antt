@@ -1,12 +1,13 @@
-use Rattle.std.proofs.Common.{◌≡◌, ◌∙◌, suc, ◌++◌, None, refl, sym, ap, ap₂, map, subst, length, arith}
+use Rattle.std.proofs.Common.{◌≡◌, ◌∙◌, ◌+◌, suc, ◌++◌, None, refl, sym, ap, ap₂, map, subst, length, arith}
 use Rattle.fast_syntax.specs.View.{plain_name}
 use Rattle.fast_syntax.specs.Plain.{plain_x, plain_expr}
 use Rattle.fast_syntax.specs.Slices.{plain_children}
 use Rattle.model_checks.specs.Expressions.{type_called, x_failures, xs_failures}
+use Rattle.model_names.specs.Kinds.{kind_of, type_of, output_of}
 use Rattle.program_check.specs.Contexts.{items_of, before_of}
 use Rattle.program_check.specs.Typed.{type_name}
 use Rattle.program_check.specs.Standings.{plain_kind, IsStanding}
-use Rattle.program_check.proofs.Noting.{next, same, and_none, was_done, either_way}
+use Rattle.program_check.proofs.Noting.{next, same, and_none, left_then, done, was_done, either_way}
 use Rattle.program_check.proofs.Standing.{be_is, wanted_is, one_stands, two_stands, kind_is}
 use Rattle.fast_syntax.proofs.Rows.{plain_literal}
 use Rattle.model_grammar.specs.Syntax.{X}
@@ -128,3 +129,59 @@ check_next_child-returns-in_default-clause-noted t c h =
 
 pub check_next_child-returns-in_default-clause-less : goal.check_next_child-returns-in_default-clause-less
 check_next_child-returns-in_default-clause-less t c = let some = some_weight (plain_x c.args.child.now) in omega (arith, some)
+
+pub check_x-check_as-operand-requires : goal.check_x-check_as-operand-requires
+check_x-check_as-operand-requires t c =
+    let is : weight (plain_x c.args.x.now) ≡ suc (suc (weight (plain_x c.in-One.inside.value))) = ap weight (ap plain_x c.in-One.is) in
+    let inside = ap weight (ap plain_x c.deref.ensures) in
+    omega (arith, is, inside, c.decreases)
+
+pub check_x-check_as-left-requires : goal.check_x-check_as-left-requires
+check_x-check_as-left-requires t c =
+    let is : weight (plain_x c.args.x.now) ≡ suc (suc (weight (plain_x c.in-Two.first.value) + weight (plain_x c.in-Two.second.value))) = ap weight (ap plain_x c.in-Two.is) in
+    let inside = ap weight (ap plain_x c.deref-in-Two.ensures) in
+    omega (arith, is, inside, c.decreases)
+
+pub check_x-check_as-right-requires : goal.check_x-check_as-right-requires
+check_x-check_as-right-requires t c =
+    let is : weight (plain_x c.args.x.now) ≡ suc (suc (weight (plain_x c.in-Two.first.value) + weight (plain_x c.in-Two.second.value))) = ap weight (ap plain_x c.in-Two.is) in
+    let inside = ap weight (ap plain_x c.deref-in-Two-2.ensures) in
+    omega (arith, is, inside, c.decreases)
+
+pub check_as-check_x-standing-requires : goal.check_as-check_x-standing-requires
+check_as-check_x-standing-requires t c = omega (arith, c.decreases)
+
+pub check_next_child-check_as-requires : goal.check_next_child-check_as-requires
+check_next_child-check_as-requires t c = omega (arith, c.decreases)
+
+pub check_children-check_next_child-requires : goal.check_children-check_next_child-requires
+check_children-check_next_child-requires t c =
+    let row = ap (λ l. weights (plain_children l)) c.in-Some.ensures in
+    omega (arith, row, c.children.invariant.few, c.decreases)
+
+pub check_x-returns-in-Named-clause-noted : goal.check_x-returns-in-Named-clause-noted
+check_x-returns-in-Named-clause-noted t c h = same (ap (x_failures (items_of c.args.context.now) (before_of c.args.context.now) c.args.around (type_name c.args.expected)) (sym (ap plain_x c.in-Named.is))) (c.check_word.ensures.noted h)
+
+pub check_x-returns-in-Named-clause-standing : goal.check_x-returns-in-Named-clause-standing
+check_x-returns-in-Named-clause-standing t c h = subst (λ (z : X). IsStanding (items_of c.args.context.now) z c.check_word.result) (sym (ap plain_x c.in-Named.is)) c.check_word.ensures.standing
+
+pub check_x-returns-in-Literal-clause-standing : goal.check_x-returns-in-Literal-clause-standing
+check_x-returns-in-Literal-clause-standing t c h =
+    let items = items_of c.args.context.now in
+    let is = ap plain_x c.in-Literal.is ∙ plain_literal c.in-Literal.name c.in-Literal.labels c.in-Literal.children in
+    record { kind = sym (ap (kind_of items) is); input = sym (ap (type_of items) is); output = sym (ap (output_of items) is) }
+
+pub check_children-children-preserved : goal.check_children-children-preserved
+check_children-children-preserved t c =
+    let each = xs_failures (items_of c.args.context.now) (before_of c.args.context.now) c.args.around (type_name c.args.expected) in
+    let row = ap (λ l. weights (plain_children l)) c.in-Some.ensures in
+    let one = c.check_next_child.ensures.noted in
+    record {
+      noted = λ h. left_then (ap (λ l. each (plain_children l)) c.in-Some.ensures) (one h) (c.children.invariant.noted (one h).had);
+      few = omega (arith, row, c.check_next_child.ensures.less, c.children.invariant.few);
+    }
+
+pub check_children-returns : goal.check_children-returns
+check_children-returns t c h =
+    let each = xs_failures (items_of c.args.context.now) (before_of c.args.context.now) c.args.around (type_name c.args.expected) in
+    done (ap (λ l. each (plain_children l)) c.in_default.ensures) (c.children.invariant.noted h)
