@@ -4,7 +4,6 @@ pub mod Numbered
 pub mod Typed
 pub mod Known
 pub mod Contexts
-pub mod Variables
 pub mod Nodes
 pub mod Standings
 pub mod Stops

@@ -66,11 +66,11 @@ impl Checker {
         self.check_as(context, 0, of, Kind::Tree, &item.value);
     }
 
-    fn check_rule_limit(&mut self, item: &LangItem)
-        ensures { Notes self.old self.new (rule_limit (plain_lang item.now).rules) }
+    fn check_rule_limit(&mut self, rules: &[Rule])
+        ensures { Notes self.old self.new (rule_limit (map plain_rule rules.now)) }
     {
-        if item.rules.len() > MOST_RULES {
-            self.note(Code::TooMany, item.rules[MOST_RULES].ctor.place);
+        if rules.len() > MOST_RULES {
+            self.note(Code::TooMany, rules[MOST_RULES].ctor.place);
         }
     }
 
@@ -87,7 +87,7 @@ impl Checker {
     {
         self.check_new_name(context, &item.name);
         self.check_type_name(context, &item.of);
-        self.check_rule_limit(item);
+        self.check_rule_limit(&item.rules);
         self.check_rules(context, &item.of, &item.rules)
     }
 

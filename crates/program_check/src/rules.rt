@@ -20,7 +20,6 @@ ghost use Rattle.program_check.specs.Notes.{HasMemory, Notes};
 ghost use Rattle.program_check.specs.Typed.{plain_of, plain_option, type_name};
 ghost use Rattle.program_check.specs.Contexts.{items_of};
 ghost use Rattle.program_check.specs.Known.{plain_scope};
-ghost use Rattle.program_check.specs.Variables.{lang_failures_of, trans_failures_of};
 
 use crate::checker::Checker;
 use crate::context::Context;
@@ -149,47 +148,33 @@ impl Checker {
     fn check_language(&mut self, context: &Context, of: &Name, name: &Name)
         ensures { Notes self.old self.new (language_failures (items_of context.now) (plain_name of.now) (plain_name name.now)) }
     {
-        let found = context.find_item(&name.text);
-        match found {
-            Some(item) => self.check_demanded(context, of, name, item),
-            None => self.note(Code::UnknownName, name.place),
-        }
-    }
-
-    fn check_demanded(&mut self, context: &Context, of: &Name, name: &Name, item: &Item)
-        ensures { Notes self.old self.new (lang_failures_of (items_of context.now) (plain_name of.now) (plain_name name.now) (plain_item item.now)) }
-    {
-        match own_lang(item) {
-            Some(lang) => {
-                let differ = types_differ(context, &lang.of, of);
-                self.note_if(differ, Code::WrongType, name.place);
-            }
-            None => self.note(Code::WrongKind, name.place),
-        }
+        let Some(item) = context.find_item(&name.text) else {
+            self.note(Code::UnknownName, name.place);
+            return;
+        };
+        let Some(lang) = own_lang(item) else {
+            self.note(Code::WrongKind, name.place);
+            return;
+        };
+        let differ = types_differ(context, &lang.of, of);
+        self.note_if(differ, Code::WrongType, name.place);
     }
 
     /// In a rule between these types a call is of a `trans` between them.
     pub(crate) fn check_transformation(&mut self, context: &Context, types: &Between, name: &Name)
         ensures { Notes self.old self.new (transformation_failures (items_of context.now) (plain_name types.now.from.now) (plain_name types.now.into.now) (plain_name name.now)) }
     {
-        let found = context.find_item(&name.text);
-        match found {
-            Some(item) => self.check_called(context, types, name, item),
-            None => self.note(Code::UnknownName, name.place),
-        }
-    }
-
-    fn check_called(&mut self, context: &Context, types: &Between, name: &Name, item: &Item)
-        ensures { Notes self.old self.new (trans_failures_of (items_of context.now) (plain_name types.now.from.now) (plain_name types.now.into.now) (plain_name name.now) (plain_item item.now)) }
-    {
-        match own_trans(item) {
-            Some(trans) => {
-                let inputs = types_differ(context, &trans.from, types.from);
-                let outputs = types_differ(context, &trans.into, types.into);
-                self.note_if(either(inputs, outputs), Code::WrongType, name.place);
-            }
-            None => self.note(Code::WrongKind, name.place),
-        }
+        let Some(item) = context.find_item(&name.text) else {
+            self.note(Code::UnknownName, name.place);
+            return;
+        };
+        let Some(trans) = own_trans(item) else {
+            self.note(Code::WrongKind, name.place);
+            return;
+        };
+        let inputs = types_differ(context, &trans.from, types.from);
+        let outputs = types_differ(context, &trans.into, types.into);
+        self.note_if(either(inputs, outputs), Code::WrongType, name.place);
     }
 
     fn check_given(&mut self, context: &Context, of: &Name, vars: &Vars, rule: &Rule)

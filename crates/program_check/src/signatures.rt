@@ -32,15 +32,6 @@ pub(crate) fn own_sort(field: &FieldItem) -> Sort
     }
 }
 
-fn field_of(alloc: Global, field: &FieldItem) -> Result<FieldOf, Memory>
-    ensures { IfOk result (λ made. plain_field made ≡ field_of (syntax.plain_field field.now)) }
-{
-    Ok(FieldOf {
-        name: field.name.text.copy(alloc)?,
-        sort: own_sort(field),
-    })
-}
-
 fn constructor_of(alloc: Global, ctor: &CtorItem) -> Result<CtorOf, Memory>
     requires { is_rank_in_range ctor.now.rank ≡ true }
     ensures { IfOk result (λ made. plain_constructor made ≡ constructor_of (syntax.plain_ctor ctor.now)) }
@@ -56,7 +47,9 @@ fn fields_of(alloc: Global, fields: &[FieldItem]) -> Result<Vec<FieldOf>, Memory
 {
     let mut made = Vec::new(alloc);
     'fields: for field in fields {
-        made.push(field_of(alloc, field)?)?;
+        let name = field.name.text.copy(alloc)?;
+        let sort = own_sort(field);
+        made.push(FieldOf { name, sort })?;
     }
     Ok(made)
 }

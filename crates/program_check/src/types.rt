@@ -75,11 +75,11 @@ impl Checker {
     }
 
     /// There are not too many fields.
-    fn check_field_limit(&mut self, item: &TypeItem)
-        ensures { Notes self.old self.new (field_limit (plain_type item.now).fields) }
+    fn check_field_limit(&mut self, fields: &[FieldItem])
+        ensures { Notes self.old self.new (field_limit (map plain_field fields.now)) }
     {
-        if item.fields.len() > MOST_FIELDS {
-            self.note(Code::TooMany, item.fields[MOST_FIELDS].name.place);
+        if fields.len() > MOST_FIELDS {
+            self.note(Code::TooMany, fields[MOST_FIELDS].name.place);
         }
     }
 
@@ -104,7 +104,7 @@ impl Checker {
     {
         self.check_repeated(Code::DuplicateName, &item.fields);
         self.check_own_sorts(item);
-        self.check_field_limit(item);
+        self.check_field_limit(&item.fields);
         self.check_ctors(item);
         self.check_ranks(item);
     }

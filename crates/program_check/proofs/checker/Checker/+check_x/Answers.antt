@@ -1,4 +1,4 @@
-use Rattle.std.proofs.Common.{◌≡◌, ◌∙◌, ◌+◌, suc, ◌++◌, None, refl, sym, ap, ap₂, map, subst, length, arith}
+use Rattle.std.proofs.Common.{◌≡◌, ◌∙◌, ◌+◌, suc, ◌++◌, refl, sym, ap, ap₂, map, subst, length, arith}
 use Rattle.fast_syntax.specs.View.{plain_name}
 use Rattle.fast_syntax.specs.Plain.{plain_x, plain_expr}
 use Rattle.fast_syntax.specs.Slices.{plain_children}
