@@ -28,9 +28,6 @@ nothing a h = record { is = refl; had = h }
 pub and_none : {a b c : Checker} {xs : List Refusal} → Noted a b xs → Noted b c [] → Noted a c xs
 and_none one two = record { is = two.is ∙ one.is; had = one.had }
 
-pub none_and : {a b c : Checker} {xs : List Refusal} → Noted a b [] → Noted b c xs → Noted a c xs
-none_and {a} {b} {c} {xs} one two = record { is = two.is ∙ ap (λ k. first_among k xs) one.is; had = one.had }
-
 -- the same ones
 pub same : {a b : Checker} {xs ys : List Refusal} → xs ≡ ys → Noted a b xs → Noted a b ys
 same {a} e one = record { is = one.is ∙ ap (first_among a.known) e; had = one.had }

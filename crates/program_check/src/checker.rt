@@ -1,7 +1,7 @@
 //! What goes through a program: it keeps the first failing condition of those that it noted, in whatever order they were
 //! found. The program itself is passed beside it, where a condition speaks of it.
 
-ghost use Rattle.std.specs.Prelude.{◌≡◌, None, Some, IsOk, []};
+ghost use Rattle.std.specs.Prelude.{◌≡◌, Some, IsOk, []};
 ghost use Rattle.model_checks.specs.Failures.{failure, fails_if, goes_before};
 ghost use Rattle.program_check.specs.Notes.{HasMemory, Notes};
 

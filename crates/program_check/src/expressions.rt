@@ -1,14 +1,14 @@
 //! What may fail in an expression of a language, a transformation or a tree, and what one stands for.
 
-ghost use Rattle.std.specs.Prelude.{◌≡◌, ◌<◌, ◌≤◌, ◌+◌, ◌++◌, ◌&&◌, not, List, [], Some, None, map, length, is_some};
-ghost use Rattle.std.specs.Option.{option_map, option_and_then, option_map_or};
+ghost use Rattle.std.specs.Prelude.{◌≡◌, ◌<◌, ◌≤◌, ◌+◌, ◌&&◌, not, [], Some, None, map, is_some};
+ghost use Rattle.std.specs.Option.{option_map, option_and_then};
 ghost use Rattle.model_tree.specs.Limits.{most_around};
 ghost use Rattle.fast_fault.specs.declared.code.Code.TheVariants as code;
 ghost use Rattle.model_grammar.specs.Syntax as plain;
 ghost use Rattle.model_names.specs.Declared.{find_type, find_item};
-ghost use Rattle.model_checks.specs.Failures.{failure, fails_if};
-ghost use Rattle.model_names.specs.Kinds.{taken_by_one, given_by_one, taken_first, taken_second, given_by_two, kind_of, type_of, output_of, declared_type, own_kind, own_type, own_output, defined_kind};
-ghost use Rattle.fast_syntax.specs.View.{plain_name, plain_field, plain_type};
+ghost use Rattle.model_checks.specs.Failures.{fails_if};
+ghost use Rattle.model_names.specs.Kinds.{taken_by_one, given_by_one, taken_first, taken_second, given_by_two, declared_type, own_kind, own_type, own_output, defined_kind};
+ghost use Rattle.fast_syntax.specs.View.{plain_name};
 ghost use Rattle.fast_syntax.specs.Plain.{plain_expr, plain_x, plain_item, plain_into};
 ghost use Rattle.fast_syntax.specs.Slices.{plain_children};
 ghost use Rattle.model_checks.specs.Expressions.{place_of_x, is_other_kind, is_known_later, expected_as, nesting_failures, name_failures, x_failures, xs_failures};

@@ -1,21 +1,17 @@
 //! What may fail in an item, by its kind.
 
-ghost use Rattle.std.specs.Prelude.{◌≡◌, ◌++◌, List, [], Some, None, map, is_some};
+ghost use Rattle.std.specs.Prelude.{◌≡◌, ◌++◌, Some, None, map};
 ghost use Rattle.std.specs.List.{flat_map};
 ghost use Rattle.std.specs.Option.{option_map, option_and_then};
-ghost use Rattle.fast_fault.specs.declared.code.Code.TheVariants as code;
-ghost use Rattle.model_names.specs.Kinds.{declared_type, kind_of};
+ghost use Rattle.model_names.specs.Kinds.{declared_type};
 ghost use Rattle.fast_syntax.specs.View.{plain_name, plain_type};
 ghost use Rattle.fast_syntax.specs.Plain.{plain_x, plain_rule, plain_out_rule, plain_tree, plain_lang, plain_trans, plain_into, plain_def, plain_claim, plain_body};
-ghost use Rattle.model_checks.specs.Failures.{fails_if};
-ghost use Rattle.model_checks.specs.Rules.{type_name_failures, rule_limit, rule_failures, out_rule_failures};
-ghost use Rattle.model_checks.specs.Expressions.{place_of_x, type_as, output_as, whole_failures};
+ghost use Rattle.model_checks.specs.Rules.{rule_limit, rule_failures, out_rule_failures};
 ghost use Rattle.model_checks.specs.Programs.{is_tree, type_again, name_again, tree_failures, lang_failures, trans_failures, into_failures, needs_output, def_failures, claim_failures, body_failures};
 ghost use Rattle.program_check.specs.Notes.{HasMemory, Notes};
 ghost use Rattle.program_check.specs.Typed.{type_name};
 ghost use Rattle.program_check.specs.Contexts.{items_of, before_of};
 ghost use Rattle.program_check.specs.Standings.{plain_kind, IsStanding, beside_failures};
-ghost use Rattle.model_names.specs.Kinds as kinds;
 ghost use Rattle.model_grammar.specs.Syntax as plain;
 ghost use Rattle.model_checks.specs.Types.{type_failures};
 

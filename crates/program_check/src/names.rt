@@ -1,6 +1,6 @@
 //! Names, each with the number of what has it first.
 
-ghost use Rattle.std.specs.Prelude.{◌≡◌, ℕ, List, Some, None, OnOk, IfOk, MatchResult, is_some};
+ghost use Rattle.std.specs.Prelude.{◌≡◌, ℕ, List, None, OnOk};
 ghost use Rattle.program_check.specs.Naming.{place_in, Adds};
 
 use fast_fault::{Memory, Text};

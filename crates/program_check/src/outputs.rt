@@ -1,17 +1,15 @@
 //! What may fail in the labels of a node and in an output term, whose labels speak of the input.
 
-ghost use Rattle.std.specs.Prelude.{◌≡◌, ◌++◌, List, [], Some, None, map, length, slice_get};
-ghost use Rattle.std.specs.List.{flat_map};
-ghost use Rattle.std.specs.Option.{option_map};
+ghost use Rattle.std.specs.Prelude.{◌≡◌, [], Some, None, map};
 ghost use Rattle.model_grammar.specs.Syntax as plain;
-ghost use Rattle.fast_syntax.specs.View.{plain_name, plain_field, plain_type};
+ghost use Rattle.fast_syntax.specs.View.{plain_name, plain_field};
 ghost use Rattle.fast_syntax.specs.Plain.{plain_expr, plain_out, plain_out_rule};
 ghost use Rattle.fast_syntax.specs.Slices.{plain_outputs};
-ghost use Rattle.model_checks.specs.Labels.{labels_failures, needs_sort_of};
-ghost use Rattle.model_checks.specs.Rules.{fields_of, count_outs, out_failures, outs_failures, out_rule_failures};
+ghost use Rattle.model_checks.specs.Labels.{labels_failures};
+ghost use Rattle.model_checks.specs.Rules.{fields_of, out_failures, outs_failures, out_rule_failures};
 ghost use Rattle.program_check.specs.Notes.{Notes};
 ghost use Rattle.program_check.specs.Contexts.{items_of};
-ghost use Rattle.program_check.specs.Known.{plain_scope, field_sort_failures};
+ghost use Rattle.program_check.specs.Known.{plain_scope};
 ghost use Rattle.program_check.specs.Typed.{plain_option};
 ghost use Rattle.program_check.specs.Nodes.{field_at, label_at, node_failures};
 

@@ -1,11 +1,11 @@
 //! Whole programs: one passes where none of the conditions on programs fails.
 
-ghost use Rattle.std.specs.Prelude.{◌≡◌, ◌<◌, OnOk, IfOk, IfErr, Some, None, true, map, take, length, get_or};
+ghost use Rattle.std.specs.Prelude.{◌≡◌, ◌<◌, OnOk, IfOk, IfErr, Some, None, true, map};
 ghost use Rattle.std.specs.Option.{option_map};
 ghost use Rattle.std.proofs.Props.{props};
 ghost use Rattle.fast_tree.specs.Signatures.{plain_signature};
 ghost use Rattle.model_checks.specs.Failures.{first_among};
-ghost use Rattle.model_checks.specs.Programs.{item_limit, body_failures, is_well_formed, refusal_of};
+ghost use Rattle.model_checks.specs.Programs.{item_limit, is_well_formed, refusal_of};
 ghost use Rattle.fast_syntax.specs.Plain.{plain_item, plain_program};
 ghost use Rattle.program_check.specs.Numbered.{AreNumbered};
 ghost use Rattle.program_check.specs.Stops.{IsStop};

@@ -1,23 +1,18 @@
 //! What may fail in a rule of a language or a transformation, its output term aside: its constructor, its variables, its
 //! guard and its demands.
 
-ghost use Rattle.std.specs.Prelude.{◌≡◌, ℕ, ◌++◌, ◌||◌, ◌==◌, List, [], MatchOption, Some, None, map, not, length, is_some, get_or};
+ghost use Rattle.std.specs.Prelude.{◌≡◌, [], Some, None, map, is_some};
 ghost use Rattle.std.specs.List.{flat_map};
-ghost use Rattle.std.specs.Option.{option_map, option_map_or};
+ghost use Rattle.std.specs.Option.{option_map};
 ghost use Rattle.fast_fault.specs.declared.code.Code.TheVariants as code;
-ghost use Rattle.model_tree.specs.Signature.{truths};
-ghost use Rattle.model_grammar.specs.Syntax as plain;
 ghost use Rattle.model_names.specs.Declared.{find_type, find_item};
 ghost use Rattle.model_names.specs.Kinds.{declared_type};
-ghost use Rattle.fast_syntax.specs.View.{plain_name, plain_field, plain_ctor, plain_type, plain_demand};
-ghost use Rattle.fast_syntax.specs.Plain.{plain_expr, plain_guard, plain_rule, plain_out_rule, plain_lang, plain_trans, plain_item, plain_out};
-ghost use Rattle.fast_syntax.specs.Slices.{plain_outputs};
-ghost use Rattle.model_checks.specs.Failures.{failure, fails_if};
-ghost use Rattle.model_checks.specs.Labels.{labels_failures, label_failures, needs_sort_of};
-ghost use Rattle.model_checks.specs.Types.{is_among, repeated, find_ctor};
-ghost use Rattle.model_checks.specs.Rules.{differ, constructor_failures, label_count_failures, scope_of, fields_of, variable_failures, guard_failures, own_lang, own_trans, rule_limit, type_at, type_name_failures, language_failures, transformation_failures, demand_failures, rule_failures, count_outs, out_failures, outs_failures, out_rule_failures};
+ghost use Rattle.fast_syntax.specs.View.{plain_name};
+ghost use Rattle.fast_syntax.specs.Plain.{plain_guard, plain_rule, plain_lang, plain_trans, plain_item};
+ghost use Rattle.model_checks.specs.Types.{repeated};
+ghost use Rattle.model_checks.specs.Rules.{differ, constructor_failures, label_count_failures, scope_of, variable_failures, guard_failures, own_lang, own_trans, type_name_failures, language_failures, transformation_failures, demand_failures, rule_failures};
 ghost use Rattle.program_check.specs.Notes.{HasMemory, Notes};
-ghost use Rattle.program_check.specs.Typed.{plain_of, plain_option, type_name};
+ghost use Rattle.program_check.specs.Typed.{plain_option, type_name};
 ghost use Rattle.program_check.specs.Contexts.{items_of};
 ghost use Rattle.program_check.specs.Known.{plain_scope};
 

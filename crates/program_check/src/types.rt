@@ -5,10 +5,9 @@ ghost use Rattle.std.specs.Prelude.{◌≡◌, map, not, is_some};
 ghost use Rattle.std.specs.List.{flat_map};
 ghost use Rattle.std.specs.Option.{option_map};
 ghost use Rattle.fast_tree.specs.Signatures.{plain_sort};
-ghost use Rattle.fast_syntax.specs.View.{plain_name, plain_field, plain_ctor, plain_type};
+ghost use Rattle.fast_syntax.specs.View.{plain_field, plain_ctor, plain_type};
 ghost use Rattle.model_names.specs.Sorts.{sort_named};
-ghost use Rattle.model_checks.specs.Types.{is_rank, is_rank_in_range, repeated, field_failures, ctor_failures, field_limit, type_failures};
-ghost use Rattle.fast_fault.specs.declared.code.Code.TheVariants as code;
+ghost use Rattle.model_checks.specs.Types.{is_rank, is_rank_in_range, field_failures, ctor_failures, field_limit, type_failures};
 ghost use Rattle.program_check.specs.Notes.{Notes};
 ghost use Rattle.program_check.specs.Nodes.{ctors_failures};
 
