@@ -1,6 +1,6 @@
 -- A copy of a map is equal to it.
-use Rattle.std.proofs.Common.{◌≡◌, ◌&&◌, List, [], ◌∷◌, map, Bool, true, refl, subst, Result, Ok, Err, IfOk}
-use Rattle.std.specs.Result.{IsErrAnd}
+use Rattle.std.proofs.Common.{◌≡◌, ◌&&◌, ℕ, ◌+◌, ◌<◌, ◌≤◌, List, [], ◌∷◌, ◌++◌, map, take, length, get_or, Bool, true, refl, sym, ap, ap₂, ◌∙◌, subst, Result, Ok, Err, IfOk}
+use Rattle.std.proofs.lemmas.List.{take_more, take_all, map-append}
 use Rattle.std.specs.Cmp.Lexicographic.{pointwise}
 use Rattle.label_core.specs.Formula.{plain_formula}
 use Rattle.label_core.specs.declared.formula.Formula.{Formula}
@@ -58,7 +58,15 @@ pub if_both : {T E : Type 0} (r : Result T E) (P R Q : T → Type 0) → ((x : T
 if_both (Ok x) P R Q f h k = f x h k
 if_both (Err e) P R Q f h k = h
 
--- what was not made says nothing
-pub no_result : {A E : Type 0} (r : Result A E) (P : A → Type 0) (Q : E → Type 0) → IsErrAnd r Q → IfOk r P
-no_result (Ok a) P Q h = absurd h
-no_result (Err e) P Q h = tt
+-- what is made of things one by one
+module _ {X Y A : Type 0} (f : X → A) (g : Y → A) (xs : List X) (made : List Y) (i : ℕ) (before : map g made ≡ map f (take i xs)) where
+  pub one_more : (x : X) → i < length xs → x ≡ get_or xs i x → (y : Y) → g y ≡ f x → (new : List Y) → new ≡ made ++ y ∷ [] → map g new ≡ map f (take (i + 1) xs)
+  one_more x low at y same new pushed =
+      ap (map g) pushed
+      ∙ map-append g made (y ∷ [])
+      ∙ ap₂ (λ bs b. bs ++ b ∷ []) before same
+      ∙ sym (map-append f (take i xs) (x ∷ []))
+      ∙ sym (ap (map f) (take_more xs i x low ∙ ap (λ z. take i xs ++ z ∷ []) (sym at)))
+
+  pub all_made : length xs ≤ i → map g made ≡ map f xs
+  all_made low = before ∙ ap (map f) (take_all i xs low)

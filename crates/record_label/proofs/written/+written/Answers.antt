@@ -1,33 +1,32 @@
 use Rattle.std.proofs.Common.{◌+◌, false, drop, map, ap, sym, ◌∙◌}
 use Rattle.std.proofs.lemmas.List.{at_drop_all}
-use Rattle.std.proofs.lemmas.Result.{on_ok_weaker}
+use Rattle.std.proofs.lemmas.Result.{IfOk-from_err, on_ok_weaker}
 use Rattle.fast_syntax.specs.Plain.{plain_expr, plain_node}
 use Rattle.fast_syntax.specs.Slices.{plain_sum_parts, plain_prod_parts}
 use Rattle.fast_syntax.proofs.Rows.{plain_sum_of, plain_product_of}
 use Rattle.record_label.specs.Parts.{unmarked}
 use Rattle.record_label.specs.Written.{marks_of_parts, later_marks}
 use Rattle.record_label.proofs.Pieces.{all_added, operands_behind, one_part, no_part}
-use Rattle.record_label.proofs.CopyFacts.{no_result}
 use Rattle.record_label.proofs.FormFacts.{sum_at, product_at, operand_at}
 use Rattle.record_label.proofs.written.+written.Goals as goal
 
 pub add_marks-returns-in_err-first_mark : goal.add_marks-returns-in_err-first_mark
-add_marks-returns-in_err-first_mark t c = no_result c.from_residual.result _ _ c.from_residual.ensures.1
+add_marks-returns-in_err-first_mark t c = IfOk-from_err c.from_residual.result _ c.from_residual.ensures.0
 
 pub add_marks-returns-in_err-push : goal.add_marks-returns-in_err-push
-add_marks-returns-in_err-push t c = no_result c.from_residual-in_err-push.result _ _ c.from_residual-in_err-push.ensures.1
+add_marks-returns-in_err-push t c = IfOk-from_err c.from_residual-in_err-push.result _ c.from_residual-in_err-push.ensures.0
 
 pub add_marks-returns-in_err-add_marks-in-Compare : goal.add_marks-returns-in_err-add_marks-in-Compare
-add_marks-returns-in_err-add_marks-in-Compare t c = no_result c.from_residual-in_err-add_marks-in-Compare.result _ _ c.from_residual-in_err-add_marks-in-Compare.ensures.1
+add_marks-returns-in_err-add_marks-in-Compare t c = IfOk-from_err c.from_residual-in_err-add_marks-in-Compare.result _ c.from_residual-in_err-add_marks-in-Compare.ensures.0
 
 pub add_operands-returns-in_err-push : goal.add_operands-returns-in_err-push
-add_operands-returns-in_err-push t c = no_result c.from_residual.result _ _ c.from_residual.ensures.1
+add_operands-returns-in_err-push t c = IfOk-from_err c.from_residual.result _ c.from_residual.ensures.0
 
 pub add_operands-returns-in_err-add_marks : goal.add_operands-returns-in_err-add_marks
-add_operands-returns-in_err-add_marks t c = no_result c.from_residual-in_err-add_marks.result _ _ c.from_residual-in_err-add_marks.ensures.1
+add_operands-returns-in_err-add_marks t c = IfOk-from_err c.from_residual-in_err-add_marks.result _ c.from_residual-in_err-add_marks.ensures.0
 
 pub add_operands-returns-in_err-push-2 : goal.add_operands-returns-in_err-push-2
-add_operands-returns-in_err-push-2 t c = no_result c.from_residual-in_err-push-2.result _ _ c.from_residual-in_err-push-2.ensures.1
+add_operands-returns-in_err-push-2 t c = IfOk-from_err c.from_residual-in_err-push-2.result _ c.from_residual-in_err-push-2.ensures.0
 
 pub add_operands-loop-part-preserved : goal.add_operands-loop-part-preserved
 add_operands-loop-part-preserved t c =
@@ -43,13 +42,13 @@ add_operands-returns t c =
     no_part (unmarked (map plain_expr (drop i ps))) c.loop-part.marks.items c.push-2.new.self.items _ (at_drop_all (λ xs. unmarked (map plain_expr xs)) ps i c.loop-part-test.false) (c.in_ok-push-2.ensures {u = tt}).items c.loop-part.invariant
 
 pub add_summands-returns-in_err-push : goal.add_summands-returns-in_err-push
-add_summands-returns-in_err-push t c = no_result c.from_residual.result _ _ c.from_residual.ensures.1
+add_summands-returns-in_err-push t c = IfOk-from_err c.from_residual.result _ c.from_residual.ensures.0
 
 pub add_summands-returns-in_err-add_marks : goal.add_summands-returns-in_err-add_marks
-add_summands-returns-in_err-add_marks t c = no_result c.from_residual-in_err-add_marks.result _ _ c.from_residual-in_err-add_marks.ensures.1
+add_summands-returns-in_err-add_marks t c = IfOk-from_err c.from_residual-in_err-add_marks.result _ c.from_residual-in_err-add_marks.ensures.0
 
 pub add_summands-returns-in_err-push-2 : goal.add_summands-returns-in_err-push-2
-add_summands-returns-in_err-push-2 t c = no_result c.from_residual-in_err-push-2.result _ _ c.from_residual-in_err-push-2.ensures.1
+add_summands-returns-in_err-push-2 t c = IfOk-from_err c.from_residual-in_err-push-2.result _ c.from_residual-in_err-push-2.ensures.0
 
 pub add_summands-loop-part-preserved : goal.add_summands-loop-part-preserved
 add_summands-loop-part-preserved t c =
@@ -65,13 +64,13 @@ add_summands-returns t c =
     no_part (plain_sum_parts (drop i ps)) c.loop-part.marks.items c.push-2.new.self.items _ (at_drop_all (λ xs. plain_sum_parts xs) ps i c.loop-part-test.false) (c.in_ok-push-2.ensures {u = tt}).items c.loop-part.invariant
 
 pub add_factors-returns-in_err-push : goal.add_factors-returns-in_err-push
-add_factors-returns-in_err-push t c = no_result c.from_residual.result _ _ c.from_residual.ensures.1
+add_factors-returns-in_err-push t c = IfOk-from_err c.from_residual.result _ c.from_residual.ensures.0
 
 pub add_factors-returns-in_err-add_marks : goal.add_factors-returns-in_err-add_marks
-add_factors-returns-in_err-add_marks t c = no_result c.from_residual-in_err-add_marks.result _ _ c.from_residual-in_err-add_marks.ensures.1
+add_factors-returns-in_err-add_marks t c = IfOk-from_err c.from_residual-in_err-add_marks.result _ c.from_residual-in_err-add_marks.ensures.0
 
 pub add_factors-returns-in_err-push-2 : goal.add_factors-returns-in_err-push-2
-add_factors-returns-in_err-push-2 t c = no_result c.from_residual-in_err-push-2.result _ _ c.from_residual-in_err-push-2.ensures.1
+add_factors-returns-in_err-push-2 t c = IfOk-from_err c.from_residual-in_err-push-2.result _ c.from_residual-in_err-push-2.ensures.0
 
 pub add_factors-loop-part-preserved : goal.add_factors-loop-part-preserved
 add_factors-loop-part-preserved t c =

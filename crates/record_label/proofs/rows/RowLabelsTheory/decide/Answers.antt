@@ -1,9 +1,9 @@
 use Rattle.std.proofs.Common.{◌≡◌, map, ap, ◌∙◌}
+use Rattle.std.proofs.lemmas.Result.{IfOk-from_err}
 use Rattle.model_tree.specs.Label.{row}
 use Rattle.fast_tree.specs.Entries.{label_meaning}
 use Rattle.fast_tree.specs.Signatures.{plain_sort}
 use Rattle.record_label.specs.Rows.{merged}
-use Rattle.record_label.proofs.CopyFacts.{no_result}
 use Rattle.record_label.proofs.RowFacts.{merged_satisfies, none_satisfies, kept_none, some_satisfies, of_numbers}
 use Rattle.record_label.proofs.rows.RowLabelsTheory.decide.Goals as goal
 
@@ -33,7 +33,7 @@ pub decide-requires : goal.decide-requires
 decide-requires c = rw (c.parts.ensures.wholes, c.parts.ensures.truths, c.parts.ensures.texts) c.requires
 
 pub returns-in_err-value : goal.returns-in_err-value
-returns-in_err-value c = no_result c.from_residual.result _ _ c.from_residual.ensures.1
+returns-in_err-value c = IfOk-from_err c.from_residual.result _ c.from_residual.ensures.0
 
 pub returns-in_err-label-in-Sat : goal.returns-in_err-label-in-Sat
-returns-in_err-label-in-Sat c = no_result c.from_residual-in_err-label-in-Sat.result _ _ c.from_residual-in_err-label-in-Sat.ensures.1
+returns-in_err-label-in-Sat c = IfOk-from_err c.from_residual-in_err-label-in-Sat.result _ c.from_residual-in_err-label-in-Sat.ensures.0
