@@ -1,7 +1,7 @@
 -- The search from its first turn to its last.
 use Rattle.std.proofs.Common.{ℕ, Vec, ◌≡◌, ◌<◌, ◌+◌, ◌-◌, inl, inr, Bool, List, [], ◌∷◌, ◌++◌, length, get_or, Contains, refl, sym, ap, subst, ◌∙◌, arith}
 use Rattle.std.proofs.lemmas.Bool.{cases_lt}
-use Rattle.std.proofs.lemmas.List.{length_push}
+use Rattle.std.proofs.lemmas.List.{length_push, map-append}
 use Rattle.model_tree.specs.Label.{Label}
 use Rattle.model_sta.specs.Reached.{IsComplete}
 use Rattle.model_sta.specs.Least.{rows_of}
@@ -11,10 +11,12 @@ use Rattle.sta_classes.specs.Rules.{plain_rules, meaning_of}
 use Rattle.sta_classes.specs.Rows.{founds, class_rows, lists_of}
 use Rattle.sta_classes.specs.Lists.{IsListWith}
 use Rattle.sta_classes.specs.Pending.{AreKept, IsBetter, IsTaken, IsDone}
-use Rattle.sta_classes.specs.Searched.{firsts_of, listed_at, ArePlaces, AreKinds, NextPlaces, IsSound, IsOpened, AreOpened}
+use Rattle.sta_classes.specs.Searched.{firsts_of, listed_at, ArePlaces, AreKinds, NextPlaces, IsSound, IsOpened, AreOpened, AreSplit}
 use Rattle.sta_classes.specs.declared.class.Class.{Class}
 use Rattle.sta_classes.specs.declared.place.Place.{Place}
 use Rattle.sta_classes.specs.declared.pending.Pending.{Pending}
+use Rattle.sta_classes.specs.declared.rules.Rules.{Rules}
+use Rattle.sta_classes.specs.declared.splits.Splits.{Splits}
 use Rattle.sta_classes.proofs.Firsts.{listed_low, cheapest, kinds_more, all_opened, first_place}
 use Rattle.sta_classes.proofs.Listed.{map_at}
 use Rattle.sta_classes.proofs.Opens.{list_with}
@@ -120,3 +122,14 @@ module _ {A V W G H : Type 0} {label_of : V → Label} {holds : A → Label → 
   run_touched classes places s h c low ks wide listed at =
       let (j, j_low, is, none) = first_place ks (length classes - 1) at in
       h c low j ks (omega (arith, j_low, wide)) (list_with (firsts_of (get_or (lists_of places) c [])) (get_or ranks c 0) (length classes - 1) j ks wide listed is none)
+
+-- a class that was taken, under another name
+pub taken_as : {V : Type 0} (old mid : Pending V) (c d : Class V) → d ≡ c → IsTaken old mid c → IsTaken old mid d
+taken_as old mid c d same taken = subst (IsTaken old mid) (sym same) taken
+
+-- what is known of the rules of each constructor with one more class
+pub split_again : {A V W : Type 0} {label_of : V → Label} {holds : A → Label → Bool} (M : Meaning label_of holds W) (ranks : List ℕ) (own : List (Rules A)) (classes classes' : List (Class V)) (splits splits' : List (Splits V)) (c d : Class V) → d ≡ c → classes' ≡ classes ++ d ∷ []
+    → ((rows : List (List Bool)) → AreSplit M ranks own rows splits → AreSplit M ranks own (rows ++ c.row ∷ []) splits') → AreSplit M ranks own (class_rows classes) splits → AreSplit M ranks own (class_rows classes') splits'
+split_again M ranks own classes classes' splits splits' c d same is more h =
+    subst (λ z. AreSplit M ranks own z splits') (sym (ap class_rows is ∙ map-append (λ z. z.row) classes (d ∷ [])))
+    (subst (λ z. AreSplit M ranks own (class_rows classes ++ z.row ∷ []) splits') (sym same) (more (class_rows classes) h))

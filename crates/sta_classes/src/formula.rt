@@ -10,6 +10,7 @@ ghost use Rattle.sta_classes.specs.Rows.{class_rows_at};
 ghost use Rattle.sta_classes.specs.Rules.{plain_rules};
 
 use crate::class::{Class, demands_met};
+use crate::keep::added;
 use crate::row::Row;
 use fast_fault::Memory;
 use label_core::{Duplicate, Formula, conjunction, disjunction, negation};
@@ -43,7 +44,7 @@ fn firing<A: Duplicate + Drop, V>(
     let mut guards = Vec::new(alloc);
     for rule in rules {
         if lets_fire(rule, constructor, found, children) {
-            guards.push(rule.guard.copy(alloc)?)?;
+            added(&mut guards, rule.guard.copy(alloc))?;
         }
     }
     Ok(guards)
@@ -97,8 +98,8 @@ pub fn row_formula<A: Duplicate + Drop, V>(
             found,
             children,
             row.has(i as u64),
-        )?;
-        parts.push(part)?;
+        );
+        added(&mut parts, part)?;
     }
     Ok(conjunction(parts))
 }

@@ -5,6 +5,7 @@ ghost use Rattle.sta_classes.specs.Rows.{lists_of};
 ghost use Rattle.sta_classes.specs.Searched.{AreKinds, ArePlaces, NextPlaces};
 
 use crate::class::Class;
+use crate::keep::{added, kept};
 use crate::place::Place;
 use crate::row::Row;
 use fast_fault::Memory;
@@ -33,7 +34,8 @@ fn all_places<A>(
         let rank = ranks[constructor];
         let mut places = Vec::new(alloc);
         'places: for place in 0..rank {
-            places.push(Place::new(alloc, rules, constructor as u32, place as usize)?)?;
+            let made = Place::new(alloc, rules, constructor as u32, place as usize);
+            added(&mut places, made)?;
         }
         all.push(places)?;
     }
@@ -83,8 +85,7 @@ impl<V: Drop> Known<V> {
         ensures many { OnOk result (length self.new.places.items ≡ length self.old.places.items) }
         ensures each { OnOk result ((c : ℕ) → c < length self.old.places.items → NextPlaces class.row (get_or (lists_of self.old.places.items) c []) (get_or (lists_of self.new.places.items) c [])) }
     {
-        add_to_all(alloc, &mut self.places, &class.row)?;
-        self.classes.push(class)?;
-        Ok(())
+        let told = add_to_all(alloc, &mut self.places, &class.row);
+        added(&mut self.classes, kept(class, (), told))
     }
 }

@@ -1,10 +1,12 @@
 //! Sets that trees have, and of each that is no class yet the cheapest candidate.
 
-ghost use Rattle.std.specs.Prelude.{◌≡◌, ◌≤◌, [], length, IfOk, OnOk, MatchOption};
+ghost use Rattle.std.specs.Prelude.{◌≡◌, ◌≤◌, [], length, IfOk, OnOk, MatchOption, Ok};
+ghost use Rattle.sta_classes.specs.declared.class.Class.{Class};
 ghost use Rattle.sta_classes.specs.Rows.{found_of};
 ghost use Rattle.sta_classes.specs.Pending.{AreKept, IsOffered, IsTaken, IsDone, is_dearer, leaves, kept_at};
 
 use crate::class::{CAP, Class};
+use crate::keep::{added, both};
 use crate::row::Row;
 use fast_fault::Memory;
 use indexmap::IndexSet;
@@ -40,9 +42,8 @@ impl Over<'_> {
     ) -> Result<Class<T::Value>, Memory>
         ensures { IfOk result (λ c. found_of T.label_of c ≡ record { row = row.now; nodes = self.now.nodes; constructor = self.now.constructor; label = T.label_of value.now; children = self.now.children.now }) }
     {
-        let value = theory.copy_value(alloc, value)?;
         let children = Vec::from_slice(alloc, self.children)?;
-        let row = row.copy(alloc)?;
+        let (value, row) = both(theory.copy_value(alloc, value), row.copy(alloc))?;
         let constructor = self.constructor;
         let nodes = self.nodes;
         Ok(Class {
@@ -75,20 +76,20 @@ fn leaves<V>(candidate: &Option<Class<V>>, room: u64) -> bool
     }
 }
 
-/// Puts the candidate at the number, which is the next one or has one already.
+/// Puts the candidate that was made at the number, which is the next one or has one already.
 fn keep<V: Drop>(
     best: &mut Vec<Option<Class<V>>>,
     number: usize,
-    class: Class<V>,
+    made: Result<Class<V>, Memory>,
 ) -> Result<(), Memory>
     requires { number ≤ length best.old.items }
-    ensures { OnOk result (best.new.items ≡ kept_at best.old.items number class) }
+    ensures { OnOk result ((class : Class V) × (made ≡ Ok class) × (best.new.items ≡ kept_at best.old.items number class)) }
 {
+    let candidate = Some(made?);
     if number == best.len() {
-        best.push(Some(class))?;
-        return Ok(());
+        return added(best, Ok(candidate));
     }
-    best[number] = Some(class);
+    best[number] = candidate;
     Ok(())
 }
 
@@ -124,8 +125,8 @@ impl<V: Drop> Pending<V> {
             return Ok(());
         }
         self.order.push((CAP - over.nodes, number))?;
-        let class = over.class(theory, alloc, &self.sets.as_slice()[number], value)?;
-        keep(&mut self.best, number, class)
+        let made = over.class(theory, alloc, &self.sets.as_slice()[number], value);
+        keep(&mut self.best, number, made)
     }
 
     /// Takes the cheapest candidate.

@@ -6,6 +6,7 @@ ghost use Rattle.model_sta.specs.Sets.{has};
 ghost use Rattle.sta_classes.specs.Grow.{Grown};
 ghost use Rattle.sta_classes.specs.Places.{AsksFor, AreAsked, IsNumbered, IsNext};
 
+use crate::keep::{added, kept};
 use crate::row::Row;
 use fast_fault::Memory;
 use indexmap::IndexSet;
@@ -142,9 +143,8 @@ impl Place {
     {
         let key = chosen(alloc, &self.states, row)?;
         let (kind, new) = self.kinds.insert_full(key)?;
-        note(&mut self.firsts, self.kind_of.len(), new)?;
-        self.kind_of.push(kind)?;
-        Ok(())
+        let noted = note(&mut self.firsts, self.kind_of.len(), new);
+        added(&mut self.kind_of, kept(kind, (), noted))
     }
 
     /// Whether the class is the first of its kind.

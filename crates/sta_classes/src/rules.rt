@@ -13,6 +13,7 @@ ghost use Rattle.sta_classes.specs.declared.rules.Rules.{Rules};
 ghost use Rattle.sta_classes.specs.Grow.{Grown, Some};
 
 use crate::class::row_has_each;
+use crate::keep::{added, both};
 use crate::likes::{likes_among, likes_of};
 use crate::row::Row;
 use fast_fault::Memory;
@@ -72,17 +73,6 @@ fn rules_at<'a, A>(
     Ok(list)
 }
 
-/// The numbers of all rules.
-fn all_of<A>(alloc: Global, list: &[Owned<A>]) -> Result<Row, Memory>
-    ensures { IfOk result (λ made. made ≡ map (λ x. true) list.now) }
-{
-    let mut made = Row::new(alloc, list.len())?;
-    for i in 0..list.len() {
-        made.put(i, true);
-    }
-    Ok(made)
-}
-
 /// Whether no atom stands in the formula, so that no label needs to be asked.
 #[cycle(fixed)]
 fn is_fixed<A>(formula: &Formula<A>) -> bool
@@ -110,16 +100,19 @@ fn are_fixed<A>(formulas: &[Formula<A>]) -> bool
     true
 }
 
-/// The numbers of the rules with a guard that has atoms.
-fn guarded_of<A>(alloc: Global, list: &[Owned<A>]) -> Result<Row, Memory>
-    ensures { IfOk result (λ made. made ≡ map (λ x. not (is_fixed (plain_rule x.rule.now).guard)) list.now) }
+/// The numbers of all rules, and those of the rules with a guard that has atoms.
+fn numbers_of<A>(alloc: Global, list: &[Owned<A>]) -> Result<(Row, Row), Memory>
+    ensures all { IfOk result (λ made. made.0 ≡ map (λ x. true) list.now) }
+    ensures guarded { IfOk result (λ made. made.1 ≡ map (λ x. not (is_fixed (plain_rule x.rule.now).guard)) list.now) }
 {
-    let mut made = Row::new(alloc, list.len())?;
+    let places = list.len();
+    let (mut all, mut guarded) = both(Row::new(alloc, places), Row::new(alloc, places))?;
     for i in 0..list.len() {
         let rule = list[i].rule;
-        made.put(i, !is_fixed(&rule.guard));
+        all.put(i, true);
+        guarded.put(i, !is_fixed(&rule.guard));
     }
-    Ok(made)
+    Ok((all, guarded))
 }
 
 /// Whether the row has what the rule demands at the place.
@@ -174,7 +167,7 @@ pub fn guards_of<A: Duplicate + Drop>(
     for i in 0..list.len() {
         if numbers.has(i as u64) {
             let rule = list[i].rule;
-            guards.push(rule.guard.copy(alloc)?)?;
+            added(&mut guards, rule.guard.copy(alloc))?;
         }
     }
     Ok(guards)
@@ -211,9 +204,7 @@ impl<'a, A: Eq + Hash> Rules<'a, A> {
         ensures { IfOk result (IsRules A.eq rules.now constructor) }
     {
         let list = rules_at(alloc, rules, constructor)?;
-        let all = all_of(alloc, &list)?;
-        let guarded = guarded_of(alloc, &list)?;
-        let likes = likes_of(alloc, &list)?;
+        let ((all, guarded), likes) = both(numbers_of(alloc, &list), likes_of(alloc, &list))?;
         Ok(Rules {
             list,
             all,
@@ -262,7 +253,7 @@ pub fn each_rules<'a, A: Eq + Hash>(
 {
     let mut each = Vec::new(alloc);
     'constructors: for constructor in 0..constructors {
-        each.push(Rules::new(alloc, rules, constructor)?)?;
+        added(&mut each, Rules::new(alloc, rules, constructor))?;
     }
     Ok(each)
 }

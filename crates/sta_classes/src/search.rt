@@ -18,13 +18,13 @@ ghost use Rattle.sta_classes.specs.declared.rules.Rules.{Rules};
 ghost use Rattle.sta_classes.specs.declared.splits.Splits.{Splits};
 
 use crate::class::{CAP, Class, cost_over};
-use crate::keep::kept;
+use crate::keep::{both, kept};
 use crate::known::Known;
 use crate::lists::lists_with;
 use crate::pending::{Over, Pending};
 use crate::row::Row;
 use crate::rules::Rules;
-use crate::splits::{Splits, Told};
+use crate::splits::Splits;
 use crate::stop::ClassStop;
 use fast_fault::Memory;
 use label_core::Theory;
@@ -71,37 +71,8 @@ impl<T: Theory> Search<'_, T> {
         let own = &self.own[over.constructor as usize];
         let split = &mut splits[over.constructor as usize];
         let key = split.key(self.alloc, own, over.children)?;
-        let number = split.number(self.theory, self.alloc, own, &key)?;
-        Ok((key, number))
-    }
-
-    /// Offers the trees over these children with each of the labels.
-    fn offer_told(
-        &self,
-        known: &Known<T::Value>,
-        pending: &mut Pending<T::Value>,
-        over: &Over<'_>,
-        key: &Row,
-        told: &[Told<T::Value>],
-    ) -> Result<(), Memory>
-        requires ready { IsReady T.Atom.eq (T.atom_fits self.now.theory.now) self.now.ranks.now self.now.rules.now self.now.own.now }
-        requires low { over.now.constructor < length self.now.ranks.now }
-        requires wide { length over.now.children.now ≡ get_or self.now.ranks.now over.now.constructor 0 }
-        requires children { All (λ k. k < length known.now.classes.items) over.now.children.now }
-        requires nodes { over.now.nodes ≡ cost CAP (nodes_at (founds T.label_of known.now.classes.items) over.now.children.now) }
-        requires above { (k : ℕ) → k < length known.now.classes.items → get_or (counts_of (founds T.label_of known.now.classes.items)) k 0 ≤ over.now.nodes }
-        requires sound { IsSound self.now.ranks.now (T.meaning self.now.theory.now).has (T.meaning self.now.theory.now).keeps (meaning_of T.atom_holds (plain_rules self.now.rules.now)) T.label_of known.now.classes.items pending.old }
-        requires told { (R : Rules T.Atom) → get_or self.now.own.now over.now.constructor R ≡ R → IsTold (T.meaning self.now.theory.now) R (class_rows_at known.now.classes.items over.now.children.now) key.now told.now }
-        ensures sound { OnOk result (IsSound self.now.ranks.now (T.meaning self.now.theory.now).has (T.meaning self.now.theory.now).keeps (meaning_of T.atom_holds (plain_rules self.now.rules.now)) T.label_of known.now.classes.items pending.new) }
-        ensures better { OnOk result (IsBetter pending.old pending.new) }
-        ensures opened { OnOk result (IsOpened self.now.ranks.now (T.meaning self.now.theory.now).has (T.meaning self.now.theory.now).keeps (meaning_of T.atom_holds (plain_rules self.now.rules.now)) T.label_of known.now.classes.items pending.new over.now.constructor over.now.children.now) }
-    {
-        let own = &self.own[over.constructor as usize];
-        'labels: for label in told {
-            let row = own.set(self.alloc, self.rules.len(), key, &label.holds)?;
-            pending.offer(self.theory, self.alloc, row, over, &label.value)?;
-        }
-        Ok(())
+        let number = split.number(self.theory, self.alloc, own, &key);
+        both(Ok(key), number)
     }
 
     /// Offers the trees over these children with labels that tell the guards apart which the children leave open, and sees
@@ -129,15 +100,17 @@ impl<T: Theory> Search<'_, T> {
         ensures stop { IfErr result (ClassStopsFor (T.meaning self.now.theory.now) (HasMoreClasses (T.meaning self.now.theory.now) (record { ranks = self.now.ranks.now; rules = plain_rules self.now.rules.now }) self.now.most) (all_guards (plain_rules self.now.rules.now))) }
     {
         let nodes = cost_over(&known.classes, children);
-        let constructor = constructor as u32;
         let over = Over {
-            constructor,
+            constructor: constructor as u32,
             nodes,
             children,
         };
         let (key, number) = self.told(known, splits, &over)?;
-        let told = &splits[over.constructor as usize].told[number];
-        self.offer_told(known, pending, &over, &key, told)?;
+        let own = &self.own[constructor];
+        'labels: for label in &splits[constructor].told[number] {
+            let row = own.set(self.alloc, self.rules.len(), &key, &label.holds)?;
+            pending.offer(self.theory, self.alloc, row, &over, &label.value)?;
+        }
         if pending.sets.len() > self.most as usize {
             return Err(ClassStop::Classes);
         }
@@ -269,24 +242,6 @@ impl<T: Theory> Search<'_, T> {
         })
     }
 
-    /// One turn: the candidate that was taken is one more class.
-    fn turn(
-        &self,
-        course: &mut Course<T::Value>,
-        class: Class<T::Value>,
-    ) -> Result<(), ClassStop<T::Chain>>
-        requires ready { IsReady T.Atom.eq (T.atom_fits self.now.theory.now) self.now.ranks.now self.now.rules.now self.now.own.now }
-        requires kept { AreKept course.old.pending }
-        requires taken { (before : Pending T.Value) × IsGoing (T.meaning self.now.theory.now) self.now.ranks.now self.now.rules.now self.now.own.now self.now.most course.old.known before course.old.splits.items × IsTaken before course.old.pending class }
-        ensures going { OnOk result (IsGoing (T.meaning self.now.theory.now) self.now.ranks.now self.now.rules.now self.now.own.now self.now.most course.new.known course.new.pending course.new.splits.items) }
-        ensures grown { OnOk result (length course.new.known.classes.items ≡ length course.old.known.classes.items + 1) }
-        ensures stop { IfErr result (ClassStopsFor (T.meaning self.now.theory.now) (HasMoreClasses (T.meaning self.now.theory.now) (record { ranks = self.now.ranks.now; rules = plain_rules self.now.rules.now }) self.now.most) (all_guards (plain_rules self.now.rules.now))) }
-    {
-        self.add_to_splits(&mut course.splits, &class.row)?;
-        course.known.add(self.alloc, class)?;
-        self.open_new(&course.known, &mut course.pending, &mut course.splits)
-    }
-
     /// Offers the trees of no children, and takes turns until no candidate is left.
     fn go_on(&self, course: &mut Course<T::Value>) -> Result<(), ClassStop<T::Chain>>
         requires ready { IsReady T.Atom.eq (T.atom_fits self.now.theory.now) self.now.ranks.now self.now.rules.now self.now.own.now }
@@ -303,7 +258,9 @@ impl<T: Theory> Search<'_, T> {
     {
         self.open_leaves(&course.known, &mut course.pending, &mut course.splits)?;
         'turns: while let Some(class) = course.pending.take() {
-            self.turn(course, class)?;
+            let told = self.add_to_splits(&mut course.splits, &class.row);
+            course.known.add(self.alloc, kept(class, (), told)?)?;
+            self.open_new(&course.known, &mut course.pending, &mut course.splits)?;
         }
         Ok(())
     }

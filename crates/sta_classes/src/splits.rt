@@ -1,6 +1,7 @@
 //! The rules of a constructor that children let fire, and labels that tell the guards of such rules apart.
 
-ghost use Rattle.std.specs.Prelude.{◌≡◌, ◌<◌, ◌++◌, ◌∷◌, [], Bool, List, true, All, length, map, get_or, IfOk, IfErr, OnOk};
+ghost use Rattle.std.specs.Prelude.{Vec, ◌≡◌, ◌<◌, ◌++◌, ◌∷◌, [], Bool, List, true, All, length, map, get_or, IfOk, IfErr, OnOk};
+ghost use Rattle.std.specs.Global.{Global};
 ghost use Rattle.model_sta.specs.Sets.{rows_meet};
 ghost use Rattle.model_tree.specs.Formula.{EveryAtom};
 ghost use Rattle.sta_core.specs.Machine.{plain_rule};
@@ -9,7 +10,9 @@ ghost use Rattle.sta_classes.specs.Bits.{both};
 ghost use Rattle.sta_classes.specs.Rows.{lists_of};
 ghost use Rattle.sta_classes.specs.Splits.{AreMet, AreTelling, AreTold, AreAllTold};
 ghost use Rattle.sta_classes.specs.Stop.{ClassStopsFor};
+ghost use Rattle.sta_classes.specs.declared.splits.Told.{Told};
 
+use crate::keep::added;
 use crate::row::Row;
 use crate::rules::{Owned, Rules, guards_of, held_at, met_at};
 use crate::stop::ClassStop;
@@ -61,20 +64,21 @@ fn tell_each<T: Theory>(
     Ok(told)
 }
 
-/// Labels that tell the guards of the rules with these numbers apart.
-fn told_of<T: Theory>(
+/// Puts labels that tell the guards of the rules with these numbers apart behind the others.
+fn tell<T: Theory>(
     theory: &T,
     alloc: Global,
     list: &[Owned<T::Atom>],
     numbers: &Row,
-) -> Result<Vec<Told<T::Value>>, ClassStop<T::Chain>>
+    told: &mut Vec<Vec<Told<T::Value>>>,
+) -> Result<(), ClassStop<T::Chain>>
     requires fit { All (λ x. EveryAtom (T.atom_fits theory.now) (plain_rule x.rule.now).guard) list.now }
-    ensures told { IfOk result (λ told. AreTold (T.meaning theory.now) list.now numbers.now told.items) }
+    ensures told { OnOk result ((labels : Vec (Told T.Value) Global) × AreTold (T.meaning theory.now) list.now numbers.now labels.items × (told.new.items ≡ told.old.items ++ labels ∷ [])) }
     ensures stop { IfErr result (ClassStopsFor (T.meaning theory.now) ⊥ (guards_in list.now)) }
 {
     let rows = split(theory, alloc, &guards_of(alloc, list, numbers)?, u32::MAX);
     match rows {
-        Ok(mut rows) => Ok(tell_each(theory, alloc, list, &mut rows)?),
+        Ok(mut rows) => Ok(added(told, tell_each(theory, alloc, list, &mut rows))?),
         Err(SplitStop::Wide(chain)) => Err(ClassStop::Wide(chain)),
         Err(SplitStop::TooMany) => Err(ClassStop::Memory),
         Err(SplitStop::Memory) => Err(ClassStop::Memory),
@@ -108,10 +112,9 @@ impl<V: Drop> Splits<V> {
     {
         let mut made = Vec::new(alloc);
         'places: for place in 0..places {
-            made.push(met_at(alloc, list, place as usize, row)?)?;
+            added(&mut made, met_at(alloc, list, place as usize, row))?;
         }
-        self.met.push(made)?;
-        Ok(())
+        added(&mut self.met, Ok(made))
     }
 
     /// The numbers of the rules whose demands are met by children of these classes.
@@ -149,8 +152,8 @@ impl<V: Drop> Splits<V> {
         let open = own.open_guards(alloc, key)?;
         let (number, new) = self.sets.insert_full(open)?;
         if new {
-            let told = told_of(theory, alloc, &own.list, &self.sets.as_slice()[number])?;
-            self.told.push(told)?;
+            let numbers = &self.sets.as_slice()[number];
+            tell(theory, alloc, &own.list, numbers, &mut self.told)?;
         }
         Ok(number)
     }

@@ -14,6 +14,7 @@ ghost use Rattle.sta_classes.specs.Plain.{class_row, kind_count, kind_at, HasKin
 
 use crate::class::CAP;
 use crate::formula::{places, row_formula};
+use crate::keep::added;
 use crate::known::Known;
 use crate::rules::each_rules;
 use crate::search::Search;
@@ -109,8 +110,7 @@ impl<A, V: Drop> Table<'_, A, V> {
         let made = &self.known.classes[class];
         let mut children = Vec::new(alloc);
         'children: for child in &made.children {
-            let tree = self.build(theory, alloc, *child)?;
-            children.push(tree)?;
+            added(&mut children, self.build(theory, alloc, *child))?;
         }
         let label = theory.copy_value(alloc, &made.value)?;
         Ok(Tree::new(made.constructor, label, children))

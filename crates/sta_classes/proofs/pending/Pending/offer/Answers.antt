@@ -19,32 +19,34 @@ returns-then-not-is_dearer-clause-offered g c =
 
 pub returns-clause-kept : goal.returns-clause-kept
 returns-clause-kept g c = with_value c.keep.result _ (λ x e.
+    let (class, made, kept) = IfOk-at_ok _ e c.keep.ensures in
     let row : c.index-as_slice-number.result ≡ c.args.row = c.index-as_slice-number.is ∙ ap (λ k. get_or k c.in_ok-number.number c.index-as_slice-number.result) c.as_slice.ensures.keys
     ∙ same_default c.insert_full.new.self.keys c.in_ok-number.number c.index-as_slice-number.result [] (slice_get_within c.insert_full.new.self.keys c.in_ok-number.number c.in_ok-number.ensures.stored.0 c.in_ok-number.ensures.stored.1)
     ∙ row_at c.args.self.now.sets.keys c.insert_full.new.self.keys c.args.row c.in_ok-number.number c.in_ok-number.new c.in_ok-number.ensures.added c.in_ok-number.ensures.keys c.in_ok-number.ensures.stored in
-    let is : found_of g.T.Theory.label_of c.in_ok-class.class ≡ (record { row = c.args.row; nodes = c.args.over.now.nodes; constructor = c.args.over.now.constructor; label = g.T.Theory.label_of c.args.value.now; children = c.args.over.now.children.now }) =
-    c.in_ok-class.ensures ∙ (λ j. record { row = row j; nodes = c.args.over.now.nodes; constructor = c.args.over.now.constructor; label = g.T.Theory.label_of c.args.value.now; children = c.args.over.now.children.now }) in
+    let is : found_of g.T.Theory.label_of class ≡ (record { row = c.args.row; nodes = c.args.over.now.nodes; constructor = c.args.over.now.constructor; label = g.T.Theory.label_of c.args.value.now; children = c.args.over.now.children.now }) =
+    IfOk-at_ok _ made c.class-made.ensures ∙ (λ j. record { row = row j; nodes = c.args.over.now.nodes; constructor = c.args.over.now.constructor; label = g.T.Theory.label_of c.args.value.now; children = c.args.over.now.children.now }) in
     elim c.else-not-new.branch [
       | else-not-new-via-then-not-new+else-not-is_dearer w ↦
-          (offer_cheaper g.T.Theory.label_of c.args.self.now (record { sets = c.insert_full.new.self; best = c.keep.new.best; order = c.push.new.self }) c.requires.kept (record { row = c.args.row; nodes = c.args.over.now.nodes; constructor = c.args.over.now.constructor; label = g.T.Theory.label_of c.args.value.now; children = c.args.over.now.children.now }) c.in_ok-number.number c.in_ok-number.new c.in_ok-number.ensures.added c.in_ok-number.ensures.keys c.in_ok-number.ensures.stored c.in_ok-class.class is c.requires.capped c.in_ok-push.ensures.permutation c.in_ok-push.ensures.heap_order (IfOk-at_ok _ e c.keep.ensures) w.if-not-new.true
+          (offer_cheaper g.T.Theory.label_of c.args.self.now (record { sets = c.insert_full.new.self; best = c.keep.new.best; order = c.push.new.self }) c.requires.kept (record { row = c.args.row; nodes = c.args.over.now.nodes; constructor = c.args.over.now.constructor; label = g.T.Theory.label_of c.args.value.now; children = c.args.over.now.children.now }) c.in_ok-number.number c.in_ok-number.new c.in_ok-number.ensures.added c.in_ok-number.ensures.keys c.in_ok-number.ensures.stored class is c.requires.capped c.in_ok-push.ensures.permutation c.in_ok-push.ensures.heap_order kept w.if-not-new.true
           (ap (λ o. is_dearer o c.args.over.now.nodes) (sym (w.index.ensures ∙ same_default c.args.self.now.best.items c.in_ok-number.number w.index.result.now None (omega (arith, number_there c.args.self.now.sets.keys c.insert_full.new.self.keys c.args.row c.in_ok-number.number c.in_ok-number.new c.in_ok-number.ensures.added c.in_ok-number.ensures.keys c.in_ok-number.ensures.stored w.if-not-new.true, c.requires.kept.many)))) ∙ sym w.is_dearer.ensures ∙ w.if-not-is_dearer.false)).0
       | else-not-new-via-else-not-new w ↦
-          (offer_first g.T.Theory.label_of c.args.self.now (record { sets = c.insert_full.new.self; best = c.keep.new.best; order = c.push.new.self }) c.requires.kept (record { row = c.args.row; nodes = c.args.over.now.nodes; constructor = c.args.over.now.constructor; label = g.T.Theory.label_of c.args.value.now; children = c.args.over.now.children.now }) c.in_ok-number.number c.in_ok-number.new c.in_ok-number.ensures.added c.in_ok-number.ensures.keys c.in_ok-number.ensures.stored c.in_ok-class.class is c.requires.capped c.in_ok-push.ensures.permutation c.in_ok-push.ensures.heap_order (IfOk-at_ok _ e c.keep.ensures) w.if-not-new.false).0
+          (offer_first g.T.Theory.label_of c.args.self.now (record { sets = c.insert_full.new.self; best = c.keep.new.best; order = c.push.new.self }) c.requires.kept (record { row = c.args.row; nodes = c.args.over.now.nodes; constructor = c.args.over.now.constructor; label = g.T.Theory.label_of c.args.value.now; children = c.args.over.now.children.now }) c.in_ok-number.number c.in_ok-number.new c.in_ok-number.ensures.added c.in_ok-number.ensures.keys c.in_ok-number.ensures.stored class is c.requires.capped c.in_ok-push.ensures.permutation c.in_ok-push.ensures.heap_order kept w.if-not-new.false).0
     ])
 
 pub returns-clause-offered : goal.returns-clause-offered
 returns-clause-offered g c = with_value c.keep.result _ (λ x e.
+    let (class, made, kept) = IfOk-at_ok _ e c.keep.ensures in
     let row : c.index-as_slice-number.result ≡ c.args.row = c.index-as_slice-number.is ∙ ap (λ k. get_or k c.in_ok-number.number c.index-as_slice-number.result) c.as_slice.ensures.keys
     ∙ same_default c.insert_full.new.self.keys c.in_ok-number.number c.index-as_slice-number.result [] (slice_get_within c.insert_full.new.self.keys c.in_ok-number.number c.in_ok-number.ensures.stored.0 c.in_ok-number.ensures.stored.1)
     ∙ row_at c.args.self.now.sets.keys c.insert_full.new.self.keys c.args.row c.in_ok-number.number c.in_ok-number.new c.in_ok-number.ensures.added c.in_ok-number.ensures.keys c.in_ok-number.ensures.stored in
-    let is : found_of g.T.Theory.label_of c.in_ok-class.class ≡ (record { row = c.args.row; nodes = c.args.over.now.nodes; constructor = c.args.over.now.constructor; label = g.T.Theory.label_of c.args.value.now; children = c.args.over.now.children.now }) =
-    c.in_ok-class.ensures ∙ (λ j. record { row = row j; nodes = c.args.over.now.nodes; constructor = c.args.over.now.constructor; label = g.T.Theory.label_of c.args.value.now; children = c.args.over.now.children.now }) in
+    let is : found_of g.T.Theory.label_of class ≡ (record { row = c.args.row; nodes = c.args.over.now.nodes; constructor = c.args.over.now.constructor; label = g.T.Theory.label_of c.args.value.now; children = c.args.over.now.children.now }) =
+    IfOk-at_ok _ made c.class-made.ensures ∙ (λ j. record { row = row j; nodes = c.args.over.now.nodes; constructor = c.args.over.now.constructor; label = g.T.Theory.label_of c.args.value.now; children = c.args.over.now.children.now }) in
     elim c.else-not-new.branch [
       | else-not-new-via-then-not-new+else-not-is_dearer w ↦
-          (offer_cheaper g.T.Theory.label_of c.args.self.now (record { sets = c.insert_full.new.self; best = c.keep.new.best; order = c.push.new.self }) c.requires.kept (record { row = c.args.row; nodes = c.args.over.now.nodes; constructor = c.args.over.now.constructor; label = g.T.Theory.label_of c.args.value.now; children = c.args.over.now.children.now }) c.in_ok-number.number c.in_ok-number.new c.in_ok-number.ensures.added c.in_ok-number.ensures.keys c.in_ok-number.ensures.stored c.in_ok-class.class is c.requires.capped c.in_ok-push.ensures.permutation c.in_ok-push.ensures.heap_order (IfOk-at_ok _ e c.keep.ensures) w.if-not-new.true
+          (offer_cheaper g.T.Theory.label_of c.args.self.now (record { sets = c.insert_full.new.self; best = c.keep.new.best; order = c.push.new.self }) c.requires.kept (record { row = c.args.row; nodes = c.args.over.now.nodes; constructor = c.args.over.now.constructor; label = g.T.Theory.label_of c.args.value.now; children = c.args.over.now.children.now }) c.in_ok-number.number c.in_ok-number.new c.in_ok-number.ensures.added c.in_ok-number.ensures.keys c.in_ok-number.ensures.stored class is c.requires.capped c.in_ok-push.ensures.permutation c.in_ok-push.ensures.heap_order kept w.if-not-new.true
           (ap (λ o. is_dearer o c.args.over.now.nodes) (sym (w.index.ensures ∙ same_default c.args.self.now.best.items c.in_ok-number.number w.index.result.now None (omega (arith, number_there c.args.self.now.sets.keys c.insert_full.new.self.keys c.args.row c.in_ok-number.number c.in_ok-number.new c.in_ok-number.ensures.added c.in_ok-number.ensures.keys c.in_ok-number.ensures.stored w.if-not-new.true, c.requires.kept.many)))) ∙ sym w.is_dearer.ensures ∙ w.if-not-is_dearer.false)).1
       | else-not-new-via-else-not-new w ↦
-          (offer_first g.T.Theory.label_of c.args.self.now (record { sets = c.insert_full.new.self; best = c.keep.new.best; order = c.push.new.self }) c.requires.kept (record { row = c.args.row; nodes = c.args.over.now.nodes; constructor = c.args.over.now.constructor; label = g.T.Theory.label_of c.args.value.now; children = c.args.over.now.children.now }) c.in_ok-number.number c.in_ok-number.new c.in_ok-number.ensures.added c.in_ok-number.ensures.keys c.in_ok-number.ensures.stored c.in_ok-class.class is c.requires.capped c.in_ok-push.ensures.permutation c.in_ok-push.ensures.heap_order (IfOk-at_ok _ e c.keep.ensures) w.if-not-new.false).1
+          (offer_first g.T.Theory.label_of c.args.self.now (record { sets = c.insert_full.new.self; best = c.keep.new.best; order = c.push.new.self }) c.requires.kept (record { row = c.args.row; nodes = c.args.over.now.nodes; constructor = c.args.over.now.constructor; label = g.T.Theory.label_of c.args.value.now; children = c.args.over.now.children.now }) c.in_ok-number.number c.in_ok-number.new c.in_ok-number.ensures.added c.in_ok-number.ensures.keys c.in_ok-number.ensures.stored class is c.requires.capped c.in_ok-push.ensures.permutation c.in_ok-push.ensures.heap_order kept w.if-not-new.false).1
     ])
 
 pub index-requires : goal.index-requires
@@ -56,20 +58,8 @@ keep-requires g c = elim c.else-not-new.branch [
   | else-not-new-via-else-not-new w ↦ omega (arith, number_new c.args.self.now.sets.keys c.insert_full.new.self.keys c.args.row c.in_ok-number.number c.in_ok-number.new c.in_ok-number.ensures.added c.in_ok-number.ensures.keys c.in_ok-number.ensures.stored w.if-not-new.false, c.requires.kept.many)
 ]
 
-pub returns-in_err-number-clause-kept : goal.returns-in_err-number-clause-kept
-returns-in_err-number-clause-kept g c = IfOk-from_err c.from_residual.result _ c.from_residual.ensures.0
+pub returns-in_err-number : goal.returns-in_err-number
+returns-in_err-number g c = record { kept = IfOk-from_err c.from_residual.result _ c.from_residual.ensures.0; offered = IfOk-from_err c.from_residual.result _ c.from_residual.ensures.0 }
 
-pub returns-in_err-number-clause-offered : goal.returns-in_err-number-clause-offered
-returns-in_err-number-clause-offered g c = IfOk-from_err c.from_residual.result _ c.from_residual.ensures.0
-
-pub returns-in_err-push-clause-kept : goal.returns-in_err-push-clause-kept
-returns-in_err-push-clause-kept g c = IfOk-from_err c.from_residual-in_err-push.result _ c.from_residual-in_err-push.ensures.0
-
-pub returns-in_err-push-clause-offered : goal.returns-in_err-push-clause-offered
-returns-in_err-push-clause-offered g c = IfOk-from_err c.from_residual-in_err-push.result _ c.from_residual-in_err-push.ensures.0
-
-pub returns-in_err-class-clause-kept : goal.returns-in_err-class-clause-kept
-returns-in_err-class-clause-kept g c = IfOk-from_err c.from_residual-in_err-class.result _ c.from_residual-in_err-class.ensures.0
-
-pub returns-in_err-class-clause-offered : goal.returns-in_err-class-clause-offered
-returns-in_err-class-clause-offered g c = IfOk-from_err c.from_residual-in_err-class.result _ c.from_residual-in_err-class.ensures.0
+pub returns-in_err-push : goal.returns-in_err-push
+returns-in_err-push g c = record { kept = IfOk-from_err c.from_residual-in_err-push.result _ c.from_residual-in_err-push.ensures.0; offered = IfOk-from_err c.from_residual-in_err-push.result _ c.from_residual-in_err-push.ensures.0 }

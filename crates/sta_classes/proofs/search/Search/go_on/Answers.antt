@@ -1,7 +1,8 @@
-use Rattle.std.proofs.lemmas.Result.{IfOk-from_err}
-use Rattle.std.proofs.Common.{arith}
+use Rattle.std.proofs.lemmas.Result.{IfOk-from_err, IfOk-at_ok}
+use Rattle.std.proofs.lemmas.List.{length_push}
+use Rattle.std.proofs.Common.{◌≤◌, length, ap, sym, subst, arith}
 use Rattle.sta_classes.specs.Rules.{plain_rules, meaning_of}
-use Rattle.sta_classes.proofs.Runs.{run_first, run_last}
+use Rattle.sta_classes.proofs.Runs.{run_first, run_last, run_sound, run_kinds, run_some, run_opened, taken_as, split_again}
 use Rattle.sta_classes.proofs.Turns.{few_found}
 use Rattle.sta_classes.proofs.Keeping.{passed}
 use Rattle.sta_classes.proofs.search.Search.go_on.Goals as goal
@@ -15,12 +16,6 @@ turns-init g c = record {
   opened = run_first (g.T.Theory.meaning c.args.self.now.theory.now) c.args.self.now.ranks.now c.args.self.now.rules.now c.args.course.now.known.classes.items c.args.course.now.known.places.items c.open_leaves.new.pending c.requires.none c.requires.kinds c.in_ok-open_leaves.ensures.opened;
 }
 
-pub turn-requires-clause-taken : goal.turn-requires-clause-taken
-turn-requires-clause-taken g c = (c.turns.course.pending, c.turns.invariant, c.in-Some.ensures.taken)
-
-pub turns-smaller : goal.turns-smaller
-turns-smaller g c = omega (arith, c.in_ok-turn.ensures.grown, c.in_ok-turn.ensures.going.few, few_found c.args.self.now.ranks.now (g.T.Theory.meaning c.args.self.now.theory.now).has (g.T.Theory.meaning c.args.self.now.theory.now).keeps (meaning_of g.T.Theory.atom_holds (plain_rules c.args.self.now.rules.now)) g.T.Theory.label_of c.turn.new.course.known.classes.items c.turn.new.course.pending c.in_ok-turn.ensures.going.sound)
-
 pub returns-clause-classes : goal.returns-clause-classes
 returns-clause-classes g c = c.turns.invariant.sound.classes
 
@@ -32,36 +27,6 @@ returns-clause-kinds g c = c.turns.invariant.kinds
 
 pub returns-clause-few : goal.returns-clause-few
 returns-clause-few g c = omega (arith, c.turns.invariant.few, few_found c.args.self.now.ranks.now (g.T.Theory.meaning c.args.self.now.theory.now).has (g.T.Theory.meaning c.args.self.now.theory.now).keeps (meaning_of g.T.Theory.atom_holds (plain_rules c.args.self.now.rules.now)) g.T.Theory.label_of c.turns.course.known.classes.items c.turns.course.pending c.turns.invariant.sound)
-
-pub returns-in_err-turn-clause-stop : goal.returns-in_err-turn-clause-stop
-returns-in_err-turn-clause-stop g c = passed c.from_residual-in_err-turn.result _ c.in_err-turn.field-0.0 c.from_residual-in_err-turn.ensures.1 c.in_err-turn.ensures.stop
-
-pub returns-in_err-open_leaves-clause-stop : goal.returns-in_err-open_leaves-clause-stop
-returns-in_err-open_leaves-clause-stop g c = passed c.from_residual.result _ c.in_err-open_leaves.field-0.0 c.from_residual.ensures.1 c.in_err-open_leaves.ensures.stop
-
-pub returns-in_err-open_leaves-clause-classes : goal.returns-in_err-open_leaves-clause-classes
-returns-in_err-open_leaves-clause-classes g c = IfOk-from_err c.from_residual.result _ c.from_residual.ensures.0
-
-pub returns-in_err-open_leaves-clause-complete : goal.returns-in_err-open_leaves-clause-complete
-returns-in_err-open_leaves-clause-complete g c = IfOk-from_err c.from_residual.result _ c.from_residual.ensures.0
-
-pub returns-in_err-open_leaves-clause-kinds : goal.returns-in_err-open_leaves-clause-kinds
-returns-in_err-open_leaves-clause-kinds g c = IfOk-from_err c.from_residual.result _ c.from_residual.ensures.0
-
-pub returns-in_err-open_leaves-clause-few : goal.returns-in_err-open_leaves-clause-few
-returns-in_err-open_leaves-clause-few g c = IfOk-from_err c.from_residual.result _ c.from_residual.ensures.0
-
-pub returns-in_err-turn-clause-classes : goal.returns-in_err-turn-clause-classes
-returns-in_err-turn-clause-classes g c = IfOk-from_err c.from_residual-in_err-turn.result _ c.from_residual-in_err-turn.ensures.0
-
-pub returns-in_err-turn-clause-complete : goal.returns-in_err-turn-clause-complete
-returns-in_err-turn-clause-complete g c = IfOk-from_err c.from_residual-in_err-turn.result _ c.from_residual-in_err-turn.ensures.0
-
-pub returns-in_err-turn-clause-kinds : goal.returns-in_err-turn-clause-kinds
-returns-in_err-turn-clause-kinds g c = IfOk-from_err c.from_residual-in_err-turn.result _ c.from_residual-in_err-turn.ensures.0
-
-pub returns-in_err-turn-clause-few : goal.returns-in_err-turn-clause-few
-returns-in_err-turn-clause-few g c = IfOk-from_err c.from_residual-in_err-turn.result _ c.from_residual-in_err-turn.ensures.0
 
 pub open_leaves-requires-clause-ready : goal.open_leaves-requires-clause-ready
 open_leaves-requires-clause-ready g c = c.requires.ready
@@ -81,11 +46,61 @@ open_leaves-requires-clause-splits g c = c.requires.splits
 pub take-requires : goal.take-requires
 take-requires g c = record { kept = c.turns.invariant.sound.kept }
 
-pub turn-requires-clause-ready : goal.turn-requires-clause-ready
-turn-requires-clause-ready g c = c.requires.ready
-
-pub turn-requires-clause-kept : goal.turn-requires-clause-kept
-turn-requires-clause-kept g c = c.take.ensures.kept
+pub open_new-requires : goal.open_new-requires
+open_new-requires g c = record {
+  ready = c.requires.ready;
+  kinds = run_kinds (g.T.Theory.meaning c.args.self.now.theory.now) c.args.self.now.ranks.now c.args.self.now.rules.now c.turns.course.known.classes.items c.turns.course.known.places.items c.turns.course.pending c.take.new.self c.turns.invariant.sound c.turns.invariant.kinds c.turns.invariant.opened c.in_ok-kept.field-0 (taken_as c.turns.course.pending c.take.new.self c.in-Some.class c.in_ok-kept.field-0 (c.in_ok-kept.ensures.0) c.in-Some.ensures.taken) c.take.ensures.kept c.add.new.self.classes.items c.add.new.self.places.items c.in_ok-add.ensures.classes c.in_ok-add.ensures.many c.in_ok-add.ensures.each;
+  some = run_some (g.T.Theory.meaning c.args.self.now.theory.now) c.args.self.now.ranks.now c.args.self.now.rules.now c.turns.course.known.classes.items c.turns.course.known.places.items c.turns.course.pending c.take.new.self c.turns.invariant.sound c.turns.invariant.kinds c.turns.invariant.opened c.in_ok-kept.field-0 (taken_as c.turns.course.pending c.take.new.self c.in-Some.class c.in_ok-kept.field-0 (c.in_ok-kept.ensures.0) c.in-Some.ensures.taken) c.take.ensures.kept c.add.new.self.classes.items c.add.new.self.places.items c.in_ok-add.ensures.classes c.in_ok-add.ensures.many c.in_ok-add.ensures.each;
+  sound = run_sound (g.T.Theory.meaning c.args.self.now.theory.now) c.args.self.now.ranks.now c.args.self.now.rules.now c.turns.course.known.classes.items c.turns.course.known.places.items c.turns.course.pending c.take.new.self c.turns.invariant.sound c.turns.invariant.kinds c.turns.invariant.opened c.in_ok-kept.field-0 (taken_as c.turns.course.pending c.take.new.self c.in-Some.class c.in_ok-kept.field-0 (c.in_ok-kept.ensures.0) c.in-Some.ensures.taken) c.take.ensures.kept c.add.new.self.classes.items c.add.new.self.places.items c.in_ok-add.ensures.classes c.in_ok-add.ensures.many c.in_ok-add.ensures.each;
+  few = subst (λ z. length z.keys ≤ c.args.self.now.most) (sym c.in-Some.ensures.taken.sets_are) c.turns.invariant.few;
+  splits = split_again (g.T.Theory.meaning c.args.self.now.theory.now) c.args.self.now.ranks.now c.args.self.now.own.now c.turns.course.known.classes.items c.add.new.self.classes.items c.turns.course.splits.items c.add_to_splits-told.new.splits.items c.in-Some.class c.in_ok-kept.field-0 c.in_ok-kept.ensures.0 c.in_ok-add.ensures.classes
+      (IfOk-at_ok _ c.in_ok-kept.ensures.1 c.add_to_splits-told.ensures) c.turns.invariant.splits;
+}
 
 pub turns-preserved : goal.turns-preserved
-turns-preserved g c = c.in_ok-turn.ensures.going
+turns-preserved g c = record {
+  sound = c.in_ok-open_new.ensures.sound;
+  kinds = run_kinds (g.T.Theory.meaning c.args.self.now.theory.now) c.args.self.now.ranks.now c.args.self.now.rules.now c.turns.course.known.classes.items c.turns.course.known.places.items c.turns.course.pending c.take.new.self c.turns.invariant.sound c.turns.invariant.kinds c.turns.invariant.opened c.in_ok-kept.field-0 (taken_as c.turns.course.pending c.take.new.self c.in-Some.class c.in_ok-kept.field-0 (c.in_ok-kept.ensures.0) c.in-Some.ensures.taken) c.take.ensures.kept c.add.new.self.classes.items c.add.new.self.places.items c.in_ok-add.ensures.classes c.in_ok-add.ensures.many c.in_ok-add.ensures.each;
+  splits = c.in_ok-open_new.ensures.splits;
+  few = c.in_ok-open_new.ensures.few;
+  opened = run_opened (g.T.Theory.meaning c.args.self.now.theory.now) c.args.self.now.ranks.now c.args.self.now.rules.now c.turns.course.known.classes.items c.turns.course.known.places.items c.turns.course.pending c.take.new.self c.turns.invariant.sound c.turns.invariant.kinds c.turns.invariant.opened c.in_ok-kept.field-0 (taken_as c.turns.course.pending c.take.new.self c.in-Some.class c.in_ok-kept.field-0 (c.in_ok-kept.ensures.0) c.in-Some.ensures.taken) c.take.ensures.kept c.add.new.self.classes.items c.add.new.self.places.items c.in_ok-add.ensures.classes c.in_ok-add.ensures.many c.in_ok-add.ensures.each c.open_new.new.pending c.in_ok-open_new.ensures.better c.in_ok-open_new.ensures.opened;
+}
+
+pub turns-smaller : goal.turns-smaller
+turns-smaller g c = omega (arith, ap length c.in_ok-add.ensures.classes, length_push c.turns.course.known.classes.items c.in_ok-kept.field-0, c.in_ok-open_new.ensures.few, few_found c.args.self.now.ranks.now (g.T.Theory.meaning c.args.self.now.theory.now).has (g.T.Theory.meaning c.args.self.now.theory.now).keeps (meaning_of g.T.Theory.atom_holds (plain_rules c.args.self.now.rules.now)) g.T.Theory.label_of c.add.new.self.classes.items c.open_new.new.pending c.in_ok-open_new.ensures.sound)
+
+pub returns-in_err-open_leaves : goal.returns-in_err-open_leaves
+returns-in_err-open_leaves g c = record {
+  classes = IfOk-from_err c.from_residual.result _ c.from_residual.ensures.0;
+  complete = IfOk-from_err c.from_residual.result _ c.from_residual.ensures.0;
+  kinds = IfOk-from_err c.from_residual.result _ c.from_residual.ensures.0;
+  few = IfOk-from_err c.from_residual.result _ c.from_residual.ensures.0;
+  stop = passed c.from_residual.result _ c.in_err-open_leaves.field-0.0 c.from_residual.ensures.1 c.in_err-open_leaves.ensures.stop;
+}
+
+pub returns-in_err-kept : goal.returns-in_err-kept
+returns-in_err-kept g c = record {
+  classes = IfOk-from_err c.from_residual-in_err-kept.result _ c.from_residual-in_err-kept.ensures.0;
+  complete = IfOk-from_err c.from_residual-in_err-kept.result _ c.from_residual-in_err-kept.ensures.0;
+  kinds = IfOk-from_err c.from_residual-in_err-kept.result _ c.from_residual-in_err-kept.ensures.0;
+  few = IfOk-from_err c.from_residual-in_err-kept.result _ c.from_residual-in_err-kept.ensures.0;
+  stop = passed c.from_residual-in_err-kept.result _ _ c.from_residual-in_err-kept.ensures.1 tt;
+}
+
+pub returns-in_err-add : goal.returns-in_err-add
+returns-in_err-add g c = record {
+  classes = IfOk-from_err c.from_residual-in_err-add.result _ c.from_residual-in_err-add.ensures.0;
+  complete = IfOk-from_err c.from_residual-in_err-add.result _ c.from_residual-in_err-add.ensures.0;
+  kinds = IfOk-from_err c.from_residual-in_err-add.result _ c.from_residual-in_err-add.ensures.0;
+  few = IfOk-from_err c.from_residual-in_err-add.result _ c.from_residual-in_err-add.ensures.0;
+  stop = passed c.from_residual-in_err-add.result _ _ c.from_residual-in_err-add.ensures.1 tt;
+}
+
+pub returns-in_err-open_new : goal.returns-in_err-open_new
+returns-in_err-open_new g c = record {
+  classes = IfOk-from_err c.from_residual-in_err-open_new.result _ c.from_residual-in_err-open_new.ensures.0;
+  complete = IfOk-from_err c.from_residual-in_err-open_new.result _ c.from_residual-in_err-open_new.ensures.0;
+  kinds = IfOk-from_err c.from_residual-in_err-open_new.result _ c.from_residual-in_err-open_new.ensures.0;
+  few = IfOk-from_err c.from_residual-in_err-open_new.result _ c.from_residual-in_err-open_new.ensures.0;
+  stop = passed c.from_residual-in_err-open_new.result _ c.in_err-open_new.field-0.0 c.from_residual-in_err-open_new.ensures.1 c.in_err-open_new.ensures.stop;
+}

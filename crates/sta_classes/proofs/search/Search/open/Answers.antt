@@ -1,14 +1,21 @@
-use Rattle.std.proofs.Common.{◌<◌, ◌≤◌, All, length, get_or, sym, subst, arith}
+use Rattle.std.proofs.Common.{◌<◌, ◌≤◌, All, length, get_or, sym, subst, arith, ℕ, ◌≡◌, ◌∙◌, ◌↔◌, true, inl, inr, Contains, ap}
 use Rattle.std.proofs.lemmas.Result.{IfOk-from_err}
-use Rattle.model_sta.specs.Least.{counts_of}
+use Rattle.model_sta.specs.Least.{counts_of, rows_at}
 use Rattle.sta_classes.specs.Rules.{plain_rules, meaning_of}
 use Rattle.sta_classes.specs.Rows.{founds, class_rows_at}
 use Rattle.sta_classes.specs.Searched.{IsTold}
-use Rattle.sta_classes.proofs.Applying.{element}
+use Rattle.sta_classes.proofs.Applying.{element, states_low}
 use Rattle.sta_classes.proofs.Keeping.{passed}
-use Rattle.sta_classes.proofs.Opens.{counts_as}
+use Rattle.sta_classes.proofs.Opens.{counts_as, row_made, made_over, opened_by}
 use Rattle.sta_classes.proofs.Rows.{list_at}
-use Rattle.sta_classes.proofs.Turns.{more_sets}
+use Rattle.sta_classes.proofs.Turns.{more_sets, sound_offered}
+use Rattle.std.proofs.lemmas.Bool.{cases_lt}
+use Rattle.std.proofs.lemmas.List.{length-map}
+use Rattle.model_sta.specs.Sets.{has, step}
+use Rattle.model_sta.proofs.Reached.{same_default}
+use Rattle.sta_classes.specs.Applying.{IsRules, IsFired}
+use Rattle.sta_classes.specs.Bits.{both}
+use Rattle.sta_classes.specs.Pending.{IsMet}
 use Rattle.sta_classes.proofs.search.Search.open.Goals as goal
 
 pub told-requires-clause-ready : goal.told-requires-clause-ready
@@ -26,112 +33,115 @@ told-requires-clause-children g c = c.requires.children
 pub told-requires-clause-splits : goal.told-requires-clause-splits
 told-requires-clause-splits g c = c.requires.splits
 
-pub index-told-requires : goal.index-told-requires
-index-told-requires g c =
-    let (own, at) = element c.args.self.now.own.now c.args.constructor (omega (arith, c.requires.low, c.requires.ready.many)) in
-    omega (arith, (c.in_ok-key.ensures.found own c.index.result.now at (sym c.index.ensures)).0, c.index.result.now.told.ok)
-
-pub offer_told-requires-clause-ready : goal.offer_told-requires-clause-ready
-offer_told-requires-clause-ready g c = c.requires.ready
-
-pub offer_told-requires-clause-low : goal.offer_told-requires-clause-low
-offer_told-requires-clause-low g c = c.requires.low
-
-pub offer_told-requires-clause-wide : goal.offer_told-requires-clause-wide
-offer_told-requires-clause-wide g c = c.requires.wide
-
-pub offer_told-requires-clause-children : goal.offer_told-requires-clause-children
-offer_told-requires-clause-children g c = c.requires.children
-
-pub offer_told-requires-clause-nodes : goal.offer_told-requires-clause-nodes
-offer_told-requires-clause-nodes g c = counts_as g.T.Theory.label_of c.args.known.now.classes.items c.deref.result.now c.args.children.now c.cost_over-nodes.result c.deref.ensures.value c.cost_over-nodes.ensures
-
-pub offer_told-requires-clause-above : goal.offer_told-requires-clause-above
-offer_told-requires-clause-above g c k low =
-    subst (λ n. get_or (counts_of (founds g.T.Theory.label_of c.args.known.now.classes.items)) k 0 ≤ n) (sym (counts_as g.T.Theory.label_of c.args.known.now.classes.items c.deref.result.now c.args.children.now c.cost_over-nodes.result c.deref.ensures.value c.cost_over-nodes.ensures)) (c.requires.above k low)
-
-pub offer_told-requires-clause-sound : goal.offer_told-requires-clause-sound
-offer_told-requires-clause-sound g c = c.requires.sound
-
-pub offer_told-requires-clause-told : goal.offer_told-requires-clause-told
-offer_told-requires-clause-told g c own at =
-    let found = c.in_ok-key.ensures.found own c.index.result.now at (sym c.index.ensures) in
-    subst (IsTold (g.T.Theory.meaning c.args.self.now.theory.now) own (class_rows_at c.args.known.now.classes.items c.args.children.now) c.in_ok-key.key) (sym (list_at c.index.result.now.told.items c.in_ok-key.number c.index-told.result.now c.deref-2.result.now found.0 c.index-told.ensures c.deref-2.ensures.value)) found.1
-
-pub returns-in_err-key-clause-sound : goal.returns-in_err-key-clause-sound
-returns-in_err-key-clause-sound g c = IfOk-from_err c.from_residual.result _ c.from_residual.ensures.0
-
-pub returns-in_err-key-clause-better : goal.returns-in_err-key-clause-better
-returns-in_err-key-clause-better g c = IfOk-from_err c.from_residual.result _ c.from_residual.ensures.0
-
-pub returns-in_err-key-clause-opened : goal.returns-in_err-key-clause-opened
-returns-in_err-key-clause-opened g c = IfOk-from_err c.from_residual.result _ c.from_residual.ensures.0
-
-pub returns-in_err-key-clause-few : goal.returns-in_err-key-clause-few
-returns-in_err-key-clause-few g c = IfOk-from_err c.from_residual.result _ c.from_residual.ensures.0
-
-pub returns-in_err-key-clause-splits : goal.returns-in_err-key-clause-splits
-returns-in_err-key-clause-splits g c = IfOk-from_err c.from_residual.result _ c.from_residual.ensures.0
-
-pub returns-in_err-key-clause-stop : goal.returns-in_err-key-clause-stop
-returns-in_err-key-clause-stop g c = passed c.from_residual.result _ c.in_err-key.field-0.0 c.from_residual.ensures.1 c.in_err-key.ensures.stop
-
-pub returns-in_err-offer_told-clause-sound : goal.returns-in_err-offer_told-clause-sound
-returns-in_err-offer_told-clause-sound g c = IfOk-from_err c.from_residual-in_err-offer_told.result _ c.from_residual-in_err-offer_told.ensures.0
-
-pub returns-in_err-offer_told-clause-better : goal.returns-in_err-offer_told-clause-better
-returns-in_err-offer_told-clause-better g c = IfOk-from_err c.from_residual-in_err-offer_told.result _ c.from_residual-in_err-offer_told.ensures.0
-
-pub returns-in_err-offer_told-clause-opened : goal.returns-in_err-offer_told-clause-opened
-returns-in_err-offer_told-clause-opened g c = IfOk-from_err c.from_residual-in_err-offer_told.result _ c.from_residual-in_err-offer_told.ensures.0
-
-pub returns-in_err-offer_told-clause-few : goal.returns-in_err-offer_told-clause-few
-returns-in_err-offer_told-clause-few g c = IfOk-from_err c.from_residual-in_err-offer_told.result _ c.from_residual-in_err-offer_told.ensures.0
-
-pub returns-in_err-offer_told-clause-splits : goal.returns-in_err-offer_told-clause-splits
-returns-in_err-offer_told-clause-splits g c = IfOk-from_err c.from_residual-in_err-offer_told.result _ c.from_residual-in_err-offer_told.ensures.0
-
-pub returns-in_err-offer_told-clause-stop : goal.returns-in_err-offer_told-clause-stop
-returns-in_err-offer_told-clause-stop g c = passed c.from_residual-in_err-offer_told.result _ _ c.from_residual-in_err-offer_told.ensures.1 tt
-
-pub returns-then-len-self-clause-stop : goal.returns-then-len-self-clause-stop
-returns-then-len-self-clause-stop g c = more_sets c.args.self.now.ranks.now (g.T.Theory.meaning c.args.self.now.theory.now).has (g.T.Theory.meaning c.args.self.now.theory.now).keeps (meaning_of g.T.Theory.atom_holds (plain_rules c.args.self.now.rules.now)) g.T.Theory.label_of c.args.known.now.classes.items c.offer_told.new.pending c.offer_told.new.pending c.in_ok-offer_told.ensures.sound c.args.self.now.most (omega (arith, c.if-len-self.true, c.len.ensures.len))
-
-pub returns-clause-sound : goal.returns-clause-sound
-returns-clause-sound g c = c.in_ok-offer_told.ensures.sound
-
-pub returns-clause-better : goal.returns-clause-better
-returns-clause-better g c = c.in_ok-offer_told.ensures.better
-
-pub returns-clause-opened : goal.returns-clause-opened
-returns-clause-opened g c = c.in_ok-offer_told.ensures.opened
-
-pub returns-clause-few : goal.returns-clause-few
-returns-clause-few g c = omega (arith, c.if-len-self.false, c.len.ensures.len)
-
-pub returns-clause-splits : goal.returns-clause-splits
-returns-clause-splits g c = c.in_ok-key.ensures.splits
-
-pub returns-then-len-self-clause-sound : goal.returns-then-len-self-clause-sound
-returns-then-len-self-clause-sound g c = tt
-
-pub returns-then-len-self-clause-better : goal.returns-then-len-self-clause-better
-returns-then-len-self-clause-better g c = tt
-
-pub returns-then-len-self-clause-opened : goal.returns-then-len-self-clause-opened
-returns-then-len-self-clause-opened g c = tt
-
-pub returns-then-len-self-clause-few : goal.returns-then-len-self-clause-few
-returns-then-len-self-clause-few g c = tt
-
-pub returns-then-len-self-clause-splits : goal.returns-then-len-self-clause-splits
-returns-then-len-self-clause-splits g c = tt
-
-pub returns-clause-stop : goal.returns-clause-stop
-returns-clause-stop g c = tt
-
 pub cost_over-nodes-requires : goal.cost_over-nodes-requires
 cost_over-nodes-requires g c = subst (λ z. All (λ k. k < length z) c.args.children.now) (sym c.deref.ensures.value) c.requires.children
 
+pub set-requires-clause-low : goal.set-requires-clause-low
+set-requires-clause-low g c =
+    let is : IsRules g.T.Atom.PartialEq.eq c.args.self.now.rules.now c.args.constructor c.index-self-constructor.result = c.requires.ready.own_are c.args.constructor c.index-self-constructor.result (omega (arith, c.requires.low, c.requires.ready.many)) (sym c.index-self-constructor.is) in
+    subst (λ R. All (λ x. x.state < length c.args.self.now.rules.now) R.list.items) c.index-self-constructor.is (states_low c.args.self.now.rules.now c.args.constructor c.index-self-constructor.result.list.items is.owned)
+
+pub labels-preserved : goal.labels-preserved
+labels-preserved g c =
+    let is : IsRules g.T.Atom.PartialEq.eq c.args.self.now.rules.now c.args.constructor c.index-self-constructor.result = c.requires.ready.own_are c.args.constructor c.index-self-constructor.result (omega (arith, c.requires.low, c.requires.ready.many)) (sym c.index-self-constructor.is) in
+    let are = (let found = c.in_ok-key.ensures.found c.index-self-constructor.result c.index.result.now (sym c.index-self-constructor.is) (sym c.index.ensures) in
+    subst (IsTold (g.T.Theory.meaning c.args.self.now.theory.now) c.index-self-constructor.result (class_rows_at c.args.known.now.classes.items c.args.children.now) c.in_ok-key.key) (sym (list_at c.index.result.now.told.items c.in_ok-key.number c.index-2.result.now c.deref-label-items.result.now found.0 c.index-2.ensures c.deref-label-items.ensures.value)) found.1) in
+    let there : Contains c.deref-label-items.result.now c.label-item.result = (c.labels.label-index, c.labels-test.true, sym c.label-item.is) in
+    let fired : (s : ℕ) → has c.in_ok-row.row s ≡ true ↔ IsFired c.index-self-constructor.result.list.items (both c.in_ok-key.key c.label-item.result.holds) s =
+    subst (λ R. (s : ℕ) → has c.in_ok-row.row s ≡ true ↔ IsFired R.list.items (both c.in_ok-key.key c.label-item.result.holds) s) (sym c.index-self-constructor.is) c.in_ok-row.ensures.fired in
+    let row_is = row_made (g.T.Theory.meaning c.args.self.now.theory.now) c.args.self.now.ranks.now c.args.self.now.rules.now c.args.known.now.classes.items c.args.constructor c.index-self-constructor.result is c.args.children.now c.in_ok-key.key c.deref-label-items.result.now are c.label-item.result there c.in_ok-row.row c.in_ok-row.ensures.many fired in
+    let made = made_over (g.T.Theory.meaning c.args.self.now.theory.now) c.args.self.now.ranks.now c.args.self.now.rules.now c.args.known.now.classes.items c.args.constructor c.index-self-constructor.result is c.args.children.now c.in_ok-key.key c.deref-label-items.result.now are c.cost_over-nodes.result c.label-item.result c.in_ok-row.row c.requires.low c.requires.wide c.requires.children there row_is (counts_as g.T.Theory.label_of c.args.known.now.classes.items c.deref.result.now c.args.children.now c.cost_over-nodes.result c.deref.ensures.value c.cost_over-nodes.ensures) in
+    record {
+      sound = sound_offered c.args.self.now.ranks.now (g.T.Theory.meaning c.args.self.now.theory.now).has (g.T.Theory.meaning c.args.self.now.theory.now).keeps (meaning_of g.T.Theory.atom_holds (plain_rules c.args.self.now.rules.now)) g.T.Theory.label_of c.args.known.now.classes.items c.labels.pending c.offer.new.self c.labels.invariant.sound (record { row = c.in_ok-row.row; nodes = c.cost_over-nodes.result; constructor = c.args.constructor; label = g.T.Theory.label_of c.label-item.result.value; children = c.args.children.now }) c.in_ok-offer.ensures.kept c.in_ok-offer.ensures.offered made (λ k low. subst (λ n. get_or (counts_of (founds g.T.Theory.label_of c.args.known.now.classes.items)) k 0 ≤ n) (sym (counts_as g.T.Theory.label_of c.args.known.now.classes.items c.deref.result.now c.args.children.now c.cost_over-nodes.result c.deref.ensures.value c.cost_over-nodes.ensures)) (c.requires.above k low));
+      better = λ q n m. c.in_ok-offer.ensures.offered.better q n (c.labels.invariant.better q n m);
+      met = λ i r low inside at. elim (cases_lt i c.labels.label-index) [
+        | inl below ↦ c.in_ok-offer.ensures.offered.better _ _ (c.labels.invariant.met i r below inside at)
+        | inr past ↦
+            let same_place : i ≡ c.labels.label-index = omega (arith, past, low) in
+            let same : c.label-item.result ≡ r = c.label-item.is ∙ same_default c.deref-label-items.result.now c.labels.label-index c.label-item.result r c.labels-test.true ∙ ap (λ k. get_or c.deref-label-items.result.now k r) (sym same_place) ∙ at in
+            subst (λ z. IsMet c.offer.new.self (step (meaning_of g.T.Theory.atom_holds (plain_rules c.args.self.now.rules.now)) c.args.constructor (g.T.Theory.label_of z.value) (rows_at (founds g.T.Theory.label_of c.args.known.now.classes.items) c.args.children.now)) c.cost_over-nodes.result) same
+            (subst (λ q. IsMet c.offer.new.self q c.cost_over-nodes.result) made.row_is c.in_ok-offer.ensures.offered.met)
+      ];
+    }
+
+pub set-requires-clause-met : goal.set-requires-clause-met
+set-requires-clause-met g c =
+    ap length ((let found = c.in_ok-key.ensures.found c.index-self-constructor.result c.index.result.now (sym c.index-self-constructor.is) (sym c.index.ensures) in
+    subst (IsTold (g.T.Theory.meaning c.args.self.now.theory.now) c.index-self-constructor.result (class_rows_at c.args.known.now.classes.items c.args.children.now) c.in_ok-key.key) (sym (list_at c.index.result.now.told.items c.in_ok-key.number c.index-2.result.now c.deref-label-items.result.now found.0 c.index-2.ensures c.deref-label-items.ensures.value)) found.1)).0 ∙ length-map c.index-self-constructor.result.list.items _ ∙ ap (λ R. length R.list.items) c.index-self-constructor.is
+
+pub set-requires-clause-held : goal.set-requires-clause-held
+set-requires-clause-held g c =
+    let (key_is, are) = (let found = c.in_ok-key.ensures.found c.index-self-constructor.result c.index.result.now (sym c.index-self-constructor.is) (sym c.index.ensures) in
+    subst (IsTold (g.T.Theory.meaning c.args.self.now.theory.now) c.index-self-constructor.result (class_rows_at c.args.known.now.classes.items c.args.children.now) c.in_ok-key.key) (sym (list_at c.index.result.now.told.items c.in_ok-key.number c.index-2.result.now c.deref-label-items.result.now found.0 c.index-2.ensures c.deref-label-items.ensures.value)) found.1) in
+    ap (λ t. length t.holds) c.label-item.is ∙ ap length (are.held c.labels.label-index c.label-item.result c.labels-test.true) ∙ length-map c.index-self-constructor.result.list.items _ ∙ sym (ap length key_is ∙ length-map c.index-self-constructor.result.list.items _)
+
+pub offer-requires-clause-kept : goal.offer-requires-clause-kept
+offer-requires-clause-kept g c = c.labels.invariant.sound.kept
+
+pub labels-init : goal.labels-init
+labels-init g c = record { sound = c.requires.sound; better = λ q n m. m; met = λ i r low inside at. absurd (omega (arith, low)) }
+
+pub bounds-self-constructor : goal.bounds-self-constructor
+bounds-self-constructor g c = omega (arith, c.requires.low, c.requires.ready.many)
+
+pub returns : goal.returns
+returns g c = record {
+  sound = c.labels.invariant.sound;
+  better = c.labels.invariant.better;
+  opened =
+      let is : IsRules g.T.Atom.PartialEq.eq c.args.self.now.rules.now c.args.constructor c.index-self-constructor.result = c.requires.ready.own_are c.args.constructor c.index-self-constructor.result (omega (arith, c.requires.low, c.requires.ready.many)) (sym c.index-self-constructor.is) in
+      opened_by (g.T.Theory.meaning c.args.self.now.theory.now) c.args.self.now.ranks.now c.args.self.now.rules.now c.args.known.now.classes.items c.args.constructor c.index-self-constructor.result is c.args.children.now c.in_ok-key.key c.deref-label-items.result.now ((let found = c.in_ok-key.ensures.found c.index-self-constructor.result c.index.result.now (sym c.index-self-constructor.is) (sym c.index.ensures) in
+      subst (IsTold (g.T.Theory.meaning c.args.self.now.theory.now) c.index-self-constructor.result (class_rows_at c.args.known.now.classes.items c.args.children.now) c.in_ok-key.key) (sym (list_at c.index.result.now.told.items c.in_ok-key.number c.index-2.result.now c.deref-label-items.result.now found.0 c.index-2.ensures c.deref-label-items.ensures.value)) found.1)) c.labels.pending c.cost_over-nodes.result (counts_as g.T.Theory.label_of c.args.known.now.classes.items c.deref.result.now c.args.children.now c.cost_over-nodes.result c.deref.ensures.value c.cost_over-nodes.ensures)
+      (λ i t low at. c.labels.invariant.met i t (omega (arith, low, c.labels-test.false)) low at);
+  few = omega (arith, c.if-len-self.false, c.len.ensures.len);
+  splits = c.in_ok-key.ensures.splits;
+  stop = tt;
+}
+
+pub returns-then-len-self : goal.returns-then-len-self
+returns-then-len-self g c = record {
+  sound = tt;
+  better = tt;
+  opened = tt;
+  few = tt;
+  splits = tt;
+  stop = more_sets c.args.self.now.ranks.now (g.T.Theory.meaning c.args.self.now.theory.now).has (g.T.Theory.meaning c.args.self.now.theory.now).keeps (meaning_of g.T.Theory.atom_holds (plain_rules c.args.self.now.rules.now)) g.T.Theory.label_of c.args.known.now.classes.items c.labels.pending c.labels.pending c.labels.invariant.sound c.args.self.now.most (omega (arith, c.if-len-self.true, c.len.ensures.len));
+}
+
+pub returns-in_err-key : goal.returns-in_err-key
+returns-in_err-key g c = record {
+  sound = IfOk-from_err c.from_residual.result _ c.from_residual.ensures.0;
+  better = IfOk-from_err c.from_residual.result _ c.from_residual.ensures.0;
+  opened = IfOk-from_err c.from_residual.result _ c.from_residual.ensures.0;
+  few = IfOk-from_err c.from_residual.result _ c.from_residual.ensures.0;
+  splits = IfOk-from_err c.from_residual.result _ c.from_residual.ensures.0;
+  stop = passed c.from_residual.result _ c.in_err-key.field-0.0 c.from_residual.ensures.1 c.in_err-key.ensures.stop;
+}
+
+pub returns-in_err-row : goal.returns-in_err-row
+returns-in_err-row g c = record {
+  sound = IfOk-from_err c.from_residual-in_err-row.result _ c.from_residual-in_err-row.ensures.0;
+  better = IfOk-from_err c.from_residual-in_err-row.result _ c.from_residual-in_err-row.ensures.0;
+  opened = IfOk-from_err c.from_residual-in_err-row.result _ c.from_residual-in_err-row.ensures.0;
+  few = IfOk-from_err c.from_residual-in_err-row.result _ c.from_residual-in_err-row.ensures.0;
+  splits = IfOk-from_err c.from_residual-in_err-row.result _ c.from_residual-in_err-row.ensures.0;
+  stop = passed c.from_residual-in_err-row.result _ _ c.from_residual-in_err-row.ensures.1 tt;
+}
+
+pub returns-in_err-offer : goal.returns-in_err-offer
+returns-in_err-offer g c = record {
+  sound = IfOk-from_err c.from_residual-in_err-offer.result _ c.from_residual-in_err-offer.ensures.0;
+  better = IfOk-from_err c.from_residual-in_err-offer.result _ c.from_residual-in_err-offer.ensures.0;
+  opened = IfOk-from_err c.from_residual-in_err-offer.result _ c.from_residual-in_err-offer.ensures.0;
+  few = IfOk-from_err c.from_residual-in_err-offer.result _ c.from_residual-in_err-offer.ensures.0;
+  splits = IfOk-from_err c.from_residual-in_err-offer.result _ c.from_residual-in_err-offer.ensures.0;
+  stop = passed c.from_residual-in_err-offer.result _ _ c.from_residual-in_err-offer.ensures.1 tt;
+}
+
 pub index-requires : goal.index-requires
 index-requires g c = omega (arith, c.requires.low, c.in_ok-key.ensures.splits.many, c.told.new.splits.ok.0)
+
+pub index-requires-2 : goal.index-requires-2
+index-requires-2 g c =
+    let (own, at) = element c.args.self.now.own.now c.args.constructor (omega (arith, c.requires.low, c.requires.ready.many)) in
+    omega (arith, (c.in_ok-key.ensures.found own c.index.result.now at (sym c.index.ensures)).0, c.index.result.now.told.ok)

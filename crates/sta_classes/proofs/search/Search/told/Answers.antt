@@ -1,5 +1,5 @@
-use Rattle.std.proofs.lemmas.Result.{IfOk-from_err}
-use Rattle.std.proofs.Common.{◌≡◌, ◌<◌, ◌∙◌, true, All, length, get_or, map, ap, sym, subst, arith}
+use Rattle.std.proofs.lemmas.Result.{IfOk-from_err, IfOk-at_ok, IfErr-weaker}
+use Rattle.std.proofs.Common.{◌≡◌, ◌<◌, ◌∙◌, [], true, refl, All, length, get_or, map, ap, sym, subst, arith}
 use Rattle.std.proofs.lemmas.List.{length-map}
 use Rattle.model_tree.specs.Formula.{EveryAtom}
 use Rattle.model_sta.proofs.Reached.{same_default}
@@ -7,39 +7,34 @@ use Rattle.sta_core.specs.Machine.{plain_rule}
 use Rattle.sta_classes.specs.Applying.{guards_in, AreLike, IsRules}
 use Rattle.sta_classes.specs.Guards.{all_guards}
 use Rattle.sta_classes.specs.Meant.{HasMoreClasses}
-use Rattle.sta_classes.specs.Rows.{class_rows}
+use Rattle.sta_classes.specs.Rows.{class_rows, class_rows_at, lists_of}
 use Rattle.sta_classes.specs.Rules.{plain_rules}
+use Rattle.sta_classes.specs.Searched.{IsTold}
 use Rattle.sta_classes.specs.Splits.{AreMet, AreAllTold}
 use Rattle.sta_classes.specs.Stop.{ClassStopsFor}
 use Rattle.sta_classes.proofs.Keys.{split_set, met_at, all_told_at, told_found}
 use Rattle.sta_classes.proofs.Told.{guards_fit, guards_of_all, stop_within}
-use Rattle.sta_classes.proofs.Keeping.{passed}
+use Rattle.sta_classes.proofs.Keeping.{passed, beside_ok, beside_err}
 use Rattle.sta_classes.proofs.search.Search.told.Goals as goal
 
-pub number-requires-clause-fit : goal.number-requires-clause-fit
-number-requires-clause-fit g c =
+pub number-number-requires-clause-fit : goal.number-number-requires-clause-fit
+number-number-requires-clause-fit g c =
     let is : IsRules g.T.Atom.PartialEq.eq c.args.self.now.rules.now c.args.over.now.constructor c.index-self-over.result = c.requires.ready.own_are c.args.over.now.constructor c.index-self-over.result (omega (arith, c.requires.low, c.requires.ready.many)) (sym c.index-self-over.is) in
     subst (λ R. All (λ x. EveryAtom (g.T.Theory.atom_fits c.args.self.now.theory.now) (plain_rule x.rule.now).guard) R.list.items) c.index-self-over.is
     (guards_fit c.args.self.now.rules.now c.args.over.now.constructor c.index-self-over.result.list.items is.owned (g.T.Theory.atom_fits c.args.self.now.theory.now) c.requires.ready.fit)
 
-pub returns-in_err-number-clause-stop : goal.returns-in_err-number-clause-stop
-returns-in_err-number-clause-stop g c =
-    let is : IsRules g.T.Atom.PartialEq.eq c.args.self.now.rules.now c.args.over.now.constructor c.index-self-over.result = c.requires.ready.own_are c.args.over.now.constructor c.index-self-over.result (omega (arith, c.requires.low, c.requires.ready.many)) (sym c.index-self-over.is) in
-    passed c.from_residual-in_err-number.result _ c.in_err-number.field-0.0 c.from_residual-in_err-number.ensures.1 (stop_within (guards_in c.index-self-over.result.list.items) (all_guards (plain_rules c.args.self.now.rules.now)) (λ P h. guards_of_all c.args.self.now.rules.now c.args.over.now.constructor c.index-self-over.result.list.items is.owned P h) (g.T.Theory.meaning c.args.self.now.theory.now) g.T.Atom.PartialEq.eq (g.met.T.Theory.equal_is_own c.args.self.now.theory.now) g.met.T.Atom.Eq.laws (HasMoreClasses (g.T.Theory.meaning c.args.self.now.theory.now) (record { ranks = c.args.self.now.ranks.now; rules = plain_rules c.args.self.now.rules.now }) c.args.self.now.most) c.in_err-number.field-0.0
-    (subst (λ R. ClassStopsFor (g.T.Theory.meaning c.args.self.now.theory.now) ⊥ (guards_in R.list.items) c.in_err-number.field-0.0) (sym c.index-self-over.is) c.in_err-number.ensures.stop))
-
 pub returns-clause-splits : goal.returns-clause-splits
-returns-clause-splits g c =
-    split_set (g.T.Theory.meaning c.args.self.now.theory.now) c.args.self.now.ranks.now c.args.self.now.own.now (class_rows c.args.known.now.classes.items) (class_rows c.args.known.now.classes.items) c.args.splits.now.items c.args.over.now.constructor c.number.new.self (omega (arith, c.requires.low, c.requires.splits.many))
+returns-clause-splits g c = beside_ok c.in_ok-key.key _ c.number-number.result c.both.result refl c.both.ensures _ (λ x same made.
+    split_set (g.T.Theory.meaning c.args.self.now.theory.now) c.args.self.now.ranks.now c.args.self.now.own.now (class_rows c.args.known.now.classes.items) (class_rows c.args.known.now.classes.items) c.args.splits.now.items c.args.over.now.constructor c.number-number.new.self (omega (arith, c.requires.low, c.requires.splits.many))
     (λ n R s n_low other of at. c.requires.splits.met n R s n_low of at)
     (λ R of.
     let low : c.args.over.now.constructor < length c.args.self.now.own.now = omega (arith, c.requires.low, c.requires.ready.many) in
     let s_low : c.args.over.now.constructor < length c.args.splits.now.items = omega (arith, c.requires.low, c.requires.splits.many) in
     let same : c.index-self-over.result ≡ R = c.index-self-over.is ∙ same_default c.args.self.now.own.now c.args.over.now.constructor c.index-self-over.result R low ∙ of in (
-      subst (λ z. AreMet R.list.items (get_or c.args.self.now.ranks.now c.args.over.now.constructor 0) (class_rows c.args.known.now.classes.items) z.items) (sym c.in_ok-number.ensures.met) (c.requires.splits.met c.args.over.now.constructor R c.index_mut-split.result.now s_low of (sym c.index_mut-split.ensures.value)),
-      subst (λ z. AreAllTold (g.T.Theory.meaning c.args.self.now.theory.now) z.list.items c.number.new.self) (sym c.index-self-over.is ∙ same) c.in_ok-number.ensures.told,
+      subst (λ z. AreMet R.list.items (get_or c.args.self.now.ranks.now c.args.over.now.constructor 0) (class_rows c.args.known.now.classes.items) z.items) (sym (IfOk-at_ok _ made c.number-number.ensures.met)) (c.requires.splits.met c.args.over.now.constructor R c.index_mut-split.result.now s_low of (sym c.index_mut-split.ensures.value)),
+      subst (λ z. AreAllTold (g.T.Theory.meaning c.args.self.now.theory.now) z.list.items c.number-number.new.self) (sym c.index-self-over.is ∙ same) (IfOk-at_ok _ made c.number-number.ensures.told),
     ))
-    c.requires.splits
+    c.requires.splits)
 
 pub key-requires-clause-all : goal.key-requires-clause-all
 key-requires-clause-all g c =
@@ -54,48 +49,43 @@ key-requires-clause-known g c =
 pub key-requires-clause-met : goal.key-requires-clause-met
 key-requires-clause-met g c = (class_rows c.args.known.now.classes.items, met_at (g.T.Theory.meaning c.args.self.now.theory.now) c.args.self.now.ranks.now c.args.self.now.own.now (class_rows c.args.known.now.classes.items) c.args.splits.now.items c.requires.splits c.args.over.now.constructor c.index-self-over.result c.index_mut-split.result.now (omega (arith, c.requires.low, c.requires.ready.many)) (omega (arith, c.requires.low, c.requires.splits.many)) c.index_mut-split.ensures.value (length c.args.over.now.children.now) c.requires.wide)
 
-pub number-requires-clause-many : goal.number-requires-clause-many
-number-requires-clause-many g c =
+pub number-number-requires-clause-many : goal.number-number-requires-clause-many
+number-number-requires-clause-many g c =
     let is : IsRules g.T.Atom.PartialEq.eq c.args.self.now.rules.now c.args.over.now.constructor c.index-self-over.result = c.requires.ready.own_are c.args.over.now.constructor c.index-self-over.result (omega (arith, c.requires.low, c.requires.ready.many)) (sym c.index-self-over.is) in
     let met = met_at (g.T.Theory.meaning c.args.self.now.theory.now) c.args.self.now.ranks.now c.args.self.now.own.now (class_rows c.args.known.now.classes.items) c.args.splits.now.items c.requires.splits c.args.over.now.constructor c.index-self-over.result c.index_mut-split.result.now (omega (arith, c.requires.low, c.requires.ready.many)) (omega (arith, c.requires.low, c.requires.splits.many)) c.index_mut-split.ensures.value (length c.args.over.now.children.now) c.requires.wide in
     ap length (c.in_ok-key.ensures (class_rows c.args.known.now.classes.items) met) ∙ length-map _ _ ∙ sym (subst (λ R. length R.guarded ≡ length R.list.items) c.index-self-over.is (ap length is.guarded_are ∙ length-map _ _))
 
-pub number-requires-clause-told : goal.number-requires-clause-told
-number-requires-clause-told g c = all_told_at (g.T.Theory.meaning c.args.self.now.theory.now) c.args.self.now.ranks.now c.args.self.now.own.now (class_rows c.args.known.now.classes.items) c.args.splits.now.items c.requires.splits c.args.over.now.constructor c.index-self-over.result c.index_mut-split.result.now (omega (arith, c.requires.low, c.requires.ready.many)) (omega (arith, c.requires.low, c.requires.splits.many)) c.index_mut-split.ensures.value
+pub number-number-requires-clause-told : goal.number-number-requires-clause-told
+number-number-requires-clause-told g c = all_told_at (g.T.Theory.meaning c.args.self.now.theory.now) c.args.self.now.ranks.now c.args.self.now.own.now (class_rows c.args.known.now.classes.items) c.args.splits.now.items c.requires.splits c.args.over.now.constructor c.index-self-over.result c.index_mut-split.result.now (omega (arith, c.requires.low, c.requires.ready.many)) (omega (arith, c.requires.low, c.requires.splits.many)) c.index_mut-split.ensures.value
 
 pub returns-clause-found : goal.returns-clause-found
-returns-clause-found g c R s of at =
+returns-clause-found g c = beside_ok c.in_ok-key.key _ c.number-number.result c.both.result refl c.both.ensures _ (λ x same made R s of at.
     let met = met_at (g.T.Theory.meaning c.args.self.now.theory.now) c.args.self.now.ranks.now c.args.self.now.own.now (class_rows c.args.known.now.classes.items) c.args.splits.now.items c.requires.splits c.args.over.now.constructor c.index-self-over.result c.index_mut-split.result.now (omega (arith, c.requires.low, c.requires.ready.many)) (omega (arith, c.requires.low, c.requires.splits.many)) c.index_mut-split.ensures.value (length c.args.over.now.children.now) c.requires.wide in
-    told_found (g.T.Theory.meaning c.args.self.now.theory.now) c.args.self.now.ranks.now c.args.self.now.own.now (class_rows c.args.known.now.classes.items) c.args.splits.now.items c.args.over.now.constructor c.args.over.now.children.now c.index-self-over.result R c.number.new.self s c.in_ok-key.key c.in_ok-number.number (omega (arith, c.requires.low, c.requires.ready.many)) of (omega (arith, c.requires.low, c.requires.splits.many)) at
-    (c.in_ok-key.ensures (class_rows c.args.known.now.classes.items) met) c.in_ok-number.ensures.number
+    subst (λ key. (x.1 < length s.told.items) × IsTold (g.T.Theory.meaning c.args.self.now.theory.now) R (class_rows_at c.args.known.now.classes.items c.args.over.now.children.now) key (get_or (lists_of s.told.items) x.1 [])) same
+    (told_found (g.T.Theory.meaning c.args.self.now.theory.now) c.args.self.now.ranks.now c.args.self.now.own.now (class_rows c.args.known.now.classes.items) c.args.splits.now.items c.args.over.now.constructor c.args.over.now.children.now c.index-self-over.result R c.number-number.new.self s c.in_ok-key.key x.1 (omega (arith, c.requires.low, c.requires.ready.many)) of (omega (arith, c.requires.low, c.requires.splits.many)) at
+    (c.in_ok-key.ensures (class_rows c.args.known.now.classes.items) met) (IfOk-at_ok _ made c.number-number.ensures.number)))
 
-pub returns-in_err-key-clause-stop : goal.returns-in_err-key-clause-stop
-returns-in_err-key-clause-stop g c = passed c.from_residual.result _ _ c.from_residual.ensures.1 tt
-
-pub number-requires-clause-likes : goal.number-requires-clause-likes
-number-requires-clause-likes g c =
+pub number-number-requires-clause-likes : goal.number-number-requires-clause-likes
+number-number-requires-clause-likes g c =
     let is : IsRules g.T.Atom.PartialEq.eq c.args.self.now.rules.now c.args.over.now.constructor c.index-self-over.result = c.requires.ready.own_are c.args.over.now.constructor c.index-self-over.result (omega (arith, c.requires.low, c.requires.ready.many)) (sym c.index-self-over.is) in
     subst (λ R. AreLike g.T.Atom.PartialEq.eq R.list.items R.likes.items) c.index-self-over.is is.alike
 
-pub number-requires-clause-guarded : goal.number-requires-clause-guarded
-number-requires-clause-guarded g c =
+pub number-number-requires-clause-guarded : goal.number-number-requires-clause-guarded
+number-number-requires-clause-guarded g c =
     let is : IsRules g.T.Atom.PartialEq.eq c.args.self.now.rules.now c.args.over.now.constructor c.index-self-over.result = c.requires.ready.own_are c.args.over.now.constructor c.index-self-over.result (omega (arith, c.requires.low, c.requires.ready.many)) (sym c.index-self-over.is) in
     subst (λ R. length R.guarded ≡ length R.list.items) c.index-self-over.is (ap length is.guarded_are ∙ length-map _ _)
-
-pub returns-in_err-key-clause-splits : goal.returns-in_err-key-clause-splits
-returns-in_err-key-clause-splits g c = IfOk-from_err c.from_residual.result _ c.from_residual.ensures.0
-
-pub returns-in_err-key-clause-found : goal.returns-in_err-key-clause-found
-returns-in_err-key-clause-found g c = IfOk-from_err c.from_residual.result _ c.from_residual.ensures.0
-
-pub returns-in_err-number-clause-splits : goal.returns-in_err-number-clause-splits
-returns-in_err-number-clause-splits g c = IfOk-from_err c.from_residual-in_err-number.result _ c.from_residual-in_err-number.ensures.0
-
-pub returns-in_err-number-clause-found : goal.returns-in_err-number-clause-found
-returns-in_err-number-clause-found g c = IfOk-from_err c.from_residual-in_err-number.result _ c.from_residual-in_err-number.ensures.0
 
 pub bounds-self-over : goal.bounds-self-over
 bounds-self-over g c = omega (arith, c.requires.low, c.requires.ready.many)
 
 pub index_mut-split-requires : goal.index_mut-split-requires
 index_mut-split-requires g c = omega (arith, c.requires.low, c.requires.splits.many, c.args.splits.now.ok.0)
+
+pub returns-clause-stop : goal.returns-clause-stop
+returns-clause-stop g c = beside_err c.in_ok-key.key _ c.number-number.result c.both.result refl c.both.ensures _ (IfErr-weaker c.number-number.result _ _ (λ stop h.
+    let is : IsRules g.T.Atom.PartialEq.eq c.args.self.now.rules.now c.args.over.now.constructor c.index-self-over.result = c.requires.ready.own_are c.args.over.now.constructor c.index-self-over.result (omega (arith, c.requires.low, c.requires.ready.many)) (sym c.index-self-over.is) in
+    stop_within (guards_in c.index-self-over.result.list.items) (all_guards (plain_rules c.args.self.now.rules.now)) (λ P h. guards_of_all c.args.self.now.rules.now c.args.over.now.constructor c.index-self-over.result.list.items is.owned P h) (g.T.Theory.meaning c.args.self.now.theory.now) g.T.Atom.PartialEq.eq (g.met.T.Theory.equal_is_own c.args.self.now.theory.now) g.met.T.Atom.Eq.laws (HasMoreClasses (g.T.Theory.meaning c.args.self.now.theory.now) (record { ranks = c.args.self.now.ranks.now; rules = plain_rules c.args.self.now.rules.now }) c.args.self.now.most) stop
+    (subst (λ R. ClassStopsFor (g.T.Theory.meaning c.args.self.now.theory.now) ⊥ (guards_in R.list.items) stop) (sym c.index-self-over.is) h)) c.number-number.ensures.stop)
+
+pub returns-in_err-key : goal.returns-in_err-key
+returns-in_err-key g c = record { splits = IfOk-from_err c.from_residual.result _ c.from_residual.ensures.0; found = IfOk-from_err c.from_residual.result _ c.from_residual.ensures.0; stop = passed c.from_residual.result _ _ c.from_residual.ensures.1 tt }

@@ -15,20 +15,21 @@ use Rattle.sta_classes.proofs.Offered.{row_at, is_new, was_there}
 use Rattle.sta_classes.proofs.SameGuards.{told_likes, likes_low}
 use Rattle.sta_classes.proofs.Keeping.{passed}
 use Rattle.sta_classes.proofs.splits.Splits.number.Goals as goal
-use Rattle.sta_classes.proofs.splits.Splits.number.Goals.{then-new+in_ok-told+in_ok-push, else-new}
+use Rattle.sta_classes.proofs.splits.Splits.number.Goals.{then-new+in_ok-tell, else-new}
 
 pub returns-clause-told : goal.returns-clause-told
 returns-clause-told g c = elim c.if-new.branch [
-  | then-new+in_ok-told+in_ok-push w ↦
+  | then-new+in_ok-tell w ↦
       let at : w.index-as_slice-number.result ≡ c.in_ok-open.open =
       w.index-as_slice-number.is ∙ ap (λ k. get_or k c.in_ok-number.number w.index-as_slice-number.result) w.as_slice.ensures.keys
       ∙ same_default c.insert_full.new.self.keys c.in_ok-number.number w.index-as_slice-number.result [] (slice_get_within c.insert_full.new.self.keys c.in_ok-number.number c.in_ok-number.ensures.stored.0 c.in_ok-number.ensures.stored.1)
       ∙ row_at c.args.self.now.sets.keys c.insert_full.new.self.keys c.in_ok-open.open c.in_ok-number.number c.in_ok-number.new c.in_ok-number.ensures.added c.in_ok-number.ensures.keys c.in_ok-number.ensures.stored in
-      let told : AreTold (g.T.Theory.meaning c.args.theory.now) c.args.own.now.list.items c.in_ok-open.open w.in_ok-told.told.items =
-      subst (λ z. AreTold (g.T.Theory.meaning c.args.theory.now) z c.in_ok-open.open w.in_ok-told.told.items) w.deref.ensures.value (subst (λ z. AreTold (g.T.Theory.meaning c.args.theory.now) w.deref.result.now z w.in_ok-told.told.items) at w.in_ok-told.ensures.told) in
+      let (labels, are, items) = w.in_ok-tell.ensures.told in
+      let told : AreTold (g.T.Theory.meaning c.args.theory.now) c.args.own.now.list.items c.in_ok-open.open labels.items =
+      subst (λ z. AreTold (g.T.Theory.meaning c.args.theory.now) z c.in_ok-open.open labels.items) w.deref.ensures.value (subst (λ z. AreTold (g.T.Theory.meaning c.args.theory.now) w.deref.result.now z labels.items) at are) in
       subst (AreAllTold (g.T.Theory.meaning c.args.theory.now) c.args.own.now.list.items) (sym w.self-is)
-      (all_told_more (g.T.Theory.meaning c.args.theory.now) c.args.own.now.list.items c.args.self.now _ c.in_ok-open.open w.in_ok-told.told
-      (is_new c.args.self.now.sets.keys c.insert_full.new.self.keys c.in_ok-open.open c.in_ok-number.number c.in_ok-number.new c.in_ok-number.ensures.added c.in_ok-number.ensures.keys c.in_ok-number.ensures.stored w.if-new.true) w.in_ok-push.ensures.items told c.requires.told)
+      (all_told_more (g.T.Theory.meaning c.args.theory.now) c.args.own.now.list.items c.args.self.now _ c.in_ok-open.open labels
+      (is_new c.args.self.now.sets.keys c.insert_full.new.self.keys c.in_ok-open.open c.in_ok-number.number c.in_ok-number.new c.in_ok-number.ensures.added c.in_ok-number.ensures.keys c.in_ok-number.ensures.stored w.if-new.true) items told c.requires.told)
   | else-new w ↦
       subst (AreAllTold (g.T.Theory.meaning c.args.theory.now) c.args.own.now.list.items) (sym w.self-is)
       (all_told_same (g.T.Theory.meaning c.args.theory.now) c.args.own.now.list.items c.args.self.now _
@@ -37,7 +38,7 @@ returns-clause-told g c = elim c.if-new.branch [
 
 pub returns-clause-number : goal.returns-clause-number
 returns-clause-number g c =
-    let keys : c.if-new.self.sets ≡ c.insert_full.new.self = elim c.if-new.branch [ then-new+in_ok-told+in_ok-push w ↦ ap (λ s. s.sets) w.self-is | else-new w ↦ ap (λ s. s.sets) w.self-is ] in
+    let keys : c.if-new.self.sets ≡ c.insert_full.new.self = elim c.if-new.branch [ then-new+in_ok-tell w ↦ ap (λ s. s.sets) w.self-is | else-new w ↦ ap (λ s. s.sets) w.self-is ] in
     let numbered =
     told_numbered (g.T.Theory.meaning c.args.theory.now) c.args.own.now.list.items c.if-new.self (returns-clause-told g c) c.in_ok-number.number c.in_ok-open.open
     (subst (λ z. c.in_ok-number.number < length z.keys) (sym keys) (slice_get_within c.insert_full.new.self.keys c.in_ok-number.number c.in_ok-number.ensures.stored.0 c.in_ok-number.ensures.stored.1))
@@ -54,55 +55,31 @@ open_guards-requires g c = record {
 }
 
 pub returns-clause-met : goal.returns-clause-met
-returns-clause-met g c = elim c.if-new.branch [ then-new+in_ok-told+in_ok-push w ↦ ap (λ s. s.met) w.self-is | else-new w ↦ ap (λ s. s.met) w.self-is ]
+returns-clause-met g c = elim c.if-new.branch [ then-new+in_ok-tell w ↦ ap (λ s. s.met) w.self-is | else-new w ↦ ap (λ s. s.met) w.self-is ]
 
-pub returns-in_err-open-clause-stop : goal.returns-in_err-open-clause-stop
-returns-in_err-open-clause-stop g c = passed c.from_residual.result _ _ c.from_residual.ensures.1 tt
+pub returns-in_err-open : goal.returns-in_err-open
+returns-in_err-open g c = record {
+  told = IfOk-from_err c.from_residual.result _ c.from_residual.ensures.0;
+  met = IfOk-from_err c.from_residual.result _ c.from_residual.ensures.0;
+  number = IfOk-from_err c.from_residual.result _ c.from_residual.ensures.0;
+  stop = passed c.from_residual.result _ _ c.from_residual.ensures.1 tt;
+}
 
-pub returns-in_err-number-clause-stop : goal.returns-in_err-number-clause-stop
-returns-in_err-number-clause-stop g c = passed c.from_residual-in_err-number.result _ _ c.from_residual-in_err-number.ensures.1 tt
+pub returns-in_err-number : goal.returns-in_err-number
+returns-in_err-number g c = record {
+  told = IfOk-from_err c.from_residual-in_err-number.result _ c.from_residual-in_err-number.ensures.0;
+  met = IfOk-from_err c.from_residual-in_err-number.result _ c.from_residual-in_err-number.ensures.0;
+  number = IfOk-from_err c.from_residual-in_err-number.result _ c.from_residual-in_err-number.ensures.0;
+  stop = passed c.from_residual-in_err-number.result _ _ c.from_residual-in_err-number.ensures.1 tt;
+}
 
-pub returns-in_err-push-clause-stop : goal.returns-in_err-push-clause-stop
-returns-in_err-push-clause-stop g c = passed c.from_residual-in_err-push.result _ _ c.from_residual-in_err-push.ensures.1 tt
+pub returns-in_err-tell : goal.returns-in_err-tell
+returns-in_err-tell g c = record {
+  told = IfOk-from_err c.from_residual-in_err-tell.result _ c.from_residual-in_err-tell.ensures.0;
+  met = IfOk-from_err c.from_residual-in_err-tell.result _ c.from_residual-in_err-tell.ensures.0;
+  number = IfOk-from_err c.from_residual-in_err-tell.result _ c.from_residual-in_err-tell.ensures.0;
+  stop = passed c.from_residual-in_err-tell.result _ c.in_err-tell.field-0.0 c.from_residual-in_err-tell.ensures.1 (subst (λ l. ClassStopsFor (g.T.Theory.meaning c.args.theory.now) ⊥ (guards_in l) c.in_err-tell.field-0.0) c.deref.ensures.value c.in_err-tell.ensures.stop);
+}
 
-pub returns-in_err-open-clause-told : goal.returns-in_err-open-clause-told
-returns-in_err-open-clause-told g c = IfOk-from_err c.from_residual.result _ c.from_residual.ensures.0
-
-pub returns-in_err-open-clause-met : goal.returns-in_err-open-clause-met
-returns-in_err-open-clause-met g c = IfOk-from_err c.from_residual.result _ c.from_residual.ensures.0
-
-pub returns-in_err-open-clause-number : goal.returns-in_err-open-clause-number
-returns-in_err-open-clause-number g c = IfOk-from_err c.from_residual.result _ c.from_residual.ensures.0
-
-pub returns-in_err-number-clause-told : goal.returns-in_err-number-clause-told
-returns-in_err-number-clause-told g c = IfOk-from_err c.from_residual-in_err-number.result _ c.from_residual-in_err-number.ensures.0
-
-pub returns-in_err-number-clause-met : goal.returns-in_err-number-clause-met
-returns-in_err-number-clause-met g c = IfOk-from_err c.from_residual-in_err-number.result _ c.from_residual-in_err-number.ensures.0
-
-pub returns-in_err-number-clause-number : goal.returns-in_err-number-clause-number
-returns-in_err-number-clause-number g c = IfOk-from_err c.from_residual-in_err-number.result _ c.from_residual-in_err-number.ensures.0
-
-pub returns-in_err-told-clause-told : goal.returns-in_err-told-clause-told
-returns-in_err-told-clause-told g c = IfOk-from_err c.from_residual-in_err-told.result _ c.from_residual-in_err-told.ensures.0
-
-pub returns-in_err-told-clause-met : goal.returns-in_err-told-clause-met
-returns-in_err-told-clause-met g c = IfOk-from_err c.from_residual-in_err-told.result _ c.from_residual-in_err-told.ensures.0
-
-pub returns-in_err-told-clause-number : goal.returns-in_err-told-clause-number
-returns-in_err-told-clause-number g c = IfOk-from_err c.from_residual-in_err-told.result _ c.from_residual-in_err-told.ensures.0
-
-pub returns-in_err-push-clause-told : goal.returns-in_err-push-clause-told
-returns-in_err-push-clause-told g c = IfOk-from_err c.from_residual-in_err-push.result _ c.from_residual-in_err-push.ensures.0
-
-pub returns-in_err-push-clause-met : goal.returns-in_err-push-clause-met
-returns-in_err-push-clause-met g c = IfOk-from_err c.from_residual-in_err-push.result _ c.from_residual-in_err-push.ensures.0
-
-pub returns-in_err-push-clause-number : goal.returns-in_err-push-clause-number
-returns-in_err-push-clause-number g c = IfOk-from_err c.from_residual-in_err-push.result _ c.from_residual-in_err-push.ensures.0
-
-pub told_of-requires : goal.told_of-requires
-told_of-requires g c = record { fit = subst (λ l. All (λ x. EveryAtom (g.T.Theory.atom_fits c.args.theory.now) (plain_rule x.rule.now).guard) l) (sym c.deref.ensures.value) c.requires.fit }
-
-pub returns-in_err-told-clause-stop : goal.returns-in_err-told-clause-stop
-returns-in_err-told-clause-stop g c = passed c.from_residual-in_err-told.result _ c.in_err-told.field-0.0 c.from_residual-in_err-told.ensures.1 (subst (λ l. ClassStopsFor (g.T.Theory.meaning c.args.theory.now) ⊥ (guards_in l) c.in_err-told.field-0.0) c.deref.ensures.value c.in_err-told.ensures.stop)
+pub tell-requires : goal.tell-requires
+tell-requires g c = record { fit = subst (λ l. All (λ x. EveryAtom (g.T.Theory.atom_fits c.args.theory.now) (plain_rule x.rule.now).guard) l) (sym c.deref.ensures.value) c.requires.fit }

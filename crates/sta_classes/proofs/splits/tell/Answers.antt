@@ -1,5 +1,5 @@
 use Rattle.std.proofs.Common.{◌≡◌, ◌∙◌, ap, map}
-use Rattle.std.proofs.lemmas.Result.{IfOk-from_err}
+use Rattle.std.proofs.lemmas.Result.{IfOk-from_err, IfOk-at_ok}
 use Rattle.std.proofs.lemmas.List.Elements.{All-weaker}
 use Rattle.label_core.specs.Formula.{plain_formula}
 use Rattle.sta_classes.specs.Applying.{chosen, guards_in}
@@ -7,7 +7,7 @@ use Rattle.sta_classes.specs.Guards.{truths}
 use Rattle.label_split.specs.Split.{IsRow}
 use Rattle.sta_classes.proofs.Keeping.{passed}
 use Rattle.sta_classes.proofs.Told.{formulas_fit, split_told, wide_told, told_by}
-use Rattle.sta_classes.proofs.splits.told_of.Goals as goal
+use Rattle.sta_classes.proofs.splits.tell.Goals as goal
 
 pub split-rows-requires : goal.split-rows-requires
 split-rows-requires g c = record {
@@ -22,14 +22,19 @@ tell_each-requires-clause-kept g c =
     All-weaker (IsRow (g.T.Theory.meaning c.args.theory.now) (truths g.T.Theory.atom_holds (chosen c.args.numbers.now (guards_in c.args.list.now)))) (λ r. (g.T.Theory.meaning c.args.theory.now).keeps (g.T.Theory.label_of r.value)) (λ r h. h.0) c.in-Ok.rows.items
     (split_told c.args.list.now c.args.numbers.now c.deref.result.now (ap (map plain_formula) c.deref.ensures.value ∙ c.in_ok-guards_of.ensures) (g.T.Theory.meaning c.args.theory.now) c.in-Ok.rows.items c.in-Ok.ensures.rows).sound
 
-pub returns-in_ok-tell_each-in-Ok-clause-told : goal.returns-in_ok-tell_each-in-Ok-clause-told
-returns-in_ok-tell_each-in-Ok-clause-told g c =
-    told_by c.args.list.now c.args.numbers.now (g.T.Theory.meaning c.args.theory.now) c.in-Ok.rows.items
-    (split_told c.args.list.now c.args.numbers.now c.deref.result.now (ap (map plain_formula) c.deref.ensures.value ∙ c.in_ok-guards_of.ensures) (g.T.Theory.meaning c.args.theory.now) c.in-Ok.rows.items c.in-Ok.ensures.rows)
-    c.in_ok-tell_each-in-Ok.field-0.items c.in_ok-tell_each-in-Ok.ensures
-
-pub returns-in_ok-tell_each-in-Ok-clause-stop : goal.returns-in_ok-tell_each-in-Ok-clause-stop
-returns-in_ok-tell_each-in-Ok-clause-stop g c = tt
+pub returns-in_ok-added-in-Ok : goal.returns-in_ok-added-in-Ok
+returns-in_ok-added-in-Ok g c =
+    let (labels, made, items) = c.in_ok-added-in-Ok.ensures in
+    record {
+      told = (
+        labels,
+        told_by c.args.list.now c.args.numbers.now (g.T.Theory.meaning c.args.theory.now) c.in-Ok.rows.items
+            (split_told c.args.list.now c.args.numbers.now c.deref.result.now (ap (map plain_formula) c.deref.ensures.value ∙ c.in_ok-guards_of.ensures) (g.T.Theory.meaning c.args.theory.now) c.in-Ok.rows.items c.in-Ok.ensures.rows)
+            labels.items (IfOk-at_ok _ made c.tell_each.ensures),
+        items,
+      );
+      stop = tt;
+    }
 
 pub returns-in-Err-Wide-clause-told : goal.returns-in-Err-Wide-clause-told
 returns-in-Err-Wide-clause-told g c = tt
@@ -39,14 +44,8 @@ returns-in-Err-Wide-clause-stop g c =
     let same : map plain_formula c.deref.result.now ≡ chosen c.args.numbers.now (guards_in c.args.list.now) = ap (map plain_formula) c.deref.ensures.value ∙ c.in_ok-guards_of.ensures in
     rw c.in-Err-Wide.field-0-is (wide_told c.args.list.now c.args.numbers.now c.deref.result.now same (g.T.Theory.meaning c.args.theory.now) g.T.Atom.PartialEq.eq (g.met.T.Theory.equal_is_own c.args.theory.now) g.met.T.Atom.Eq.laws c.in-Err-Wide.chain (rw c.in-Err-Wide.field-0-is at c.in-Err-Wide.ensures.stop))
 
-pub returns-in_err-guards_of-clause-told : goal.returns-in_err-guards_of-clause-told
-returns-in_err-guards_of-clause-told g c = IfOk-from_err c.from_residual.result _ c.from_residual.ensures.0
+pub returns-in_err-guards_of : goal.returns-in_err-guards_of
+returns-in_err-guards_of g c = record { told = IfOk-from_err c.from_residual.result _ c.from_residual.ensures.0; stop = passed c.from_residual.result _ _ c.from_residual.ensures.1 tt }
 
-pub returns-in_err-guards_of-clause-stop : goal.returns-in_err-guards_of-clause-stop
-returns-in_err-guards_of-clause-stop g c = passed c.from_residual.result _ _ c.from_residual.ensures.1 tt
-
-pub returns-in_err-tell_each-in-Ok-clause-told : goal.returns-in_err-tell_each-in-Ok-clause-told
-returns-in_err-tell_each-in-Ok-clause-told g c = IfOk-from_err c.from_residual-in_err-tell_each-in-Ok.result _ c.from_residual-in_err-tell_each-in-Ok.ensures.0
-
-pub returns-in_err-tell_each-in-Ok-clause-stop : goal.returns-in_err-tell_each-in-Ok-clause-stop
-returns-in_err-tell_each-in-Ok-clause-stop g c = passed c.from_residual-in_err-tell_each-in-Ok.result _ _ c.from_residual-in_err-tell_each-in-Ok.ensures.1 tt
+pub returns-in_err-added-in-Ok : goal.returns-in_err-added-in-Ok
+returns-in_err-added-in-Ok g c = record { told = IfOk-from_err c.from_residual-in_err-added-in-Ok.result _ c.from_residual-in_err-added-in-Ok.ensures.0; stop = passed c.from_residual-in_err-added-in-Ok.result _ _ c.from_residual-in_err-added-in-Ok.ensures.1 tt }

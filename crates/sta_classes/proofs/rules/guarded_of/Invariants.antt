@@ -1,8 +1,0 @@
-use Rattle.std.proofs.Common.{◌≡◌, not}
-use Rattle.sta_core.specs.Machine.{plain_rule}
-use Rattle.sta_classes.specs.Applying.{is_fixed}
-use Rattle.sta_classes.proofs.Loops.{filled}
-use Rattle.sta_classes.proofs.rules.guarded_of.Given as goal
-
-abbrev pub invariant-loop-i : goal.invariant-loop-i
-invariant-loop-i g l = l.made ≡ filled (λ x. not (is_fixed (plain_rule x.rule.now).guard)) l.i l.list
