@@ -20,9 +20,8 @@ module _ (classes : List (List ℕ)) (place class : ℕ) where
     (λ h. subst (λ z. Contains z ks) (sym e) (0, omega arith, none_long ks h.0)),
   )
 
-  module _ (j : ℕ) (lists lists' : List (List ℕ)) (chosen : List ℕ) (before : (ks : List ℕ) → Contains lists ks ↔ IsListWith classes place class j ks)
-      (choice : (k : ℕ) → Contains chosen k ↔ (Contains (get_or classes j []) k × MayStand place class j k))
-      (longer : (ks : List ℕ) → Contains lists' ks ↔ ((front : List ℕ) × Contains lists front × (k : ℕ) × Contains chosen k × (front ++ k ∷ [] ≡ ks))) where
+  module _ (j : ℕ) (lists lists' : List (List ℕ)) (before : (ks : List ℕ) → Contains lists ks ↔ IsListWith classes place class j ks)
+      (longer : (ks : List ℕ) → Contains lists' ks ↔ ((front : List ℕ) × Contains lists front × (k : ℕ) × (Contains (get_or classes j []) k × MayStand place class j k) × (front ++ k ∷ [] ≡ ks))) where
     put : (front ks : List ℕ) (k : ℕ) → IsListWith classes place class j front → Contains (get_or classes j []) k × MayStand place class j k → front ++ k ∷ [] ≡ ks → IsListWith classes place class (j + 1) ks
     put front ks k h may e =
         subst (IsListWith classes place class (j + 1)) e (
@@ -43,7 +42,7 @@ module _ (classes : List (List ℕ)) (place class : ℕ) where
 
     pub lists_more : (ks : List ℕ) → Contains lists' ks ↔ IsListWith classes place class (j + 1) ks
     lists_more ks = (
-      (λ at. (let (front, there, k, chose, e) = (longer ks).0 at in put front ks k ((before front).0 there) ((choice k).0 chose) e)),
+      (λ at. (let (front, there, k, chose, e) = (longer ks).0 at in put front ks k ((before front).0 there) chose e)),
       (λ h.
           let e : take j ks ++ get_or ks j 0 ∷ [] ≡ ks = cut ks h.0 in
           (longer ks).1 (
@@ -53,7 +52,7 @@ module _ (classes : List (List ℕ)) (place class : ℕ) where
               λ i low. subst (λ z. Contains (get_or classes i []) z × MayStand place class i z) (ap (λ l. get_or l i 0) (sym e) ∙ old_at (take j ks) (get_or ks j 0) 0 i (omega (arith, low, front_long ks h.0))) (h.1 i (omega arith)),
             ),
             get_or ks j 0,
-            (choice (get_or ks j 0)).1 (h.1 j (omega arith)),
+            h.1 j (omega arith),
             e,
           )),
     )

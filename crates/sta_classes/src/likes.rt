@@ -3,6 +3,7 @@
 ghost use Rattle.std.specs.Prelude.{◌≡◌, ◌<◌, length, IfOk};
 ghost use Rattle.sta_classes.specs.Applying.{IsLike, AreLike, AreLow, AreLikes};
 
+use crate::keep::added;
 use crate::row::Row;
 use crate::rules::Owned;
 use fast_fault::Memory;
@@ -65,24 +66,35 @@ fn like_of<A: Eq>(list: &[Owned<A>], number: usize, other: usize) -> usize
     }
 }
 
-/// For each rule the number of one with the same guard: of the first one of its guard's print, or its own. All rules with
-/// one guard have the same one, but for those whose guard has the print of another.
+/// The number of a rule with the same guard: of the first one of its print, or the rule's own.
+fn like_at<A: Eq + Hash>(
+    list: &[Owned<A>],
+    number: usize,
+    firsts: &mut IndexMap<u64, usize>,
+) -> Result<usize, Memory>
+    requires { number < length list.now }
+    ensures { IfOk result (IsLike A.eq list.now number) }
+{
+    let rule = list[number].rule;
+    let print = print_of(&rule.guard);
+    match firsts.get(&print) {
+        Some(first) => Ok(like_of(list, number, *first)),
+        None => {
+            firsts.insert(print, number)?;
+            Ok(number)
+        }
+    }
+}
+
+/// For each rule the number of one with the same guard. All rules with one guard have the same one, but for those whose
+/// guard has the print of another.
 pub fn likes_of<A: Eq + Hash>(alloc: Global, list: &[Owned<A>]) -> Result<Vec<usize>, Memory>
     ensures { IfOk result (λ likes. AreLike A.eq list.now likes.items) }
 {
     let mut firsts = IndexMap::new(alloc);
     let mut likes = Vec::new(alloc);
     for number in 0..list.len() {
-        let rule = list[number].rule;
-        let print = print_of(&rule.guard);
-        let first = match firsts.get(&print) {
-            Some(first) => *first,
-            None => {
-                firsts.insert(print, number)?;
-                number
-            }
-        };
-        likes.push(like_of(list, number, first))?;
+        added(&mut likes, like_at(list, number, &mut firsts))?;
     }
     Ok(likes)
 }

@@ -1,7 +1,6 @@
 //! The kinds of classes at one place of a constructor.
 
-ghost use Rattle.std.specs.Prelude.{◌≡◌, ◌<◌, ◌++◌, ◌∷◌, [], length, map, get_or, cond, Contains, IfOk, OnOk, Decides};
-ghost use Rattle.sta_core.specs.declared.StaRule.{StaRule as Rule};
+ghost use Rattle.std.specs.Prelude.{◌≡◌, ◌<◌, ◌++◌, ◌∷◌, [], length, map, get_or, cond, IfOk, OnOk, Decides};
 ghost use Rattle.model_sta.specs.Sets.{has};
 ghost use Rattle.sta_classes.specs.Grow.{Grown};
 ghost use Rattle.sta_classes.specs.Places.{AsksFor, AreAsked, IsNumbered, IsNext};
@@ -37,16 +36,6 @@ fn add_state(state: u64, list: &mut Vec<u64>) -> Result<(), Memory>
     Ok(())
 }
 
-/// Adds the states.
-fn add_states(states: &[u64], list: &mut Vec<u64>) -> Result<(), Memory>
-    ensures { OnOk result (Grown list.old.items list.new.items (Contains states.now)) }
-{
-    'states: for state in states {
-        add_state(*state, list)?;
-    }
-    Ok(())
-}
-
 /// Adds the states that the rule demands at the place, if it has the constructor.
 fn add_of_rule<A>(
     rule: &StaRule<A>,
@@ -62,20 +51,8 @@ fn add_of_rule<A>(
     if place >= rule.demands.len() {
         return Ok(());
     }
-    add_states(&rule.demands[place], list)
-}
-
-/// Adds the states that the rules with the constructor demand at the place.
-fn add_of_rules<A>(
-    rules: &[StaRule<A>],
-    constructor: u32,
-    place: usize,
-    list: &mut Vec<u64>,
-) -> Result<(), Memory>
-    ensures { OnOk result (Grown list.old.items list.new.items (λ s. (r : Rule A) × Contains rules.now r × AsksFor constructor place r s)) }
-{
-    'rules: for rule in rules {
-        add_of_rule(rule, constructor, place, list)?;
+    'states: for state in &rule.demands[place] {
+        add_state(*state, list)?;
     }
     Ok(())
 }
@@ -91,7 +68,9 @@ fn demanded<A>(
 {
     let mut list = Vec::new(alloc);
     'states: for those in rules {
-        add_of_rules(those, constructor, place, &mut list)?;
+        'rules: for rule in those {
+            add_of_rule(rule, constructor, place, &mut list)?;
+        }
     }
     Ok(list)
 }

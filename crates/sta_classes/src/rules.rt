@@ -1,16 +1,15 @@
 //! The rules of one constructor, of all states.
 
-ghost use Rattle.std.specs.Prelude.{ℕ, ◌≡◌, ◌<◌, ◌↔◌, true, not, All, [], length, map, get_or, IfOk, OnOk};
+ghost use Rattle.std.specs.Prelude.{ℕ, ◌≡◌, ◌<◌, ◌↔◌, true, not, All, length, map, get_or, IfOk};
 ghost use Rattle.std.specs.List.{list_all};
 ghost use Rattle.model_sta.specs.Sets.{has};
 ghost use Rattle.model_tree.specs.Formula.{EveryAtom};
 ghost use Rattle.label_core.specs.Formula.{plain_formula};
 ghost use Rattle.label_core.specs.Meaning.{KeepsValue};
 ghost use Rattle.sta_core.specs.Machine.{plain_rule};
-ghost use Rattle.sta_classes.specs.Applying.{plain_owned, is_fixed, meets_at, truth_at, chosen, guards_in, IsOwned, AreOwned, AreLow, AreLikes, IsRules, IsFired};
+ghost use Rattle.sta_classes.specs.Applying.{is_fixed, meets_at, truth_at, chosen, guards_in, AreOwned, AreLow, AreLikes, IsRules, IsFired};
 ghost use Rattle.sta_classes.specs.Bits.{both};
 ghost use Rattle.sta_classes.specs.declared.rules.Rules.{Rules};
-ghost use Rattle.sta_classes.specs.Grow.{Grown, Some};
 
 use crate::class::row_has_each;
 use crate::keep::{added, both};
@@ -41,23 +40,6 @@ pub struct Rules<'a, A> {
     pub likes: Vec<usize>,
 }
 
-/// Adds those of the rules that have the constructor.
-fn add_rules<'a, A>(
-    rules: &'a [StaRule<A>],
-    state: usize,
-    constructor: u32,
-    list: &mut Vec<Owned<'a, A>>,
-) -> Result<(), Memory>
-    ensures { OnOk result (Grown (map plain_owned list.old.items) (map plain_owned list.new.items) (Some (IsOwned constructor state) rules.now)) }
-{
-    'rules: for rule in rules {
-        if rule.constructor == constructor {
-            list.push(Owned { state, rule })?;
-        }
-    }
-    Ok(())
-}
-
 /// The rules of all states that have the constructor.
 fn rules_at<'a, A>(
     alloc: Global,
@@ -68,7 +50,11 @@ fn rules_at<'a, A>(
 {
     let mut list = Vec::new(alloc);
     'states: for state in 0..rules.len() {
-        add_rules(&rules[state], state, constructor, &mut list)?;
+        'rules: for rule in &rules[state] {
+            if rule.constructor == constructor {
+                list.push(Owned { state, rule })?;
+            }
+        }
     }
     Ok(list)
 }

@@ -3,21 +3,20 @@
 //! Each turn takes a candidate with the fewest nodes. It is a least tree of its class, since each other tree with a new
 //! set is over trees of classes that come later. Then come the candidates over lists of kinds of which one is new.
 
-ghost use Rattle.std.specs.Prelude.{ℕ, ◌≡◌, ◌≤◌, ◌<◌, ◌-◌, ◌+◌, ◌++◌, ◌∷◌, [], Bool, List, length, get_or, map, Contains, All, IfOk, IfErr, OnOk};
+ghost use Rattle.std.specs.Prelude.{ℕ, ◌≡◌, ◌≤◌, ◌<◌, ◌-◌, ◌++◌, ◌∷◌, [], Bool, List, length, get_or, Contains, All, IfOk, IfErr, OnOk};
 ghost use Rattle.model_sta.specs.Least.{counts_of, nodes_at, cost};
 ghost use Rattle.sta_classes.specs.Rules.{plain_rules, meaning_of};
 ghost use Rattle.sta_classes.specs.Guards.{all_guards};
 ghost use Rattle.sta_classes.specs.Rows.{founds, lists_of, class_rows, class_rows_at};
 ghost use Rattle.sta_classes.specs.Lists.{IsListWith};
 ghost use Rattle.sta_classes.specs.Meant.{AreFound, AreAllFound, HasMoreClasses};
-ghost use Rattle.sta_classes.specs.Pending.{AreKept, IsBetter, IsTaken};
-ghost use Rattle.sta_classes.specs.Searched.{IsReady, IsGoing, IsTold, AreSplit, AreKinds, IsSound, IsOpened, AreOpened, firsts_of};
+ghost use Rattle.sta_classes.specs.Pending.{IsBetter};
+ghost use Rattle.sta_classes.specs.Searched.{IsReady, IsTold, AreSplit, AreKinds, IsSound, IsOpened, AreOpened, firsts_of};
 ghost use Rattle.sta_classes.specs.Stop.{ClassStopsFor};
-ghost use Rattle.sta_classes.specs.declared.pending.Pending.{Pending};
 ghost use Rattle.sta_classes.specs.declared.rules.Rules.{Rules};
 ghost use Rattle.sta_classes.specs.declared.splits.Splits.{Splits};
 
-use crate::class::{CAP, Class, cost_over};
+use crate::class::{CAP, cost_over};
 use crate::keep::{both, kept};
 use crate::known::Known;
 use crate::lists::lists_with;

@@ -13,17 +13,17 @@ constructors-preserved c =
       left = left_all c.args.row.now c.args.all.now.items c.constructors.all.items c.constructors.constructor c.index_mut.result.now c.add_to.new.places c.constructors.invariant.left;
     }
 
-pub returns-in_err-add_to-clause-many : goal.returns-in_err-add_to-clause-many
-returns-in_err-add_to-clause-many c = IfOk-from_err c.from_residual.result _ c.from_residual.ensures.0
-
-pub returns-in_err-add_to-clause-each : goal.returns-in_err-add_to-clause-each
-returns-in_err-add_to-clause-each c = IfOk-from_err c.from_residual.result _ c.from_residual.ensures.0
+pub returns-in_err-add_to : goal.returns-in_err-add_to
+returns-in_err-add_to c = record {
+  many = IfOk-from_err c.from_residual.result _ c.from_residual.ensures.0;
+  each = IfOk-from_err c.from_residual.result _ c.from_residual.ensures.0;
+}
 
 pub constructors-init : goal.constructors-init
 constructors-init c = record { many = refl; done = λ n low. absurd (omega (arith, low)); left = λ n low. refl }
 
-pub returns-clause-many : goal.returns-clause-many
-returns-clause-many c = c.constructors.invariant.many
-
-pub returns-clause-each : goal.returns-clause-each
-returns-clause-each c = λ n low. c.constructors.invariant.done n (omega (arith, low, c.constructors-test.false, c.len-constructor-end.ensures, c.args.all.now.ok.0)) low
+pub returns : goal.returns
+returns c = record {
+  many = c.constructors.invariant.many;
+  each = λ n low. c.constructors.invariant.done n (omega (arith, low, c.constructors-test.false, c.len-constructor-end.ensures, c.args.all.now.ok.0)) low;
+}

@@ -10,12 +10,11 @@ loop-j-init c = lists_first (map (λ p. p.firsts.items) c.args.places.now) c.arg
 
 pub loop-j-preserved : goal.loop-j-preserved
 loop-j-preserved c =
-    let here : c.deref.result.now ≡ get_or (map (λ p. p.firsts.items) c.args.places.now) c.loop-j.j [] =
-    c.deref.ensures.value ∙ sym (get_or-map (λ p. p.firsts.items) c.args.places.now c.loop-j.j c.index-places-j.result [] c.loop-j-test.true) in
-    lists_more (map (λ p. p.firsts.items) c.args.places.now) c.args.place c.args.class c.loop-j.j (lists_of c.loop-j.lists.items) (lists_of c.in_ok-lists-2.lists.items) c.in_ok-classes.classes.items c.loop-j.invariant
-    (λ k. subst (λ l. Contains c.in_ok-classes.classes.items k ↔ (Contains l k × MayStand c.args.place c.args.class c.loop-j.j k)) here (c.in_ok-classes.ensures k))
-    (λ ks. subst (λ l. Contains (lists_of c.in_ok-lists-2.lists.items) ks ↔ ((front : List ℕ) × Contains (lists_of l) front × (k : ℕ) × Contains c.in_ok-classes.classes.items k × (front ++ k ∷ [] ≡ ks))) c.deref-in-loop-j.ensures.value
-    (subst (λ l. Contains (lists_of c.in_ok-lists-2.lists.items) ks ↔ ((front : List ℕ) × Contains (lists_of c.deref-in-loop-j.result.now) front × (k : ℕ) × Contains l k × (front ++ k ∷ [] ≡ ks))) c.deref-in-loop-j-2.ensures.value (c.in_ok-lists-2.ensures ks)))
+    let here : c.deref-in-loop-j.result.now ≡ get_or (map (λ p. p.firsts.items) c.args.places.now) c.loop-j.j [] =
+    c.deref-in-loop-j.ensures.value ∙ sym (get_or-map (λ p. p.firsts.items) c.args.places.now c.loop-j.j c.index-places-j.result [] c.loop-j-test.true) in
+    lists_more (map (λ p. p.firsts.items) c.args.places.now) c.args.place c.args.class c.loop-j.j (lists_of c.loop-j.lists.items) (lists_of c.in_ok-lists-2.lists.items) c.loop-j.invariant
+    (λ ks. subst (λ l. Contains (lists_of c.in_ok-lists-2.lists.items) ks ↔ ((front : List ℕ) × Contains (lists_of l) front × (k : ℕ) × (Contains (get_or (map (λ p. p.firsts.items) c.args.places.now) c.loop-j.j []) k × MayStand c.args.place c.args.class c.loop-j.j k) × (front ++ k ∷ [] ≡ ks))) c.deref.ensures.value
+    (subst (λ l. Contains (lists_of c.in_ok-lists-2.lists.items) ks ↔ ((front : List ℕ) × Contains (lists_of c.deref.result.now) front × (k : ℕ) × (Contains l k × MayStand c.args.place c.args.class c.loop-j.j k) × (front ++ k ∷ [] ≡ ks))) here (c.in_ok-lists-2.ensures ks)))
 
 pub returns : goal.returns
 returns c = subst (λ n. (ks : List ℕ) → Contains (lists_of c.loop-j.lists.items) ks ↔ IsListWith (map (λ p. p.firsts.items) c.args.places.now) c.args.place c.args.class n ks) (omega (arith, c.loop-j.auto.j-end, c.loop-j-test.false)) c.loop-j.invariant

@@ -1,16 +1,28 @@
-use Rattle.std.proofs.Common.{◌≡◌, ◌<◌, [], map, get_or, length, Contains, sym, ap, subst, ◌∙◌, arith}
+use Rattle.std.proofs.Common.{◌≡◌, ◌<◌, [], map, get_or, length, Contains, refl, sym, ap, subst, ◌∙◌, arith}
 use Rattle.std.proofs.lemmas.List.{get_or-map}
-use Rattle.std.proofs.lemmas.Result.{IfOk-at_ok}
-use Rattle.sta_classes.specs.Grow.{Grown}
+use Rattle.std.proofs.lemmas.Result.{IfOk-from_err}
+use Rattle.model_sta.proofs.Reached.{same_default}
+use Rattle.sta_classes.specs.Grow.{Some}
 use Rattle.sta_classes.specs.Places.{AsksFor}
-use Rattle.sta_classes.proofs.Grown.{grown_same}
-use Rattle.sta_classes.proofs.Keeping.{with_value}
+use Rattle.sta_classes.proofs.Grown.{grown_first, grown_same, grown_more, grown_all}
 use Rattle.sta_classes.proofs.place.add_of_rule.Goals as goal
 
+pub states-init : goal.states-init
+states-init g c = grown_first (λ s p. s ≡ p) c.deref-state-items.result.now c.args.list.now.items c.args.list.now.items refl
+
+pub states-preserved : goal.states-preserved
+states-preserved g c =
+    grown_more (λ s p. s ≡ p) c.deref-state-items.result.now c.args.list.now.items c.states.list.items c.add_state.new.list.items c.states.state-index (get_or c.deref-state-items.result.now c.states.state-index 0) c.states-test.true
+    (same_default c.deref-state-items.result.now c.states.state-index 0 _ c.states-test.true) c.states.invariant c.in_ok-add_state.ensures
+
 pub returns : goal.returns
-returns g c = with_value c.add_states.result _ (λ x e.
+returns g c =
     let low : c.args.place < length c.args.rule.now.demands.items = omega (arith, c.if-place-len.false, c.len.ensures, c.args.rule.now.demands.ok) in
-    let here : c.deref.result.now ≡ get_or (map (λ d. d.items) c.args.rule.now.demands.items) c.args.place [] =
-    c.deref.ensures.value ∙ ap (λ d. d.items) c.index.ensures ∙ sym (get_or-map (λ d. d.items) c.args.rule.now.demands.items c.args.place c.index.result.now [] low) in
-    grown_same c.args.list.now.items c.add_states.new.list.items (Contains (get_or (map (λ d. d.items) c.args.rule.now.demands.items) c.args.place [])) (AsksFor c.args.constructor c.args.place c.args.rule.now)
-    (subst (λ l. Grown c.args.list.now.items c.add_states.new.list.items (Contains l)) here (IfOk-at_ok _ e c.add_states.ensures)) (λ q at. (c.if-rule-constructor.false, at)) (λ q w. w.1))
+    let here : c.deref-state-items.result.now ≡ get_or (map (λ d. d.items) c.args.rule.now.demands.items) c.args.place [] =
+    c.deref-state-items.ensures.value ∙ ap (λ d. d.items) c.index.ensures ∙ sym (get_or-map (λ d. d.items) c.args.rule.now.demands.items c.args.place c.index.result.now [] low) in
+    grown_same c.args.list.now.items c.states.list.items (Some (λ s p. s ≡ p) c.deref-state-items.result.now) (AsksFor c.args.constructor c.args.place c.args.rule.now)
+    (grown_all (λ s p. s ≡ p) c.deref-state-items.result.now c.args.list.now.items c.states.list.items c.states.state-index (omega (arith, c.states-test.false)) c.states.invariant)
+    (λ q h. (let (r, at, e) = h in (c.if-rule-constructor.false, subst (λ l. Contains l q) here (subst (Contains c.deref-state-items.result.now) e at)))) (λ q w. (q, subst (λ l. Contains l q) (sym here) w.1, refl))
+
+pub returns-in_err-add_state : goal.returns-in_err-add_state
+returns-in_err-add_state g c = IfOk-from_err c.from_residual.result _ c.from_residual.ensures.0

@@ -5,3 +5,6 @@ use Rattle.sta_classes.proofs.place.demanded.Given as goal
 
 abbrev pub invariant-states : goal.invariant-states
 invariant-states g l = Grown l.initial.list.items l.list.items (Before (λ those. Some (AsksFor l.constructor l.place) those.items) l.rules l.those-index)
+
+abbrev pub invariant-rules : goal.invariant-rules
+invariant-rules g l = Grown l.initial.list.items l.list.items (Before (AsksFor l.constructor l.place) l.rule-items l.rule-index)

@@ -16,8 +16,8 @@ loop-i-preserved g c = record {
   guarded = filled_more (λ x. not (is_fixed (plain_rule x.rule.now).guard)) (not c.is_fixed.result) c.loop-i.i c.args.list.now c.index-list-i.result c.loop-i.guarded c.put-in-loop-i.new.self c.loop-i-test.true c.index-list-i.is ((ap not c.is_fixed.ensures) ∙ ap (λ x. not (is_fixed (plain_rule x.rule.now).guard)) (sym c.index-list-i.is)) c.put-in-loop-i.ensures c.loop-i.invariant.guarded;
 }
 
-pub returns-clause-all : goal.returns-clause-all
-returns-clause-all g c = filled_all (λ x. true) c.loop-i.i c.args.list.now c.loop-i.all (omega (arith, c.loop-i-test.false)) c.loop-i.invariant.all
-
-pub returns-clause-guarded : goal.returns-clause-guarded
-returns-clause-guarded g c = filled_all (λ x. not (is_fixed (plain_rule x.rule.now).guard)) c.loop-i.i c.args.list.now c.loop-i.guarded (omega (arith, c.loop-i-test.false)) c.loop-i.invariant.guarded
+pub returns : goal.returns
+returns g c = record {
+  all = filled_all (λ x. true) c.loop-i.i c.args.list.now c.loop-i.all (omega (arith, c.loop-i-test.false)) c.loop-i.invariant.all;
+  guarded = filled_all (λ x. not (is_fixed (plain_rule x.rule.now).guard)) c.loop-i.i c.args.list.now c.loop-i.guarded (omega (arith, c.loop-i-test.false)) c.loop-i.invariant.guarded;
+}

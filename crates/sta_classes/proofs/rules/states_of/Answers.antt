@@ -14,20 +14,20 @@ numbers-preserved g c =
       here = c.next-i-in-numbers.ensures.some;
     }
 
-pub returns-clause-fired : goal.returns-clause-fired
-returns-clause-fired g c = fired_last (λ x. x.state) c.args.list.now c.args.numbers.now c.numbers.row c.numbers.i (omega (arith, c.numbers-test.false)) c.numbers.invariant.fired
+pub returns : goal.returns
+returns g c = record {
+  many = c.numbers.invariant.many;
+  fired = fired_last (λ x. x.state) c.args.list.now c.args.numbers.now c.numbers.row c.numbers.i (omega (arith, c.numbers-test.false)) c.numbers.invariant.fired;
+}
 
 pub insert-requires : goal.insert-requires
 insert-requires g c = omega (arith, c.requires.low c.numbers.i c.index-list-i.result c.numbers-test.true, c.numbers.invariant.many)
 
-pub returns-clause-many : goal.returns-clause-many
-returns-clause-many g c = c.numbers.invariant.many
-
-pub returns-in_err-row-clause-many : goal.returns-in_err-row-clause-many
-returns-in_err-row-clause-many g c = IfOk-from_err c.from_residual.result _ c.from_residual.ensures.0
-
-pub returns-in_err-row-clause-fired : goal.returns-in_err-row-clause-fired
-returns-in_err-row-clause-fired g c = IfOk-from_err c.from_residual.result _ c.from_residual.ensures.0
+pub returns-in_err-row : goal.returns-in_err-row
+returns-in_err-row g c = record {
+  many = IfOk-from_err c.from_residual.result _ c.from_residual.ensures.0;
+  fired = IfOk-from_err c.from_residual.result _ c.from_residual.ensures.0;
+}
 
 pub numbers-init : goal.numbers-init
 numbers-init g c = record { many = ap length c.in_ok-row.ensures ∙ length-replicate c.args.states false; fired = fired_first (λ x. x.state) c.args.list.now c.args.numbers.now c.in_ok-row.row c.args.states c.next-i.result c.in_ok-row.ensures c.next-i.ensures.none; here = c.next-i.ensures.some }

@@ -14,13 +14,12 @@ split-rows-requires g c = record {
   fit = formulas_fit c.args.list.now c.args.numbers.now c.deref.result.now (ap (map plain_formula) c.deref.ensures.value ∙ c.in_ok-guards_of.ensures) (g.T.Theory.atom_fits c.args.theory.now) c.requires.fit;
 }
 
-pub tell_each-requires-clause-fit : goal.tell_each-requires-clause-fit
-tell_each-requires-clause-fit g c = c.requires.fit
-
-pub tell_each-requires-clause-kept : goal.tell_each-requires-clause-kept
-tell_each-requires-clause-kept g c =
-    All-weaker (IsRow (g.T.Theory.meaning c.args.theory.now) (truths g.T.Theory.atom_holds (chosen c.args.numbers.now (guards_in c.args.list.now)))) (λ r. (g.T.Theory.meaning c.args.theory.now).keeps (g.T.Theory.label_of r.value)) (λ r h. h.0) c.in-Ok.rows.items
-    (split_told c.args.list.now c.args.numbers.now c.deref.result.now (ap (map plain_formula) c.deref.ensures.value ∙ c.in_ok-guards_of.ensures) (g.T.Theory.meaning c.args.theory.now) c.in-Ok.rows.items c.in-Ok.ensures.rows).sound
+pub tell_each-requires : goal.tell_each-requires
+tell_each-requires g c = record {
+  fit = c.requires.fit;
+  kept = All-weaker (IsRow (g.T.Theory.meaning c.args.theory.now) (truths g.T.Theory.atom_holds (chosen c.args.numbers.now (guards_in c.args.list.now)))) (λ r. (g.T.Theory.meaning c.args.theory.now).keeps (g.T.Theory.label_of r.value)) (λ r h. h.0) c.in-Ok.rows.items
+      (split_told c.args.list.now c.args.numbers.now c.deref.result.now (ap (map plain_formula) c.deref.ensures.value ∙ c.in_ok-guards_of.ensures) (g.T.Theory.meaning c.args.theory.now) c.in-Ok.rows.items c.in-Ok.ensures.rows).sound;
+}
 
 pub returns-in_ok-added-in-Ok : goal.returns-in_ok-added-in-Ok
 returns-in_ok-added-in-Ok g c =
@@ -36,13 +35,12 @@ returns-in_ok-added-in-Ok g c =
       stop = tt;
     }
 
-pub returns-in-Err-Wide-clause-told : goal.returns-in-Err-Wide-clause-told
-returns-in-Err-Wide-clause-told g c = tt
-
-pub returns-in-Err-Wide-clause-stop : goal.returns-in-Err-Wide-clause-stop
-returns-in-Err-Wide-clause-stop g c =
-    let same : map plain_formula c.deref.result.now ≡ chosen c.args.numbers.now (guards_in c.args.list.now) = ap (map plain_formula) c.deref.ensures.value ∙ c.in_ok-guards_of.ensures in
-    rw c.in-Err-Wide.field-0-is (wide_told c.args.list.now c.args.numbers.now c.deref.result.now same (g.T.Theory.meaning c.args.theory.now) g.T.Atom.PartialEq.eq (g.met.T.Theory.equal_is_own c.args.theory.now) g.met.T.Atom.Eq.laws c.in-Err-Wide.chain (rw c.in-Err-Wide.field-0-is at c.in-Err-Wide.ensures.stop))
+pub returns-in-Err-Wide : goal.returns-in-Err-Wide
+returns-in-Err-Wide g c = record {
+  told = tt;
+  stop = let same : map plain_formula c.deref.result.now ≡ chosen c.args.numbers.now (guards_in c.args.list.now) = ap (map plain_formula) c.deref.ensures.value ∙ c.in_ok-guards_of.ensures in
+      rw c.in-Err-Wide.field-0-is (wide_told c.args.list.now c.args.numbers.now c.deref.result.now same (g.T.Theory.meaning c.args.theory.now) g.T.Atom.PartialEq.eq (g.met.T.Theory.equal_is_own c.args.theory.now) g.met.T.Atom.Eq.laws c.in-Err-Wide.chain (rw c.in-Err-Wide.field-0-is at c.in-Err-Wide.ensures.stop));
+}
 
 pub returns-in_err-guards_of : goal.returns-in_err-guards_of
 returns-in_err-guards_of g c = record { told = IfOk-from_err c.from_residual.result _ c.from_residual.ensures.0; stop = passed c.from_residual.result _ _ c.from_residual.ensures.1 tt }

@@ -12,8 +12,11 @@ rows-init g c = record {
   telling = telling_first (g.T.Theory.meaning c.args.theory.now) c.args.list.now c.args.rows.now.items c.reverse.new.self.items c.reverse.ensures.permutation c.new-told.result.items c.new-told.ensures.items;
 }
 
-pub held_at-requires-clause-value : goal.held_at-requires-clause-value
-held_at-requires-clause-value g c = (last_row (g.T.Theory.meaning c.args.theory.now) c.args.list.now c.args.rows.now.items c.rows.rows.items c.pop.new.self.items c.in-Some.row c.in-Some.ensures.items c.rows.invariant.left).1
+pub held_at-requires : goal.held_at-requires
+held_at-requires g c = record {
+  fit = c.requires.fit;
+  value = (last_row (g.T.Theory.meaning c.args.theory.now) c.args.list.now c.args.rows.now.items c.rows.rows.items c.pop.new.self.items c.in-Some.row c.in-Some.ensures.items c.rows.invariant.left).1;
+}
 
 pub rows-preserved : goal.rows-preserved
 rows-preserved g c =
@@ -31,6 +34,3 @@ returns-in_err-holds g c = IfOk-from_err c.from_residual.result _ c.from_residua
 
 pub returns-in_err-push : goal.returns-in_err-push
 returns-in_err-push g c = IfOk-from_err c.from_residual-in_err-push.result _ c.from_residual-in_err-push.ensures.0
-
-pub held_at-requires-clause-fit : goal.held_at-requires-clause-fit
-held_at-requires-clause-fit g c = c.requires.fit

@@ -32,60 +32,35 @@ invariant_of-result g c = (
   subst (λ r. AreShaped r (length c.in_ok-known.known.classes.items) c.in_ok-known.known.places.items) c.ranks-ranks.ensures (shaped g.T.Theory.atom_holds c.ranks-ranks.result.now c.rules-rules.result.now c.in_ok-known.known.classes.items c.in_ok-known.known.places.items c.in_ok-known.ensures.kinds),
 )
 
-pub returns-clause-table : goal.returns-clause-table
-returns-clause-table g c =
-    table_is g.T.Theory.label_of CAP (g.T.Theory.meaning c.args.theory.now).has (g.T.Theory.meaning c.args.theory.now).keeps c.in_ok-known.known.classes.items c.ranks-ranks.result.now c.args.sta.now.ranks
-    (meaning_of g.T.Theory.atom_holds (plain_rules c.rules-rules.result.now)) (automaton_of g.T.Theory.atom_holds c.args.sta.now) c.ranks-ranks.ensures (ap (meaning_of g.T.Theory.atom_holds) c.rules-rules.ensures.rules) c.in_ok-known.ensures.classes c.in_ok-known.ensures.complete
+pub returns : goal.returns
+returns g c = record {
+  table = table_is g.T.Theory.label_of CAP (g.T.Theory.meaning c.args.theory.now).has (g.T.Theory.meaning c.args.theory.now).keeps c.in_ok-known.known.classes.items c.ranks-ranks.result.now c.args.sta.now.ranks
+      (meaning_of g.T.Theory.atom_holds (plain_rules c.rules-rules.result.now)) (automaton_of g.T.Theory.atom_holds c.args.sta.now) c.ranks-ranks.ensures (ap (meaning_of g.T.Theory.atom_holds) c.rules-rules.ensures.rules) c.in_ok-known.ensures.classes c.in_ok-known.ensures.complete;
+  few = omega (arith, length-map c.in_ok-known.known.classes.items plain_class, c.in_ok-known.ensures.few);
+  built = built_is g.T.Theory.label_of CAP (g.T.Theory.meaning c.args.theory.now).has (g.T.Theory.meaning c.args.theory.now).keeps c.in_ok-known.known.classes.items c.ranks-ranks.result.now c.args.sta.now.ranks
+      (meaning_of g.T.Theory.atom_holds (plain_rules c.rules-rules.result.now)) (automaton_of g.T.Theory.atom_holds c.args.sta.now) c.ranks-ranks.ensures (ap (meaning_of g.T.Theory.atom_holds) c.rules-rules.ensures.rules) c.in_ok-known.ensures.classes;
+  kinds = has_kinds g.T.Theory.atom_holds c.ranks-ranks.result.now c.rules-rules.result.now c.in_ok-known.known.classes.items c.in_ok-known.known.places.items c.in_ok-known.ensures.kinds c.args.sta.now c.ranks-ranks.ensures c.rules-rules.ensures.rules;
+  machine = refl;
+  stop = tt;
+}
 
-pub returns-clause-built : goal.returns-clause-built
-returns-clause-built g c =
-    built_is g.T.Theory.label_of CAP (g.T.Theory.meaning c.args.theory.now).has (g.T.Theory.meaning c.args.theory.now).keeps c.in_ok-known.known.classes.items c.ranks-ranks.result.now c.args.sta.now.ranks
-    (meaning_of g.T.Theory.atom_holds (plain_rules c.rules-rules.result.now)) (automaton_of g.T.Theory.atom_holds c.args.sta.now) c.ranks-ranks.ensures (ap (meaning_of g.T.Theory.atom_holds) c.rules-rules.ensures.rules) c.in_ok-known.ensures.classes
+pub returns-in_err-known : goal.returns-in_err-known
+returns-in_err-known g c = record {
+  table = IfOk-from_err c.from_residual-in_err-known.result _ c.from_residual-in_err-known.ensures.0;
+  few = IfOk-from_err c.from_residual-in_err-known.result _ c.from_residual-in_err-known.ensures.0;
+  built = IfOk-from_err c.from_residual-in_err-known.result _ c.from_residual-in_err-known.ensures.0;
+  kinds = IfOk-from_err c.from_residual-in_err-known.result _ c.from_residual-in_err-known.ensures.0;
+  machine = IfOk-from_err c.from_residual-in_err-known.result _ c.from_residual-in_err-known.ensures.0;
+  stop = let machine : (record { ranks = c.ranks-ranks.result.now; rules = plain_rules c.rules-rules.result.now }) ≡ c.args.sta.now = λ i. record { ranks = c.ranks-ranks.ensures i; rules = c.rules-rules.ensures.rules i } in
+      passed c.from_residual-in_err-known.result _ c.in_err-known.field-0.0 c.from_residual-in_err-known.ensures.1 (subst (λ (m : Machine g.row.T-Atom.Denot). StopsClasses (g.T.Theory.meaning c.args.theory.now) m c.args.most c.in_err-known.field-0.0) machine c.in_err-known.ensures.stop);
+}
 
-pub returns-clause-kinds : goal.returns-clause-kinds
-returns-clause-kinds g c =
-    has_kinds g.T.Theory.atom_holds c.ranks-ranks.result.now c.rules-rules.result.now c.in_ok-known.known.classes.items c.in_ok-known.known.places.items c.in_ok-known.ensures.kinds c.args.sta.now c.ranks-ranks.ensures c.rules-rules.ensures.rules
-
-pub returns-in_err-known-clause-stop : goal.returns-in_err-known-clause-stop
-returns-in_err-known-clause-stop g c =
-    let machine : (record { ranks = c.ranks-ranks.result.now; rules = plain_rules c.rules-rules.result.now }) ≡ c.args.sta.now = λ i. record { ranks = c.ranks-ranks.ensures i; rules = c.rules-rules.ensures.rules i } in
-    passed c.from_residual-in_err-known.result _ c.in_err-known.field-0.0 c.from_residual-in_err-known.ensures.1 (subst (λ (m : Machine g.row.T-Atom.Denot). StopsClasses (g.T.Theory.meaning c.args.theory.now) m c.args.most c.in_err-known.field-0.0) machine c.in_err-known.ensures.stop)
-
-pub returns-clause-few : goal.returns-clause-few
-returns-clause-few g c = omega (arith, length-map c.in_ok-known.known.classes.items plain_class, c.in_ok-known.ensures.few)
-
-pub returns-clause-machine : goal.returns-clause-machine
-returns-clause-machine g c = refl
-
-pub returns-in_err-own-clause-stop : goal.returns-in_err-own-clause-stop
-returns-in_err-own-clause-stop g c = passed c.from_residual.result _ _ c.from_residual.ensures.1 tt
-
-pub returns-in_err-own-clause-table : goal.returns-in_err-own-clause-table
-returns-in_err-own-clause-table g c = IfOk-from_err c.from_residual.result _ c.from_residual.ensures.0
-
-pub returns-in_err-own-clause-few : goal.returns-in_err-own-clause-few
-returns-in_err-own-clause-few g c = IfOk-from_err c.from_residual.result _ c.from_residual.ensures.0
-
-pub returns-in_err-own-clause-built : goal.returns-in_err-own-clause-built
-returns-in_err-own-clause-built g c = IfOk-from_err c.from_residual.result _ c.from_residual.ensures.0
-
-pub returns-in_err-own-clause-kinds : goal.returns-in_err-own-clause-kinds
-returns-in_err-own-clause-kinds g c = IfOk-from_err c.from_residual.result _ c.from_residual.ensures.0
-
-pub returns-in_err-own-clause-machine : goal.returns-in_err-own-clause-machine
-returns-in_err-own-clause-machine g c = IfOk-from_err c.from_residual.result _ c.from_residual.ensures.0
-
-pub returns-in_err-known-clause-table : goal.returns-in_err-known-clause-table
-returns-in_err-known-clause-table g c = IfOk-from_err c.from_residual-in_err-known.result _ c.from_residual-in_err-known.ensures.0
-
-pub returns-in_err-known-clause-few : goal.returns-in_err-known-clause-few
-returns-in_err-known-clause-few g c = IfOk-from_err c.from_residual-in_err-known.result _ c.from_residual-in_err-known.ensures.0
-
-pub returns-in_err-known-clause-built : goal.returns-in_err-known-clause-built
-returns-in_err-known-clause-built g c = IfOk-from_err c.from_residual-in_err-known.result _ c.from_residual-in_err-known.ensures.0
-
-pub returns-in_err-known-clause-kinds : goal.returns-in_err-known-clause-kinds
-returns-in_err-known-clause-kinds g c = IfOk-from_err c.from_residual-in_err-known.result _ c.from_residual-in_err-known.ensures.0
-
-pub returns-in_err-known-clause-machine : goal.returns-in_err-known-clause-machine
-returns-in_err-known-clause-machine g c = IfOk-from_err c.from_residual-in_err-known.result _ c.from_residual-in_err-known.ensures.0
+pub returns-in_err-own : goal.returns-in_err-own
+returns-in_err-own g c = record {
+  table = IfOk-from_err c.from_residual.result _ c.from_residual.ensures.0;
+  few = IfOk-from_err c.from_residual.result _ c.from_residual.ensures.0;
+  built = IfOk-from_err c.from_residual.result _ c.from_residual.ensures.0;
+  kinds = IfOk-from_err c.from_residual.result _ c.from_residual.ensures.0;
+  machine = IfOk-from_err c.from_residual.result _ c.from_residual.ensures.0;
+  stop = passed c.from_residual.result _ _ c.from_residual.ensures.1 tt;
+}

@@ -15,18 +15,18 @@ index-word-requires c =
     let t : AreTidy c.self.inside.places c.self.inside.words.items = tidy_of c.self.inside.places c.self.inside.words.items c.self.invariant in
     omega (arith, t.many, c.self.inside.words.ok, c.places-test.true)
 
-pub returns-then-skipped-places-clause-none : goal.returns-then-skipped-places-clause-none
-returns-then-skipped-places-clause-none c i above below =
-    let t : AreTidy c.self.inside.places c.self.inside.words.items = tidy_of c.self.inside.places c.self.inside.words.items c.self.invariant in
-    let low : c.places.place / 64 < length c.self.inside.words.items = omega (arith, t.many, c.places-test.true) in
-    let word : c.index-word.result.now ≡ get_or c.self.inside.words.items (c.places.place / 64) 0 = c.index-word.ensures ∙ get_or_default_zero c.self.inside.words.items (c.places.place / 64) c.index-word.result.now low in
-    elim (cases_lt i c.places.place) [
-      | inl before ↦ c.places.invariant.none i above before
-      | inr past ↦ none_of_word c.self.inside.places c.self.inside.words.items c.args.self.now c.self.view_is c.places.place i (sym word ∙ c.if-word-eq0.true) (omega (arith, past, below, c.if-skipped-places.true))
-    ]
-
-pub returns-then-skipped-places-clause-some : goal.returns-then-skipped-places-clause-some
-returns-then-skipped-places-clause-some c inside = absurd (omega (arith, inside, ap length (sym c.self.view_is), bits_length c.self.inside.places c.self.inside.words.items))
+pub returns-then-skipped-places : goal.returns-then-skipped-places
+returns-then-skipped-places c = record {
+  from = omega (arith, c.places-test.true, c.places.invariant.from);
+  none = λ i above below. let t : AreTidy c.self.inside.places c.self.inside.words.items = tidy_of c.self.inside.places c.self.inside.words.items c.self.invariant in
+      let low : c.places.place / 64 < length c.self.inside.words.items = omega (arith, t.many, c.places-test.true) in
+      let word : c.index-word.result.now ≡ get_or c.self.inside.words.items (c.places.place / 64) 0 = c.index-word.ensures ∙ get_or_default_zero c.self.inside.words.items (c.places.place / 64) c.index-word.result.now low in
+      elim (cases_lt i c.places.place) [
+        | inl before ↦ c.places.invariant.none i above before
+        | inr past ↦ none_of_word c.self.inside.places c.self.inside.words.items c.args.self.now c.self.view_is c.places.place i (sym word ∙ c.if-word-eq0.true) (omega (arith, past, below, c.if-skipped-places.true))
+      ];
+  some = λ inside. absurd (omega (arith, inside, ap length (sym c.self.view_is), bits_length c.self.inside.places c.self.inside.words.items));
+}
 
 pub places-preserved-then-word-eq0 : goal.places-preserved-then-word-eq0
 places-preserved-then-word-eq0 c =
@@ -41,12 +41,15 @@ places-preserved-then-word-eq0 c =
       ];
     }
 
-pub returns-then-word-place-eq1-clause-some : goal.returns-then-word-place-eq1-clause-some
-returns-then-word-place-eq1-clause-some c inside =
-    let t : AreTidy c.self.inside.places c.self.inside.words.items = tidy_of c.self.inside.places c.self.inside.words.items c.self.invariant in
-    let low : c.places.place / 64 < length c.self.inside.words.items = omega (arith, t.many, c.places-test.true) in
-    let word : c.index-word.result.now ≡ get_or c.self.inside.words.items (c.places.place / 64) 0 = c.index-word.ensures ∙ get_or_default_zero c.self.inside.words.items (c.places.place / 64) c.index-word.result.now low in
-    bit_is c.self.inside.places c.self.inside.words.items c.args.self.now c.self.view_is c.places.place c.places-test.true ∙ ap (λ w. nat_eq (bit_at w (c.places.place % 64)) 1) (sym word) ∙ ap (λ b. nat_eq b 1) (sym (shr_and_one c.index-word.result.now (c.places.place % 64))) ∙ ap (λ z. nat_eq z 1) c.if-word-place-eq1.true
+pub returns-then-word-place-eq1 : goal.returns-then-word-place-eq1
+returns-then-word-place-eq1 c = record {
+  from = c.places.invariant.from;
+  none = c.places.invariant.none;
+  some = λ inside. let t : AreTidy c.self.inside.places c.self.inside.words.items = tidy_of c.self.inside.places c.self.inside.words.items c.self.invariant in
+      let low : c.places.place / 64 < length c.self.inside.words.items = omega (arith, t.many, c.places-test.true) in
+      let word : c.index-word.result.now ≡ get_or c.self.inside.words.items (c.places.place / 64) 0 = c.index-word.ensures ∙ get_or_default_zero c.self.inside.words.items (c.places.place / 64) c.index-word.result.now low in
+      bit_is c.self.inside.places c.self.inside.words.items c.args.self.now c.self.view_is c.places.place c.places-test.true ∙ ap (λ w. nat_eq (bit_at w (c.places.place % 64)) 1) (sym word) ∙ ap (λ b. nat_eq b 1) (sym (shr_and_one c.index-word.result.now (c.places.place % 64))) ∙ ap (λ z. nat_eq z 1) c.if-word-place-eq1.true;
+}
 
 pub places-preserved : goal.places-preserved
 places-preserved c =
@@ -64,23 +67,12 @@ places-preserved c =
       ];
     }
 
-pub returns-clause-some : goal.returns-clause-some
-returns-clause-some c inside = absurd (omega (arith, inside, c.places-test.false, ap length (sym c.self.view_is), bits_length c.self.inside.places c.self.inside.words.items))
+pub returns : goal.returns
+returns c = record {
+  from = c.places.invariant.from;
+  none = c.places.invariant.none;
+  some = λ inside. absurd (omega (arith, inside, c.places-test.false, ap length (sym c.self.view_is), bits_length c.self.inside.places c.self.inside.words.items));
+}
 
 pub places-init : goal.places-init
 places-init c = record { from = omega arith; none = λ i low high. absurd (omega (arith, low, high)) }
-
-pub returns-then-word-place-eq1-clause-from : goal.returns-then-word-place-eq1-clause-from
-returns-then-word-place-eq1-clause-from c = c.places.invariant.from
-
-pub returns-then-word-place-eq1-clause-none : goal.returns-then-word-place-eq1-clause-none
-returns-then-word-place-eq1-clause-none c = c.places.invariant.none
-
-pub returns-clause-from : goal.returns-clause-from
-returns-clause-from c = c.places.invariant.from
-
-pub returns-clause-none : goal.returns-clause-none
-returns-clause-none c = c.places.invariant.none
-
-pub returns-then-skipped-places-clause-from : goal.returns-then-skipped-places-clause-from
-returns-then-skipped-places-clause-from c = omega (arith, c.places-test.true, c.places.invariant.from)

@@ -8,15 +8,14 @@ use Rattle.sta_classes.proofs.Keys.{element_pushed, split_none}
 use Rattle.sta_classes.proofs.Turns.{sound_first}
 use Rattle.sta_classes.proofs.search.Search.begin.Goals as goal
 
-pub returns-clause-sound : goal.returns-clause-sound
-returns-clause-sound g c =
-    subst (λ z. IsSound c.args.self.now.ranks.now (g.T.Theory.meaning c.args.self.now.theory.now).has (g.T.Theory.meaning c.args.self.now.theory.now).keeps (meaning_of g.T.Theory.atom_holds (plain_rules c.args.self.now.rules.now)) g.T.Theory.label_of z c.new-pending.result) (sym c.in_ok-known.ensures.none) (sound_first c.args.self.now.ranks.now (g.T.Theory.meaning c.args.self.now.theory.now).has (g.T.Theory.meaning c.args.self.now.theory.now).keeps (meaning_of g.T.Theory.atom_holds (plain_rules c.args.self.now.rules.now)) g.T.Theory.label_of c.new-pending.result c.new-pending.ensures.kept c.new-pending.ensures.none)
-
-pub returns-clause-splits : goal.returns-clause-splits
-returns-clause-splits g c = subst (λ z. AreSplit (g.T.Theory.meaning c.args.self.now.theory.now) c.args.self.now.ranks.now c.args.self.now.own.now (class_rows z) c.constructors.splits.items) (sym c.in_ok-known.ensures.none) (split_none (g.T.Theory.meaning c.args.self.now.theory.now) c.args.self.now.ranks.now c.args.self.now.own.now c.constructors.splits.items (omega (arith, c.constructors.invariant.many, c.constructors.auto.counter-end, c.constructors-test.false)) c.constructors.invariant.none)
-
-pub returns-clause-few : goal.returns-clause-few
-returns-clause-few g c = omega (arith, c.new-pending.ensures.kept.many, ap length c.new-pending.ensures.none)
+pub returns : goal.returns
+returns g c = record {
+  none = c.in_ok-known.ensures.none;
+  kinds = c.in_ok-known.ensures.kinds;
+  sound = subst (λ z. IsSound c.args.self.now.ranks.now (g.T.Theory.meaning c.args.self.now.theory.now).has (g.T.Theory.meaning c.args.self.now.theory.now).keeps (meaning_of g.T.Theory.atom_holds (plain_rules c.args.self.now.rules.now)) g.T.Theory.label_of z c.new-pending.result) (sym c.in_ok-known.ensures.none) (sound_first c.args.self.now.ranks.now (g.T.Theory.meaning c.args.self.now.theory.now).has (g.T.Theory.meaning c.args.self.now.theory.now).keeps (meaning_of g.T.Theory.atom_holds (plain_rules c.args.self.now.rules.now)) g.T.Theory.label_of c.new-pending.result c.new-pending.ensures.kept c.new-pending.ensures.none);
+  few = omega (arith, c.new-pending.ensures.kept.many, ap length c.new-pending.ensures.none);
+  splits = subst (λ z. AreSplit (g.T.Theory.meaning c.args.self.now.theory.now) c.args.self.now.ranks.now c.args.self.now.own.now (class_rows z) c.constructors.splits.items) (sym c.in_ok-known.ensures.none) (split_none (g.T.Theory.meaning c.args.self.now.theory.now) c.args.self.now.ranks.now c.args.self.now.own.now c.constructors.splits.items (omega (arith, c.constructors.invariant.many, c.constructors.auto.counter-end, c.constructors-test.false)) c.constructors.invariant.none);
+}
 
 pub constructors-preserved : goal.constructors-preserved
 constructors-preserved g c = record {
@@ -24,38 +23,20 @@ constructors-preserved g c = record {
   none = element_pushed (λ n s. (s.met.items ≡ []) × ((s.sets.keys ≡ []) × (s.told.items ≡ []))) c.constructors.splits.items c.push.new.self.items c.new.result c.in_ok-push.ensures.items (c.new.ensures.met, (c.new.ensures.sets, c.new.ensures.told)) c.constructors.invariant.none;
 }
 
-pub returns-in_err-push-clause-none : goal.returns-in_err-push-clause-none
-returns-in_err-push-clause-none g c = IfOk-from_err c.from_residual.result _ c.from_residual.ensures.0
+pub returns-in_err-push : goal.returns-in_err-push
+returns-in_err-push g c = record {
+  none = IfOk-from_err c.from_residual.result _ c.from_residual.ensures.0;
+  kinds = IfOk-from_err c.from_residual.result _ c.from_residual.ensures.0;
+  sound = IfOk-from_err c.from_residual.result _ c.from_residual.ensures.0;
+  few = IfOk-from_err c.from_residual.result _ c.from_residual.ensures.0;
+  splits = IfOk-from_err c.from_residual.result _ c.from_residual.ensures.0;
+}
 
-pub returns-in_err-push-clause-kinds : goal.returns-in_err-push-clause-kinds
-returns-in_err-push-clause-kinds g c = IfOk-from_err c.from_residual.result _ c.from_residual.ensures.0
-
-pub returns-in_err-push-clause-sound : goal.returns-in_err-push-clause-sound
-returns-in_err-push-clause-sound g c = IfOk-from_err c.from_residual.result _ c.from_residual.ensures.0
-
-pub returns-in_err-push-clause-few : goal.returns-in_err-push-clause-few
-returns-in_err-push-clause-few g c = IfOk-from_err c.from_residual.result _ c.from_residual.ensures.0
-
-pub returns-in_err-push-clause-splits : goal.returns-in_err-push-clause-splits
-returns-in_err-push-clause-splits g c = IfOk-from_err c.from_residual.result _ c.from_residual.ensures.0
-
-pub returns-in_err-known-clause-none : goal.returns-in_err-known-clause-none
-returns-in_err-known-clause-none g c = IfOk-from_err c.from_residual-in_err-known.result _ c.from_residual-in_err-known.ensures.0
-
-pub returns-in_err-known-clause-kinds : goal.returns-in_err-known-clause-kinds
-returns-in_err-known-clause-kinds g c = IfOk-from_err c.from_residual-in_err-known.result _ c.from_residual-in_err-known.ensures.0
-
-pub returns-in_err-known-clause-sound : goal.returns-in_err-known-clause-sound
-returns-in_err-known-clause-sound g c = IfOk-from_err c.from_residual-in_err-known.result _ c.from_residual-in_err-known.ensures.0
-
-pub returns-in_err-known-clause-few : goal.returns-in_err-known-clause-few
-returns-in_err-known-clause-few g c = IfOk-from_err c.from_residual-in_err-known.result _ c.from_residual-in_err-known.ensures.0
-
-pub returns-in_err-known-clause-splits : goal.returns-in_err-known-clause-splits
-returns-in_err-known-clause-splits g c = IfOk-from_err c.from_residual-in_err-known.result _ c.from_residual-in_err-known.ensures.0
-
-pub returns-clause-none : goal.returns-clause-none
-returns-clause-none g c = c.in_ok-known.ensures.none
-
-pub returns-clause-kinds : goal.returns-clause-kinds
-returns-clause-kinds g c = c.in_ok-known.ensures.kinds
+pub returns-in_err-known : goal.returns-in_err-known
+returns-in_err-known g c = record {
+  none = IfOk-from_err c.from_residual-in_err-known.result _ c.from_residual-in_err-known.ensures.0;
+  kinds = IfOk-from_err c.from_residual-in_err-known.result _ c.from_residual-in_err-known.ensures.0;
+  sound = IfOk-from_err c.from_residual-in_err-known.result _ c.from_residual-in_err-known.ensures.0;
+  few = IfOk-from_err c.from_residual-in_err-known.result _ c.from_residual-in_err-known.ensures.0;
+  splits = IfOk-from_err c.from_residual-in_err-known.result _ c.from_residual-in_err-known.ensures.0;
+}

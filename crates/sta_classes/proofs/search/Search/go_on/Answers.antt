@@ -16,32 +16,23 @@ turns-init g c = record {
   opened = run_first (g.T.Theory.meaning c.args.self.now.theory.now) c.args.self.now.ranks.now c.args.self.now.rules.now c.args.course.now.known.classes.items c.args.course.now.known.places.items c.open_leaves.new.pending c.requires.none c.requires.kinds c.in_ok-open_leaves.ensures.opened;
 }
 
-pub returns-clause-classes : goal.returns-clause-classes
-returns-clause-classes g c = c.turns.invariant.sound.classes
+pub returns : goal.returns
+returns g c = record {
+  classes = c.turns.invariant.sound.classes;
+  complete = run_last (g.T.Theory.meaning c.args.self.now.theory.now) c.args.self.now.ranks.now c.args.self.now.rules.now c.turns.course.known.classes.items c.turns.course.known.places.items c.turns.course.pending c.take.new.self c.turns.invariant.sound c.turns.invariant.kinds c.turns.invariant.opened c.in_default.ensures.taken;
+  kinds = c.turns.invariant.kinds;
+  few = omega (arith, c.turns.invariant.few, few_found c.args.self.now.ranks.now (g.T.Theory.meaning c.args.self.now.theory.now).has (g.T.Theory.meaning c.args.self.now.theory.now).keeps (meaning_of g.T.Theory.atom_holds (plain_rules c.args.self.now.rules.now)) g.T.Theory.label_of c.turns.course.known.classes.items c.turns.course.pending c.turns.invariant.sound);
+  stop = tt;
+}
 
-pub returns-clause-complete : goal.returns-clause-complete
-returns-clause-complete g c = run_last (g.T.Theory.meaning c.args.self.now.theory.now) c.args.self.now.ranks.now c.args.self.now.rules.now c.turns.course.known.classes.items c.turns.course.known.places.items c.turns.course.pending c.take.new.self c.turns.invariant.sound c.turns.invariant.kinds c.turns.invariant.opened c.in_default.ensures.taken
-
-pub returns-clause-kinds : goal.returns-clause-kinds
-returns-clause-kinds g c = c.turns.invariant.kinds
-
-pub returns-clause-few : goal.returns-clause-few
-returns-clause-few g c = omega (arith, c.turns.invariant.few, few_found c.args.self.now.ranks.now (g.T.Theory.meaning c.args.self.now.theory.now).has (g.T.Theory.meaning c.args.self.now.theory.now).keeps (meaning_of g.T.Theory.atom_holds (plain_rules c.args.self.now.rules.now)) g.T.Theory.label_of c.turns.course.known.classes.items c.turns.course.pending c.turns.invariant.sound)
-
-pub open_leaves-requires-clause-ready : goal.open_leaves-requires-clause-ready
-open_leaves-requires-clause-ready g c = c.requires.ready
-
-pub open_leaves-requires-clause-none : goal.open_leaves-requires-clause-none
-open_leaves-requires-clause-none g c = c.requires.none
-
-pub open_leaves-requires-clause-sound : goal.open_leaves-requires-clause-sound
-open_leaves-requires-clause-sound g c = c.requires.sound
-
-pub open_leaves-requires-clause-few : goal.open_leaves-requires-clause-few
-open_leaves-requires-clause-few g c = c.requires.few
-
-pub open_leaves-requires-clause-splits : goal.open_leaves-requires-clause-splits
-open_leaves-requires-clause-splits g c = c.requires.splits
+pub open_leaves-requires : goal.open_leaves-requires
+open_leaves-requires g c = record {
+  ready = c.requires.ready;
+  none = c.requires.none;
+  sound = c.requires.sound;
+  few = c.requires.few;
+  splits = c.requires.splits;
+}
 
 pub take-requires : goal.take-requires
 take-requires g c = record { kept = c.turns.invariant.sound.kept }

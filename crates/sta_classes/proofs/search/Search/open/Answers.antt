@@ -18,28 +18,28 @@ use Rattle.sta_classes.specs.Bits.{both}
 use Rattle.sta_classes.specs.Pending.{IsMet}
 use Rattle.sta_classes.proofs.search.Search.open.Goals as goal
 
-pub told-requires-clause-ready : goal.told-requires-clause-ready
-told-requires-clause-ready g c = c.requires.ready
-
-pub told-requires-clause-low : goal.told-requires-clause-low
-told-requires-clause-low g c = c.requires.low
-
-pub told-requires-clause-wide : goal.told-requires-clause-wide
-told-requires-clause-wide g c = c.requires.wide
-
-pub told-requires-clause-children : goal.told-requires-clause-children
-told-requires-clause-children g c = c.requires.children
-
-pub told-requires-clause-splits : goal.told-requires-clause-splits
-told-requires-clause-splits g c = c.requires.splits
+pub told-requires : goal.told-requires
+told-requires g c = record {
+  ready = c.requires.ready;
+  low = c.requires.low;
+  wide = c.requires.wide;
+  children = c.requires.children;
+  splits = c.requires.splits;
+}
 
 pub cost_over-nodes-requires : goal.cost_over-nodes-requires
 cost_over-nodes-requires g c = subst (λ z. All (λ k. k < length z) c.args.children.now) (sym c.deref.ensures.value) c.requires.children
 
-pub set-requires-clause-low : goal.set-requires-clause-low
-set-requires-clause-low g c =
-    let is : IsRules g.T.Atom.PartialEq.eq c.args.self.now.rules.now c.args.constructor c.index-self-constructor.result = c.requires.ready.own_are c.args.constructor c.index-self-constructor.result (omega (arith, c.requires.low, c.requires.ready.many)) (sym c.index-self-constructor.is) in
-    subst (λ R. All (λ x. x.state < length c.args.self.now.rules.now) R.list.items) c.index-self-constructor.is (states_low c.args.self.now.rules.now c.args.constructor c.index-self-constructor.result.list.items is.owned)
+pub set-requires : goal.set-requires
+set-requires g c = record {
+  low = let is : IsRules g.T.Atom.PartialEq.eq c.args.self.now.rules.now c.args.constructor c.index-self-constructor.result = c.requires.ready.own_are c.args.constructor c.index-self-constructor.result (omega (arith, c.requires.low, c.requires.ready.many)) (sym c.index-self-constructor.is) in
+      subst (λ R. All (λ x. x.state < length c.args.self.now.rules.now) R.list.items) c.index-self-constructor.is (states_low c.args.self.now.rules.now c.args.constructor c.index-self-constructor.result.list.items is.owned);
+  met = ap length ((let found = c.in_ok-key.ensures.found c.index-self-constructor.result c.index.result.now (sym c.index-self-constructor.is) (sym c.index.ensures) in
+      subst (IsTold (g.T.Theory.meaning c.args.self.now.theory.now) c.index-self-constructor.result (class_rows_at c.args.known.now.classes.items c.args.children.now) c.in_ok-key.key) (sym (list_at c.index.result.now.told.items c.in_ok-key.number c.index-2.result.now c.deref-label-items.result.now found.0 c.index-2.ensures c.deref-label-items.ensures.value)) found.1)).0 ∙ length-map c.index-self-constructor.result.list.items _ ∙ ap (λ R. length R.list.items) c.index-self-constructor.is;
+  held = let (key_is, are) = (let found = c.in_ok-key.ensures.found c.index-self-constructor.result c.index.result.now (sym c.index-self-constructor.is) (sym c.index.ensures) in
+      subst (IsTold (g.T.Theory.meaning c.args.self.now.theory.now) c.index-self-constructor.result (class_rows_at c.args.known.now.classes.items c.args.children.now) c.in_ok-key.key) (sym (list_at c.index.result.now.told.items c.in_ok-key.number c.index-2.result.now c.deref-label-items.result.now found.0 c.index-2.ensures c.deref-label-items.ensures.value)) found.1) in
+      ap (λ t. length t.holds) c.label-item.is ∙ ap length (are.held c.labels.label-index c.label-item.result c.labels-test.true) ∙ length-map c.index-self-constructor.result.list.items _ ∙ sym (ap length key_is ∙ length-map c.index-self-constructor.result.list.items _);
+}
 
 pub labels-preserved : goal.labels-preserved
 labels-preserved g c =
@@ -63,17 +63,6 @@ labels-preserved g c =
             (subst (λ q. IsMet c.offer.new.self q c.cost_over-nodes.result) made.row_is c.in_ok-offer.ensures.offered.met)
       ];
     }
-
-pub set-requires-clause-met : goal.set-requires-clause-met
-set-requires-clause-met g c =
-    ap length ((let found = c.in_ok-key.ensures.found c.index-self-constructor.result c.index.result.now (sym c.index-self-constructor.is) (sym c.index.ensures) in
-    subst (IsTold (g.T.Theory.meaning c.args.self.now.theory.now) c.index-self-constructor.result (class_rows_at c.args.known.now.classes.items c.args.children.now) c.in_ok-key.key) (sym (list_at c.index.result.now.told.items c.in_ok-key.number c.index-2.result.now c.deref-label-items.result.now found.0 c.index-2.ensures c.deref-label-items.ensures.value)) found.1)).0 ∙ length-map c.index-self-constructor.result.list.items _ ∙ ap (λ R. length R.list.items) c.index-self-constructor.is
-
-pub set-requires-clause-held : goal.set-requires-clause-held
-set-requires-clause-held g c =
-    let (key_is, are) = (let found = c.in_ok-key.ensures.found c.index-self-constructor.result c.index.result.now (sym c.index-self-constructor.is) (sym c.index.ensures) in
-    subst (IsTold (g.T.Theory.meaning c.args.self.now.theory.now) c.index-self-constructor.result (class_rows_at c.args.known.now.classes.items c.args.children.now) c.in_ok-key.key) (sym (list_at c.index.result.now.told.items c.in_ok-key.number c.index-2.result.now c.deref-label-items.result.now found.0 c.index-2.ensures c.deref-label-items.ensures.value)) found.1) in
-    ap (λ t. length t.holds) c.label-item.is ∙ ap length (are.held c.labels.label-index c.label-item.result c.labels-test.true) ∙ length-map c.index-self-constructor.result.list.items _ ∙ sym (ap length key_is ∙ length-map c.index-self-constructor.result.list.items _)
 
 pub offer-requires-clause-kept : goal.offer-requires-clause-kept
 offer-requires-clause-kept g c = c.labels.invariant.sound.kept

@@ -29,53 +29,34 @@ constructors-preserved g c =
       }
     ]
 
-pub returns-in_err-open-clause-stop : goal.returns-in_err-open-clause-stop
-returns-in_err-open-clause-stop g c = passed c.from_residual.result _ c.in_err-open.field-0.0 c.from_residual.ensures.1 c.in_err-open.ensures.stop
+pub returns-in_err-open : goal.returns-in_err-open
+returns-in_err-open g c = record {
+  sound = IfOk-from_err c.from_residual.result _ c.from_residual.ensures.0;
+  opened = IfOk-from_err c.from_residual.result _ c.from_residual.ensures.0;
+  few = IfOk-from_err c.from_residual.result _ c.from_residual.ensures.0;
+  splits = IfOk-from_err c.from_residual.result _ c.from_residual.ensures.0;
+  stop = passed c.from_residual.result _ c.in_err-open.field-0.0 c.from_residual.ensures.1 c.in_err-open.ensures.stop;
+}
 
-pub open-requires-clause-ready : goal.open-requires-clause-ready
-open-requires-clause-ready g c = c.requires.ready
-
-pub open-requires-clause-sound : goal.open-requires-clause-sound
-open-requires-clause-sound g c = c.constructors.invariant.sound
-
-pub open-requires-clause-splits : goal.open-requires-clause-splits
-open-requires-clause-splits g c = c.constructors.invariant.splits
+pub open-requires : goal.open-requires
+open-requires g c = record {
+  ready = c.requires.ready;
+  low = c.constructors-test.true;
+  wide = sym c.if-self-constructor-eq0.true;
+  children = λ k d low. absurd (omega (arith, low));
+  above = λ k low. absurd (omega (arith, low, ap length c.requires.none));
+  sound = c.constructors.invariant.sound;
+  splits = c.constructors.invariant.splits;
+}
 
 pub constructors-init : goal.constructors-init
 constructors-init g c = record { sound = c.requires.sound; splits = c.requires.splits; few = c.requires.few; opened = λ n low. absurd (omega (arith, low)) }
 
-pub returns-clause-sound : goal.returns-clause-sound
-returns-clause-sound g c = c.constructors.invariant.sound
-
-pub returns-clause-splits : goal.returns-clause-splits
-returns-clause-splits g c = c.constructors.invariant.splits
-
-pub returns-in_err-open-clause-sound : goal.returns-in_err-open-clause-sound
-returns-in_err-open-clause-sound g c = IfOk-from_err c.from_residual.result _ c.from_residual.ensures.0
-
-pub returns-in_err-open-clause-opened : goal.returns-in_err-open-clause-opened
-returns-in_err-open-clause-opened g c = IfOk-from_err c.from_residual.result _ c.from_residual.ensures.0
-
-pub returns-in_err-open-clause-few : goal.returns-in_err-open-clause-few
-returns-in_err-open-clause-few g c = IfOk-from_err c.from_residual.result _ c.from_residual.ensures.0
-
-pub returns-in_err-open-clause-splits : goal.returns-in_err-open-clause-splits
-returns-in_err-open-clause-splits g c = IfOk-from_err c.from_residual.result _ c.from_residual.ensures.0
-
-pub open-requires-clause-low : goal.open-requires-clause-low
-open-requires-clause-low g c = c.constructors-test.true
-
-pub open-requires-clause-wide : goal.open-requires-clause-wide
-open-requires-clause-wide g c = sym c.if-self-constructor-eq0.true
-
-pub open-requires-clause-children : goal.open-requires-clause-children
-open-requires-clause-children g c = λ k d low. absurd (omega (arith, low))
-
-pub open-requires-clause-above : goal.open-requires-clause-above
-open-requires-clause-above g c = λ k low. absurd (omega (arith, low, ap length c.requires.none))
-
-pub returns-clause-opened : goal.returns-clause-opened
-returns-clause-opened g c = λ n low none. c.constructors.invariant.opened n (omega (arith, low, c.constructors-test.false)) none
-
-pub returns-clause-few : goal.returns-clause-few
-returns-clause-few g c = c.constructors.invariant.few
+pub returns : goal.returns
+returns g c = record {
+  sound = c.constructors.invariant.sound;
+  opened = λ n low none. c.constructors.invariant.opened n (omega (arith, low, c.constructors-test.false)) none;
+  few = c.constructors.invariant.few;
+  splits = c.constructors.invariant.splits;
+  stop = tt;
+}

@@ -12,17 +12,15 @@ use Rattle.sta_classes.proofs.Keeping.{passed}
 use Rattle.sta_classes.proofs.search.Search.open_new.Goals as goal
 use Rattle.sta_classes.proofs.search.Search.open_new.Goals.{then-begins+in_ok-open_place, else-begins}
 
-pub begins-requires-clause-known : goal.begins-requires-clause-known
-begins-requires-clause-known g c =
-    let in_rank : c.places.place < get_or c.args.self.now.ranks.now c.constructors.constructor 0 = (omega (arith, c.places-test.true, c.len-place-end.ensures, c.index.result.now.ok.0, ap length (list_at c.args.known.now.places.items c.constructors.constructor c.index.result.now c.index.result.now.items (omega (arith, c.constructors-test.true, c.requires.kinds.many)) c.index.ensures refl), (c.requires.kinds.each c.constructors.constructor c.constructors-test.true).many)) in
-    let (are, n) = ((c.requires.kinds.each c.constructors.constructor c.constructors-test.true).each c.places.place c.index-in-places-2.result.now (omega (arith, in_rank, (c.requires.kinds.each c.constructors.constructor c.constructors-test.true).many)) (ap (λ l. get_or l c.places.place c.index-in-places-2.result.now) (sym (list_at c.args.known.now.places.items c.constructors.constructor c.index-in-places.result.now c.index-in-places.result.now.items (omega (arith, c.constructors-test.true, c.requires.kinds.many)) c.index-in-places.ensures refl)) ∙ sym c.index-in-places-2.ensures)) in
-    omega (arith, n.many, length-map c.args.known.now.classes.items (λ z. z.row), c.len-last.ensures, c.args.known.now.classes.ok.0, c.requires.some)
-
-pub begins-requires-clause-low : goal.begins-requires-clause-low
-begins-requires-clause-low g c =
-    let in_rank : c.places.place < get_or c.args.self.now.ranks.now c.constructors.constructor 0 = (omega (arith, c.places-test.true, c.len-place-end.ensures, c.index.result.now.ok.0, ap length (list_at c.args.known.now.places.items c.constructors.constructor c.index.result.now c.index.result.now.items (omega (arith, c.constructors-test.true, c.requires.kinds.many)) c.index.ensures refl), (c.requires.kinds.each c.constructors.constructor c.constructors-test.true).many)) in
-    let (are, n) = ((c.requires.kinds.each c.constructors.constructor c.constructors-test.true).each c.places.place c.index-in-places-2.result.now (omega (arith, in_rank, (c.requires.kinds.each c.constructors.constructor c.constructors-test.true).many)) (ap (λ l. get_or l c.places.place c.index-in-places-2.result.now) (sym (list_at c.args.known.now.places.items c.constructors.constructor c.index-in-places.result.now c.index-in-places.result.now.items (omega (arith, c.constructors-test.true, c.requires.kinds.many)) c.index-in-places.ensures refl)) ∙ sym c.index-in-places-2.ensures)) in
-    omega (arith, n.low (c.len-last.result - 1) (omega (arith, length-map c.args.known.now.classes.items (λ z. z.row), c.len-last.ensures, c.args.known.now.classes.ok.0, c.requires.some)), n.one_each)
+pub begins-requires : goal.begins-requires
+begins-requires g c = record {
+  known = let in_rank : c.places.place < get_or c.args.self.now.ranks.now c.constructors.constructor 0 = (omega (arith, c.places-test.true, c.len-place-end.ensures, c.index.result.now.ok.0, ap length (list_at c.args.known.now.places.items c.constructors.constructor c.index.result.now c.index.result.now.items (omega (arith, c.constructors-test.true, c.requires.kinds.many)) c.index.ensures refl), (c.requires.kinds.each c.constructors.constructor c.constructors-test.true).many)) in
+      let (are, n) = ((c.requires.kinds.each c.constructors.constructor c.constructors-test.true).each c.places.place c.index-in-places-2.result.now (omega (arith, in_rank, (c.requires.kinds.each c.constructors.constructor c.constructors-test.true).many)) (ap (λ l. get_or l c.places.place c.index-in-places-2.result.now) (sym (list_at c.args.known.now.places.items c.constructors.constructor c.index-in-places.result.now c.index-in-places.result.now.items (omega (arith, c.constructors-test.true, c.requires.kinds.many)) c.index-in-places.ensures refl)) ∙ sym c.index-in-places-2.ensures)) in
+      omega (arith, n.many, length-map c.args.known.now.classes.items (λ z. z.row), c.len-last.ensures, c.args.known.now.classes.ok.0, c.requires.some);
+  low = let in_rank : c.places.place < get_or c.args.self.now.ranks.now c.constructors.constructor 0 = (omega (arith, c.places-test.true, c.len-place-end.ensures, c.index.result.now.ok.0, ap length (list_at c.args.known.now.places.items c.constructors.constructor c.index.result.now c.index.result.now.items (omega (arith, c.constructors-test.true, c.requires.kinds.many)) c.index.ensures refl), (c.requires.kinds.each c.constructors.constructor c.constructors-test.true).many)) in
+      let (are, n) = ((c.requires.kinds.each c.constructors.constructor c.constructors-test.true).each c.places.place c.index-in-places-2.result.now (omega (arith, in_rank, (c.requires.kinds.each c.constructors.constructor c.constructors-test.true).many)) (ap (λ l. get_or l c.places.place c.index-in-places-2.result.now) (sym (list_at c.args.known.now.places.items c.constructors.constructor c.index-in-places.result.now c.index-in-places.result.now.items (omega (arith, c.constructors-test.true, c.requires.kinds.many)) c.index-in-places.ensures refl)) ∙ sym c.index-in-places-2.ensures)) in
+      omega (arith, n.low (c.len-last.result - 1) (omega (arith, length-map c.args.known.now.classes.items (λ z. z.row), c.len-last.ensures, c.args.known.now.classes.ok.0, c.requires.some)), n.one_each);
+}
 
 pub places-preserved : goal.places-preserved
 places-preserved g c =
@@ -50,29 +48,17 @@ places-preserved g c =
       }
     ]
 
-pub open_place-requires-clause-place : goal.open_place-requires-clause-place
-open_place-requires-clause-place g c = omega (arith, c.places-test.true, c.len-place-end.ensures, c.index.result.now.ok.0, ap length (list_at c.args.known.now.places.items c.constructors.constructor c.index.result.now c.index.result.now.items (omega (arith, c.constructors-test.true, c.requires.kinds.many)) c.index.ensures refl), (c.requires.kinds.each c.constructors.constructor c.constructors-test.true).many)
-
-pub open_place-requires-clause-ready : goal.open_place-requires-clause-ready
-open_place-requires-clause-ready g c = c.requires.ready
-
-pub open_place-requires-clause-kinds : goal.open_place-requires-clause-kinds
-open_place-requires-clause-kinds g c = c.requires.kinds
-
-pub open_place-requires-clause-some : goal.open_place-requires-clause-some
-open_place-requires-clause-some g c = c.requires.some
-
-pub open_place-requires-clause-low : goal.open_place-requires-clause-low
-open_place-requires-clause-low g c = c.constructors-test.true
-
-pub open_place-requires-clause-sound : goal.open_place-requires-clause-sound
-open_place-requires-clause-sound g c = c.places.invariant.sound
-
-pub open_place-requires-clause-few : goal.open_place-requires-clause-few
-open_place-requires-clause-few g c = c.places.invariant.few
-
-pub open_place-requires-clause-splits : goal.open_place-requires-clause-splits
-open_place-requires-clause-splits g c = c.places.invariant.splits
+pub open_place-requires : goal.open_place-requires
+open_place-requires g c = record {
+  ready = c.requires.ready;
+  kinds = c.requires.kinds;
+  some = c.requires.some;
+  low = c.constructors-test.true;
+  place = omega (arith, c.places-test.true, c.len-place-end.ensures, c.index.result.now.ok.0, ap length (list_at c.args.known.now.places.items c.constructors.constructor c.index.result.now c.index.result.now.items (omega (arith, c.constructors-test.true, c.requires.kinds.many)) c.index.ensures refl), (c.requires.kinds.each c.constructors.constructor c.constructors-test.true).many);
+  sound = c.places.invariant.sound;
+  few = c.places.invariant.few;
+  splits = c.places.invariant.splits;
+}
 
 pub places-init : goal.places-init
 places-init g c = record { sound = c.constructors.invariant.sound; better = c.constructors.invariant.better; splits = c.constructors.invariant.splits; few = c.constructors.invariant.few; opened = λ j ks low inside listed. absurd (omega (arith, low)); before = c.constructors.invariant.opened }
@@ -87,38 +73,25 @@ constructors-preserved g c = record {
       (λ j ks low listed. c.places.invariant.opened j ks (omega (arith, low, c.places-test.false, c.len-place-end.ensures, c.index.result.now.ok.0, ap length (list_at c.args.known.now.places.items c.constructors.constructor c.index.result.now c.index.result.now.items (omega (arith, c.constructors-test.true, c.requires.kinds.many)) c.index.ensures refl), (c.requires.kinds.each c.constructors.constructor c.constructors-test.true).many)) low listed);
 }
 
-pub returns-clause-opened : goal.returns-clause-opened
-returns-clause-opened g c = run_touched (g.T.Theory.meaning c.args.self.now.theory.now) c.args.self.now.ranks.now c.args.self.now.rules.now c.args.known.now.classes.items c.args.known.now.places.items c.constructors.pending (λ n low j ks inside listed. c.constructors.invariant.opened n (omega (arith, low, c.constructors-test.false)) j ks inside listed)
+pub returns : goal.returns
+returns g c = record {
+  sound = c.constructors.invariant.sound;
+  better = c.constructors.invariant.better;
+  opened = run_touched (g.T.Theory.meaning c.args.self.now.theory.now) c.args.self.now.ranks.now c.args.self.now.rules.now c.args.known.now.classes.items c.args.known.now.places.items c.constructors.pending (λ n low j ks inside listed. c.constructors.invariant.opened n (omega (arith, low, c.constructors-test.false)) j ks inside listed);
+  few = c.constructors.invariant.few;
+  splits = c.constructors.invariant.splits;
+  stop = tt;
+}
 
 pub constructors-init : goal.constructors-init
 constructors-init g c = record { sound = c.requires.sound; better = λ q n m. m; splits = c.requires.splits; few = c.requires.few; opened = λ n low. absurd (omega (arith, low)) }
 
-pub returns-clause-sound : goal.returns-clause-sound
-returns-clause-sound g c = c.constructors.invariant.sound
-
-pub returns-clause-better : goal.returns-clause-better
-returns-clause-better g c = c.constructors.invariant.better
-
-pub returns-clause-splits : goal.returns-clause-splits
-returns-clause-splits g c = c.constructors.invariant.splits
-
-pub returns-clause-few : goal.returns-clause-few
-returns-clause-few g c = c.constructors.invariant.few
-
-pub returns-in_err-open_place-clause-stop : goal.returns-in_err-open_place-clause-stop
-returns-in_err-open_place-clause-stop g c = passed c.from_residual.result _ c.in_err-open_place.field-0.0 c.from_residual.ensures.1 c.in_err-open_place.ensures.stop
-
-pub returns-in_err-open_place-clause-sound : goal.returns-in_err-open_place-clause-sound
-returns-in_err-open_place-clause-sound g c = IfOk-from_err c.from_residual.result _ c.from_residual.ensures.0
-
-pub returns-in_err-open_place-clause-better : goal.returns-in_err-open_place-clause-better
-returns-in_err-open_place-clause-better g c = IfOk-from_err c.from_residual.result _ c.from_residual.ensures.0
-
-pub returns-in_err-open_place-clause-opened : goal.returns-in_err-open_place-clause-opened
-returns-in_err-open_place-clause-opened g c = IfOk-from_err c.from_residual.result _ c.from_residual.ensures.0
-
-pub returns-in_err-open_place-clause-few : goal.returns-in_err-open_place-clause-few
-returns-in_err-open_place-clause-few g c = IfOk-from_err c.from_residual.result _ c.from_residual.ensures.0
-
-pub returns-in_err-open_place-clause-splits : goal.returns-in_err-open_place-clause-splits
-returns-in_err-open_place-clause-splits g c = IfOk-from_err c.from_residual.result _ c.from_residual.ensures.0
+pub returns-in_err-open_place : goal.returns-in_err-open_place
+returns-in_err-open_place g c = record {
+  sound = IfOk-from_err c.from_residual.result _ c.from_residual.ensures.0;
+  better = IfOk-from_err c.from_residual.result _ c.from_residual.ensures.0;
+  opened = IfOk-from_err c.from_residual.result _ c.from_residual.ensures.0;
+  few = IfOk-from_err c.from_residual.result _ c.from_residual.ensures.0;
+  splits = IfOk-from_err c.from_residual.result _ c.from_residual.ensures.0;
+  stop = passed c.from_residual.result _ c.in_err-open_place.field-0.0 c.from_residual.ensures.1 c.in_err-open_place.ensures.stop;
+}

@@ -15,20 +15,20 @@ use Rattle.sta_classes.proofs.Turns.{opened_later}
 use Rattle.sta_classes.proofs.Keeping.{passed}
 use Rattle.sta_classes.proofs.search.Search.open_place.Goals as goal
 
-pub open-requires-clause-wide : goal.open-requires-clause-wide
-open-requires-clause-wide g c = ap length c.deref-in-lists.ensures.value ∙ (((lists_same (Contains (lists_of c.in_ok-lists.lists.items)) c.deref.result.now (get_or (lists_of c.args.known.now.places.items) c.args.constructor []) c.args.place _ (length c.args.known.now.classes.items - 1) (get_or c.args.self.now.ranks.now c.args.constructor 0)
-    (list_at c.args.known.now.places.items c.args.constructor c.index.result.now c.deref.result.now (omega (arith, c.requires.low, c.requires.kinds.many)) c.index.ensures c.deref.ensures.value) (omega (arith, c.len-last.ensures, c.args.known.now.classes.ok.0)) (c.requires.kinds.each c.args.constructor c.requires.low).many c.in_ok-lists.ensures c.children-item.result.items).0 (in_map (λ v. v.items) c.in_ok-lists.lists.items c.children-item.result (subst (λ l. Contains l c.children-item.result) c.deref-children-items.ensures.value (c.lists.children-index, c.lists-test.true, sym c.children-item.is))))).0
-
-pub open-requires-clause-children : goal.open-requires-clause-children
-open-requires-clause-children g c =
-    subst (All (λ k. k < length c.args.known.now.classes.items)) (sym c.deref-in-lists.ensures.value) (list_low g.T.Theory.atom_holds c.args.self.now.ranks.now c.args.self.now.rules.now c.args.known.now.classes.items c.args.known.now.places.items c.requires.kinds c.args.constructor c.args.place (length c.args.known.now.classes.items - 1) c.children-item.result.items c.requires.low ((lists_same (Contains (lists_of c.in_ok-lists.lists.items)) c.deref.result.now (get_or (lists_of c.args.known.now.places.items) c.args.constructor []) c.args.place _ (length c.args.known.now.classes.items - 1) (get_or c.args.self.now.ranks.now c.args.constructor 0)
-    (list_at c.args.known.now.places.items c.args.constructor c.index.result.now c.deref.result.now (omega (arith, c.requires.low, c.requires.kinds.many)) c.index.ensures c.deref.ensures.value) (omega (arith, c.len-last.ensures, c.args.known.now.classes.ok.0)) (c.requires.kinds.each c.args.constructor c.requires.low).many c.in_ok-lists.ensures c.children-item.result.items).0 (in_map (λ v. v.items) c.in_ok-lists.lists.items c.children-item.result (subst (λ l. Contains l c.children-item.result) c.deref-children-items.ensures.value (c.lists.children-index, c.lists-test.true, sym c.children-item.is)))))
-
-pub open-requires-clause-above : goal.open-requires-clause-above
-open-requires-clause-above g c k low =
-    subst (λ ks. get_or (counts_of (founds g.T.Theory.label_of c.args.known.now.classes.items)) k 0 ≤ cost CAP (nodes_at (founds g.T.Theory.label_of c.args.known.now.classes.items) ks)) (sym c.deref-in-lists.ensures.value)
-    (above_all c.args.self.now.ranks.now (g.T.Theory.meaning c.args.self.now.theory.now).has (g.T.Theory.meaning c.args.self.now.theory.now).keeps (meaning_of g.T.Theory.atom_holds (plain_rules c.args.self.now.rules.now)) g.T.Theory.label_of c.args.known.now.classes.items c.lists.pending c.lists.invariant.sound c.children-item.result.items (list_has g.T.Theory.atom_holds c.args.self.now.ranks.now c.args.self.now.rules.now c.args.known.now.classes.items c.args.known.now.places.items c.requires.kinds c.args.constructor c.args.place (length c.args.known.now.classes.items - 1) c.children-item.result.items c.requires.place ((lists_same (Contains (lists_of c.in_ok-lists.lists.items)) c.deref.result.now (get_or (lists_of c.args.known.now.places.items) c.args.constructor []) c.args.place _ (length c.args.known.now.classes.items - 1) (get_or c.args.self.now.ranks.now c.args.constructor 0)
-    (list_at c.args.known.now.places.items c.args.constructor c.index.result.now c.deref.result.now (omega (arith, c.requires.low, c.requires.kinds.many)) c.index.ensures c.deref.ensures.value) (omega (arith, c.len-last.ensures, c.args.known.now.classes.ok.0)) (c.requires.kinds.each c.args.constructor c.requires.low).many c.in_ok-lists.ensures c.children-item.result.items).0 (in_map (λ v. v.items) c.in_ok-lists.lists.items c.children-item.result (subst (λ l. Contains l c.children-item.result) c.deref-children-items.ensures.value (c.lists.children-index, c.lists-test.true, sym c.children-item.is))))) k low)
+pub open-requires : goal.open-requires
+open-requires g c = record {
+  ready = c.requires.ready;
+  low = c.requires.low;
+  wide = ap length c.deref-in-lists.ensures.value ∙ (((lists_same (Contains (lists_of c.in_ok-lists.lists.items)) c.deref.result.now (get_or (lists_of c.args.known.now.places.items) c.args.constructor []) c.args.place _ (length c.args.known.now.classes.items - 1) (get_or c.args.self.now.ranks.now c.args.constructor 0)
+      (list_at c.args.known.now.places.items c.args.constructor c.index.result.now c.deref.result.now (omega (arith, c.requires.low, c.requires.kinds.many)) c.index.ensures c.deref.ensures.value) (omega (arith, c.len-last.ensures, c.args.known.now.classes.ok.0)) (c.requires.kinds.each c.args.constructor c.requires.low).many c.in_ok-lists.ensures c.children-item.result.items).0 (in_map (λ v. v.items) c.in_ok-lists.lists.items c.children-item.result (subst (λ l. Contains l c.children-item.result) c.deref-children-items.ensures.value (c.lists.children-index, c.lists-test.true, sym c.children-item.is))))).0;
+  children = subst (All (λ k. k < length c.args.known.now.classes.items)) (sym c.deref-in-lists.ensures.value) (list_low g.T.Theory.atom_holds c.args.self.now.ranks.now c.args.self.now.rules.now c.args.known.now.classes.items c.args.known.now.places.items c.requires.kinds c.args.constructor c.args.place (length c.args.known.now.classes.items - 1) c.children-item.result.items c.requires.low ((lists_same (Contains (lists_of c.in_ok-lists.lists.items)) c.deref.result.now (get_or (lists_of c.args.known.now.places.items) c.args.constructor []) c.args.place _ (length c.args.known.now.classes.items - 1) (get_or c.args.self.now.ranks.now c.args.constructor 0)
+      (list_at c.args.known.now.places.items c.args.constructor c.index.result.now c.deref.result.now (omega (arith, c.requires.low, c.requires.kinds.many)) c.index.ensures c.deref.ensures.value) (omega (arith, c.len-last.ensures, c.args.known.now.classes.ok.0)) (c.requires.kinds.each c.args.constructor c.requires.low).many c.in_ok-lists.ensures c.children-item.result.items).0 (in_map (λ v. v.items) c.in_ok-lists.lists.items c.children-item.result (subst (λ l. Contains l c.children-item.result) c.deref-children-items.ensures.value (c.lists.children-index, c.lists-test.true, sym c.children-item.is)))));
+  above = λ k low. subst (λ ks. get_or (counts_of (founds g.T.Theory.label_of c.args.known.now.classes.items)) k 0 ≤ cost CAP (nodes_at (founds g.T.Theory.label_of c.args.known.now.classes.items) ks)) (sym c.deref-in-lists.ensures.value)
+      (above_all c.args.self.now.ranks.now (g.T.Theory.meaning c.args.self.now.theory.now).has (g.T.Theory.meaning c.args.self.now.theory.now).keeps (meaning_of g.T.Theory.atom_holds (plain_rules c.args.self.now.rules.now)) g.T.Theory.label_of c.args.known.now.classes.items c.lists.pending c.lists.invariant.sound c.children-item.result.items (list_has g.T.Theory.atom_holds c.args.self.now.ranks.now c.args.self.now.rules.now c.args.known.now.classes.items c.args.known.now.places.items c.requires.kinds c.args.constructor c.args.place (length c.args.known.now.classes.items - 1) c.children-item.result.items c.requires.place ((lists_same (Contains (lists_of c.in_ok-lists.lists.items)) c.deref.result.now (get_or (lists_of c.args.known.now.places.items) c.args.constructor []) c.args.place _ (length c.args.known.now.classes.items - 1) (get_or c.args.self.now.ranks.now c.args.constructor 0)
+      (list_at c.args.known.now.places.items c.args.constructor c.index.result.now c.deref.result.now (omega (arith, c.requires.low, c.requires.kinds.many)) c.index.ensures c.deref.ensures.value) (omega (arith, c.len-last.ensures, c.args.known.now.classes.ok.0)) (c.requires.kinds.each c.args.constructor c.requires.low).many c.in_ok-lists.ensures c.children-item.result.items).0 (in_map (λ v. v.items) c.in_ok-lists.lists.items c.children-item.result (subst (λ l. Contains l c.children-item.result) c.deref-children-items.ensures.value (c.lists.children-index, c.lists-test.true, sym c.children-item.is))))) k low);
+  sound = c.lists.invariant.sound;
+  splits = c.lists.invariant.splits;
+}
 
 pub lists-preserved : goal.lists-preserved
 lists-preserved g c = record {
@@ -46,74 +46,40 @@ lists-preserved g c = record {
   ];
 }
 
-pub returns-clause-opened : goal.returns-clause-opened
-returns-clause-opened g c ks listed =
-    let (i, low, is) = (lists_same (Contains (lists_of c.in_ok-lists.lists.items)) c.deref.result.now (get_or (lists_of c.args.known.now.places.items) c.args.constructor []) c.args.place _ (length c.args.known.now.classes.items - 1) (get_or c.args.self.now.ranks.now c.args.constructor 0)
-    (list_at c.args.known.now.places.items c.args.constructor c.index.result.now c.deref.result.now (omega (arith, c.requires.low, c.requires.kinds.many)) c.index.ensures c.deref.ensures.value) (omega (arith, c.len-last.ensures, c.args.known.now.classes.ok.0)) (c.requires.kinds.each c.args.constructor c.requires.low).many c.in_ok-lists.ensures ks).1 listed in
-    let long : length (lists_of c.deref-children-items.result.now) ≡ length (lists_of c.in_ok-lists.lists.items) = ap (λ l. length (lists_of l)) c.deref-children-items.ensures.value in
-    let count : length (lists_of c.deref-children-items.result.now) ≡ length c.deref-children-items.result.now = length-map c.deref-children-items.result.now (λ v. v.items) in
-    subst (IsOpened c.args.self.now.ranks.now (g.T.Theory.meaning c.args.self.now.theory.now).has (g.T.Theory.meaning c.args.self.now.theory.now).keeps (meaning_of g.T.Theory.atom_holds (plain_rules c.args.self.now.rules.now)) g.T.Theory.label_of c.args.known.now.classes.items c.lists.pending c.args.constructor) (ap (λ l. get_or (lists_of l) i []) c.deref-children-items.ensures.value ∙ same_default (lists_of c.in_ok-lists.lists.items) i [] ks low ∙ is)
-    (c.lists.invariant.opened i (omega (arith, low, long, count, c.lists-test.false)) (omega (arith, low, long)))
-
-pub open-requires-clause-ready : goal.open-requires-clause-ready
-open-requires-clause-ready g c = c.requires.ready
-
-pub open-requires-clause-low : goal.open-requires-clause-low
-open-requires-clause-low g c = c.requires.low
-
-pub open-requires-clause-sound : goal.open-requires-clause-sound
-open-requires-clause-sound g c = c.lists.invariant.sound
-
-pub open-requires-clause-splits : goal.open-requires-clause-splits
-open-requires-clause-splits g c = c.lists.invariant.splits
+pub returns : goal.returns
+returns g c = record {
+  sound = c.lists.invariant.sound;
+  better = c.lists.invariant.better;
+  opened = λ ks listed. let (i, low, is) = (lists_same (Contains (lists_of c.in_ok-lists.lists.items)) c.deref.result.now (get_or (lists_of c.args.known.now.places.items) c.args.constructor []) c.args.place _ (length c.args.known.now.classes.items - 1) (get_or c.args.self.now.ranks.now c.args.constructor 0)
+      (list_at c.args.known.now.places.items c.args.constructor c.index.result.now c.deref.result.now (omega (arith, c.requires.low, c.requires.kinds.many)) c.index.ensures c.deref.ensures.value) (omega (arith, c.len-last.ensures, c.args.known.now.classes.ok.0)) (c.requires.kinds.each c.args.constructor c.requires.low).many c.in_ok-lists.ensures ks).1 listed in
+      let long : length (lists_of c.deref-children-items.result.now) ≡ length (lists_of c.in_ok-lists.lists.items) = ap (λ l. length (lists_of l)) c.deref-children-items.ensures.value in
+      let count : length (lists_of c.deref-children-items.result.now) ≡ length c.deref-children-items.result.now = length-map c.deref-children-items.result.now (λ v. v.items) in
+      subst (IsOpened c.args.self.now.ranks.now (g.T.Theory.meaning c.args.self.now.theory.now).has (g.T.Theory.meaning c.args.self.now.theory.now).keeps (meaning_of g.T.Theory.atom_holds (plain_rules c.args.self.now.rules.now)) g.T.Theory.label_of c.args.known.now.classes.items c.lists.pending c.args.constructor) (ap (λ l. get_or (lists_of l) i []) c.deref-children-items.ensures.value ∙ same_default (lists_of c.in_ok-lists.lists.items) i [] ks low ∙ is)
+      (c.lists.invariant.opened i (omega (arith, low, long, count, c.lists-test.false)) (omega (arith, low, long)));
+  few = c.lists.invariant.few;
+  splits = c.lists.invariant.splits;
+  stop = tt;
+}
 
 pub lists-init : goal.lists-init
 lists-init g c = record { sound = c.requires.sound; better = λ q n m. m; splits = c.requires.splits; few = c.requires.few; opened = λ i low inside. absurd (omega (arith, low)) }
 
-pub returns-clause-sound : goal.returns-clause-sound
-returns-clause-sound g c = c.lists.invariant.sound
+pub returns-in_err-open : goal.returns-in_err-open
+returns-in_err-open g c = record {
+  sound = IfOk-from_err c.from_residual-in_err-open.result _ c.from_residual-in_err-open.ensures.0;
+  better = IfOk-from_err c.from_residual-in_err-open.result _ c.from_residual-in_err-open.ensures.0;
+  opened = IfOk-from_err c.from_residual-in_err-open.result _ c.from_residual-in_err-open.ensures.0;
+  few = IfOk-from_err c.from_residual-in_err-open.result _ c.from_residual-in_err-open.ensures.0;
+  splits = IfOk-from_err c.from_residual-in_err-open.result _ c.from_residual-in_err-open.ensures.0;
+  stop = passed c.from_residual-in_err-open.result _ c.in_err-open.field-0.0 c.from_residual-in_err-open.ensures.1 c.in_err-open.ensures.stop;
+}
 
-pub returns-clause-better : goal.returns-clause-better
-returns-clause-better g c = c.lists.invariant.better
-
-pub returns-clause-few : goal.returns-clause-few
-returns-clause-few g c = c.lists.invariant.few
-
-pub returns-clause-splits : goal.returns-clause-splits
-returns-clause-splits g c = c.lists.invariant.splits
-
-pub returns-in_err-open-clause-stop : goal.returns-in_err-open-clause-stop
-returns-in_err-open-clause-stop g c = passed c.from_residual-in_err-open.result _ c.in_err-open.field-0.0 c.from_residual-in_err-open.ensures.1 c.in_err-open.ensures.stop
-
-pub returns-in_err-lists-clause-stop : goal.returns-in_err-lists-clause-stop
-returns-in_err-lists-clause-stop g c = passed c.from_residual.result _ _ c.from_residual.ensures.1 tt
-
-pub returns-in_err-lists-clause-sound : goal.returns-in_err-lists-clause-sound
-returns-in_err-lists-clause-sound g c = IfOk-from_err c.from_residual.result _ c.from_residual.ensures.0
-
-pub returns-in_err-lists-clause-better : goal.returns-in_err-lists-clause-better
-returns-in_err-lists-clause-better g c = IfOk-from_err c.from_residual.result _ c.from_residual.ensures.0
-
-pub returns-in_err-lists-clause-opened : goal.returns-in_err-lists-clause-opened
-returns-in_err-lists-clause-opened g c = IfOk-from_err c.from_residual.result _ c.from_residual.ensures.0
-
-pub returns-in_err-lists-clause-few : goal.returns-in_err-lists-clause-few
-returns-in_err-lists-clause-few g c = IfOk-from_err c.from_residual.result _ c.from_residual.ensures.0
-
-pub returns-in_err-lists-clause-splits : goal.returns-in_err-lists-clause-splits
-returns-in_err-lists-clause-splits g c = IfOk-from_err c.from_residual.result _ c.from_residual.ensures.0
-
-pub returns-in_err-open-clause-sound : goal.returns-in_err-open-clause-sound
-returns-in_err-open-clause-sound g c = IfOk-from_err c.from_residual-in_err-open.result _ c.from_residual-in_err-open.ensures.0
-
-pub returns-in_err-open-clause-better : goal.returns-in_err-open-clause-better
-returns-in_err-open-clause-better g c = IfOk-from_err c.from_residual-in_err-open.result _ c.from_residual-in_err-open.ensures.0
-
-pub returns-in_err-open-clause-opened : goal.returns-in_err-open-clause-opened
-returns-in_err-open-clause-opened g c = IfOk-from_err c.from_residual-in_err-open.result _ c.from_residual-in_err-open.ensures.0
-
-pub returns-in_err-open-clause-few : goal.returns-in_err-open-clause-few
-returns-in_err-open-clause-few g c = IfOk-from_err c.from_residual-in_err-open.result _ c.from_residual-in_err-open.ensures.0
-
-pub returns-in_err-open-clause-splits : goal.returns-in_err-open-clause-splits
-returns-in_err-open-clause-splits g c = IfOk-from_err c.from_residual-in_err-open.result _ c.from_residual-in_err-open.ensures.0
+pub returns-in_err-lists : goal.returns-in_err-lists
+returns-in_err-lists g c = record {
+  sound = IfOk-from_err c.from_residual.result _ c.from_residual.ensures.0;
+  better = IfOk-from_err c.from_residual.result _ c.from_residual.ensures.0;
+  opened = IfOk-from_err c.from_residual.result _ c.from_residual.ensures.0;
+  few = IfOk-from_err c.from_residual.result _ c.from_residual.ensures.0;
+  splits = IfOk-from_err c.from_residual.result _ c.from_residual.ensures.0;
+  stop = passed c.from_residual.result _ _ c.from_residual.ensures.1 tt;
+}

@@ -15,35 +15,33 @@ use Rattle.sta_classes.proofs.Trees.{row_long, guard_here}
 use Rattle.sta_classes.proofs.Fired.{row_holds, row_atoms}
 use Rattle.sta_classes.proofs.table.Table.guard.Goals as goal
 
-pub row_formula-requires-clause-row : goal.row_formula-requires-clause-row
-row_formula-requires-clause-row g c =
-    row_long c.self.inside.sta.now c.self.inside.known.classes.items _ c.args.self.now c.self.view_is c.args.class c.index.result.now c.requires.known c.index.ensures g.T.Theory.label_of CAP g.T.Theory.atom_holds (g.T.Theory.meaning c.args.theory.now).has (g.T.Theory.meaning c.args.theory.now).keeps c.requires.built
-    ∙ sym (ap length c.rules.ensures.rules) ∙ length-map c.rules.result.now (λ those. map plain_rule those.items)
+pub row_formula-requires : goal.row_formula-requires
+row_formula-requires g c = record {
+  children = subst₂ (λ n ks. All (λ k. k < n) ks) (ap (λ z. length z.found) (sym c.self.view_is) ∙ length-map c.self.inside.known.classes.items plain_class ∙ sym (ap length c.deref.ensures.value)) (sym (c.deref-2.ensures.value ∙ c.in_ok-children.ensures)) c.requires.children;
+  row = row_long c.self.inside.sta.now c.self.inside.known.classes.items _ c.args.self.now c.self.view_is c.args.class c.index.result.now c.requires.known c.index.ensures g.T.Theory.label_of CAP g.T.Theory.atom_holds (g.T.Theory.meaning c.args.theory.now).has (g.T.Theory.meaning c.args.theory.now).keeps c.requires.built
+      ∙ sym (ap length c.rules.ensures.rules) ∙ length-map c.rules.result.now (λ those. map plain_rule those.items);
+}
 
-pub returns-clause-holds : goal.returns-clause-holds
-returns-clause-holds g c = with_value c.row_formula.result _ (λ formula e l.
-    let qs = class_rows_at c.deref.result.now c.deref-2.result.now in
-    let rules = plain_rules c.rules.result.now in
-    let long : length c.index.result.now.row ≡ length rules =
-    row_long c.self.inside.sta.now c.self.inside.known.classes.items _ c.args.self.now c.self.view_is c.args.class c.index.result.now c.requires.known c.index.ensures g.T.Theory.label_of CAP g.T.Theory.atom_holds (g.T.Theory.meaning c.args.theory.now).has (g.T.Theory.meaning c.args.theory.now).keeps c.requires.built
-    ∙ sym (ap length c.rules.ensures.rules) in
-    guard_here c.self.inside.sta.now c.self.inside.known.classes.items _ c.args.self.now c.self.view_is c.args.class c.index.result.now c.requires.known c.index.ensures g.T.Theory.atom_holds
-    (IsTrue (formula_holds (λ a. g.T.Theory.atom_holds a l) (plain_formula formula))) rules c.deref.result.now c.args.children.now c.deref-2.result.now c.index.result.now.row c.args.constructor l
-    c.rules.ensures.rules c.deref.ensures.value (c.deref-2.ensures.value ∙ c.in_ok-children.ensures) refl
-    (subst (λ f. IsTrue (formula_holds (λ a. g.T.Theory.atom_holds a l) f) ↔ (step (meaning_of g.T.Theory.atom_holds rules) c.args.constructor l qs ≡ c.index.result.now.row)) (sym (IfOk-at_ok _ e c.row_formula.ensures))
-    (row_holds c.args.constructor qs g.T.Theory.atom_holds l rules c.index.result.now.row long)))
+pub returns : goal.returns
+returns g c = record {
+  holds = with_value c.row_formula.result _ (λ formula e l.
+      let qs = class_rows_at c.deref.result.now c.deref-2.result.now in
+      let rules = plain_rules c.rules.result.now in
+      let long : length c.index.result.now.row ≡ length rules =
+      row_long c.self.inside.sta.now c.self.inside.known.classes.items _ c.args.self.now c.self.view_is c.args.class c.index.result.now c.requires.known c.index.ensures g.T.Theory.label_of CAP g.T.Theory.atom_holds (g.T.Theory.meaning c.args.theory.now).has (g.T.Theory.meaning c.args.theory.now).keeps c.requires.built
+      ∙ sym (ap length c.rules.ensures.rules) in
+      guard_here c.self.inside.sta.now c.self.inside.known.classes.items _ c.args.self.now c.self.view_is c.args.class c.index.result.now c.requires.known c.index.ensures g.T.Theory.atom_holds
+      (IsTrue (formula_holds (λ a. g.T.Theory.atom_holds a l) (plain_formula formula))) rules c.deref.result.now c.args.children.now c.deref-2.result.now c.index.result.now.row c.args.constructor l
+      c.rules.ensures.rules c.deref.ensures.value (c.deref-2.ensures.value ∙ c.in_ok-children.ensures) refl
+      (subst (λ f. IsTrue (formula_holds (λ a. g.T.Theory.atom_holds a l) f) ↔ (step (meaning_of g.T.Theory.atom_holds rules) c.args.constructor l qs ≡ c.index.result.now.row)) (sym (IfOk-at_ok _ e c.row_formula.ensures))
+      (row_holds c.args.constructor qs g.T.Theory.atom_holds l rules c.index.result.now.row long)));
+  atoms = with_value c.row_formula.result _ (λ formula e.
+      subst₂ (λ f rs. EachHasEqual g.A.PartialEq.eq (atoms_in f) (atoms_of_all (all_guards rs))) (sym (IfOk-at_ok _ e c.row_formula.ensures)) (c.rules.ensures.rules ∙ ap (λ z. z.machine.rules) c.self.view_is)
+      (row_atoms c.args.constructor (class_rows_at c.deref.result.now c.deref-2.result.now) g.A.PartialEq.eq g.met.A.Eq.laws (plain_rules c.rules.result.now) c.index.result.now.row));
+}
 
-pub returns-clause-atoms : goal.returns-clause-atoms
-returns-clause-atoms g c = with_value c.row_formula.result _ (λ formula e.
-    subst₂ (λ f rs. EachHasEqual g.A.PartialEq.eq (atoms_in f) (atoms_of_all (all_guards rs))) (sym (IfOk-at_ok _ e c.row_formula.ensures)) (c.rules.ensures.rules ∙ ap (λ z. z.machine.rules) c.self.view_is)
-    (row_atoms c.args.constructor (class_rows_at c.deref.result.now c.deref-2.result.now) g.A.PartialEq.eq g.met.A.Eq.laws (plain_rules c.rules.result.now) c.index.result.now.row))
-
-pub row_formula-requires-clause-children : goal.row_formula-requires-clause-children
-row_formula-requires-clause-children g c =
-    subst₂ (λ n ks. All (λ k. k < n) ks) (ap (λ z. length z.found) (sym c.self.view_is) ∙ length-map c.self.inside.known.classes.items plain_class ∙ sym (ap length c.deref.ensures.value)) (sym (c.deref-2.ensures.value ∙ c.in_ok-children.ensures)) c.requires.children
-
-pub returns-in_err-children-clause-holds : goal.returns-in_err-children-clause-holds
-returns-in_err-children-clause-holds g c = IfOk-from_err c.from_residual.result _ c.from_residual.ensures.0
-
-pub returns-in_err-children-clause-atoms : goal.returns-in_err-children-clause-atoms
-returns-in_err-children-clause-atoms g c = IfOk-from_err c.from_residual.result _ c.from_residual.ensures.0
+pub returns-in_err-children : goal.returns-in_err-children
+returns-in_err-children g c = record {
+  holds = IfOk-from_err c.from_residual.result _ c.from_residual.ensures.0;
+  atoms = IfOk-from_err c.from_residual.result _ c.from_residual.ensures.0;
+}
