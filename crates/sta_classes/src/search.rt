@@ -241,7 +241,8 @@ impl<T: Theory> Search<'_, T> {
         })
     }
 
-    /// Offers the trees of no children, and takes turns until no candidate is left.
+    /// Offers the trees of no children, and takes turns until no candidate is left. A turn makes the candidate that it takes
+    /// one more class, and offers the trees over it.
     fn go_on(&self, course: &mut Course<T::Value>) -> Result<(), ClassStop<T::Chain>>
         requires ready { IsReady T.Atom.eq (T.atom_fits self.now.theory.now) self.now.ranks.now self.now.rules.now self.now.own.now }
         requires none { course.old.known.classes.items ≡ [] }
