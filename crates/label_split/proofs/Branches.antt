@@ -1,14 +1,19 @@
 -- Which labels a search has still to look at.
-use Rattle.std.proofs.Common.{◌≡◌, Bool, true, false, not, Option, Some, None, List, [], ◌∷◌, ◌++◌, length, ℕ, suc, ◌+◌, ◌<◌, ◌≤◌, ◌⊎◌, inl, inr, refl, sym, ap, ◌∙◌, subst, All, arith}
+use Rattle.std.proofs.Common.{◌≡◌, Bool, true, false, not, Option, Some, None, List, [], ◌∷◌, ◌++◌, length, ℕ, zero, suc, ◌+◌, ◌<◌, ◌≤◌, ◌⊎◌, inl, inr, refl, sym, ap, ◌∙◌, subst, All, Result, Ok, Err, IfOk, OnOk, IfSome, MatchResult, replicate, ◌==◌, rules, arith}
 use Rattle.std.proofs.Math.ListN.{set}
-use Rattle.std.proofs.lemmas.List.{map-append}
+use Rattle.std.proofs.lemmas.List.{map-append, length-set, length-replicate}
+use Rattle.std.proofs.lemmas.Bool.Decides.{Decides-at, Decides-eqb, not_from_Decides}
 use Rattle.model_tree.specs.Label.{Label}
 use Rattle.label_core.specs.Meaning.{Meaning, IsChainOver}
-use Rattle.label_core.specs.Verdict.{OnlyFar}
-use Rattle.label_split.specs.Known.{known_at, truth_at, Follows, Forces}
+use Rattle.label_core.specs.Verdict.{Decides}
+use Rattle.label_core.specs.declared.theory.Verdict.{Verdict}
+use Rattle.label_core.specs.declared.theory.Verdict.TheVariants.{Sat, Unsat, Wide}
+use Rattle.label_split.specs.Known.{known_at, truth_at, Agrees, Follows, Forces}
 use Rattle.label_split.specs.Numbers.{truths_at}
 use Rattle.label_split.specs.declared.known.Known.{Known}
-use Rattle.label_split.specs.Search.{branch_lists, Covers, IsLeft, IsNearer}
+use Rattle.label_split.specs.Search.{branch_lists, with_both_signs, Answers, Covers, IsFollowed, IsLeft, IsNearer, IsTaken, Looks, MayFollow}
+use Rattle.label_split.specs.declared.search.Look.{Look}
+use Rattle.label_split.specs.declared.search.Look.TheVariants.{Found, Closed, TooWide, Again, Turn}
 use Rattle.label_split.specs.Weights.{count_open, open_weight, weight}
 use Rattle.label_split.proofs.Forcing.{forces_one}
 use Rattle.label_split.proofs.Weights.{weight_append, weight_falls, weight_falls_more, weight_pos, open_falls, open_falls_more, open_set}
@@ -61,17 +66,22 @@ module _ {A V W : Type 0} {label_of : V → Label} {holds : A → Label → Bool
   left_by left new None to h = λ l m s. to l m s (h l m s)
   left_by left new (Some w) to h = (h.0, λ f. let both = h.1 f in (both.0, λ l k s. to l (kept l k) s (both.1 l k s)))
 
-  only_other : (follows rest : Label → Type 0) (l : Label) → ¬ (follows l × asked l) → asked l → follows l ⊎ rest l → rest l
-  only_other follows rest l n s c = only_rest (λ f. n (f, s)) c
-
   -- a chain more
-  pub left_wide : (left rest : Label → Type 0) (known : List (Option Bool)) (first : Option W) (second w : W) → ((l : Label) → asked l → left l → Follows known (truths_at holds atoms l) ⊎ rest l)
-      → (IsChainOver M atoms second × M.passes second) × (M.is_far second → OnlyFar M (λ l. Follows known (truths_at holds atoms l) × asked l)) → IsNearer M.is_far first second w → IsLeft M atoms asked first left → IsLeft M atoms asked (Some w) rest
-  left_wide left rest known None second w apart d is h = subst (λ x. IsLeft M atoms asked (Some x) rest) (sym is)
-      (d.0, λ f. let only = d.1 f in ((only.0.0, only.0.1, only.0.2.1), λ l k s. only_other (λ m. Follows known (truths_at holds atoms m)) rest l (only.1 l k) s (apart l s (h l (kept l k) s))))
-  left_wide left rest known (Some first) second w apart d (inl (is, far)) h = subst (λ x. IsLeft M atoms asked (Some x) rest) (sym is)
-      (d.0, λ f. let only = d.1 f in ((only.0.0, only.0.1, only.0.2.1), λ l k s. only_other (λ m. Follows known (truths_at holds atoms m)) rest l (only.1 l k) s (apart l s ((h.1 far).1 l k s))))
-  left_wide left rest known (Some first) second w apart d (inr (is, n)) h = subst (λ x. IsLeft M atoms asked (Some x) rest) (sym is) (h.0, λ f. absurd (n f))
+  pub left_wide : (left new : Label → Type 0) (first : Option W) (second w : W) → Answers M atoms asked left new (Wide second) → IsNearer M.is_far first second w → IsLeft M atoms asked first left → IsLeft M atoms asked (Some w) new
+  left_wide left new None second w d is h = subst (λ x. IsLeft M atoms asked (Some x) new) (sym is)
+      (d.0, λ f. let only = d.1 f in (only.0, λ l k s. only.1 l k s (h l (kept l k) s)))
+  left_wide left new (Some first) second w d (inl (is, far)) h = subst (λ x. IsLeft M atoms asked (Some x) new) (sym is)
+      (d.0, λ f. let only = d.1 f in (only.0, λ l k s. only.1 l k s ((h.1 far).1 l k s)))
+  left_wide left new (Some first) second w d (inr (is, n)) h = subst (λ x. IsLeft M atoms asked (Some x) new) (sym is) (h.0, λ f. absurd (n f))
+
+  -- no label is left
+  pub none_left : (left : Label → Type 0) (w : Option W) → w ≡ None → ((l : Label) → ¬ left l) → IsLeft M atoms asked w left → Decides M asked (IsChainOver M atoms) Unsat
+  none_left left None e nothing h = λ l has s. nothing l (h l has s)
+  none_left left (Some w) e nothing h = cc
+
+  pub wide_left : (left : Label → Type 0) (w : Option W) (chain : W) → w ≡ Some chain → ((l : Label) → ¬ left l) → IsLeft M atoms asked w left → Decides M asked (IsChainOver M atoms) (Wide chain)
+  wide_left left None chain e nothing h = cc
+  wide_left left (Some w) chain e nothing h = subst (λ x. IsLeft M atoms asked x left → Decides M asked (IsChainOver M atoms) (Wide chain)) (sym e) (λ k. (k.0, λ f. let only = k.1 f in (only.0, λ l kp s. nothing l (only.1 l kp s)))) h
 
 -- ---- as lists of vectors
 
@@ -130,3 +140,125 @@ module _ (P : List Bool → Type 0) (xs : List (List (Option Bool))) (old new : 
 
 pub rest_covers : (known : List (Option Bool)) (xs : List (List (Option Bool))) (truths : List Bool) → ¬ Follows known truths → Follows known truths ⊎ Covers xs truths → Covers xs truths
 rest_covers known xs truths n c = only_rest n c
+
+-- what is left of branches of which the last one is taken, and looked at
+module _ {A V W : Type 0} {label_of : V → Label} {holds : A → Label → Bool} (M : Meaning label_of holds W) (atoms : List A) (P : List Bool → Type 0) where
+  abbrev At : Label → Type 0
+  At l = P (truths_at holds atoms l)
+
+  pub may_follow : (old known : List (Option Bool)) (look : Look V W) → Looks M atoms At old known look → MayFollow known look
+  may_follow old known (Found v) h = tt
+  may_follow old known Closed h = tt
+  may_follow old known (TooWide w) h = tt
+  may_follow old known (Again n a) h = tt
+  may_follow old known (Turn n a s) h = h.0
+
+  module _ (all xs : List (List (Option Bool))) (old known : List (Option Bool)) (e : all ≡ xs ++ old ∷ []) (many : All (λ k. length k ≡ length atoms) all) (f : Forces P old known) where
+    was : weight all ≡ weight xs + open_weight old
+    was = looked_weight xs old all e
+
+    apart : All (λ k. length k ≡ length atoms) xs × (length old ≡ length atoms)
+    apart = many_last (length atoms) xs old (subst (All (λ k. length k ≡ length atoms)) e many)
+
+    known_many : length known ≡ length atoms
+    known_many = f.many ∙ apart.1
+
+    again : (l : Label) → At l → Covers all (truths_at holds atoms l) → Follows known (truths_at holds atoms l) ⊎ Covers xs (truths_at holds atoms l)
+    again l = covers_again P xs old known f all e (truths_at holds atoms l)
+
+    none_more : weight xs < weight all
+    none_more = let less = none_less P xs old known f in let before = was in omega arith
+
+    taken_found : (v : V) → Looks M atoms At old known (Found v) → IsTaken M atoms At all xs (Sat v)
+    taken_found v h = record { less = none_more; many = apart.0; answers = h }
+
+    taken_closed : Looks M atoms At old known Closed → IsTaken M atoms At all xs Unsat
+    taken_closed h = record { less = none_more; many = apart.0; answers = λ l has s c. rest_covers known xs (truths_at holds atoms l) (λ follows. h l has follows s) (again l s c) }
+
+    taken_wide : (w : W) → Looks M atoms At old known (TooWide w) → IsTaken M atoms At all xs (Wide w)
+    taken_wide w h = record {
+      less = none_more;
+      many = apart.0;
+      answers = (h.0, λ far. let only = h.1 far in ((only.0.0, only.0.1, only.0.2.1), λ l k s c. rest_covers known xs (truths_at holds atoms l) (λ follows. only.1 l k (follows, s)) (again l s c)));
+    }
+
+    taken_again : (n k : ℕ) → Looks M atoms At old known (Again n k) → IsTaken M atoms At all (xs ++ known ∷ []) Unsat
+    taken_again n k h = record {
+      less = let less = again_less P xs old known f k h.0 h.1 in let before = was in omega arith;
+      many = many_more (length atoms) xs known apart.0 known_many;
+      answers = λ l has s c. covers_more xs known (truths_at holds atoms l) (again l s c);
+    }
+
+    taken_turn : (n k : ℕ) (sign : Bool) → Looks M atoms At old known (Turn n k sign) → IsTaken M atoms At all (with_both_signs xs known k sign) Unsat
+    taken_turn n k sign h = record {
+      less = let less = two_weight xs known k sign h.0 h.1 in let down = same_or_less P xs old known f in let before = was in omega arith;
+      many = many_more (length atoms) (xs ++ set known k (Some (not sign)) ∷ []) (set known k (Some sign)) (many_more (length atoms) xs (set known k (Some (not sign))) apart.0 (length-set known k (Some (not sign)) ∙ known_many)) (length-set known k (Some sign) ∙ known_many);
+      answers = λ l has s c. covers_two xs known k sign (truths_at holds atoms l) h.0 h.1 (again l s c);
+    }
+
+    same_taken : (new same : List (List (Option Bool))) (verdict is : Verdict V W) → (verdict ≡ is) × (new ≡ same) → IsTaken M atoms At all same is → IsTaken M atoms At all new verdict
+    same_taken new same verdict is (v, s) h = subst (λ x. IsTaken M atoms At all x verdict) (sym s) (subst (IsTaken M atoms At all same) (sym v) h)
+
+    pub taken : (new : List (List (Option Bool))) (look : Look V W) → Looks M atoms At old known look → (verdict : Verdict V W) → IsFollowed known xs new look verdict → IsTaken M atoms At all new verdict
+    taken new (Found v) h verdict is = same_taken new xs verdict (Sat v) is (taken_found v h)
+    taken new Closed h verdict is = same_taken new xs verdict Unsat is (taken_closed h)
+    taken new (TooWide w) h verdict is = same_taken new xs verdict (Wide w) is (taken_wide w h)
+    taken new (Again n k) h verdict is = same_taken new (xs ++ known ∷ []) verdict Unsat is (taken_again n k h)
+    taken new (Turn n k sign) h verdict is = same_taken new (with_both_signs xs known k sign) verdict Unsat is (taken_turn n k sign h)
+
+  -- where a look may have failed
+  pub taken_after : {E F : Type 0} (all xs : List (List (Option Bool))) (old known : List (Option Bool)) → all ≡ xs ++ old ∷ [] → All (λ k. length k ≡ length atoms) all
+      → (look : Result (Look V W) E) → OnOk look (Forces P old known) → IfOk look (Looks M atoms At old known) → (new : List (List (Option Bool))) (result : Result (Verdict V W) F)
+      → IfOk result (λ verdict. MatchResult look (λ found. IsFollowed known xs new found verdict) (λ _. ⊥)) → IfOk result (IsTaken M atoms At all new)
+  taken_after all xs old known e many look f h new (Err stop) is = is
+  taken_after all xs old known e many (Err stop) f h new (Ok verdict) is = absurd is
+  taken_after all xs old known e many (Ok found) f h new (Ok verdict) is = taken all xs old known e many f new found h verdict is
+
+-- what a search has left after such a turn
+module _ {A V W : Type 0} {label_of : V → Label} {holds : A → Label → Bool} (M : Meaning label_of holds W) (kept : (l : Label) → M.keeps l → M.has l) (atoms : List A) (P : List Bool → Type 0) where
+  abbrev Asked : Label → Type 0
+  Asked l = P (truths_at holds atoms l)
+
+  abbrev Among : List (List (Option Bool)) → Label → Type 0
+  Among lists l = Covers lists (truths_at holds atoms l)
+
+  pub left_same : (old new : List (List (Option Bool))) (w : Option W) (verdict : Verdict V W) → verdict ≡ Unsat → IsTaken M atoms Asked old new verdict → IsLeft M atoms Asked w (Among old) → IsLeft M atoms Asked w (Among new)
+  left_same old new w verdict is taken h = left_by M kept atoms Asked (Among old) (Among new) w (subst (Answers M atoms Asked (Among old) (Among new)) is taken.answers) h
+
+  pub left_nearer : (old new : List (List (Option Bool))) (first : Option W) (second w : W) (verdict : Verdict V W) → verdict ≡ Wide second → IsTaken M atoms Asked old new verdict → IsNearer M.is_far first second w → IsLeft M atoms Asked first (Among old) → IsLeft M atoms Asked (Some w) (Among new)
+  left_nearer old new first second w verdict is taken near h = left_wide M kept atoms Asked (Among old) (Among new) first second w (subst (Answers M atoms Asked (Among old) (Among new)) is taken.answers) near h
+
+  pub left_found : (old new : List (List (Option Bool))) (v : V) (verdict : Verdict V W) → verdict ≡ Sat v → IsTaken M atoms Asked old new verdict → Decides M Asked (IsChainOver M atoms) (Sat v)
+  left_found old new v verdict is taken = subst (Answers M atoms Asked (Among old) (Among new)) is taken.answers
+
+  pub passes_left : (w : Option W) (left : Label → Type 0) → IsLeft M atoms Asked w left → IfSome w M.passes
+  passes_left None left h = tt
+  passes_left (Some w) left h = h.0.1
+
+-- a look that was made
+module _ {V W E : Type 0} (known : List (Option Bool)) (old new : List (List (Option Bool))) (look : Result (Look V W) E) (found is : Look V W) (was : look ≡ Ok found) (same : found ≡ is) where
+  pub followed : (verdict : Verdict V W) → IsFollowed known old new is verdict → MatchResult look (λ one. IsFollowed known old new one verdict) (λ _. ⊥)
+  followed verdict h = subst (λ r. MatchResult r (λ one. IsFollowed known old new one verdict) (λ _. ⊥)) (sym was) (subst (λ one. IsFollowed known old new one verdict) (sym same) h)
+
+  pub may_be_followed : IfOk look (MayFollow known) → MayFollow known is
+  may_be_followed h = let at_ok : MayFollow known found = subst (λ r. IfOk r (MayFollow known)) was h in subst (MayFollow known) same at_ok
+
+-- ---- before the first turn, and after the last
+
+unknown_all : (n i : ℕ) → known_at (replicate n None) i ≡ None
+unknown_all zero i = search rules
+unknown_all (suc n) zero = search rules
+unknown_all (suc n) (suc i) = unknown_all n i
+
+pub covers_all : (n : ℕ) (lists : List (List (Option Bool))) → lists ≡ replicate n None ∷ [] → (truths : List Bool) → Covers lists truths
+covers_all n lists e truths = subst (λ xs. Covers xs truths) (sym e) (inl (λ i. subst (λ o. Agrees o (truth_at truths i)) (sym (unknown_all n i)) tt))
+
+pub many_in_one : (n : ℕ) (lists : List (List (Option Bool))) → lists ≡ replicate n None ∷ [] → All (λ k. length k ≡ n) lists
+many_in_one n lists e = subst (All (λ k. length k ≡ n)) (sym e) (All-cons (λ k. length k ≡ n) (replicate n None) [] (length-replicate n None) (All-nil (λ k. length k ≡ n)))
+
+pub some_branch : (branches : List Known) (n : ℕ) (b : Bool) → n ≡ length branches → b ≡ (n == 0) → b ≡ false → 0 < length branches
+some_branch branches n b many is e = let other : ¬ (n ≡ 0) = not_from_Decides b (Decides-at b (n == 0) is (Decides-eqb n 0)) e in omega arith
+
+pub no_branch : (branches : List Known) (n : ℕ) (b : Bool) → n ≡ length branches → b ≡ (n == 0) → b ≡ true → (truths : List Bool) → ¬ Covers (branch_lists branches) truths
+no_branch [] n b many is e truths = λ h. h
+no_branch (x ∷ branches) n b many is e truths = let none : n ≡ 0 = (Decides-at b (n == 0) is (Decides-eqb n 0)).0 e in absurd (omega arith)

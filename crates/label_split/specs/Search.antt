@@ -1,5 +1,5 @@
 -- What a search for a label has still to look at, and what it has found.
-use Rattle.std.specs.Prelude.{◌≡◌, ◌<◌, ◌⊎◌, ℕ, Bool, Option, Some, None, List, [], ◌∷◌, length, map, All, IsTrue}
+use Rattle.std.specs.Prelude.{◌≡◌, ◌<◌, ◌⊎◌, ℕ, Bool, not, Option, Some, None, List, [], ◌∷◌, ◌++◌, length, map, All, IsTrue, slice_set}
 use Rattle.model_tree.specs.Label.{Label}
 use Rattle.model_tree.specs.Formula.{formula_holds}
 use Rattle.label_core.specs.Formula.{plain_formula}
@@ -7,9 +7,11 @@ use Rattle.label_core.specs.Meaning.{Meaning, IsChainOver}
 use Rattle.label_core.specs.Verdict.{Decides, OnlyFar}
 use Rattle.label_core.specs.declared.formula.Formula.{Formula}
 use Rattle.label_core.specs.declared.theory.Verdict.{Verdict}
+use Rattle.label_core.specs.declared.theory.Verdict.TheVariants.{Sat, Unsat, Wide}
 use Rattle.label_split.specs.Known.{known_at, Follows}
 use Rattle.label_split.specs.Numbers.{truths_at, HaveSigns}
 use Rattle.label_split.specs.Signs.{atoms_in_each}
+use Rattle.label_split.specs.Weights.{weight}
 use Rattle.label_split.specs.declared.known.Known.{Known}
 use Rattle.label_split.specs.declared.search.Look.{Look}
 use Rattle.label_split.specs.declared.search.Look.TheVariants.{Found, Closed, TooWide, Again, Turn}
@@ -49,6 +51,38 @@ module _ {A V W : Type 0} {label_of : V → Label} {holds : A → Label → Bool
       Looks old known (TooWide w) = (IsChainOver M atoms w × M.passes w) × (M.is_far w → OnlyFar M (λ l. Follows known (truths_at holds atoms l) × asked l))
       Looks old known (Again formula atom) = (known_at old atom ≡ None) × (known_at known atom ≡ None → ⊥)
       Looks old known (Turn formula atom sign) = (atom < length known) × (known_at known atom ≡ None)
+
+      -- of the labels that are as asked, a value's; or that those among the branches before are among those after; or a chain, and where it is far, the same of those that are kept
+      abbrev pub Answers : (Label → Type 0) → (Label → Type 0) → Verdict V W → Type 0
+      Answers left new (Sat v) = M.keeps (label_of v) × asked (label_of v)
+      Answers left new Unsat = (l : Label) → M.has l → asked l → left l → new l
+      Answers left new (Wide w) = (IsChainOver M atoms w × M.passes w) × (M.is_far w → ((l : Label) × M.has l × asked l) × ((l : Label) → M.keeps l → asked l → left l → new l))
+
+      -- the verdict on a branch that was taken, but for what it leaves
+      pub record IsTaken (old new : List (List (Option Bool))) (verdict : Verdict V W) : Type 0 where
+        pub less : weight new < weight old
+        pub many : All (λ k. length k ≡ length atoms) new
+        pub answers : Answers (λ l. Covers old (truths_at holds atoms l)) (λ l. Covers new (truths_at holds atoms l)) verdict
+
+-- a branch for each sign of the atom, the given one last
+abbrev pub with_both_signs : List (List (Option Bool)) → List (Option Bool) → ℕ → Bool → List (List (Option Bool))
+with_both_signs branches known atom sign = (branches ++ slice_set known atom (Some (not sign)) ∷ []) ++ slice_set known atom (Some sign) ∷ []
+
+-- the atom whose signs are to be looked at is one of those of which something may be known
+abbrev pub MayFollow : {V W : Type 0} → List (Option Bool) → Look V W → Type 0
+MayFollow known (Found v) = Unit {0}
+MayFollow known Closed = Unit {0}
+MayFollow known (TooWide w) = Unit {0}
+MayFollow known (Again formula atom) = Unit {0}
+MayFollow known (Turn formula atom sign) = atom < length known
+
+-- the verdict that says what was found, and the branches that come to the others
+abbrev pub IsFollowed : {V W : Type 0} → List (Option Bool) → List (List (Option Bool)) → List (List (Option Bool)) → Look V W → Verdict V W → Type 0
+IsFollowed known old new (Found v) verdict = (verdict ≡ Sat v) × (new ≡ old)
+IsFollowed known old new Closed verdict = (verdict ≡ Unsat) × (new ≡ old)
+IsFollowed known old new (TooWide w) verdict = (verdict ≡ Wide w) × (new ≡ old)
+IsFollowed known old new (Again formula atom) verdict = (verdict ≡ Unsat) × (new ≡ old ++ known ∷ [])
+IsFollowed known old new (Turn formula atom sign) verdict = (verdict ≡ Unsat) × (new ≡ with_both_signs old known atom sign)
 
 -- whether the formula has said more of the atom, or both signs of it are to be looked at
 abbrev pub IsNext : {V W : Type 0} → ℕ → ℕ → Bool → List (Option Bool) → Look V W → Type 0

@@ -2,15 +2,14 @@
 //! asks the theory only for what is known there. A label that it shows is looked at: the next atom is one of a formula
 //! that has another sign.
 
-ghost use Rattle.std.specs.Prelude.{◌≡◌, ◌<◌, ◌+◌, ◌⊎◌, Bool, false, List, None, Some, length, IfOk, OnOk, IfSome, IfNone, All, slice_set, replicate, [], ◌∷◌};
+ghost use Rattle.std.specs.Prelude.{◌≡◌, ◌<◌, Bool, false, List, None, Some, length, IfOk, OnOk, IfSome, IfNone, MatchResult, All, slice_set, replicate, [], ◌∷◌};
 ghost use Rattle.model_tree.specs.Formula.{formula_holds};
 ghost use Rattle.label_core.specs.Formula.{joined};
 ghost use Rattle.label_core.specs.Meaning.{KeepsValue};
 ghost use Rattle.label_core.specs.declared.theory.Verdict.TheVariants.{Sat, Wide};
 ghost use Rattle.label_split.specs.Known.{Forces, Follows, known_at, truth_at, holds_at, settled};
 ghost use Rattle.label_split.specs.Numbers.{truths_at, AreAsked, HaveSigns, IsUnsettled, IsWrong, AreLiterals};
-ghost use Rattle.label_split.specs.Search.{branch_lists, Covers, DecidesKnown, DecidesSigns, IsNearer, IsNext, Looks};
-ghost use Rattle.label_split.specs.Weights.{weight, open_weight};
+ghost use Rattle.label_split.specs.Search.{branch_lists, with_both_signs, DecidesKnown, DecidesSigns, IsFollowed, IsNearer, IsNext, IsTaken, Looks, MayFollow};
 
 use crate::force::force;
 use crate::known::{Known, open_atom, settled};
@@ -289,10 +288,8 @@ fn add_branches(
     sign: bool,
     branches: &mut Vec<Known>,
 ) -> Result<(), Memory>
-    requires unknown { (atom < length known.now.signs.items) × (known_at known.now.signs.items atom ≡ None) }
-    ensures covers { OnOk result ((truths : List Bool) → Follows known.now.signs.items truths ⊎ Covers (branch_lists branches.old.items) truths → Covers (branch_lists branches.new.items) truths) }
-    ensures weight { OnOk result (weight (branch_lists branches.new.items) < weight (branch_lists branches.old.items) + open_weight known.now.signs.items) }
-    ensures many { OnOk result (All (λ k. length k ≡ length known.now.signs.items) (branch_lists branches.old.items) → All (λ k. length k ≡ length known.now.signs.items) (branch_lists branches.new.items)) }
+    requires { atom < length known.now.signs.items }
+    ensures { OnOk result (branch_lists branches.new.items ≡ with_both_signs (branch_lists branches.old.items) known.now.signs.items atom sign) }
 {
     branches.push(known.with(alloc, atom, !sign)?)?;
     branches.push(known.with(alloc, atom, sign)?)?;
@@ -307,33 +304,57 @@ pub fn note(active: &mut Vec<usize>, number: usize) -> Result<(), Memory> {
     Ok(())
 }
 
-/// Notes the formula that says more of an atom, or of which an atom is to be looked at.
-fn note_look<V, W>(look: &Look<V, W>, active: &mut Vec<usize>) -> Result<(), Memory> {
-    match look {
-        Look::Again(number, _) => note(active, *number),
-        Look::Turn(number, _, _) => note(active, *number),
-        _ => Ok(()),
+/// Does what is found in a branch: looks at it again, or at both signs of an atom, once the branches before it are done. The
+/// formula that is to be looked at comes to the active ones. The verdict is that on the branch, but for what it leaves.
+fn follow<V: Drop, W: Drop>(
+    alloc: Global,
+    look: Result<Look<V, W>, Memory>,
+    known: Known,
+    active: &mut Vec<usize>,
+    branches: &mut Vec<Known>,
+) -> Result<Verdict<V, W>, Memory>
+    requires { IfOk look (MayFollow known.signs.items) }
+    ensures { IfOk result (λ verdict. MatchResult look (λ found. IsFollowed known.signs.items (branch_lists branches.old.items) (branch_lists branches.new.items) found verdict) (λ _. ⊥)) }
+{
+    match look? {
+        Look::Found(value) => Ok(Verdict::Sat(value)),
+        Look::Closed => Ok(Verdict::Unsat),
+        Look::TooWide(chain) => Ok(Verdict::Wide(chain)),
+        Look::Again(number, _atom) => {
+            branches.push(known)?;
+            note(active, number)?;
+            Ok(Verdict::Unsat)
+        }
+        Look::Turn(number, atom, sign) => {
+            add_branches(alloc, &known, atom, sign, branches)?;
+            note(active, number)?;
+            Ok(Verdict::Unsat)
+        }
     }
 }
 
-/// The same as `look_at`. The formula that is to be looked at comes to the active ones.
-fn look_on<T: Theory>(
+/// Takes the last branch, and looks at it. The verdict is that on the branch, but for what it leaves among the branches.
+fn take_branch<T: Theory>(
     theory: &T,
     alloc: Global,
     atoms: &[T::Atom],
     asked: &Asked,
     active: &mut Vec<usize>,
-    known: &mut Known,
-) -> Result<Look<T::Value, T::Chain>, Memory>
-    requires asked { AreAsked (length known.old.signs.items) asked.now.formulas.now asked.now.signs.now }
-    requires many { length known.old.signs.items ≡ length atoms.now }
+    branches: &mut Vec<Known>,
+) -> Result<Verdict<T::Value, T::Chain>, Memory>
+    requires asked { AreAsked (length atoms.now) asked.now.formulas.now asked.now.signs.now }
     requires fit { All (T.atom_fits theory.now) atoms.now }
-    ensures forces { OnOk result (Forces (HaveSigns asked.now.formulas.now asked.now.signs.now) known.old.signs.items known.new.signs.items) }
-    ensures looks { IfOk result (Looks (T.meaning theory.now) atoms.now (λ l. HaveSigns asked.now.formulas.now asked.now.signs.now (truths_at T.atom_holds atoms.now l)) known.old.signs.items known.new.signs.items) }
+    requires many { All (λ k. length k ≡ length atoms.now) (branch_lists branches.old.items) }
+    requires some { 0 < length branches.old.items }
+    ensures { IfOk result (IsTaken (T.meaning theory.now) atoms.now (λ l. HaveSigns asked.now.formulas.now asked.now.signs.now (truths_at T.atom_holds atoms.now l)) (branch_lists branches.old.items) (branch_lists branches.new.items)) }
 {
-    let look = look_at(theory, alloc, atoms, asked, active, known)?;
-    note_look(&look, active)?;
-    Ok(look)
+    match branches.pop() {
+        None => Ok(Verdict::Unsat),
+        Some(mut known) => {
+            let look = look_at(theory, alloc, atoms, asked, active, &mut known);
+            follow(alloc, look, known, active, branches)
+        }
+    }
 }
 
 /// The branch in which nothing is known of so many atoms, alone.
@@ -371,17 +392,11 @@ pub fn search<T: Theory>(
 {
     let mut branches = one_branch(alloc, atoms.len())?;
     let mut wide = None;
-    'branches: while let Some(mut known) = branches.pop() {
-        match look_on(theory, alloc, atoms, asked, active, &mut known)? {
-            Look::Found(value) => return Ok(Verdict::Sat(value)),
-            Look::Closed => {}
-            Look::TooWide(chain) => wide = Some(nearer(theory, wide, chain)),
-            Look::Again(_, _atom) => {
-                branches.push(known)?;
-            }
-            Look::Turn(_, atom, sign) => {
-                add_branches(alloc, &known, atom, sign, &mut branches)?;
-            }
+    'branches: while !branches.is_empty() {
+        match take_branch(theory, alloc, atoms, asked, active, &mut branches)? {
+            Verdict::Unsat => {}
+            Verdict::Sat(value) => return Ok(Verdict::Sat(value)),
+            Verdict::Wide(chain) => wide = Some(nearer(theory, wide, chain)),
         }
     }
     match wide {

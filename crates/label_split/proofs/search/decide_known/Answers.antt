@@ -8,6 +8,7 @@ use Rattle.label_split.specs.Known.{Follows}
 use Rattle.label_split.specs.Numbers.{truths_at}
 use Rattle.label_split.specs.Search.{DecidesKnown}
 use Rattle.label_split.proofs.Verdicts.{decides_as, ok_as}
+use Rattle.std.proofs.lemmas.Result.{IfOk-from_err}
 use Rattle.label_split.proofs.search.decide_known.Goals as goal
 
 pub returns : goal.returns
@@ -21,8 +22,8 @@ returns g c =
     (λ w over. (literals, subst (λ equal. EachHasEqual equal (atoms_of literals) c.args.atoms.now) (sym (g.met.T.Theory.equal_is_own c.args.theory.now)) (say.among g.T.Atom.PartialEq.eq g.met.T.Atom.Eq.laws), over)))
     c.decide.result (rw c.deref.ensures.value at c.decide.ensures)
 
-pub literals_of-requires : goal.literals_of-requires
-literals_of-requires g c = c.requires.many
-
 pub decide-requires : goal.decide-requires
 decide-requires g c = subst (LitsFit (g.T.Theory.atom_fits c.args.theory.now)) (sym c.deref.ensures.value) (c.in_ok-literals.ensures.fit c.requires.fit)
+
+pub returns-in_err-literals : goal.returns-in_err-literals
+returns-in_err-literals g c = IfOk-from_err c.from_residual.result _ c.from_residual.ensures.0

@@ -1,6 +1,7 @@
 use Rattle.std.proofs.Common.{◌∙◌, sym, ap, arith}
 use Rattle.label_split.proofs.Truths.{copied}
 use Rattle.label_split.proofs.Literals.{first_none, first_open, first_more, first_all}
+use Rattle.std.proofs.lemmas.Result.{IfOk-from_err}
 use Rattle.label_split.proofs.search.literals_of.Goals.{in-Some+in_ok-atom+in_ok-push, in_default}
 use Rattle.label_split.proofs.search.literals_of.Goals as goal
 
@@ -15,3 +16,9 @@ loop-i-preserved g c = elim c.match-of.branch [
 
 pub returns : goal.returns
 returns g c = first_all g.T.Theory.atom_holds c.args.atoms.now c.args.known.now.signs.items c.loop-i.i c.loop-i.literals.items c.loop-i.invariant (omega (arith, c.loop-i-test.false, c.requires)) (g.T.Theory.atom_fits c.args._theory.now)
+
+pub returns-in_err-atom : goal.returns-in_err-atom
+returns-in_err-atom g c = IfOk-from_err c.from_residual.result _ c.from_residual.ensures.0
+
+pub returns-in_err-push : goal.returns-in_err-push
+returns-in_err-push g c = IfOk-from_err c.from_residual-in_err-push.result _ c.from_residual-in_err-push.ensures.0

@@ -2,6 +2,7 @@ use Rattle.std.proofs.Common.{sym, subst, ◌∙◌}
 use Rattle.label_split.specs.Numbers.{truths_at, AreAsked, HaveSigns}
 use Rattle.label_split.proofs.Forcing.{forces_more}
 use Rattle.label_split.proofs.Looking.{looks_more}
+use Rattle.std.proofs.lemmas.Result.{IfOk-from_err}
 use Rattle.label_split.proofs.search.look_at.Goals as goal
 
 pub returns-in-Sat-clause-forces : goal.returns-in-Sat-clause-forces
@@ -15,9 +16,6 @@ returns-in-Wide-clause-forces g c = forces_more (HaveSigns c.args.asked.now.form
 
 pub returns-in-Wide-clause-looks : goal.returns-in-Wide-clause-looks
 returns-in-Wide-clause-looks g c = looks_more (g.T.Theory.meaning c.args.theory.now) c.args.atoms.now (HaveSigns c.args.asked.now.formulas.now c.args.asked.now.signs.now) c.args.known.now.signs.items c.take_signs.new.known.signs.items c.look_at_chain.new.known.signs.items c.take_signs.ensures.forces c.look_at_chain.result c.look_at_chain.ensures.looks
-
-pub take_signs-requires : goal.take_signs-requires
-take_signs-requires g c = record { asked = c.requires.asked }
 
 pub returns-then-not-take_signs-clause-forces : goal.returns-then-not-take_signs-clause-forces
 returns-then-not-take_signs-clause-forces g c = c.take_signs.ensures.forces
@@ -45,3 +43,9 @@ look_at_chain-requires-clause-asked g c = subst (λ n. AreAsked n c.args.asked.n
 
 pub returns-in-Unsat-clause-forces : goal.returns-in-Unsat-clause-forces
 returns-in-Unsat-clause-forces g c = c.take_signs.ensures.forces
+
+pub returns-in_err-decide_known : goal.returns-in_err-decide_known
+returns-in_err-decide_known g c = record {
+  forces = IfOk-from_err c.from_residual.result _ c.from_residual.ensures.0;
+  looks = IfOk-from_err c.from_residual.result _ c.from_residual.ensures.0;
+}
