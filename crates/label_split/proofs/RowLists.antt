@@ -1,6 +1,7 @@
 -- Facts on lists of rows of signs.
-use Rattle.std.proofs.Common.{◌≡◌, ◌⊎◌, inl, inr, Bool, true, false, not, List, [], ◌∷◌, ◌++◌, map, length, get_or, All, Contains, ℕ, zero, suc, ◌<◌, ◌≤◌, ◌+◌, ◌-◌, take, refl, sym, ap, ◌∙◌, subst, append_assoc, Option, Some, None, MatchOption, arith}
+use Rattle.std.proofs.Common.{◌≡◌, ◌⊎◌, inl, inr, Bool, true, false, not, List, [], ◌∷◌, ◌++◌, map, length, get_or, All, Contains, ℕ, zero, suc, ◌<◌, ◌≤◌, ◌+◌, ◌-◌, take, refl, sym, ap, ◌∙◌, subst, append_assoc, Option, Some, None, MatchOption, Result, Ok, Err, IfOk, IfErr, MatchResult, cond, arith}
 use Rattle.std.specs.List.{AllPairs}
+use Rattle.std.specs.Result.{IsErrAnd}
 use Rattle.std.proofs.lemmas.List.{length-map, length-take, map-append}
 use Rattle.std.proofs.lemmas.List.Elements.{All-nil, All-cons, All-append, All-map, Contains-append_left, Contains-append_right, Contains-append_cases}
 use Rattle.std.proofs.lemmas.List.Quantifiers.{all_pairs_push}
@@ -11,7 +12,14 @@ use Rattle.label_split.specs.declared.rows.SignRow.{SignRow}
 use Rattle.label_split.specs.declared.rows.SplitStop.{SplitStop}
 use Rattle.label_split.specs.declared.rows.SplitStop.TheVariants.{TooMany, Wide, Memory}
 use Rattle.label_split.specs.declared.rows.Noted.{Noted}
-use Rattle.label_split.specs.Noted.{rows_of}
+use Rattle.label_split.specs.declared.rows.Sample.{Sample}
+use Rattle.label_split.specs.declared.rows.Sample.TheVariants.{Nowhere, At as At_row, Unknown}
+use Rattle.label_core.specs.declared.formula.Formula.{Formula}
+use Rattle.label_core.specs.declared.theory.Verdict.{Verdict}
+use Rattle.label_split.specs.Numbers.{number_holds}
+use Rattle.label_split.specs.Search.{DecidesSigns}
+use Rattle.label_split.specs.Signs.{signs_at}
+use Rattle.label_split.specs.Noted.{rows_of, IsFoundBy, IsSample, IsSampleAt, IsStopOf}
 use Rattle.label_split.specs.Split.{IsRow, Stops, SplitsInto, HasMoreRows, HasUnkeptRow, AreLonger, Extends, IsPartly}
 
 -- the last of a list, and what comes before it
@@ -276,3 +284,42 @@ front_again xs i low =
 
 pub long_rows : {V : Type 0} (most : ℕ) (rows : List (Noted V)) → most < length rows → most < length (rows_of rows)
 long_rows most rows l = subst (λ n. most < n) (sym (length-map rows (λ n. n.row))) l
+
+-- ---- results of parts
+
+-- a stop for a known cause
+pub stops_by : {X S : Type 0} (P : X → Type 0) (Q : S → Type 0) (r : Result X S) (stop : S) → IsErrAnd r (λ e. e ≡ stop) → Q stop → MatchResult r P Q
+stops_by P Q (Ok x) stop is h = absurd is
+stops_by P Q (Err e) stop is h = subst Q (sym is) h
+
+pub both_made : {V E : Type 0} (P : Bool → Sample V → Type 0) (on off : Sample V) (first second : Result (Sample V) E) → IfOk first (P true) → IfOk second (P false) → first ≡ Ok on → second ≡ Ok off → (s : Bool) → P s (cond s on off)
+both_made P on off first second p q is same true = subst (λ r. IfOk r (P true)) is p
+both_made P on off first second p q is same false = subst (λ r. IfOk r (P false)) same q
+
+module _ {A V W : Type 0} {label_of : V → Label} {holds : A → Label → Bool} (M : Meaning label_of holds W) (atoms : List A) (formulas : List (Formula ℕ)) (signs : List Bool) where
+  abbrev At : Label → List Bool
+  At = signs_at (number_holds holds atoms) formulas
+
+  -- what a verdict says of a row
+  pub row_found : {E F : Type 0} (verdict : Result (Verdict V W) E) → IfOk verdict (DecidesSigns M atoms formulas signs) → (result : Result (Option (Noted V)) F) (Q : F → Type 0) → MatchResult result (IsFoundBy verdict signs) Q
+      → IfOk result (λ found. MatchOption found ((l : Label) → M.has l → ¬ (At l ≡ signs)) (λ noted. IsRow M At noted.row × (noted.row.signs.items ≡ signs)))
+  row_found verdict d (Ok None) Q is = subst (λ r. IfOk r (DecidesSigns M atoms formulas signs)) is d
+  row_found verdict d (Ok (Some noted)) Q is =
+      let found = subst (λ r. IfOk r (DecidesSigns M atoms formulas signs)) is.0 d in
+      ((found.0, is.1 ∙ sym found.1), is.1)
+  row_found verdict d (Err stop) Q is = tt
+
+  pub row_stopped : {E X : Type 0} (verdict : Result (Verdict V W) E) → IfOk verdict (DecidesSigns M atoms formulas signs) → (result : Result X (SplitStop W)) (P : X → Type 0) → MatchResult result P (IsStopOf verdict) → IfErr result (Stops M ⊥ At atoms)
+  row_stopped verdict d (Ok found) P is = tt
+  row_stopped verdict d (Err TooMany) P is = is
+  row_stopped verdict d (Err (Wide w)) P is =
+      let chain = subst (λ r. IfOk r (DecidesSigns M atoms formulas signs)) is d in
+      (chain.0, λ far. let only = chain.1 far in (only.0.0, only.0.1, λ m k e. only.1 m k (e ∙ only.0.2)))
+  row_stopped verdict d (Err Memory) P is = tt
+
+  pub sample_of_row : {E F : Type 0} (sign : Bool) (row : Result (SignRow V) E) → IfOk row (IsRow M At) → (result : Result (Sample V) F) → IfOk result (λ sample. MatchResult row (IsSampleAt sample) (λ _. ⊥)) → IfOk result (IsSample M At sign)
+  sample_of_row sign row d (Err why) is = is
+  sample_of_row sign (Err why) d (Ok sample) is = absurd is
+  sample_of_row sign (Ok row) d (Ok Nowhere) is = absurd is
+  sample_of_row sign (Ok row) d (Ok (At_row noted)) is = subst (IsRow M At) (sym is) d
+  sample_of_row sign (Ok row) d (Ok Unknown) is = absurd is

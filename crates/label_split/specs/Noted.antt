@@ -1,12 +1,16 @@
 -- Rows with notes, and samples for the last of some formulas.
-use Rattle.std.specs.Prelude.{◌≡◌, Bool, Option, List, [], ◌∷◌, ◌++◌, map}
+use Rattle.std.specs.Prelude.{◌≡◌, Bool, Option, Some, None, Result, Ok, List, [], ◌∷◌, ◌++◌, map}
 use Rattle.std.specs.Option.{MatchOption}
 use Rattle.model_tree.specs.Label.{Label}
 use Rattle.label_core.specs.Meaning.{Meaning}
+use Rattle.label_core.specs.declared.theory.Verdict.{Verdict}
+use Rattle.label_core.specs.declared.theory.Verdict.TheVariants.{Sat, Unsat, Wide}
 use Rattle.label_split.specs.declared.rows.SignRow.{SignRow}
 use Rattle.label_split.specs.declared.rows.Noted.{Noted}
 use Rattle.label_split.specs.declared.rows.Sample.{Sample}
 use Rattle.label_split.specs.declared.rows.Sample.TheVariants.{Nowhere, At, Unknown}
+use Rattle.label_split.specs.declared.rows.SplitStop.{SplitStop}
+use Rattle.label_split.specs.declared.rows.SplitStop.TheVariants.{TooMany, Wide as Chain, Memory}
 use Rattle.label_split.specs.Split.{IsRow}
 
 abbrev pub rows_of : {V : Type 0} → List (Noted V) → List (SignRow V)
@@ -18,6 +22,23 @@ module _ {A V W : Type 0} {label_of : V → Label} {holds : A → Label → Bool
   IsSample signs sign Nowhere = (l : Label) → M.has l → (before : List Bool) → ¬ (signs l ≡ before ++ sign ∷ [])
   IsSample signs sign (At noted) = IsRow M signs noted.row
   IsSample signs sign Unknown = Unit {0}
+
+-- the sample is that row
+abbrev pub IsSampleAt : {V : Type 0} → Sample V → SignRow V → Type 0
+IsSampleAt Nowhere row = ⊥
+IsSampleAt (At noted) row = noted.row ≡ row
+IsSampleAt Unknown row = ⊥
+
+-- the verdict is that no label has the signs, or shows the row
+abbrev pub IsFoundBy : {V W E : Type 0} → Result (Verdict V W) E → List Bool → Option (Noted V) → Type 0
+IsFoundBy verdict signs None = verdict ≡ Ok Unsat
+IsFoundBy verdict signs (Some noted) = (verdict ≡ Ok (Sat noted.row.value)) × (noted.row.signs.items ≡ signs)
+
+-- the verdict shows the chain
+abbrev pub IsStopOf : {V W E : Type 0} → Result (Verdict V W) E → SplitStop W → Type 0
+IsStopOf verdict TooMany = ⊥
+IsStopOf verdict (Chain w) = verdict ≡ Ok (Wide w)
+IsStopOf verdict Memory = Unit {0}
 
 -- of the signs a sample shows that no label has them, or a row that it has itself
 abbrev pub ShowsSigns : {V : Type 0} → (V → Label) → Sample V → List Bool → Sample V → Type 0

@@ -1,6 +1,6 @@
 //! The rows of signs that labels have.
 
-ghost use Rattle.std.specs.Prelude.{◌≡◌, ◌<◌, ◌≤◌, ◌-◌, ◌+◌, ◌++◌, [], ◌∷◌, true, false, All, IsTrue, length, map, take, IfOk, OnOk, IfErr, MatchOption, Bool, cond, drop};
+ghost use Rattle.std.specs.Prelude.{◌≡◌, ◌<◌, ◌≤◌, ◌-◌, ◌+◌, ◌++◌, [], ◌∷◌, true, false, All, IsTrue, length, map, take, IfOk, OnOk, IfErr, MatchOption, MatchResult, Ok, Bool, cond, drop};
 ghost use Rattle.model_tree.specs.Label.{Label};
 ghost use Rattle.label_core.specs.Meaning.{KeepsValue};
 ghost use Rattle.label_core.specs.Verdict.{DecidesAll};
@@ -9,7 +9,7 @@ ghost use Rattle.label_split.specs.Numbers.{number_holds, AreAsked};
 ghost use Rattle.label_split.specs.Search.{DecidesSigns};
 ghost use Rattle.label_split.specs.Signs.{FormulasFit, signs_at};
 ghost use Rattle.label_split.specs.Split.{SplitsInto, IsRow, Stops, StopsFor, HasMoreRows, Extends};
-ghost use Rattle.label_split.specs.Noted.{rows_of, IsSample, ShowsSigns, AreAdded};
+ghost use Rattle.label_split.specs.Noted.{rows_of, IsSample, IsSampleAt, IsFoundBy, IsStopOf, ShowsSigns, AreAdded};
 
 use crate::numbers::number_all;
 use crate::search::{Asked, holds_of, note, search};
@@ -118,6 +118,16 @@ impl<V> Sampled<'_, V> {
     }
 }
 
+/// Both samples, where both were made.
+fn both_samples<V: Drop>(
+    on: Result<Sample<V>, Memory>,
+    off: Result<Sample<V>, Memory>,
+) -> Result<(Sample<V>, Sample<V>), Memory>
+    ensures { IfOk result (λ made. (on ≡ Ok made.0) × (off ≡ Ok made.1)) }
+{
+    Ok((on?, off?))
+}
+
 /// The row of no signs with this value, alone.
 fn alone<V: Drop>(alloc: Global, value: V) -> Result<Vec<Noted<V>>, Memory>
     ensures { IfOk result (λ rows. (r : SignRow V) × (r.value ≡ value) × (r.signs.items ≡ []) × (rows_of rows.items ≡ r ∷ [])) }
@@ -217,6 +227,18 @@ fn row_at<T: Theory>(
     Ok(SignRow { signs, value })
 }
 
+/// A sample of this row, that the last formula tells from others.
+fn sample_at<V: Drop>(
+    alloc: Global,
+    row: Result<SignRow<V>, Memory>,
+    last: usize,
+) -> Result<Sample<V>, Memory>
+    ensures { IfOk result (λ sample. MatchResult row (IsSampleAt sample) (λ _. ⊥)) }
+{
+    let active = vec![in alloc; last; 1]?;
+    Ok(Sample::At(Noted { row: row?, active }))
+}
+
 /// A sample for the sign of the last formula.
 fn find_sample<T: Theory>(
     theory: &T,
@@ -234,9 +256,8 @@ fn find_sample<T: Theory>(
         Verdict::Unsat => Ok(Sample::Nowhere),
         Verdict::Wide(_) => Ok(Sample::Unknown),
         Verdict::Sat(value) => {
-            let row = row_at(theory, alloc, atoms, formulas, value)?;
-            let active = vec![in alloc; formulas.len() - 1; 1]?;
-            Ok(Sample::At(Noted { row, active }))
+            let row = row_at(theory, alloc, atoms, formulas, value);
+            sample_at(alloc, row, formulas.len() - 1)
         }
     }
 }
@@ -310,38 +331,31 @@ fn tried_with(alloc: Global, active: &[usize], last: usize) -> Result<Vec<usize>
     Ok(tried)
 }
 
-/// Notes the formulas that tell a row from its neighbours: those that were tried where there is no row, and else the last.
-fn note_tried<V, W>(
-    verdict: &Verdict<V, W>,
+/// What a verdict on these signs says: the row with them and the value, if there is one. The formulas that tell the row from
+/// its neighbours come to the active ones: those that were tried where there is no row, and else the last.
+fn found_row<V: Drop, W: Drop>(
+    verdict: Result<Verdict<V, W>, Memory>,
+    signs: Vec<bool>,
+    tried: Vec<usize>,
     active: &mut Vec<usize>,
-    tried: &[usize],
     last: usize,
-) -> Result<(), Memory> {
-    match verdict {
-        Verdict::Unsat => learn(active, tried, last),
-        Verdict::Sat(_) => note(active, last),
-        Verdict::Wide(_) => Ok(()),
-    }
-}
-
-/// The verdict on whether some label has the signs. The search begins with the formulas that are tried, and adds to them;
-/// those that tell the row from its neighbours come to the active ones.
-fn search_row<T: Theory>(
-    theory: &T,
-    alloc: Global,
-    atoms: &[T::Atom],
-    asked: &Asked,
-    active: &mut Vec<usize>,
-    tried: &mut Vec<usize>,
-) -> Result<Verdict<T::Value, T::Chain>, Memory>
-    requires asked { AreAsked (length atoms.now) asked.now.formulas.now asked.now.signs.now }
-    requires fit { All (T.atom_fits theory.now) atoms.now }
-    requires some { 0 < length asked.now.formulas.now }
-    ensures { IfOk result (DecidesSigns (T.meaning theory.now) atoms.now asked.now.formulas.now asked.now.signs.now) }
+) -> Result<Option<Noted<V>>, SplitStop<W>>
+    ensures { MatchResult result (IsFoundBy verdict signs.items) (IsStopOf verdict) }
 {
-    let verdict = search(theory, alloc, atoms, asked, tried)?;
-    note_tried(&verdict, active, tried, asked.formulas.len() - 1)?;
-    Ok(verdict)
+    match verdict? {
+        Verdict::Wide(chain) => Err(SplitStop::Wide(chain)),
+        Verdict::Unsat => {
+            learn(active, &tried, last)?;
+            Ok(None)
+        }
+        Verdict::Sat(value) => {
+            note(active, last)?;
+            Ok(Some(Noted {
+                row: SignRow { signs, value },
+                active: tried,
+            }))
+        }
+    }
 }
 
 /// A row with these signs, if some label has it. The active formulas are those that the search begins with; those that
@@ -361,19 +375,14 @@ fn row_with<T: Theory>(
     ensures row { IfOk result (λ found. MatchOption found ((l : Label) → (T.meaning theory.now).has l → ¬ ((signs_at (number_holds T.atom_holds atoms.now) formulas.now) l ≡ signs.items)) (λ noted. IsRow (T.meaning theory.now) (signs_at (number_holds T.atom_holds atoms.now) formulas.now) noted.row × (noted.row.signs.items ≡ signs.items))) }
     ensures stop { IfErr result (Stops (T.meaning theory.now) ⊥ (signs_at (number_holds T.atom_holds atoms.now) formulas.now) atoms.now) }
 {
-    let mut tried = tried_with(alloc, active, formulas.len() - 1)?;
+    let last = formulas.len() - 1;
+    let mut tried = tried_with(alloc, active, last)?;
     let asked = Asked {
         formulas,
         signs: &signs,
     };
-    match search_row(theory, alloc, atoms, &asked, active, &mut tried)? {
-        Verdict::Wide(chain) => Err(SplitStop::Wide(chain)),
-        Verdict::Unsat => Ok(None),
-        Verdict::Sat(value) => Ok(Some(Noted {
-            row: SignRow { signs, value },
-            active: tried,
-        })),
-    }
+    let verdict = search(theory, alloc, atoms, &asked, &mut tried);
+    found_row(verdict, signs, tried, active, last)
 }
 
 /// The row that has one sign more than this one, if some label has it.
@@ -519,8 +528,9 @@ fn refine<T: Theory>(
     ensures rows { IfOk result (λ refined. SplitsInto (T.meaning theory.now) (signs_at (number_holds T.atom_holds atoms.now) formulas.now) (rows_of refined.items)) }
     ensures stop { IfErr result (Stops (T.meaning theory.now) ⊥ (signs_at (number_holds T.atom_holds atoms.now) formulas.now) atoms.now) }
 {
-    let on = find_sample(theory, alloc, atoms, formulas, true)?;
-    let off = find_sample(theory, alloc, atoms, formulas, false)?;
+    let on = find_sample(theory, alloc, atoms, formulas, true);
+    let off = find_sample(theory, alloc, atoms, formulas, false);
+    let (on, off) = both_samples(on, off)?;
     let last = Sampled { formulas, on, off };
     extend_each(theory, alloc, atoms, &last, rows)
 }

@@ -9,6 +9,7 @@ use Rattle.label_split.specs.Search.{DecidesEach, DecidesSigns}
 use Rattle.label_split.proofs.Signs.{all_from_signs, signs_from_all}
 use Rattle.label_split.proofs.Numbering.{gathered, atoms_fit, atoms_among, all_within, same_signs, same_length}
 use Rattle.label_split.proofs.Verdicts.{decides_as, ok_as}
+use Rattle.std.proofs.lemmas.Result.{IfOk-from_err}
 use Rattle.label_split.proofs.conjunction.find.Goals as goal
 
 pub find_numbered-requires-clause-within : goal.find_numbered-requires-clause-within
@@ -32,3 +33,6 @@ returns g c =
     (λ l h each. same_signs g.T.Atom.PartialEq.eq atoms g.T.Theory.atom_holds g.met.T.Theory.equal_atoms c.args.formulas.now numbered l c.in_ok-numbered.ensures.formulas are ∙ signs_from_all g.T.Theory.atom_holds c.args.formulas.now l signs refl each)
     (λ w over. chain_grows M g.T.Atom.PartialEq.eq (g.met.T.Theory.equal_is_own c.args.theory.now) g.met.T.Atom.Eq.laws atoms (atoms_in_each c.args.formulas.now) w (atoms_among g.T.Atom.PartialEq.eq g.met.T.Atom.Eq.laws c.args.formulas.now atoms c.in_ok-numbered.ensures.atoms) over))
     c.find_numbered.result (subst (λ n. IfOk c.find_numbered.result (DecidesSigns M atoms numbered (replicate n true))) many found)
+
+pub returns-in_err-numbered : goal.returns-in_err-numbered
+returns-in_err-numbered g c = IfOk-from_err c.from_residual.result _ c.from_residual.ensures.0

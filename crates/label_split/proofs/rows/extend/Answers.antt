@@ -5,6 +5,9 @@ use Rattle.label_split.specs.Numbers.{truths_at, number_holds}
 use Rattle.label_split.specs.Signs.{signs_at}
 use Rattle.label_split.proofs.Signs.{last_sign}
 use Rattle.label_split.proofs.RowLists.{extends_found}
+use Rattle.std.proofs.lemmas.Result.{IfOk-from_err}
+use Rattle.label_split.specs.declared.rows.SplitStop.TheVariants.{Memory}
+use Rattle.label_split.proofs.RowLists.{stops_by}
 use Rattle.label_split.proofs.rows.extend.Goals as goal
 
 pub returns-clause-added : goal.returns-clause-added
@@ -31,3 +34,15 @@ longer_row-requires-clause-fit g c = c.requires.fit
 
 pub longer_row-requires-clause-samples : goal.longer_row-requires-clause-samples
 longer_row-requires-clause-samples g c = c.requires.samples
+
+pub returns-in_err-other : goal.returns-in_err-other
+returns-in_err-other g c = record {
+  added = IfOk-from_err c.from_residual.result _ c.from_residual.ensures.0;
+  stop = stops_by _ _ c.from_residual.result c.in_err-other.field-0.0 c.from_residual.ensures.1 c.in_err-other.ensures.stop;
+}
+
+pub returns-in_err-add_rows : goal.returns-in_err-add_rows
+returns-in_err-add_rows g c = record {
+  added = IfOk-from_err c.from_residual-in_err-add_rows.result _ c.from_residual-in_err-add_rows.ensures.0;
+  stop = stops_by _ _ c.from_residual-in_err-add_rows.result Memory c.from_residual-in_err-add_rows.ensures.1 tt;
+}

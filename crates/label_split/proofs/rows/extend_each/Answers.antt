@@ -5,6 +5,9 @@ use Rattle.label_split.specs.Signs.{signs_at}
 use Rattle.label_split.specs.Noted.{rows_of}
 use Rattle.label_split.specs.Split.{IsRow}
 use Rattle.label_split.proofs.RowLists.{no_rows, row_of_rest, partly_more, partly_done}
+use Rattle.std.proofs.lemmas.Result.{IfOk-from_err}
+use Rattle.label_split.specs.declared.rows.SplitStop.TheVariants.{Memory}
+use Rattle.label_split.proofs.RowLists.{stops_by}
 use Rattle.label_split.proofs.rows.extend_each.Goals as goal
 
 pub rest-preserved : goal.rest-preserved
@@ -27,3 +30,9 @@ extend-requires-clause-some g c = c.requires.some
 
 pub extend-requires-clause-samples : goal.extend-requires-clause-samples
 extend-requires-clause-samples g c = c.requires.samples
+
+pub returns-in_err-extend : goal.returns-in_err-extend
+returns-in_err-extend g c = record {
+  rows = IfOk-from_err c.from_residual.result _ c.from_residual.ensures.0;
+  stop = stops_by _ _ c.from_residual.result c.in_err-extend.field-0.0 c.from_residual.ensures.1 c.in_err-extend.ensures.stop;
+}

@@ -3,6 +3,7 @@ use Rattle.label_split.specs.Signs.{signs_at}
 use Rattle.std.proofs.Common.{◌∙◌, ◌++◌, ◌∷◌, [], ap₂, sym}
 use Rattle.label_split.specs.Numbers.{number_holds}
 use Rattle.label_split.proofs.Signs.{signs_of_more}
+use Rattle.std.proofs.lemmas.Result.{IfOk-from_err}
 use Rattle.label_split.proofs.rows.signs_of.Goals as goal
 
 pub loop-formula-preserved : goal.loop-formula-preserved
@@ -19,3 +20,6 @@ holds_of-requires-clause-kept g c = c.requires.kept
 
 pub returns : goal.returns
 returns g c = c.loop-formula.invariant ∙ ap (λ fs. signs_at (number_holds g.T.Theory.atom_holds c.args.atoms.now) fs (g.T.Theory.label_of c.args.value.now)) (take_all c.loop-formula.formula-index c.args.formulas.now c.loop-formula-test.false)
+
+pub returns-in_err-push : goal.returns-in_err-push
+returns-in_err-push g c = IfOk-from_err c.from_residual.result _ c.from_residual.ensures.0

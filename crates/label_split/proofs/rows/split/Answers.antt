@@ -6,6 +6,9 @@ use Rattle.label_split.specs.Signs.{atoms_in_each, signs_at}
 use Rattle.label_split.specs.Split.{SplitsInto, HasMoreRows, Stops, StopsFor}
 use Rattle.label_split.proofs.Numbering.{gathered, atoms_fit, atoms_among, all_within, same_signs}
 use Rattle.label_split.proofs.RowLists.{splits_as, stop_as, more_by_part}
+use Rattle.std.proofs.lemmas.Result.{IfOk-from_err}
+use Rattle.label_split.specs.declared.rows.SplitStop.TheVariants.{Memory}
+use Rattle.label_split.proofs.RowLists.{stops_by}
 use Rattle.label_split.proofs.rows.split.Goals as goal
 
 pub split_numbered-requires-clause-within : goal.split_numbered-requires-clause-within
@@ -37,3 +40,13 @@ returns-clause-stop g c =
     (HasMoreRows (g.T.Theory.meaning c.args.theory.now) (signs_at (number_holds g.T.Theory.atom_holds atoms) numbered) c.args.most) (HasMoreRows (g.T.Theory.meaning c.args.theory.now) (signs_at g.T.Theory.atom_holds c.args.formulas.now) c.args.most)
     (more_by_part (g.T.Theory.meaning c.args.theory.now) (signs_at (number_holds g.T.Theory.atom_holds atoms) numbered) (signs_at g.T.Theory.atom_holds c.args.formulas.now) (λ s. s) same c.args.most))
     found
+
+pub returns-in_err-numbered : goal.returns-in_err-numbered
+returns-in_err-numbered g c = record {
+  rows = IfOk-from_err c.from_residual.result _ c.from_residual.ensures.0;
+  few = IfOk-from_err c.from_residual.result _ c.from_residual.ensures.0;
+  stop = stops_by _ _ c.from_residual.result Memory c.from_residual.ensures.1 tt;
+}
+
+pub returns-clause-few : goal.returns-clause-few
+returns-clause-few g c = c.split_numbered.ensures.few

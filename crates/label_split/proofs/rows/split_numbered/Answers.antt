@@ -1,14 +1,15 @@
 use Rattle.std.proofs.Common.{◌<◌, ◌+◌, [], take, length, refl, sym, subst, arith}
 use Rattle.std.proofs.lemmas.List.{take_all, length-take-le}
 use Rattle.std.proofs.lemmas.List.Elements.{All-take}
-use Rattle.std.proofs.lemmas.Result.{err_from_is_err_and}
+use Rattle.std.proofs.lemmas.Result.{IfOk-from_err}
 use Rattle.label_split.specs.Known.{IsWithin}
 use Rattle.label_split.specs.Numbers.{number_holds}
 use Rattle.label_split.specs.Signs.{signs_at}
 use Rattle.label_split.specs.Split.{SplitsInto, HasMoreRows}
 use Rattle.label_split.specs.Noted.{rows_of}
 use Rattle.label_split.proofs.Signs.{signs_taken}
-use Rattle.label_split.proofs.RowLists.{more_rows, more_by_part, stop_by_part, front_again, long_rows}
+use Rattle.label_split.specs.declared.rows.SplitStop.TheVariants.{Memory}
+use Rattle.label_split.proofs.RowLists.{more_rows, more_by_part, stop_by_part, stops_by, front_again, long_rows}
 use Rattle.label_split.proofs.rows.split_numbered.Goals as goal
 
 pub returns-then-len-most-clause-stop : goal.returns-then-len-most-clause-stop
@@ -17,18 +18,29 @@ returns-then-len-most-clause-stop g c =
     more_by_part (g.T.Theory.meaning c.args.theory.now) (signs_at (number_holds g.T.Theory.atom_holds c.args.atoms.now) (take c.loop-i.i c.args.formulas.now)) (signs_at (number_holds g.T.Theory.atom_holds c.args.atoms.now) c.args.formulas.now) (take c.loop-i.i) (signs_taken (number_holds g.T.Theory.atom_holds c.args.atoms.now) c.args.formulas.now c.loop-i.i) c.args.most
     (more_rows (g.T.Theory.meaning c.args.theory.now) (signs_at (number_holds g.T.Theory.atom_holds c.args.atoms.now) (take c.loop-i.i c.args.formulas.now)) (rows_of c.loop-i.rows.items) c.args.most c.loop-i.invariant (long_rows c.args.most c.loop-i.rows.items long))
 
-pub returns-in_err-rows-clause-stop : goal.returns-in_err-rows-clause-stop
-returns-in_err-rows-clause-stop g c =
-    let got = err_from_is_err_and c.from_residual.result c.from_residual.ensures.1 in
-    rw (got.1, got.2) (stop_by_part (g.T.Theory.meaning c.args.theory.now) (λ _. []) (signs_at (number_holds g.T.Theory.atom_holds c.args.atoms.now) c.args.formulas.now) (λ _. []) (λ l. refl) c.args.atoms.now c.args.atoms.now (λ w over. over) (HasMoreRows (g.T.Theory.meaning c.args.theory.now) (signs_at (number_holds g.T.Theory.atom_holds c.args.atoms.now) c.args.formulas.now) c.args.most) c.in_err-rows.field-0.0 c.in_err-rows.ensures.stop)
+pub returns-in_err-rows : goal.returns-in_err-rows
+returns-in_err-rows g c = record {
+  rows = IfOk-from_err c.from_residual.result _ c.from_residual.ensures.0;
+  few = IfOk-from_err c.from_residual.result _ c.from_residual.ensures.0;
+  stop = stops_by _ _ c.from_residual.result c.in_err-rows.field-0.0 c.from_residual.ensures.1 (stop_by_part (g.T.Theory.meaning c.args.theory.now) (λ _. []) (signs_at (number_holds g.T.Theory.atom_holds c.args.atoms.now) c.args.formulas.now) (λ _. []) (λ l. refl) c.args.atoms.now c.args.atoms.now (λ w over. over) (HasMoreRows (g.T.Theory.meaning c.args.theory.now) (signs_at (number_holds g.T.Theory.atom_holds c.args.atoms.now) c.args.formulas.now) c.args.most) c.in_err-rows.field-0.0 c.in_err-rows.ensures.stop);
+}
 
 pub refine-requires-clause-rows : goal.refine-requires-clause-rows
 refine-requires-clause-rows g c = subst (λ fs. SplitsInto (g.T.Theory.meaning c.args.theory.now) (signs_at (number_holds g.T.Theory.atom_holds c.args.atoms.now) fs) (rows_of c.loop-i.rows.items)) (front_again c.args.formulas.now c.loop-i.i c.loop-i-test.true) c.loop-i.invariant
 
-pub returns-in_err-rows-2-clause-stop : goal.returns-in_err-rows-2-clause-stop
-returns-in_err-rows-2-clause-stop g c =
-    let got = err_from_is_err_and c.from_residual-in_err-rows-2.result c.from_residual-in_err-rows-2.ensures.1 in
-    rw (got.1, got.2) (stop_by_part (g.T.Theory.meaning c.args.theory.now) (signs_at (number_holds g.T.Theory.atom_holds c.args.atoms.now) (take (c.loop-i.i + 1) c.args.formulas.now)) (signs_at (number_holds g.T.Theory.atom_holds c.args.atoms.now) c.args.formulas.now) (take (c.loop-i.i + 1)) (signs_taken (number_holds g.T.Theory.atom_holds c.args.atoms.now) c.args.formulas.now (c.loop-i.i + 1)) c.args.atoms.now c.args.atoms.now (λ w over. over) (HasMoreRows (g.T.Theory.meaning c.args.theory.now) (signs_at (number_holds g.T.Theory.atom_holds c.args.atoms.now) c.args.formulas.now) c.args.most) c.in_err-rows-2.field-0.0 c.in_err-rows-2.ensures.stop)
+pub returns-in_err-rows-2 : goal.returns-in_err-rows-2
+returns-in_err-rows-2 g c = record {
+  rows = IfOk-from_err c.from_residual-in_err-rows-2.result _ c.from_residual-in_err-rows-2.ensures.0;
+  few = IfOk-from_err c.from_residual-in_err-rows-2.result _ c.from_residual-in_err-rows-2.ensures.0;
+  stop = stops_by _ _ c.from_residual-in_err-rows-2.result c.in_err-rows-2.field-0.0 c.from_residual-in_err-rows-2.ensures.1 (stop_by_part (g.T.Theory.meaning c.args.theory.now) (signs_at (number_holds g.T.Theory.atom_holds c.args.atoms.now) (take (c.loop-i.i + 1) c.args.formulas.now)) (signs_at (number_holds g.T.Theory.atom_holds c.args.atoms.now) c.args.formulas.now) (take (c.loop-i.i + 1)) (signs_taken (number_holds g.T.Theory.atom_holds c.args.atoms.now) c.args.formulas.now (c.loop-i.i + 1)) c.args.atoms.now c.args.atoms.now (λ w over. over) (HasMoreRows (g.T.Theory.meaning c.args.theory.now) (signs_at (number_holds g.T.Theory.atom_holds c.args.atoms.now) c.args.formulas.now) c.args.most) c.in_err-rows-2.field-0.0 c.in_err-rows-2.ensures.stop);
+}
+
+pub returns-in_err-without_notes : goal.returns-in_err-without_notes
+returns-in_err-without_notes g c = record {
+  rows = IfOk-from_err c.from_residual-in_err-without_notes.result _ c.from_residual-in_err-without_notes.ensures.0;
+  few = IfOk-from_err c.from_residual-in_err-without_notes.result _ c.from_residual-in_err-without_notes.ensures.0;
+  stop = stops_by _ _ c.from_residual-in_err-without_notes.result Memory c.from_residual-in_err-without_notes.ensures.1 tt;
+}
 
 pub returns-clause-stop : goal.returns-clause-stop
 returns-clause-stop g c =
