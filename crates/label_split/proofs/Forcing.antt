@@ -1,15 +1,18 @@
 -- What follows for atoms from what formulas are.
 use Rattle.std.proofs.Common.{◌≡◌, ◌≢◌, Bool, true, false, not, ◌&&◌, ◌||◌, Option, Some, None, IsSome, List, [], ◌∷◌, All, length, ℕ, zero, suc, ◌<◌, ◌⊎◌, inl, inr, refl, sym, ap, ◌∙◌, subst, get_or, arith, Box, Vec, Global}
+use mathlib.Core.Bool.{beq}
 use Rattle.std.proofs.Math.ListN.{set}
-use Rattle.std.proofs.lemmas.List.{length-set, get_or-set_same, get_or-set_other}
+use Rattle.std.proofs.lemmas.List.{length-set, get_or-map, get_or-set_same, get_or-set_other}
 use Rattle.std.specs.List.{list_all, list_any}
 use Rattle.std.proofs.lemmas.Bool.{cases_eq}
+use Rattle.model_tree.specs.Label.{Label}
 use Rattle.model_tree.specs.Formula.{formula_holds}
 use Rattle.label_core.specs.declared.formula.Formula.{Formula}
-use Rattle.label_core.specs.declared.formula.Formula.TheVariants.{Not, And, Or}
+use Rattle.label_core.specs.declared.formula.Formula.TheVariants.{Atom, Not, And, Or}
 use Rattle.label_core.proofs.Formulas.{not_of, and_of, or_of, all_hold_of_list, some_hold_of_list}
 use Rattle.label_split.specs.Known.{Agrees, known_at, truth_at, Follows, holds_at, joined, Forces, IsOnly}
-use Rattle.label_split.proofs.Truths.{settled_holds}
+use Rattle.label_split.specs.Numbers.{truths_at, IsWrong}
+use Rattle.label_split.proofs.Truths.{settled_holds, not_same}
 
 pub forces_none : (P : List Bool → Type 0) (known : List (Option Bool)) → Forces P known known
 forces_none P known = record { many = refl; grown = λ i s. refl; follow = λ truths p h. h }
@@ -110,3 +113,18 @@ forces_not holds f b g is same a c = forces_by (λ truths. holds_at truths f ≡
     turned true false e = refl
     turned false true e = refl
     turned false false e = cc
+
+-- what was put down isn't both
+pub true_isnt_false : {X : Type 0} → true ≡ false → X
+true_isnt_false e = absurd (cc)
+
+-- a formula whose truth value isn't its sign
+pub is_wrong : (formulas : List (Formula ℕ)) (signs truths : List Bool) (k : ℕ) (f : Formula ℕ) (b : Bool) → k < length formulas → f ≡ get_or formulas k f → b ≡ holds_at truths f → not (beq b (get_or signs k false)) ≡ true → IsWrong formulas signs truths k
+is_wrong formulas signs truths k f b low is holds differs = record {
+  low = low;
+  other = λ d e. not_same b (get_or signs k false) differs (holds ∙ ap (holds_at truths) (is ∙ same_default formulas k f d low) ∙ e);
+}
+
+-- the truth value of an atom
+pub holds_inside : {A : Type 0} (holds : A → Label → Bool) (atoms : List A) (l : Label) (f : Formula ℕ) (i : ℕ) (a : A) (b : Bool) → f ≡ Atom i → i < length atoms → a ≡ get_or atoms i a → b ≡ holds a l → b ≡ holds_at (truths_at holds atoms l) f
+holds_inside holds atoms l f i a b is low at e = e ∙ ap (λ x. holds x l) at ∙ sym (get_or-map (λ x. holds x l) atoms i a false low) ∙ ap (holds_at (truths_at holds atoms l)) (sym is)

@@ -1,12 +1,13 @@
 -- Facts on rows of signs.
-use Rattle.std.proofs.Common.{map, drop, length-append, ◌≡◌, Bool, true, false, IsTrue, All, replicate, List, [], ◌∷◌, ◌++◌, take, length, get_or, ℕ, zero, suc, ◌+◌, ◌-◌, ◌<◌, refl, sym, ap, ap₂, ◌∙◌, arith}
-use Rattle.std.proofs.lemmas.List.{take_more, map-append, take_all, length-map, drop-map, drop_at}
-use Rattle.std.proofs.lemmas.List.Elements.{All-nil, All-cons}
+use Rattle.std.proofs.Common.{map, drop, length-append, ◌≡◌, Bool, true, IsTrue, All, replicate, List, [], ◌∷◌, ◌++◌, take, length, get_or, ℕ, zero, suc, ◌+◌, ◌-◌, ◌<◌, refl, sym, ap, ap₂, ◌∙◌, subst, arith}
+use Rattle.std.proofs.lemmas.List.{take_more, map-append, take_all, length-map, drop-map, drop_at, length-drop}
+use Rattle.std.proofs.lemmas.List.Elements.{All-nil, All-cons, All-drop}
 use Rattle.model_tree.specs.Label.{Label}
 use Rattle.model_tree.specs.Formula.{formula_holds}
 use Rattle.label_core.specs.Formula.{plain_formula}
 use Rattle.label_core.specs.declared.formula.Formula.{Formula}
-use Rattle.label_split.specs.Known.{holds_at}
+use Rattle.label_split.specs.Known.{holds_at, IsWithin}
+use Rattle.label_split.specs.Numbers.{AreAsked}
 use Rattle.label_split.specs.Signs.{signs_at}
 
 module _ {A : Type 0} (holds : A → Label → Bool) where
@@ -15,15 +16,6 @@ module _ {A : Type 0} (holds : A → Label → Bool) where
 
   pub signs_of_more : (fs : List (Formula A)) (i : ℕ) (f : Formula A) (l : Label) → i < length fs → f ≡ get_or fs i f → signs_at holds (take (i + 1) fs) l ≡ signs_at holds (take i fs) l ++ formula_holds (λ a. holds a l) (plain_formula f) ∷ []
   signs_of_more fs i f l b e = ap (λ gs. signs_at holds gs l) (take_more fs i f b ∙ ap (λ g. take i fs ++ g ∷ []) (sym e)) ∙ signs_append (take i fs) (f ∷ []) l
-
-  -- one more formula has its sign
-  pub signs_more : (fs : List (Formula A)) (bs : List Bool) (i : ℕ) (f : Formula A) (l : Label) → i < length fs → length bs ≡ length fs → f ≡ get_or fs i f → formula_holds (λ a. holds a l) (plain_formula f) ≡ get_or bs i false → signs_at holds (take i fs) l ≡ take i bs
-      → signs_at holds (take (i + 1) fs) l ≡ take (i + 1) bs
-  signs_more fs bs i f l low same e s h =
-      let low' : i < length bs = omega arith in
-      signs_of_more fs i f l low e ∙ ap₂ (λ xs x. xs ++ x ∷ []) h s ∙ sym (take_more bs i false low')
-
-pub ruleset on_signs = (signs_more)
 
 module _ {A : Type 0} (holds : A → Label → Bool) where
   -- all signs are true exactly where all formulas hold
@@ -58,3 +50,10 @@ pub last_signs : (truths : List Bool) (fs : List (Formula ℕ)) (before : List B
 last_signs truths fs before s e =
     let long : length before ≡ length fs - 1 = omega (arith, length-map fs (holds_at truths), ap length e, length-append before (s ∷ [])) in
     sym (drop-map (holds_at truths) (length fs - 1) fs) ∙ ap (drop (length fs - 1)) e ∙ drop_at before (s ∷ []) (length fs - 1) long
+
+-- the last formula, as a part that ends where the formulas do
+pub last_part : (fs : List (Formula ℕ)) → take (length fs - (length fs - 1)) (drop (length fs - 1) fs) ≡ drop (length fs - 1) fs
+last_part fs = take_all (length fs - (length fs - 1)) (drop (length fs - 1) fs) (omega (arith, length-drop (length fs - 1) fs))
+
+pub last_asked : (n : ℕ) (fs : List (Formula ℕ)) (sign : Bool) → All (IsWithin n) fs → 0 < length fs → AreAsked n (take (length fs - (length fs - 1)) (drop (length fs - 1) fs)) (sign ∷ [])
+last_asked n fs sign within some = subst (λ part. AreAsked n part (sign ∷ [])) (sym (last_part fs)) (record { within = All-drop (IsWithin n) (length fs - 1) fs within; lengths = omega (arith, length-drop (length fs - 1) fs) })

@@ -91,14 +91,6 @@ module _ {A : Type 0} (k : A → Option Bool) where
     some_in_full no_formulas h = refl
     some_in_full (formula f fs) h = some_either (formula_known k f) (some_known k fs) (known_in_full f h.0) (some_in_full fs h.1)
 
-and_false : (a : Bool) → (a && false) ≡ false
-and_false true = refl
-and_false false = refl
-
-or_true : (a : Bool) → (a || true) ≡ true
-or_true true = refl
-or_true false = refl
-
 -- parts that are all settled
 pub all_settled : {A : Type 0} (k : A → Option Bool) (fs : List (Formula A)) → All (λ f. IsSome (formula_known k (plain_formula f))) fs → IsSome (all_known k (formulas_of (map plain_formula fs)))
 all_settled k [] h = refl
@@ -180,16 +172,6 @@ all_further P xs i x low is h p = subst (All P) (sym (take_more xs i x low ∙ a
 
 pub all_taken : {X : Type 0} (P : X → Type 0) (xs : List X) (i : ℕ) → length xs ≤ i → All P (take i xs) → All P xs
 all_taken P xs i high h = subst (All P) (take_all i xs high) h
-
-pub one_false : (h : Formula ℕ → Bool) (fs : List (Formula ℕ)) (k : ℕ) (f : Formula ℕ) → k < length fs → f ≡ get_or fs k f → h f ≡ false → list_all h fs ≡ false
-one_false h [] k f low is e = absurd (omega arith)
-one_false h (g ∷ gs) zero f low is e = ap (λ b. b && list_all h gs) (ap h (sym is) ∙ e)
-one_false h (g ∷ gs) (suc k) f low is e = ap (λ b. h g && b) (one_false h gs k f (omega arith) is e) ∙ and_false (h g)
-
-pub one_true : (h : Formula ℕ → Bool) (fs : List (Formula ℕ)) (k : ℕ) (f : Formula ℕ) → k < length fs → f ≡ get_or fs k f → h f ≡ true → list_any h fs ≡ true
-one_true h [] k f low is e = absurd (omega arith)
-one_true h (g ∷ gs) zero f low is e = ap (λ b. b || list_any h gs) (ap h (sym is) ∙ e)
-one_true h (g ∷ gs) (suc k) f low is e = ap (λ b. h g || b) (one_true h gs k f (omega arith) is e) ∙ or_true (h g)
 
 pub copied : {X : Type 0} (xs : List X) (n : ℕ) (x y : X) → x ≡ y → y ≡ get_or xs n y → x ≡ get_or xs n x
 copied xs n x y e is = e ∙ is ∙ ap (get_or xs n) (sym e)

@@ -4,10 +4,9 @@ use Rattle.label_split.specs.Known.{holds_at}
 use Rattle.label_split.specs.Numbers.{truths_at, number_holds}
 use Rattle.label_split.specs.Signs.{signs_at}
 use Rattle.label_split.proofs.Signs.{last_sign}
-use Rattle.label_split.proofs.RowLists.{extends_found}
+use Rattle.label_split.proofs.RowLists.{extends_found, stops_by}
 use Rattle.std.proofs.lemmas.Result.{IfOk-from_err}
 use Rattle.label_split.specs.declared.rows.SplitStop.TheVariants.{Memory}
-use Rattle.label_split.proofs.RowLists.{stops_by}
 use Rattle.label_split.proofs.rows.extend.Goals as goal
 
 pub returns-clause-added : goal.returns-clause-added

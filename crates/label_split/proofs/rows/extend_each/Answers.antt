@@ -1,14 +1,15 @@
-use Rattle.std.proofs.Common.{◌-◌, ◌∙◌, ap, take, length, arith}
+use Rattle.std.proofs.Common.{◌-◌, ◌∙◌, ap, take, length, subst, sym, arith}
 use Rattle.std.proofs.lemmas.List.{map-append}
 use Rattle.label_split.specs.Numbers.{number_holds}
 use Rattle.label_split.specs.Signs.{signs_at}
 use Rattle.label_split.specs.Noted.{rows_of}
-use Rattle.label_split.specs.Split.{IsRow}
-use Rattle.label_split.proofs.RowLists.{no_rows, row_of_rest, partly_more, partly_done}
+use Rattle.label_split.specs.Split.{IsPartly, IsRow}
+use Rattle.label_split.proofs.RowLists.{no_rows, row_of_rest, partly_start, partly_more, partly_done, stops_by}
 use Rattle.std.proofs.lemmas.Result.{IfOk-from_err}
-use Rattle.label_split.specs.declared.rows.SplitStop.TheVariants.{Memory}
-use Rattle.label_split.proofs.RowLists.{stops_by}
 use Rattle.label_split.proofs.rows.extend_each.Goals as goal
+
+pub rest-init : goal.rest-init
+rest-init g c = subst (λ refined. IsPartly (g.T.Theory.meaning c.args.theory.now) (signs_at (number_holds g.T.Theory.atom_holds c.args.atoms.now) (take (length c.args.last.now.formulas.now - 1) c.args.last.now.formulas.now)) (signs_at (number_holds g.T.Theory.atom_holds c.args.atoms.now) c.args.last.now.formulas.now) (rows_of c.args.rows.items) (rows_of refined)) (sym c.new-refined.ensures.items) (partly_start (g.T.Theory.meaning c.args.theory.now) (signs_at (number_holds g.T.Theory.atom_holds c.args.atoms.now) (take (length c.args.last.now.formulas.now - 1) c.args.last.now.formulas.now)) (signs_at (number_holds g.T.Theory.atom_holds c.args.atoms.now) c.args.last.now.formulas.now) (rows_of c.args.rows.items) c.requires.rows)
 
 pub rest-preserved : goal.rest-preserved
 rest-preserved g c = partly_more (g.T.Theory.meaning c.args.theory.now) (signs_at (number_holds g.T.Theory.atom_holds c.args.atoms.now) (take (length c.args.last.now.formulas.now - 1) c.args.last.now.formulas.now)) (signs_at (number_holds g.T.Theory.atom_holds c.args.atoms.now) c.args.last.now.formulas.now) (rows_of c.rest.rows.items) (rows_of c.pop.new.self.items) c.in-Some.row.row (rows_of c.rest.refined.items) (rows_of c.extend.new.rows.items) (ap rows_of c.in-Some.ensures.items ∙ map-append (λ n. n.row) c.pop.new.self.items _) c.rest.invariant c.in_ok-extend.ensures.added

@@ -1,4 +1,7 @@
+use Rattle.std.proofs.Common.{◌∷◌, [], IfOk, length, subst}
 use Rattle.std.proofs.lemmas.Result.{IfOk-from_err}
+use Rattle.label_split.specs.Search.{DecidesSigns}
+use Rattle.label_split.proofs.Signs.{last_asked, last_part}
 use Rattle.label_split.proofs.rows.search_last.Goals as goal
 
 pub returns-in_err-active : goal.returns-in_err-active
@@ -6,3 +9,9 @@ returns-in_err-active g c = IfOk-from_err c.from_residual.result _ c.from_residu
 
 pub search-requires-clause-fit : goal.search-requires-clause-fit
 search-requires-clause-fit g c = c.requires.fit
+
+pub search-requires-clause-asked : goal.search-requires-clause-asked
+search-requires-clause-asked g c = last_asked (length c.args.atoms.now) c.args.formulas.now c.args.sign c.requires.within c.requires.some
+
+pub returns : goal.returns
+returns g c = subst (λ part. IfOk c.search.result (DecidesSigns (g.T.Theory.meaning c.args.theory.now) c.args.atoms.now part (c.args.sign ∷ []))) (last_part c.args.formulas.now) c.search.ensures

@@ -5,10 +5,9 @@ use Rattle.label_split.specs.Numbers.{number_holds}
 use Rattle.label_split.specs.Signs.{atoms_in_each, signs_at}
 use Rattle.label_split.specs.Split.{SplitsInto, HasMoreRows, Stops, StopsFor}
 use Rattle.label_split.proofs.Numbering.{gathered, atoms_fit, atoms_among, all_within, same_signs}
-use Rattle.label_split.proofs.RowLists.{splits_as, stop_as, more_by_part}
+use Rattle.label_split.proofs.RowLists.{splits_as, stop_as, more_by_part, stops_by}
 use Rattle.std.proofs.lemmas.Result.{IfOk-from_err}
 use Rattle.label_split.specs.declared.rows.SplitStop.TheVariants.{Memory}
-use Rattle.label_split.proofs.RowLists.{stops_by}
 use Rattle.label_split.proofs.rows.split.Goals as goal
 
 pub split_numbered-requires-clause-within : goal.split_numbered-requires-clause-within

@@ -1,8 +1,7 @@
 use Rattle.label_split.specs.Noted.{rows_of}
-use Rattle.label_split.proofs.RowLists.{start_alone}
+use Rattle.label_split.proofs.RowLists.{start_alone, stops_by}
 use Rattle.std.proofs.lemmas.Result.{IfOk-from_err}
 use Rattle.label_split.specs.declared.rows.SplitStop.TheVariants.{Memory}
-use Rattle.label_split.proofs.RowLists.{stops_by}
 use Rattle.label_split.proofs.rows.start.Goals as goal
 
 pub returns-in_ok-alone-in-Sat-clause-rows : goal.returns-in_ok-alone-in-Sat-clause-rows

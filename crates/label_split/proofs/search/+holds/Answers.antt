@@ -1,9 +1,10 @@
-use Rattle.std.proofs.Common.{◌≡◌, ◌+◌, ◌≤◌, arith, refl, ap, sym, not, ◌∙◌}
+use Rattle.std.proofs.Common.{◌≡◌, ◌+◌, ◌≤◌, arith, refl, ap, sym, not, ◌∙◌, subst}
 use Rattle.model_tree.specs.Formula.{formula_holds}
 use Rattle.label_core.specs.Formula.{plain_formula}
 use Rattle.label_core.proofs.Formulas.{not_of, and_of, or_of, weight, parts_weight, part_lighter, no_more, found, more, same, other}
 use Rattle.label_split.specs.Known.{truth_at}
 use Rattle.label_split.specs.Numbers.{truths_at}
+use Rattle.label_split.proofs.Forcing.{holds_inside}
 use Rattle.label_split.proofs.search.+holds.Goals as goal
 
 pub holds_of-holds_of-requires : goal.holds_of-holds_of-requires
@@ -62,3 +63,12 @@ each_holds-loop-part-preserved g t c = more (truth_at (truths_at g.T.Theory.atom
 
 pub each_holds-returns : goal.each_holds-returns
 each_holds-returns g t c = no_more (truth_at (truths_at g.T.Theory.atom_holds c.args.atoms.now (g.T.Theory.label_of c.args.value.now))) c.args.every c.args.parts.now c.loop-part.part-index c.loop-part-test.false c.loop-part.invariant
+
+pub holds_of-holds-requires-clause-atom_fits : goal.holds_of-holds-requires-clause-atom_fits
+holds_of-holds-requires-clause-atom_fits g t c = subst (g.T.Theory.atom_fits c.args.theory.now) (sym c.index-atoms-atom.is) (c.requires.fit c.in-Atom.atom c.index-atoms-atom.result c.if-atom-atoms.true)
+
+pub holds_of-holds-requires-clause-value_fits : goal.holds_of-holds-requires-clause-value_fits
+holds_of-holds-requires-clause-value_fits g t c = c.requires.kept
+
+pub holds_of-returns-then-atom-atoms : goal.holds_of-returns-then-atom-atoms
+holds_of-returns-then-atom-atoms g t c = holds_inside g.T.Theory.atom_holds c.args.atoms.now (g.T.Theory.label_of c.args.value.now) c.args.formula.now c.in-Atom.atom c.index-atoms-atom.result c.holds.result c.in-Atom.is c.if-atom-atoms.true c.index-atoms-atom.is c.holds.ensures

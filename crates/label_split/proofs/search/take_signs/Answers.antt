@@ -1,6 +1,6 @@
 use Rattle.std.proofs.Common.{sym, subst}
 use Rattle.label_split.specs.Numbers.{AreAsked, HaveSigns}
-use Rattle.label_split.proofs.Forcing.{forces_none, forces_more}
+use Rattle.label_split.proofs.Forcing.{forces_none, forces_more, true_isnt_false}
 use Rattle.label_split.proofs.search.take_signs.Goals as goal
 
 pub loop-number-init : goal.loop-number-init
@@ -22,4 +22,4 @@ pub returns-clause-forces : goal.returns-clause-forces
 returns-clause-forces c = c.loop-number.invariant
 
 pub returns-clause-may : goal.returns-clause-may
-returns-clause-may c = λ e truths follows have. cc
+returns-clause-may c = λ e truths follows have. true_isnt_false e
