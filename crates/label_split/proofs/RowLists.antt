@@ -13,13 +13,12 @@ use Rattle.label_split.specs.declared.rows.SplitStop.{SplitStop}
 use Rattle.label_split.specs.declared.rows.SplitStop.TheVariants.{TooMany, Wide, Memory}
 use Rattle.label_split.specs.declared.rows.Noted.{Noted}
 use Rattle.label_split.specs.declared.rows.Sample.{Sample}
-use Rattle.label_split.specs.declared.rows.Sample.TheVariants.{Nowhere, At as At_row, Unknown}
 use Rattle.label_core.specs.declared.formula.Formula.{Formula}
 use Rattle.label_core.specs.declared.theory.Verdict.{Verdict}
 use Rattle.label_split.specs.Numbers.{number_holds}
 use Rattle.label_split.specs.Search.{DecidesSigns}
 use Rattle.label_split.specs.Signs.{signs_at}
-use Rattle.label_split.specs.Noted.{rows_of, IsFoundBy, IsSample, IsSampleAt, IsStopOf}
+use Rattle.label_split.specs.Noted.{rows_of, IsFoundBy, IsStopOf}
 use Rattle.label_split.specs.Split.{IsRow, Stops, SplitsInto, HasMoreRows, HasUnkeptRow, AreLonger, Extends, IsPartly}
 
 -- the last of a list, and what comes before it
@@ -292,9 +291,9 @@ pub stops_by : {X S : Type 0} (P : X → Type 0) (Q : S → Type 0) (r : Result 
 stops_by P Q (Ok x) stop is h = absurd is
 stops_by P Q (Err e) stop is h = subst Q (sym is) h
 
-pub both_made : {V E : Type 0} (P : Bool → Sample V → Type 0) (on off : Sample V) (first second : Result (Sample V) E) → IfOk first (P true) → IfOk second (P false) → first ≡ Ok on → second ≡ Ok off → (s : Bool) → P s (cond s on off)
-both_made P on off first second p q is same true = subst (λ r. IfOk r (P true)) is p
-both_made P on off first second p q is same false = subst (λ r. IfOk r (P false)) same q
+pub both_made : {V : Type 0} (P : Bool → Sample V → Type 0) (on off : Sample V) → P true on → P false off → (s : Bool) → P s (cond s on off)
+both_made P on off p q true = p
+both_made P on off p q false = q
 
 module _ {A V W : Type 0} {label_of : V → Label} {holds : A → Label → Bool} (M : Meaning label_of holds W) (atoms : List A) (formulas : List (Formula ℕ)) (signs : List Bool) where
   abbrev At : Label → List Bool
@@ -316,10 +315,3 @@ module _ {A V W : Type 0} {label_of : V → Label} {holds : A → Label → Bool
       let chain = subst (λ r. IfOk r (DecidesSigns M atoms formulas signs)) is d in
       (chain.0, λ far. let only = chain.1 far in (only.0.0, only.0.1, λ m k e. only.1 m k (e ∙ only.0.2)))
   row_stopped verdict d (Err Memory) P is = tt
-
-  pub sample_of_row : {E F : Type 0} (sign : Bool) (row : Result (SignRow V) E) → IfOk row (IsRow M At) → (result : Result (Sample V) F) → IfOk result (λ sample. MatchResult row (IsSampleAt sample) (λ _. ⊥)) → IfOk result (IsSample M At sign)
-  sample_of_row sign row d (Err why) is = is
-  sample_of_row sign (Err why) d (Ok sample) is = absurd is
-  sample_of_row sign (Ok row) d (Ok Nowhere) is = absurd is
-  sample_of_row sign (Ok row) d (Ok (At_row noted)) is = subst (IsRow M At) (sym is) d
-  sample_of_row sign (Ok row) d (Ok Unknown) is = absurd is

@@ -23,12 +23,6 @@ module _ {A V W : Type 0} {label_of : V → Label} {holds : A → Label → Bool
   IsSample signs sign (At noted) = IsRow M signs noted.row
   IsSample signs sign Unknown = Unit {0}
 
--- the sample is that row
-abbrev pub IsSampleAt : {V : Type 0} → Sample V → SignRow V → Type 0
-IsSampleAt Nowhere row = ⊥
-IsSampleAt (At noted) row = noted.row ≡ row
-IsSampleAt Unknown row = ⊥
-
 -- the verdict is that no label has the signs, or shows the row
 abbrev pub IsFoundBy : {V W E : Type 0} → Result (Verdict V W) E → List Bool → Option (Noted V) → Type 0
 IsFoundBy verdict signs None = verdict ≡ Ok Unsat

@@ -1,6 +1,6 @@
 //! The rows of signs that labels have.
 
-ghost use Rattle.std.specs.Prelude.{◌≡◌, ◌<◌, ◌≤◌, ◌-◌, ◌+◌, ◌++◌, [], ◌∷◌, true, false, All, IsTrue, length, map, take, IfOk, OnOk, IfErr, MatchOption, MatchResult, Ok, Bool, cond, drop};
+ghost use Rattle.std.specs.Prelude.{◌≡◌, ◌<◌, ◌≤◌, ◌-◌, ◌+◌, ◌++◌, [], ◌∷◌, true, false, All, IsTrue, length, map, take, IfOk, OnOk, IfErr, MatchOption, MatchResult, Bool, cond, drop};
 ghost use Rattle.model_tree.specs.Label.{Label};
 ghost use Rattle.label_core.specs.Meaning.{KeepsValue};
 ghost use Rattle.label_core.specs.Verdict.{DecidesAll};
@@ -9,7 +9,7 @@ ghost use Rattle.label_split.specs.Numbers.{number_holds, AreAsked};
 ghost use Rattle.label_split.specs.Search.{DecidesSigns};
 ghost use Rattle.label_split.specs.Signs.{FormulasFit, signs_at};
 ghost use Rattle.label_split.specs.Split.{SplitsInto, IsRow, Stops, StopsFor, HasMoreRows, Extends};
-ghost use Rattle.label_split.specs.Noted.{rows_of, IsSample, IsSampleAt, IsFoundBy, IsStopOf, ShowsSigns, AreAdded};
+ghost use Rattle.label_split.specs.Noted.{rows_of, IsSample, IsFoundBy, IsStopOf, ShowsSigns, AreAdded};
 
 use crate::numbers::number_all;
 use crate::search::{Asked, holds_of, note, search};
@@ -118,16 +118,6 @@ impl<V> Sampled<'_, V> {
     }
 }
 
-/// Both samples, where both were made.
-fn both_samples<V: Drop>(
-    on: Result<Sample<V>, Memory>,
-    off: Result<Sample<V>, Memory>,
-) -> Result<(Sample<V>, Sample<V>), Memory>
-    ensures { IfOk result (λ made. (on ≡ Ok made.0) × (off ≡ Ok made.1)) }
-{
-    Ok((on?, off?))
-}
-
 /// The row of no signs with this value, alone.
 fn alone<V: Drop>(alloc: Global, value: V) -> Result<Vec<Noted<V>>, Memory>
     ensures { IfOk result (λ rows. (r : SignRow V) × (r.value ≡ value) × (r.signs.items ≡ []) × (rows_of rows.items ≡ r ∷ [])) }
@@ -227,18 +217,6 @@ fn row_at<T: Theory>(
     Ok(SignRow { signs, value })
 }
 
-/// A sample of this row, that the last formula tells from others.
-fn sample_at<V: Drop>(
-    alloc: Global,
-    row: Result<SignRow<V>, Memory>,
-    last: usize,
-) -> Result<Sample<V>, Memory>
-    ensures { IfOk result (λ sample. MatchResult row (IsSampleAt sample) (λ _. ⊥)) }
-{
-    let active = vec![in alloc; last; 1]?;
-    Ok(Sample::At(Noted { row: row?, active }))
-}
-
 /// A sample for the sign of the last formula.
 fn find_sample<T: Theory>(
     theory: &T,
@@ -256,8 +234,9 @@ fn find_sample<T: Theory>(
         Verdict::Unsat => Ok(Sample::Nowhere),
         Verdict::Wide(_) => Ok(Sample::Unknown),
         Verdict::Sat(value) => {
-            let row = row_at(theory, alloc, atoms, formulas, value);
-            sample_at(alloc, row, formulas.len() - 1)
+            let row = row_at(theory, alloc, atoms, formulas, value)?;
+            let active = vec![in alloc; formulas.len() - 1; 1]?;
+            Ok(Sample::At(Noted { row, active }))
         }
     }
 }
@@ -528,9 +507,8 @@ fn refine<T: Theory>(
     ensures rows { IfOk result (λ refined. SplitsInto (T.meaning theory.now) (signs_at (number_holds T.atom_holds atoms.now) formulas.now) (rows_of refined.items)) }
     ensures stop { IfErr result (Stops (T.meaning theory.now) ⊥ (signs_at (number_holds T.atom_holds atoms.now) formulas.now) atoms.now) }
 {
-    let on = find_sample(theory, alloc, atoms, formulas, true);
-    let off = find_sample(theory, alloc, atoms, formulas, false);
-    let (on, off) = both_samples(on, off)?;
+    let on = find_sample(theory, alloc, atoms, formulas, true)?;
+    let off = find_sample(theory, alloc, atoms, formulas, false)?;
     let last = Sampled { formulas, on, off };
     extend_each(theory, alloc, atoms, &last, rows)
 }

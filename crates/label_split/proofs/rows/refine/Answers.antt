@@ -12,26 +12,32 @@ returns-in_err-on g c = record {
   stop = stops_by _ _ c.from_residual.result Memory c.from_residual.ensures.1 tt;
 }
 
+pub returns-in_err-off : goal.returns-in_err-off
+returns-in_err-off g c = record {
+  rows = IfOk-from_err c.from_residual-in_err-off.result _ c.from_residual-in_err-off.ensures.0;
+  stop = stops_by _ _ c.from_residual-in_err-off.result Memory c.from_residual-in_err-off.ensures.1 tt;
+}
+
 pub extend_each-requires-clause-samples : goal.extend_each-requires-clause-samples
-extend_each-requires-clause-samples g c = both_made (IsSample (g.T.Theory.meaning c.args.theory.now) (signs_at (number_holds g.T.Theory.atom_holds c.args.atoms.now) c.args.formulas.now)) c.in_ok-on.on c.in_ok-on.off c.find_sample-on.result c.find_sample-off.result c.find_sample-on.ensures c.find_sample-off.ensures (c.in_ok-on.ensures {u = tt}).0 (c.in_ok-on.ensures {u = tt}).1
+extend_each-requires-clause-samples g c = both_made (IsSample (g.T.Theory.meaning c.args.theory.now) (signs_at (number_holds g.T.Theory.atom_holds c.args.atoms.now) c.args.formulas.now)) c.in_ok-on.on c.in_ok-off.off c.in_ok-on.ensures c.in_ok-off.ensures
 
-pub find_sample-on-requires-clause-within : goal.find_sample-on-requires-clause-within
-find_sample-on-requires-clause-within g c = c.requires.within
+pub find_sample-requires-clause-within : goal.find_sample-requires-clause-within
+find_sample-requires-clause-within g c = c.requires.within
 
-pub find_sample-on-requires-clause-fit : goal.find_sample-on-requires-clause-fit
-find_sample-on-requires-clause-fit g c = c.requires.fit
+pub find_sample-requires-clause-fit : goal.find_sample-requires-clause-fit
+find_sample-requires-clause-fit g c = c.requires.fit
 
-pub find_sample-on-requires-clause-some : goal.find_sample-on-requires-clause-some
-find_sample-on-requires-clause-some g c = c.requires.some
+pub find_sample-requires-clause-some : goal.find_sample-requires-clause-some
+find_sample-requires-clause-some g c = c.requires.some
 
-pub find_sample-off-requires-clause-within : goal.find_sample-off-requires-clause-within
-find_sample-off-requires-clause-within g c = c.requires.within
+pub find_sample-requires-2-clause-within : goal.find_sample-requires-2-clause-within
+find_sample-requires-2-clause-within g c = c.requires.within
 
-pub find_sample-off-requires-clause-fit : goal.find_sample-off-requires-clause-fit
-find_sample-off-requires-clause-fit g c = c.requires.fit
+pub find_sample-requires-2-clause-fit : goal.find_sample-requires-2-clause-fit
+find_sample-requires-2-clause-fit g c = c.requires.fit
 
-pub find_sample-off-requires-clause-some : goal.find_sample-off-requires-clause-some
-find_sample-off-requires-clause-some g c = c.requires.some
+pub find_sample-requires-2-clause-some : goal.find_sample-requires-2-clause-some
+find_sample-requires-2-clause-some g c = c.requires.some
 
 pub extend_each-requires-clause-within : goal.extend_each-requires-clause-within
 extend_each-requires-clause-within g c = c.requires.within
