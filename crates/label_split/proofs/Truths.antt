@@ -1,7 +1,6 @@
 -- What is known of a formula is true, and where all its atoms are known, so is it.
 use Rattle.std.proofs.Common.{◌≡◌, Bool, true, false, not, ◌&&◌, ◌||◌, Option, Some, None, IsSome, IfSome, List, [], ◌∷◌, All, map, length, ℕ, zero, suc, ◌+◌, refl, sym, ap, ap₂, ◌∙◌, arith, get_or, take, drop, ◌++◌, ◌<◌, ◌≤◌, subst}
 use mathlib.Core.Bool.{beq}
-use Rattle.std.specs.List.{list_all, list_any}
 use Rattle.std.proofs.lemmas.List.{take_more, at_drop_more, map-append, take_all}
 use Rattle.std.proofs.lemmas.List.Elements.{All-nil, All-cons, All-append}
 use Rattle.model_tree.specs.Formula as plain

@@ -1,11 +1,11 @@
 //! The rows of signs that labels have.
 
-ghost use Rattle.std.specs.Prelude.{◌≡◌, ◌<◌, ◌≤◌, ◌-◌, ◌+◌, ◌++◌, [], ◌∷◌, true, false, All, IsTrue, length, map, take, IfOk, OnOk, IfErr, MatchOption, MatchResult, Bool, cond, drop};
+ghost use Rattle.std.specs.Prelude.{◌≡◌, ◌<◌, ◌≤◌, ◌-◌, ◌+◌, ◌++◌, [], ◌∷◌, true, false, All, IsTrue, length, take, IfOk, OnOk, IfErr, MatchOption, MatchResult, Bool, cond, drop};
 ghost use Rattle.model_tree.specs.Label.{Label};
 ghost use Rattle.label_core.specs.Meaning.{KeepsValue};
 ghost use Rattle.label_core.specs.Verdict.{DecidesAll};
 ghost use Rattle.label_split.specs.Known.{IsWithin};
-ghost use Rattle.label_split.specs.Numbers.{number_holds, AreAsked};
+ghost use Rattle.label_split.specs.Numbers.{number_holds};
 ghost use Rattle.label_split.specs.Search.{DecidesSigns};
 ghost use Rattle.label_split.specs.Signs.{FormulasFit, signs_at};
 ghost use Rattle.label_split.specs.Split.{SplitsInto, IsRow, Stops, StopsFor, HasMoreRows, Extends};
