@@ -2,7 +2,7 @@
 use Rattle.std.proofs.Common.{◌≡◌, ◌⊎◌, inl, inr, Bool, true, false, not, List, [], ◌∷◌, ◌++◌, map, length, get_or, All, Contains, ℕ, zero, suc, ◌<◌, ◌≤◌, ◌+◌, ◌-◌, take, refl, sym, ap, ◌∙◌, subst, append_assoc, Option, Some, None, MatchOption, Result, Ok, Err, IfOk, IfErr, MatchResult, cond, arith}
 use Rattle.std.specs.List.{AllPairs}
 use Rattle.std.specs.Result.{IsErrAnd}
-use Rattle.std.proofs.lemmas.List.{length-map, length-take, map-append}
+use Rattle.std.proofs.lemmas.List.{length-append, length-map, length-take, map-append}
 use Rattle.std.proofs.lemmas.List.Elements.{All-nil, All-cons, All-append, All-map, Contains-append_left, Contains-append_right, Contains-append_cases}
 use Rattle.std.proofs.lemmas.List.Quantifiers.{all_pairs_push}
 use Rattle.std.proofs.lemmas.List.Kept.{AllPairs-cons}
@@ -283,6 +283,12 @@ front_again xs i low =
 
 pub long_rows : {V : Type 0} (most : ℕ) (rows : List (Noted V)) → most < length rows → most < length (rows_of rows)
 long_rows most rows l = subst (λ n. most < n) (sym (length-map rows (λ n. n.row))) l
+
+pub popped_less : {X : Type 0} (xs ys : List X) (y : X) → xs ≡ ys ++ y ∷ [] → length ys < length xs
+popped_less xs ys y e = subst (λ zs. length ys < length zs) (sym e) (omega (arith, length-append ys (y ∷ [])))
+
+pub few_rows : {V : Type 0} (noted : List (Noted V)) (rows : List (SignRow V)) (n most : ℕ) → rows ≡ rows_of noted → n ≡ length noted → n ≤ most → length rows ≤ most
+few_rows noted rows n most e is few = subst (λ xs. length xs ≤ most) (sym e) (omega (arith, length-map noted (λ one. one.row)))
 
 -- ---- results of parts
 

@@ -4,7 +4,7 @@ use Rattle.label_split.specs.Numbers.{number_holds}
 use Rattle.label_split.specs.Signs.{signs_at}
 use Rattle.label_split.specs.Noted.{rows_of}
 use Rattle.label_split.specs.Split.{IsPartly, IsRow}
-use Rattle.label_split.proofs.RowLists.{no_rows, row_of_rest, partly_start, partly_more, partly_done, stops_by}
+use Rattle.label_split.proofs.RowLists.{no_rows, popped_less, row_of_rest, partly_start, partly_more, partly_done, stops_by}
 use Rattle.std.proofs.lemmas.Result.{IfOk-from_err}
 use Rattle.label_split.proofs.rows.extend_each.Goals as goal
 
@@ -37,3 +37,6 @@ returns-in_err-extend g c = record {
   rows = IfOk-from_err c.from_residual.result _ c.from_residual.ensures.0;
   stop = stops_by _ _ c.from_residual.result c.in_err-extend.field-0.0 c.from_residual.ensures.1 c.in_err-extend.ensures.stop;
 }
+
+pub rest-smaller : goal.rest-smaller
+rest-smaller g c = popped_less c.rest.rows.items c.pop.new.self.items c.in-Some.row c.in-Some.ensures.items

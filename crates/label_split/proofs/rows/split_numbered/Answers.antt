@@ -9,7 +9,7 @@ use Rattle.label_split.specs.Split.{SplitsInto, HasMoreRows}
 use Rattle.label_split.specs.Noted.{rows_of}
 use Rattle.label_split.proofs.Signs.{signs_taken}
 use Rattle.label_split.specs.declared.rows.SplitStop.TheVariants.{Memory}
-use Rattle.label_split.proofs.RowLists.{more_rows, more_by_part, stop_by_part, stops_by, front_again, long_rows}
+use Rattle.label_split.proofs.RowLists.{few_rows, more_rows, more_by_part, stop_by_part, stops_by, front_again, long_rows}
 use Rattle.label_split.proofs.rows.split_numbered.Goals as goal
 
 pub returns-then-len-most-clause-stop : goal.returns-then-len-most-clause-stop
@@ -65,3 +65,12 @@ refine-requires-clause-fit g c = c.requires.fit
 
 pub refine-requires-clause-some : goal.refine-requires-clause-some
 refine-requires-clause-some g c = let many = length-take-le (c.loop-i.i + 1) c.args.formulas.now (omega arith) in omega (arith, many)
+
+pub returns-then-len-most-2-clause-few : goal.returns-then-len-most-2-clause-few
+returns-then-len-most-2-clause-few g c = few_rows c.loop-i.rows.items _ c.loop-i.rows.len c.args.most c.in_ok-without_notes.ensures c.loop-i.rows.ok.0 (omega (arith, c.if-len-most-2.true, c.len-2.ensures))
+
+pub overflow_cast-most : goal.overflow_cast-most
+overflow_cast-most g c = omega arith
+
+pub overflow_cast-most-2 : goal.overflow_cast-most-2
+overflow_cast-most-2 g c = omega arith

@@ -1,5 +1,6 @@
 use Rattle.std.proofs.Common.{sym, subst, ◌∙◌}
 use Rattle.label_split.specs.Numbers.{truths_at, AreAsked, HaveSigns}
+use Rattle.label_split.specs.Search.{DecidesKnown}
 use Rattle.label_split.proofs.Forcing.{forces_more}
 use Rattle.label_split.proofs.Looking.{looks_more}
 use Rattle.std.proofs.lemmas.Result.{IfOk-from_err}
@@ -49,3 +50,12 @@ returns-in_err-decide_known g c = record {
   forces = IfOk-from_err c.from_residual.result _ c.from_residual.ensures.0;
   looks = IfOk-from_err c.from_residual.result _ c.from_residual.ensures.0;
 }
+
+pub look_at_value-requires-clause-value : goal.look_at_value-requires-clause-value
+look_at_value-requires-clause-value g c = subst (DecidesKnown (g.T.Theory.meaning c.args.theory.now) c.args.atoms.now c.take_signs.new.known.signs.items) c.in-Sat.is c.in_ok-decide_known.ensures
+
+pub look_at_chain-requires-clause-chain : goal.look_at_chain-requires-clause-chain
+look_at_chain-requires-clause-chain g c = subst (DecidesKnown (g.T.Theory.meaning c.args.theory.now) c.args.atoms.now c.take_signs.new.known.signs.items) c.in-Wide.is c.in_ok-decide_known.ensures
+
+pub returns-in-Unsat-clause-looks : goal.returns-in-Unsat-clause-looks
+returns-in-Unsat-clause-looks g c = λ l has follows asked. subst (DecidesKnown (g.T.Theory.meaning c.args.theory.now) c.args.atoms.now c.take_signs.new.known.signs.items) c.in-Unsat.is c.in_ok-decide_known.ensures l has follows
