@@ -1,6 +1,6 @@
 -- A copy of a map is equal to it.
-use Rattle.std.proofs.Common.{◌≡◌, ◌&&◌, ℕ, ◌+◌, ◌<◌, ◌≤◌, List, [], ◌∷◌, ◌++◌, map, take, length, get_or, Bool, true, refl, sym, ap, ap₂, ◌∙◌, subst, Result, Ok, Err, IfOk}
-use Rattle.std.proofs.lemmas.List.{take_more, take_all, map-append}
+use Rattle.std.proofs.Common.{◌≡◌, ◌&&◌, ℕ, ◌≤◌, List, [], ◌∷◌, map, take, length, Bool, true, refl, ap, ◌∙◌, subst, Result, Ok, Err, IfOk}
+use Rattle.std.proofs.lemmas.List.{take_all}
 use Rattle.std.specs.Cmp.Lexicographic.{pointwise}
 use Rattle.label_core.specs.Formula.{plain_formula}
 use Rattle.label_core.specs.declared.formula.Formula.{Formula}
@@ -58,15 +58,6 @@ pub if_both : {T E : Type 0} (r : Result T E) (P R Q : T → Type 0) → ((x : T
 if_both (Ok x) P R Q f h k = f x h k
 if_both (Err e) P R Q f h k = h
 
--- what is made of things one by one
-module _ {X Y A : Type 0} (f : X → A) (g : Y → A) (xs : List X) (made : List Y) (i : ℕ) (before : map g made ≡ map f (take i xs)) where
-  pub one_more : (x : X) → i < length xs → x ≡ get_or xs i x → (y : Y) → g y ≡ f x → (new : List Y) → new ≡ made ++ y ∷ [] → map g new ≡ map f (take (i + 1) xs)
-  one_more x low at y same new pushed =
-      ap (map g) pushed
-      ∙ map-append g made (y ∷ [])
-      ∙ ap₂ (λ bs b. bs ++ b ∷ []) before same
-      ∙ sym (map-append f (take i xs) (x ∷ []))
-      ∙ sym (ap (map f) (take_more xs i x low ∙ ap (λ z. take i xs ++ z ∷ []) (sym at)))
-
-  pub all_made : length xs ≤ i → map g made ≡ map f xs
-  all_made low = before ∙ ap (map f) (take_all i xs low)
+-- what is made of things one by one, once it is made of all
+pub all_made : {X Y A : Type 0} (f : X → A) (g : Y → A) (xs : List X) (made : List Y) (i : ℕ) → map g made ≡ map f (take i xs) → length xs ≤ i → map g made ≡ map f xs
+all_made f g xs made i before low = before ∙ ap (map f) (take_all i xs low)
