@@ -11,7 +11,7 @@ use Rattle.sta_classes.specs.Rules.{plain_rules, meaning_of}
 use Rattle.sta_classes.specs.Rows.{founds, class_rows, lists_of}
 use Rattle.sta_classes.specs.Lists.{IsListWith}
 use Rattle.sta_classes.specs.Pending.{AreKept, IsBetter, IsTaken, IsDone}
-use Rattle.sta_classes.specs.Searched.{firsts_of, listed_at, ArePlaces, AreKinds, NextPlaces, IsSound, IsOpened, AreOpened, AreSplit}
+use Rattle.sta_classes.specs.Searched.{firsts_of, listed_at, ArePlaces, AreKinds, NextPlaces, IsSound, IsOpened, AreOpened, AreSplit, IsUnderway, GoesOn}
 use Rattle.sta_classes.specs.declared.class.Class.{Class}
 use Rattle.sta_classes.specs.declared.place.Place.{Place}
 use Rattle.sta_classes.specs.declared.pending.Pending.{Pending}
@@ -122,6 +122,24 @@ module _ {A V W G H : Type 0} {label_of : V → Label} {holds : A → Label → 
   run_touched classes places s h c low ks wide listed at =
       let (j, j_low, is, none) = first_place ks (length classes - 1) at in
       h c low j ks (omega (arith, j_low, wide)) (list_with (firsts_of (get_or (lists_of places) c [])) (get_or ranks c 0) (length classes - 1) j ks wide listed is none)
+
+module _ {A V W G : Type 0} {label_of : V → Label} {holds : A → Label → Bool} (M : Meaning label_of holds W) (ranks : List ℕ) (rules : List (Vec (StaRule A) G)) (own : List (Rules A)) (most : ℕ) (found : List (Class V)) where
+  -- a search goes on where nothing was done
+  pub begun : {old : Pending V} {split : List (Splits V)} → IsUnderway M ranks rules own most found old split → (P : Pending V → Type 0) → P old → GoesOn M ranks rules own most found old old split P
+  begun under P h = record { under = under; better = λ q n m. m; offered = h }
+
+  -- it goes on in two steps
+  pub goes_further : {first old new : Pending V} {split split' : List (Splits V)} {P Q : Pending V → Type 0} → GoesOn M ranks rules own most found first old split P → GoesOn M ranks rules own most found old new split' Q → (R : Pending V → Type 0)
+      → ((s s' : Pending V) → Sound M ranks rules found s → IsBetter s s' → P s → Q s' → R s') → GoesOn M ranks rules own most found first new split' R
+  goes_further before after R more = record {
+    under = after.under;
+    better = λ q n m. after.better q n (before.better q n m);
+    offered = more _ _ before.under.sound after.better before.offered after.offered;
+  }
+
+  -- and so it does under other names
+  pub goes_as : (first : Pending V) {new new' : Pending V} {split split' : List (Splits V)} → new' ≡ new → split' ≡ split → (P : Pending V → Type 0) → GoesOn M ranks rules own most found first new split P → GoesOn M ranks rules own most found first new' split' P
+  goes_as first {new} {new'} {split} {split'} same same_split P goes = subst (λ z. GoesOn M ranks rules own most found first z split' P) (sym same) (subst (λ z. GoesOn M ranks rules own most found first new z P) (sym same_split) goes)
 
 -- a class that was taken, under another name
 pub taken_as : {V : Type 0} (old mid : Pending V) (c d : Class V) → d ≡ c → IsTaken old mid c → IsTaken old mid d

@@ -1,5 +1,5 @@
 -- How far a search for classes is.
-use Rattle.std.specs.Prelude.{ℕ, ◌^◌, ◌≡◌, ◌<◌, ◌≤◌, ◌↔◌, Bool, List, [], map, get_or, length, Contains, Vec}
+use Rattle.std.specs.Prelude.{ℕ, ◌^◌, ◌≡◌, ◌<◌, ◌≤◌, ◌↔◌, Bool, List, [], map, get_or, length, All, Contains, Vec}
 use Rattle.model_tree.specs.Label.{Label}
 use Rattle.model_sta.specs.Automaton.{Rule}
 use Rattle.model_sta.specs.Sets.{Row, rows_meet, step}
@@ -12,9 +12,10 @@ use Rattle.sta_classes.specs.Bits.{both}
 use Rattle.sta_classes.specs.Guards.{GuardsFit}
 use Rattle.sta_classes.specs.Rules.{plain_rules, meaning_of}
 use Rattle.sta_classes.specs.Splits.{AreMet, AreTold, AreAllTold}
-use Rattle.sta_classes.specs.Rows.{found_of, founds, class_rows, lists_of}
+use Rattle.sta_classes.specs.Meant.{AreFound, AreAllFound}
+use Rattle.sta_classes.specs.Rows.{found_of, founds, class_rows, class_rows_at, lists_of}
 use Rattle.sta_classes.specs.Places.{AreAsked, IsNumbered, IsNext}
-use Rattle.sta_classes.specs.Pending.{IsPending, IsSettled, IsMet, AreKept, count_none}
+use Rattle.sta_classes.specs.Pending.{IsPending, IsSettled, IsMet, IsBetter, AreKept, count_none}
 use Rattle.sta_classes.specs.declared.class.Class.{Class}
 use Rattle.sta_classes.specs.declared.class.TheConstants.{CAP}
 use Rattle.sta_classes.specs.declared.known.Known.{Known}
@@ -85,12 +86,57 @@ module _ {V : Type 0} (ranks : List ℕ) (has keeps : Label → Type 0) (rules :
   abbrev pub AreOpened : {H : Type 0} → List (Class V) → List (Vec Place H) → Pending V → (ℕ → List ℕ → Type 0) → Type 0
   AreOpened found places s W = (c : ℕ) → c < length ranks → (ks : List ℕ) → length ks ≡ get_or ranks c 0 → ((j : ℕ) → j < length ks → Contains (listed_at places c j) (get_or ks j 0)) → W c ks → IsOpened found s c ks
 
--- a search between its turns: what is found, what is pending and what is known of the rules, and all trees over lists of
--- kinds are offered
-module _ {A V W G : Type 0} {label_of : V → Label} {holds : A → Label → Bool} (M : Meaning label_of holds W) (ranks : List ℕ) (rules : List (Vec (StaRule A) G)) (own : List (Rules A)) (most : ℕ) where
-  pub record IsGoing (known : Known V) (pending : Pending V) (split : List (Splits V)) : Type 0 where
-    pub sound : IsSound ranks M.has M.keeps (meaning_of holds (plain_rules rules)) label_of known.classes.items pending
+-- a constructor, and children for each of its places among the classes
+pub record IsOver {V : Type 0} (ranks : List ℕ) (found : List (Class V)) (c : ℕ) (ks : List ℕ) : Type 0 where
+  pub low : c < length ranks
+  pub wide : length ks ≡ get_or ranks c 0
+  pub children : All (λ k. k < length found) ks
+
+module _ {A V W : Type 0} {label_of : V → Label} {holds : A → Label → Bool} (M : Meaning label_of holds W) where
+  -- these are the rules whose demands the children meet, and labels that tell the guards of these apart are known under this
+  -- number
+  pub record AreToldAt (ranks : List ℕ) (own : List (Rules A)) (found : List (Class V)) (c : ℕ) (ks : List ℕ) (split : List (Splits V)) (key : Row) (number : ℕ) : Type 0 where
+    pub splits : AreSplit M ranks own (class_rows found) split
+    pub told : (R : Rules A) (s : Splits V) → get_or own c R ≡ R → get_or split c s ≡ s → (number < length s.told.items) × IsTold M R (class_rows_at found ks) key (get_or (lists_of s.told.items) number [])
+
+module _ {A V W G : Type 0} {label_of : V → Label} {holds : A → Label → Bool} (M : Meaning label_of holds W) (ranks : List ℕ) (rules : List (Vec (StaRule A) G)) where
+  -- the trees over these children are offered
+  abbrev pub HasOffered : List (Class V) → ℕ → List ℕ → Pending V → Type 0
+  HasOffered found c ks s = IsOpened ranks M.has M.keeps (meaning_of holds (plain_rules rules)) label_of found s c ks
+
+  -- and so are those over all lists of kinds that are wanted
+  abbrev pub HasAllOffered : {H : Type 0} → List (Class V) → List (Vec Place H) → (ℕ → List ℕ → Type 0) → Pending V → Type 0
+  HasAllOffered found places W s = AreOpened ranks M.has M.keeps (meaning_of holds (plain_rules rules)) label_of found places s W
+
+  module _ (own : List (Rules A)) (most : ℕ) where
+    -- a search under way: what is found and what is pending is sound, what is known of the rules is right, and there are not
+    -- too many sets
+    pub record IsUnderway (found : List (Class V)) (pending : Pending V) (split : List (Splits V)) : Type 0 where
+      pub sound : IsSound ranks M.has M.keeps (meaning_of holds (plain_rules rules)) label_of found pending
+      pub splits : AreSplit M ranks own (class_rows found) split
+      pub few : length pending.sets.keys ≤ most
+
+    -- it goes on: nothing that was offered is lost, and this is offered, too
+    pub record GoesOn (found : List (Class V)) (old new : Pending V) (split : List (Splits V)) (Offered : Pending V → Type 0) : Type 0 where
+      pub under : IsUnderway found new split
+      pub better : IsBetter old new
+      pub offered : Offered new
+
+    -- a search before its first turn
+    pub record IsBegun (known : Known V) (pending : Pending V) (split : List (Splits V)) : Type 0 where
+      pub none : known.classes.items ≡ []
+      pub kinds : AreKinds ranks rules known.classes.items known.places.items
+      pub under : IsUnderway known.classes.items pending split
+
+    -- a search between its turns: all trees over lists of kinds are offered
+    pub record IsGoing (known : Known V) (pending : Pending V) (split : List (Splits V)) : Type 0 where
+      pub under : IsUnderway known.classes.items pending split
+      pub kinds : AreKinds ranks rules known.classes.items known.places.items
+      pub offered : HasAllOffered known.classes.items known.places.items (λ c ks. (k : ℕ) → k ≡ k) pending
+
+  -- a search that has come to its end: these are all classes, each with a least tree, and they are not too many
+  pub record IsWhole (most : ℕ) (known : Known V) : Type 0 where
+    pub classes : AreFound M CAP ranks (plain_rules rules) known.classes.items
+    pub complete : AreAllFound M CAP ranks (plain_rules rules) known.classes.items
     pub kinds : AreKinds ranks rules known.classes.items known.places.items
-    pub splits : AreSplit M ranks own (class_rows known.classes.items) split
-    pub few : length pending.sets.keys ≤ most
-    pub opened : AreOpened ranks M.has M.keeps (meaning_of holds (plain_rules rules)) label_of known.classes.items known.places.items pending (λ c ks. (k : ℕ) → k ≡ k)
+    pub few : length known.classes.items ≤ most

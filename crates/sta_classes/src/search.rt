@@ -3,18 +3,13 @@
 //! Each turn takes a candidate with the fewest nodes. It is a least tree of its class, since each other tree with a new
 //! set is over trees of classes that come later. Then come the candidates over lists of kinds of which one is new.
 
-ghost use Rattle.std.specs.Prelude.{ℕ, ◌≡◌, ◌≤◌, ◌<◌, ◌-◌, ◌++◌, ◌∷◌, [], Bool, List, length, get_or, Contains, All, IfOk, IfErr, OnOk};
+ghost use Rattle.std.specs.Prelude.{ℕ, ◌≡◌, ◌≤◌, ◌<◌, ◌-◌, ◌++◌, ◌∷◌, [], Bool, List, length, get_or, Contains, IfOk, IfErr, OnOk};
 ghost use Rattle.model_sta.specs.Least.{counts_of, nodes_at, cost};
-ghost use Rattle.sta_classes.specs.Rules.{plain_rules, meaning_of};
-ghost use Rattle.sta_classes.specs.Guards.{all_guards};
-ghost use Rattle.sta_classes.specs.Rows.{founds, lists_of, class_rows, class_rows_at};
+ghost use Rattle.sta_classes.specs.Rules.{plain_rules};
+ghost use Rattle.sta_classes.specs.Rows.{founds, lists_of, class_rows};
 ghost use Rattle.sta_classes.specs.Lists.{IsListWith};
-ghost use Rattle.sta_classes.specs.Meant.{AreFound, AreAllFound, HasMoreClasses};
-ghost use Rattle.sta_classes.specs.Pending.{IsBetter};
-ghost use Rattle.sta_classes.specs.Searched.{IsReady, IsTold, AreSplit, AreKinds, IsSound, IsOpened, AreOpened, firsts_of};
-ghost use Rattle.sta_classes.specs.Stop.{ClassStopsFor};
-ghost use Rattle.sta_classes.specs.declared.rules.Rules.{Rules};
-ghost use Rattle.sta_classes.specs.declared.splits.Splits.{Splits};
+ghost use Rattle.sta_classes.specs.Meant.{StopsClasses};
+ghost use Rattle.sta_classes.specs.Searched.{IsReady, IsOver, AreSplit, AreToldAt, AreKinds, HasOffered, HasAllOffered, IsUnderway, GoesOn, IsBegun, IsWhole, firsts_of};
 
 use crate::class::{CAP, cost_over};
 use crate::keep::{both, kept};
@@ -59,13 +54,10 @@ impl<T: Theory> Search<'_, T> {
         over: &Over<'_>,
     ) -> Result<(Row, usize), ClassStop<T::Chain>>
         requires ready { IsReady T.Atom.eq (T.atom_fits self.now.theory.now) self.now.ranks.now self.now.rules.now self.now.own.now }
-        requires low { over.now.constructor < length self.now.ranks.now }
-        requires wide { length over.now.children.now ≡ get_or self.now.ranks.now over.now.constructor 0 }
-        requires children { All (λ k. k < length known.now.classes.items) over.now.children.now }
+        requires over { IsOver self.now.ranks.now known.now.classes.items over.now.constructor over.now.children.now }
         requires splits { AreSplit (T.meaning self.now.theory.now) self.now.ranks.now self.now.own.now (class_rows known.now.classes.items) splits.old.items }
-        ensures splits { OnOk result (AreSplit (T.meaning self.now.theory.now) self.now.ranks.now self.now.own.now (class_rows known.now.classes.items) splits.new.items) }
-        ensures found { IfOk result (λ r. (R : Rules T.Atom) (s : Splits T.Value) → get_or self.now.own.now over.now.constructor R ≡ R → get_or splits.new.items over.now.constructor s ≡ s → (r.1 < length s.told.items) × IsTold (T.meaning self.now.theory.now) R (class_rows_at known.now.classes.items over.now.children.now) r.0 (get_or (lists_of s.told.items) r.1 [])) }
-        ensures stop { IfErr result (ClassStopsFor (T.meaning self.now.theory.now) (HasMoreClasses (T.meaning self.now.theory.now) (record { ranks = self.now.ranks.now; rules = plain_rules self.now.rules.now }) self.now.most) (all_guards (plain_rules self.now.rules.now))) }
+        ensures told { IfOk result (λ r. AreToldAt (T.meaning self.now.theory.now) self.now.ranks.now self.now.own.now known.now.classes.items over.now.constructor over.now.children.now splits.new.items r.0 r.1) }
+        ensures stop { IfErr result (StopsClasses (T.meaning self.now.theory.now) (record { ranks = self.now.ranks.now; rules = plain_rules self.now.rules.now }) self.now.most) }
     {
         let own = &self.own[over.constructor as usize];
         let split = &mut splits[over.constructor as usize];
@@ -85,18 +77,11 @@ impl<T: Theory> Search<'_, T> {
         children: &[usize],
     ) -> Result<(), ClassStop<T::Chain>>
         requires ready { IsReady T.Atom.eq (T.atom_fits self.now.theory.now) self.now.ranks.now self.now.rules.now self.now.own.now }
-        requires low { constructor < length self.now.ranks.now }
-        requires wide { length children.now ≡ get_or self.now.ranks.now constructor 0 }
-        requires children { All (λ k. k < length known.now.classes.items) children.now }
+        requires over { IsOver self.now.ranks.now known.now.classes.items constructor children.now }
         requires above { (k : ℕ) → k < length known.now.classes.items → get_or (counts_of (founds T.label_of known.now.classes.items)) k 0 ≤ cost CAP (nodes_at (founds T.label_of known.now.classes.items) children.now) }
-        requires sound { IsSound self.now.ranks.now (T.meaning self.now.theory.now).has (T.meaning self.now.theory.now).keeps (meaning_of T.atom_holds (plain_rules self.now.rules.now)) T.label_of known.now.classes.items pending.old }
-        requires splits { AreSplit (T.meaning self.now.theory.now) self.now.ranks.now self.now.own.now (class_rows known.now.classes.items) splits.old.items }
-        ensures sound { OnOk result (IsSound self.now.ranks.now (T.meaning self.now.theory.now).has (T.meaning self.now.theory.now).keeps (meaning_of T.atom_holds (plain_rules self.now.rules.now)) T.label_of known.now.classes.items pending.new) }
-        ensures better { OnOk result (IsBetter pending.old pending.new) }
-        ensures opened { OnOk result (IsOpened self.now.ranks.now (T.meaning self.now.theory.now).has (T.meaning self.now.theory.now).keeps (meaning_of T.atom_holds (plain_rules self.now.rules.now)) T.label_of known.now.classes.items pending.new constructor children.now) }
-        ensures few { OnOk result (length pending.new.sets.keys ≤ self.now.most) }
-        ensures splits { OnOk result (AreSplit (T.meaning self.now.theory.now) self.now.ranks.now self.now.own.now (class_rows known.now.classes.items) splits.new.items) }
-        ensures stop { IfErr result (ClassStopsFor (T.meaning self.now.theory.now) (HasMoreClasses (T.meaning self.now.theory.now) (record { ranks = self.now.ranks.now; rules = plain_rules self.now.rules.now }) self.now.most) (all_guards (plain_rules self.now.rules.now))) }
+        requires under { IsUnderway (T.meaning self.now.theory.now) self.now.ranks.now self.now.rules.now self.now.own.now self.now.most known.now.classes.items pending.old splits.old.items }
+        ensures goes_on { OnOk result (GoesOn (T.meaning self.now.theory.now) self.now.ranks.now self.now.rules.now self.now.own.now self.now.most known.now.classes.items pending.old pending.new splits.new.items (HasOffered (T.meaning self.now.theory.now) self.now.ranks.now self.now.rules.now known.now.classes.items constructor children.now)) }
+        ensures stop { IfErr result (StopsClasses (T.meaning self.now.theory.now) (record { ranks = self.now.ranks.now; rules = plain_rules self.now.rules.now }) self.now.most) }
     {
         let nodes = cost_over(&known.classes, children);
         let over = Over {
@@ -125,14 +110,9 @@ impl<T: Theory> Search<'_, T> {
     ) -> Result<(), ClassStop<T::Chain>>
         requires ready { IsReady T.Atom.eq (T.atom_fits self.now.theory.now) self.now.ranks.now self.now.rules.now self.now.own.now }
         requires none { known.now.classes.items ≡ [] }
-        requires sound { IsSound self.now.ranks.now (T.meaning self.now.theory.now).has (T.meaning self.now.theory.now).keeps (meaning_of T.atom_holds (plain_rules self.now.rules.now)) T.label_of known.now.classes.items pending.old }
-        requires few { length pending.old.sets.keys ≤ self.now.most }
-        requires splits { AreSplit (T.meaning self.now.theory.now) self.now.ranks.now self.now.own.now (class_rows known.now.classes.items) splits.old.items }
-        ensures sound { OnOk result (IsSound self.now.ranks.now (T.meaning self.now.theory.now).has (T.meaning self.now.theory.now).keeps (meaning_of T.atom_holds (plain_rules self.now.rules.now)) T.label_of known.now.classes.items pending.new) }
-        ensures opened { OnOk result ((c : ℕ) → c < length self.now.ranks.now → get_or self.now.ranks.now c 0 ≡ 0 → IsOpened self.now.ranks.now (T.meaning self.now.theory.now).has (T.meaning self.now.theory.now).keeps (meaning_of T.atom_holds (plain_rules self.now.rules.now)) T.label_of known.now.classes.items pending.new c []) }
-        ensures few { OnOk result (length pending.new.sets.keys ≤ self.now.most) }
-        ensures splits { OnOk result (AreSplit (T.meaning self.now.theory.now) self.now.ranks.now self.now.own.now (class_rows known.now.classes.items) splits.new.items) }
-        ensures stop { IfErr result (ClassStopsFor (T.meaning self.now.theory.now) (HasMoreClasses (T.meaning self.now.theory.now) (record { ranks = self.now.ranks.now; rules = plain_rules self.now.rules.now }) self.now.most) (all_guards (plain_rules self.now.rules.now))) }
+        requires under { IsUnderway (T.meaning self.now.theory.now) self.now.ranks.now self.now.rules.now self.now.own.now self.now.most known.now.classes.items pending.old splits.old.items }
+        ensures goes_on { OnOk result (GoesOn (T.meaning self.now.theory.now) self.now.ranks.now self.now.rules.now self.now.own.now self.now.most known.now.classes.items pending.old pending.new splits.new.items (λ s. (c : ℕ) → c < length self.now.ranks.now → get_or self.now.ranks.now c 0 ≡ 0 → HasOffered (T.meaning self.now.theory.now) self.now.ranks.now self.now.rules.now known.now.classes.items c [] s)) }
+        ensures stop { IfErr result (StopsClasses (T.meaning self.now.theory.now) (record { ranks = self.now.ranks.now; rules = plain_rules self.now.rules.now }) self.now.most) }
     {
         'constructors: for constructor in 0..self.ranks.len() {
             if self.ranks[constructor] == 0 {
@@ -156,15 +136,9 @@ impl<T: Theory> Search<'_, T> {
         requires some { 0 < length known.now.classes.items }
         requires low { constructor < length self.now.ranks.now }
         requires place { place < get_or self.now.ranks.now constructor 0 }
-        requires sound { IsSound self.now.ranks.now (T.meaning self.now.theory.now).has (T.meaning self.now.theory.now).keeps (meaning_of T.atom_holds (plain_rules self.now.rules.now)) T.label_of known.now.classes.items pending.old }
-        requires few { length pending.old.sets.keys ≤ self.now.most }
-        requires splits { AreSplit (T.meaning self.now.theory.now) self.now.ranks.now self.now.own.now (class_rows known.now.classes.items) splits.old.items }
-        ensures sound { OnOk result (IsSound self.now.ranks.now (T.meaning self.now.theory.now).has (T.meaning self.now.theory.now).keeps (meaning_of T.atom_holds (plain_rules self.now.rules.now)) T.label_of known.now.classes.items pending.new) }
-        ensures better { OnOk result (IsBetter pending.old pending.new) }
-        ensures opened { OnOk result ((ks : List ℕ) → IsListWith (firsts_of (get_or (lists_of known.now.places.items) constructor [])) place (length known.now.classes.items - 1) (get_or self.now.ranks.now constructor 0) ks → IsOpened self.now.ranks.now (T.meaning self.now.theory.now).has (T.meaning self.now.theory.now).keeps (meaning_of T.atom_holds (plain_rules self.now.rules.now)) T.label_of known.now.classes.items pending.new constructor ks) }
-        ensures few { OnOk result (length pending.new.sets.keys ≤ self.now.most) }
-        ensures splits { OnOk result (AreSplit (T.meaning self.now.theory.now) self.now.ranks.now self.now.own.now (class_rows known.now.classes.items) splits.new.items) }
-        ensures stop { IfErr result (ClassStopsFor (T.meaning self.now.theory.now) (HasMoreClasses (T.meaning self.now.theory.now) (record { ranks = self.now.ranks.now; rules = plain_rules self.now.rules.now }) self.now.most) (all_guards (plain_rules self.now.rules.now))) }
+        requires under { IsUnderway (T.meaning self.now.theory.now) self.now.ranks.now self.now.rules.now self.now.own.now self.now.most known.now.classes.items pending.old splits.old.items }
+        ensures goes_on { OnOk result (GoesOn (T.meaning self.now.theory.now) self.now.ranks.now self.now.rules.now self.now.own.now self.now.most known.now.classes.items pending.old pending.new splits.new.items (λ s. (ks : List ℕ) → IsListWith (firsts_of (get_or (lists_of known.now.places.items) constructor [])) place (length known.now.classes.items - 1) (get_or self.now.ranks.now constructor 0) ks → HasOffered (T.meaning self.now.theory.now) self.now.ranks.now self.now.rules.now known.now.classes.items constructor ks s)) }
+        ensures stop { IfErr result (StopsClasses (T.meaning self.now.theory.now) (record { ranks = self.now.ranks.now; rules = plain_rules self.now.rules.now }) self.now.most) }
     {
         let last = known.classes.len() - 1;
         let lists = lists_with(self.alloc, &known.places[constructor], place, last)?;
@@ -184,15 +158,9 @@ impl<T: Theory> Search<'_, T> {
         requires ready { IsReady T.Atom.eq (T.atom_fits self.now.theory.now) self.now.ranks.now self.now.rules.now self.now.own.now }
         requires kinds { AreKinds self.now.ranks.now self.now.rules.now known.now.classes.items known.now.places.items }
         requires some { 0 < length known.now.classes.items }
-        requires sound { IsSound self.now.ranks.now (T.meaning self.now.theory.now).has (T.meaning self.now.theory.now).keeps (meaning_of T.atom_holds (plain_rules self.now.rules.now)) T.label_of known.now.classes.items pending.old }
-        requires few { length pending.old.sets.keys ≤ self.now.most }
-        requires splits { AreSplit (T.meaning self.now.theory.now) self.now.ranks.now self.now.own.now (class_rows known.now.classes.items) splits.old.items }
-        ensures sound { OnOk result (IsSound self.now.ranks.now (T.meaning self.now.theory.now).has (T.meaning self.now.theory.now).keeps (meaning_of T.atom_holds (plain_rules self.now.rules.now)) T.label_of known.now.classes.items pending.new) }
-        ensures better { OnOk result (IsBetter pending.old pending.new) }
-        ensures opened { OnOk result (AreOpened self.now.ranks.now (T.meaning self.now.theory.now).has (T.meaning self.now.theory.now).keeps (meaning_of T.atom_holds (plain_rules self.now.rules.now)) T.label_of known.now.classes.items known.now.places.items pending.new (λ c ks. Contains ks (length known.now.classes.items - 1))) }
-        ensures few { OnOk result (length pending.new.sets.keys ≤ self.now.most) }
-        ensures splits { OnOk result (AreSplit (T.meaning self.now.theory.now) self.now.ranks.now self.now.own.now (class_rows known.now.classes.items) splits.new.items) }
-        ensures stop { IfErr result (ClassStopsFor (T.meaning self.now.theory.now) (HasMoreClasses (T.meaning self.now.theory.now) (record { ranks = self.now.ranks.now; rules = plain_rules self.now.rules.now }) self.now.most) (all_guards (plain_rules self.now.rules.now))) }
+        requires under { IsUnderway (T.meaning self.now.theory.now) self.now.ranks.now self.now.rules.now self.now.own.now self.now.most known.now.classes.items pending.old splits.old.items }
+        ensures goes_on { OnOk result (GoesOn (T.meaning self.now.theory.now) self.now.ranks.now self.now.rules.now self.now.own.now self.now.most known.now.classes.items pending.old pending.new splits.new.items (HasAllOffered (T.meaning self.now.theory.now) self.now.ranks.now self.now.rules.now known.now.classes.items known.now.places.items (λ c ks. Contains ks (length known.now.classes.items - 1)))) }
+        ensures stop { IfErr result (StopsClasses (T.meaning self.now.theory.now) (record { ranks = self.now.ranks.now; rules = plain_rules self.now.rules.now }) self.now.most) }
     {
         let last = known.classes.len() - 1;
         'constructors: for constructor in 0..self.ranks.len() {
@@ -222,11 +190,7 @@ impl<T: Theory> Search<'_, T> {
     /// No class is found yet, no tree is offered, and nothing is known of the rules of each constructor.
     fn begin(&self) -> Result<Course<T::Value>, Memory>
         requires ready { IsReady T.Atom.eq (T.atom_fits self.now.theory.now) self.now.ranks.now self.now.rules.now self.now.own.now }
-        ensures none { IfOk result (λ course. course.known.classes.items ≡ []) }
-        ensures kinds { IfOk result (λ course. AreKinds self.now.ranks.now self.now.rules.now course.known.classes.items course.known.places.items) }
-        ensures sound { IfOk result (λ course. IsSound self.now.ranks.now (T.meaning self.now.theory.now).has (T.meaning self.now.theory.now).keeps (meaning_of T.atom_holds (plain_rules self.now.rules.now)) T.label_of course.known.classes.items course.pending) }
-        ensures few { IfOk result (λ course. length course.pending.sets.keys ≤ self.now.most) }
-        ensures splits { IfOk result (λ course. AreSplit (T.meaning self.now.theory.now) self.now.ranks.now self.now.own.now (class_rows course.known.classes.items) course.splits.items) }
+        ensures { IfOk result (λ course. IsBegun (T.meaning self.now.theory.now) self.now.ranks.now self.now.rules.now self.now.own.now self.now.most course.known course.pending course.splits.items) }
     {
         let mut splits = Vec::new(self.alloc);
         'constructors: for _ in 0..self.ranks.len() {
@@ -245,16 +209,9 @@ impl<T: Theory> Search<'_, T> {
     /// one more class, and offers the trees over it.
     fn go_on(&self, course: &mut Course<T::Value>) -> Result<(), ClassStop<T::Chain>>
         requires ready { IsReady T.Atom.eq (T.atom_fits self.now.theory.now) self.now.ranks.now self.now.rules.now self.now.own.now }
-        requires none { course.old.known.classes.items ≡ [] }
-        requires kinds { AreKinds self.now.ranks.now self.now.rules.now course.old.known.classes.items course.old.known.places.items }
-        requires sound { IsSound self.now.ranks.now (T.meaning self.now.theory.now).has (T.meaning self.now.theory.now).keeps (meaning_of T.atom_holds (plain_rules self.now.rules.now)) T.label_of course.old.known.classes.items course.old.pending }
-        requires few { length course.old.pending.sets.keys ≤ self.now.most }
-        requires splits { AreSplit (T.meaning self.now.theory.now) self.now.ranks.now self.now.own.now (class_rows course.old.known.classes.items) course.old.splits.items }
-        ensures classes { OnOk result (AreFound (T.meaning self.now.theory.now) CAP self.now.ranks.now (plain_rules self.now.rules.now) course.new.known.classes.items) }
-        ensures complete { OnOk result (AreAllFound (T.meaning self.now.theory.now) CAP self.now.ranks.now (plain_rules self.now.rules.now) course.new.known.classes.items) }
-        ensures kinds { OnOk result (AreKinds self.now.ranks.now self.now.rules.now course.new.known.classes.items course.new.known.places.items) }
-        ensures few { OnOk result (length course.new.known.classes.items ≤ self.now.most) }
-        ensures stop { IfErr result (ClassStopsFor (T.meaning self.now.theory.now) (HasMoreClasses (T.meaning self.now.theory.now) (record { ranks = self.now.ranks.now; rules = plain_rules self.now.rules.now }) self.now.most) (all_guards (plain_rules self.now.rules.now))) }
+        requires begun { IsBegun (T.meaning self.now.theory.now) self.now.ranks.now self.now.rules.now self.now.own.now self.now.most course.old.known course.old.pending course.old.splits.items }
+        ensures whole { OnOk result (IsWhole (T.meaning self.now.theory.now) self.now.ranks.now self.now.rules.now self.now.most course.new.known) }
+        ensures stop { IfErr result (StopsClasses (T.meaning self.now.theory.now) (record { ranks = self.now.ranks.now; rules = plain_rules self.now.rules.now }) self.now.most) }
     {
         self.open_leaves(&course.known, &mut course.pending, &mut course.splits)?;
         'turns: while let Some(class) = course.pending.take() {
@@ -268,11 +225,8 @@ impl<T: Theory> Search<'_, T> {
     /// All classes, where there are not more than `most`.
     pub fn run(&self) -> Result<Known<T::Value>, ClassStop<T::Chain>>
         requires ready { IsReady T.Atom.eq (T.atom_fits self.now.theory.now) self.now.ranks.now self.now.rules.now self.now.own.now }
-        ensures classes { IfOk result (λ known. AreFound (T.meaning self.now.theory.now) CAP self.now.ranks.now (plain_rules self.now.rules.now) known.classes.items) }
-        ensures complete { IfOk result (λ known. AreAllFound (T.meaning self.now.theory.now) CAP self.now.ranks.now (plain_rules self.now.rules.now) known.classes.items) }
-        ensures kinds { IfOk result (λ known. AreKinds self.now.ranks.now self.now.rules.now known.classes.items known.places.items) }
-        ensures few { IfOk result (λ known. length known.classes.items ≤ self.now.most) }
-        ensures stop { IfErr result (ClassStopsFor (T.meaning self.now.theory.now) (HasMoreClasses (T.meaning self.now.theory.now) (record { ranks = self.now.ranks.now; rules = plain_rules self.now.rules.now }) self.now.most) (all_guards (plain_rules self.now.rules.now))) }
+        ensures whole { IfOk result (IsWhole (T.meaning self.now.theory.now) self.now.ranks.now self.now.rules.now self.now.most) }
+        ensures stop { IfErr result (StopsClasses (T.meaning self.now.theory.now) (record { ranks = self.now.ranks.now; rules = plain_rules self.now.rules.now }) self.now.most) }
     {
         let mut course = self.begin()?;
         let ended = self.go_on(&mut course);

@@ -28,18 +28,18 @@ run-requires g c = record {
 
 pub invariant_of-result : goal.invariant_of-result
 invariant_of-result g c = (
-  omega (arith, c.in_ok-known.ensures.few, c.ranges.most.fits),
-  subst (λ r. AreShaped r (length c.in_ok-known.known.classes.items) c.in_ok-known.known.places.items) c.ranks-ranks.ensures (shaped g.T.Theory.atom_holds c.ranks-ranks.result.now c.rules-rules.result.now c.in_ok-known.known.classes.items c.in_ok-known.known.places.items c.in_ok-known.ensures.kinds),
+  omega (arith, c.in_ok-known.ensures.whole.few, c.ranges.most.fits),
+  subst (λ r. AreShaped r (length c.in_ok-known.known.classes.items) c.in_ok-known.known.places.items) c.ranks-ranks.ensures (shaped g.T.Theory.atom_holds c.ranks-ranks.result.now c.rules-rules.result.now c.in_ok-known.known.classes.items c.in_ok-known.known.places.items c.in_ok-known.ensures.whole.kinds),
 )
 
 pub returns : goal.returns
 returns g c = record {
   table = table_is g.T.Theory.label_of CAP (g.T.Theory.meaning c.args.theory.now).has (g.T.Theory.meaning c.args.theory.now).keeps c.in_ok-known.known.classes.items c.ranks-ranks.result.now c.args.sta.now.ranks
-      (meaning_of g.T.Theory.atom_holds (plain_rules c.rules-rules.result.now)) (automaton_of g.T.Theory.atom_holds c.args.sta.now) c.ranks-ranks.ensures (ap (meaning_of g.T.Theory.atom_holds) c.rules-rules.ensures.rules) c.in_ok-known.ensures.classes c.in_ok-known.ensures.complete;
-  few = omega (arith, length-map c.in_ok-known.known.classes.items plain_class, c.in_ok-known.ensures.few);
+      (meaning_of g.T.Theory.atom_holds (plain_rules c.rules-rules.result.now)) (automaton_of g.T.Theory.atom_holds c.args.sta.now) c.ranks-ranks.ensures (ap (meaning_of g.T.Theory.atom_holds) c.rules-rules.ensures.rules) c.in_ok-known.ensures.whole.classes c.in_ok-known.ensures.whole.complete;
+  few = omega (arith, length-map c.in_ok-known.known.classes.items plain_class, c.in_ok-known.ensures.whole.few);
   built = built_is g.T.Theory.label_of CAP (g.T.Theory.meaning c.args.theory.now).has (g.T.Theory.meaning c.args.theory.now).keeps c.in_ok-known.known.classes.items c.ranks-ranks.result.now c.args.sta.now.ranks
-      (meaning_of g.T.Theory.atom_holds (plain_rules c.rules-rules.result.now)) (automaton_of g.T.Theory.atom_holds c.args.sta.now) c.ranks-ranks.ensures (ap (meaning_of g.T.Theory.atom_holds) c.rules-rules.ensures.rules) c.in_ok-known.ensures.classes;
-  kinds = has_kinds g.T.Theory.atom_holds c.ranks-ranks.result.now c.rules-rules.result.now c.in_ok-known.known.classes.items c.in_ok-known.known.places.items c.in_ok-known.ensures.kinds c.args.sta.now c.ranks-ranks.ensures c.rules-rules.ensures.rules;
+      (meaning_of g.T.Theory.atom_holds (plain_rules c.rules-rules.result.now)) (automaton_of g.T.Theory.atom_holds c.args.sta.now) c.ranks-ranks.ensures (ap (meaning_of g.T.Theory.atom_holds) c.rules-rules.ensures.rules) c.in_ok-known.ensures.whole.classes;
+  kinds = has_kinds g.T.Theory.atom_holds c.ranks-ranks.result.now c.rules-rules.result.now c.in_ok-known.known.classes.items c.in_ok-known.known.places.items c.in_ok-known.ensures.whole.kinds c.args.sta.now c.ranks-ranks.ensures c.rules-rules.ensures.rules;
   machine = refl;
   stop = tt;
 }

@@ -9,89 +9,71 @@ use Rattle.sta_classes.proofs.search.Search.go_on.Goals as goal
 
 pub turns-init : goal.turns-init
 turns-init g c = record {
-  sound = c.in_ok-open_leaves.ensures.sound;
-  kinds = c.requires.kinds;
-  splits = c.in_ok-open_leaves.ensures.splits;
-  few = c.in_ok-open_leaves.ensures.few;
-  opened = run_first (g.T.Theory.meaning c.args.self.now.theory.now) c.args.self.now.ranks.now c.args.self.now.rules.now c.args.course.now.known.classes.items c.args.course.now.known.places.items c.open_leaves.new.pending c.requires.none c.requires.kinds c.in_ok-open_leaves.ensures.opened;
+  under = c.in_ok-open_leaves.ensures.goes_on.under;
+  kinds = c.requires.begun.kinds;
+  offered = run_first (g.T.Theory.meaning c.args.self.now.theory.now) c.args.self.now.ranks.now c.args.self.now.rules.now c.args.course.now.known.classes.items c.args.course.now.known.places.items c.open_leaves.new.pending c.requires.begun.none c.requires.begun.kinds c.in_ok-open_leaves.ensures.goes_on.offered;
 }
 
 pub returns : goal.returns
 returns g c = record {
-  classes = c.turns.invariant.sound.classes;
-  complete = run_last (g.T.Theory.meaning c.args.self.now.theory.now) c.args.self.now.ranks.now c.args.self.now.rules.now c.turns.course.known.classes.items c.turns.course.known.places.items c.turns.course.pending c.take.new.self c.turns.invariant.sound c.turns.invariant.kinds c.turns.invariant.opened c.in_default.ensures.taken;
-  kinds = c.turns.invariant.kinds;
-  few = omega (arith, c.turns.invariant.few, few_found c.args.self.now.ranks.now (g.T.Theory.meaning c.args.self.now.theory.now).has (g.T.Theory.meaning c.args.self.now.theory.now).keeps (meaning_of g.T.Theory.atom_holds (plain_rules c.args.self.now.rules.now)) g.T.Theory.label_of c.turns.course.known.classes.items c.turns.course.pending c.turns.invariant.sound);
+  whole = record {
+    classes = c.turns.invariant.under.sound.classes;
+    complete = run_last (g.T.Theory.meaning c.args.self.now.theory.now) c.args.self.now.ranks.now c.args.self.now.rules.now c.turns.course.known.classes.items c.turns.course.known.places.items c.turns.course.pending c.take.new.self c.turns.invariant.under.sound c.turns.invariant.kinds c.turns.invariant.offered c.in_default.ensures.taken;
+    kinds = c.turns.invariant.kinds;
+    few = omega (arith, c.turns.invariant.under.few, few_found c.args.self.now.ranks.now (g.T.Theory.meaning c.args.self.now.theory.now).has (g.T.Theory.meaning c.args.self.now.theory.now).keeps (meaning_of g.T.Theory.atom_holds (plain_rules c.args.self.now.rules.now)) g.T.Theory.label_of c.turns.course.known.classes.items c.turns.course.pending c.turns.invariant.under.sound);
+  };
   stop = tt;
 }
 
 pub open_leaves-requires : goal.open_leaves-requires
-open_leaves-requires g c = record {
-  ready = c.requires.ready;
-  none = c.requires.none;
-  sound = c.requires.sound;
-  few = c.requires.few;
-  splits = c.requires.splits;
-}
+open_leaves-requires g c = record { ready = c.requires.ready; none = c.requires.begun.none; under = c.requires.begun.under }
 
 pub take-requires : goal.take-requires
-take-requires g c = record { kept = c.turns.invariant.sound.kept }
+take-requires g c = record { kept = c.turns.invariant.under.sound.kept }
 
 pub open_new-requires : goal.open_new-requires
 open_new-requires g c = record {
   ready = c.requires.ready;
-  kinds = run_kinds (g.T.Theory.meaning c.args.self.now.theory.now) c.args.self.now.ranks.now c.args.self.now.rules.now c.turns.course.known.classes.items c.turns.course.known.places.items c.turns.course.pending c.take.new.self c.turns.invariant.sound c.turns.invariant.kinds c.turns.invariant.opened c.in_ok-kept.field-0 (taken_as c.turns.course.pending c.take.new.self c.in-Some.class c.in_ok-kept.field-0 (c.in_ok-kept.ensures.0) c.in-Some.ensures.taken) c.take.ensures.kept c.add.new.self.classes.items c.add.new.self.places.items c.in_ok-add.ensures.classes c.in_ok-add.ensures.many c.in_ok-add.ensures.each;
-  some = run_some (g.T.Theory.meaning c.args.self.now.theory.now) c.args.self.now.ranks.now c.args.self.now.rules.now c.turns.course.known.classes.items c.turns.course.known.places.items c.turns.course.pending c.take.new.self c.turns.invariant.sound c.turns.invariant.kinds c.turns.invariant.opened c.in_ok-kept.field-0 (taken_as c.turns.course.pending c.take.new.self c.in-Some.class c.in_ok-kept.field-0 (c.in_ok-kept.ensures.0) c.in-Some.ensures.taken) c.take.ensures.kept c.add.new.self.classes.items c.add.new.self.places.items c.in_ok-add.ensures.classes c.in_ok-add.ensures.many c.in_ok-add.ensures.each;
-  sound = run_sound (g.T.Theory.meaning c.args.self.now.theory.now) c.args.self.now.ranks.now c.args.self.now.rules.now c.turns.course.known.classes.items c.turns.course.known.places.items c.turns.course.pending c.take.new.self c.turns.invariant.sound c.turns.invariant.kinds c.turns.invariant.opened c.in_ok-kept.field-0 (taken_as c.turns.course.pending c.take.new.self c.in-Some.class c.in_ok-kept.field-0 (c.in_ok-kept.ensures.0) c.in-Some.ensures.taken) c.take.ensures.kept c.add.new.self.classes.items c.add.new.self.places.items c.in_ok-add.ensures.classes c.in_ok-add.ensures.many c.in_ok-add.ensures.each;
-  few = subst (λ z. length z.keys ≤ c.args.self.now.most) (sym c.in-Some.ensures.taken.sets_are) c.turns.invariant.few;
-  splits = split_again (g.T.Theory.meaning c.args.self.now.theory.now) c.args.self.now.ranks.now c.args.self.now.own.now c.turns.course.known.classes.items c.add.new.self.classes.items c.turns.course.splits.items c.add_to_splits-told.new.splits.items c.in-Some.class c.in_ok-kept.field-0 c.in_ok-kept.ensures.0 c.in_ok-add.ensures.classes
-      (IfOk-at_ok _ c.in_ok-kept.ensures.1 c.add_to_splits-told.ensures) c.turns.invariant.splits;
+  kinds = run_kinds (g.T.Theory.meaning c.args.self.now.theory.now) c.args.self.now.ranks.now c.args.self.now.rules.now c.turns.course.known.classes.items c.turns.course.known.places.items c.turns.course.pending c.take.new.self c.turns.invariant.under.sound c.turns.invariant.kinds c.turns.invariant.offered c.in_ok-kept.field-0 (taken_as c.turns.course.pending c.take.new.self c.in-Some.class c.in_ok-kept.field-0 (c.in_ok-kept.ensures.0) c.in-Some.ensures.taken) c.take.ensures.kept c.add.new.self.classes.items c.add.new.self.places.items c.in_ok-add.ensures.classes c.in_ok-add.ensures.many c.in_ok-add.ensures.each;
+  some = run_some (g.T.Theory.meaning c.args.self.now.theory.now) c.args.self.now.ranks.now c.args.self.now.rules.now c.turns.course.known.classes.items c.turns.course.known.places.items c.turns.course.pending c.take.new.self c.turns.invariant.under.sound c.turns.invariant.kinds c.turns.invariant.offered c.in_ok-kept.field-0 (taken_as c.turns.course.pending c.take.new.self c.in-Some.class c.in_ok-kept.field-0 (c.in_ok-kept.ensures.0) c.in-Some.ensures.taken) c.take.ensures.kept c.add.new.self.classes.items c.add.new.self.places.items c.in_ok-add.ensures.classes c.in_ok-add.ensures.many c.in_ok-add.ensures.each;
+  under = record {
+    sound = run_sound (g.T.Theory.meaning c.args.self.now.theory.now) c.args.self.now.ranks.now c.args.self.now.rules.now c.turns.course.known.classes.items c.turns.course.known.places.items c.turns.course.pending c.take.new.self c.turns.invariant.under.sound c.turns.invariant.kinds c.turns.invariant.offered c.in_ok-kept.field-0 (taken_as c.turns.course.pending c.take.new.self c.in-Some.class c.in_ok-kept.field-0 (c.in_ok-kept.ensures.0) c.in-Some.ensures.taken) c.take.ensures.kept c.add.new.self.classes.items c.add.new.self.places.items c.in_ok-add.ensures.classes c.in_ok-add.ensures.many c.in_ok-add.ensures.each;
+    splits = split_again (g.T.Theory.meaning c.args.self.now.theory.now) c.args.self.now.ranks.now c.args.self.now.own.now c.turns.course.known.classes.items c.add.new.self.classes.items c.turns.course.splits.items c.add_to_splits-told.new.splits.items c.in-Some.class c.in_ok-kept.field-0 c.in_ok-kept.ensures.0 c.in_ok-add.ensures.classes
+        (IfOk-at_ok _ c.in_ok-kept.ensures.1 c.add_to_splits-told.ensures) c.turns.invariant.under.splits;
+    few = subst (λ z. length z.keys ≤ c.args.self.now.most) (sym c.in-Some.ensures.taken.sets_are) c.turns.invariant.under.few;
+  };
 }
 
 pub turns-preserved : goal.turns-preserved
 turns-preserved g c = record {
-  sound = c.in_ok-open_new.ensures.sound;
-  kinds = run_kinds (g.T.Theory.meaning c.args.self.now.theory.now) c.args.self.now.ranks.now c.args.self.now.rules.now c.turns.course.known.classes.items c.turns.course.known.places.items c.turns.course.pending c.take.new.self c.turns.invariant.sound c.turns.invariant.kinds c.turns.invariant.opened c.in_ok-kept.field-0 (taken_as c.turns.course.pending c.take.new.self c.in-Some.class c.in_ok-kept.field-0 (c.in_ok-kept.ensures.0) c.in-Some.ensures.taken) c.take.ensures.kept c.add.new.self.classes.items c.add.new.self.places.items c.in_ok-add.ensures.classes c.in_ok-add.ensures.many c.in_ok-add.ensures.each;
-  splits = c.in_ok-open_new.ensures.splits;
-  few = c.in_ok-open_new.ensures.few;
-  opened = run_opened (g.T.Theory.meaning c.args.self.now.theory.now) c.args.self.now.ranks.now c.args.self.now.rules.now c.turns.course.known.classes.items c.turns.course.known.places.items c.turns.course.pending c.take.new.self c.turns.invariant.sound c.turns.invariant.kinds c.turns.invariant.opened c.in_ok-kept.field-0 (taken_as c.turns.course.pending c.take.new.self c.in-Some.class c.in_ok-kept.field-0 (c.in_ok-kept.ensures.0) c.in-Some.ensures.taken) c.take.ensures.kept c.add.new.self.classes.items c.add.new.self.places.items c.in_ok-add.ensures.classes c.in_ok-add.ensures.many c.in_ok-add.ensures.each c.open_new.new.pending c.in_ok-open_new.ensures.better c.in_ok-open_new.ensures.opened;
+  under = c.in_ok-open_new.ensures.goes_on.under;
+  kinds = run_kinds (g.T.Theory.meaning c.args.self.now.theory.now) c.args.self.now.ranks.now c.args.self.now.rules.now c.turns.course.known.classes.items c.turns.course.known.places.items c.turns.course.pending c.take.new.self c.turns.invariant.under.sound c.turns.invariant.kinds c.turns.invariant.offered c.in_ok-kept.field-0 (taken_as c.turns.course.pending c.take.new.self c.in-Some.class c.in_ok-kept.field-0 (c.in_ok-kept.ensures.0) c.in-Some.ensures.taken) c.take.ensures.kept c.add.new.self.classes.items c.add.new.self.places.items c.in_ok-add.ensures.classes c.in_ok-add.ensures.many c.in_ok-add.ensures.each;
+  offered = run_opened (g.T.Theory.meaning c.args.self.now.theory.now) c.args.self.now.ranks.now c.args.self.now.rules.now c.turns.course.known.classes.items c.turns.course.known.places.items c.turns.course.pending c.take.new.self c.turns.invariant.under.sound c.turns.invariant.kinds c.turns.invariant.offered c.in_ok-kept.field-0 (taken_as c.turns.course.pending c.take.new.self c.in-Some.class c.in_ok-kept.field-0 (c.in_ok-kept.ensures.0) c.in-Some.ensures.taken) c.take.ensures.kept c.add.new.self.classes.items c.add.new.self.places.items c.in_ok-add.ensures.classes c.in_ok-add.ensures.many c.in_ok-add.ensures.each c.open_new.new.pending c.in_ok-open_new.ensures.goes_on.better c.in_ok-open_new.ensures.goes_on.offered;
 }
 
 pub turns-smaller : goal.turns-smaller
-turns-smaller g c = omega (arith, ap length c.in_ok-add.ensures.classes, length_push c.turns.course.known.classes.items c.in_ok-kept.field-0, c.in_ok-open_new.ensures.few, few_found c.args.self.now.ranks.now (g.T.Theory.meaning c.args.self.now.theory.now).has (g.T.Theory.meaning c.args.self.now.theory.now).keeps (meaning_of g.T.Theory.atom_holds (plain_rules c.args.self.now.rules.now)) g.T.Theory.label_of c.add.new.self.classes.items c.open_new.new.pending c.in_ok-open_new.ensures.sound)
+turns-smaller g c = omega (arith, ap length c.in_ok-add.ensures.classes, length_push c.turns.course.known.classes.items c.in_ok-kept.field-0, c.in_ok-open_new.ensures.goes_on.under.few, few_found c.args.self.now.ranks.now (g.T.Theory.meaning c.args.self.now.theory.now).has (g.T.Theory.meaning c.args.self.now.theory.now).keeps (meaning_of g.T.Theory.atom_holds (plain_rules c.args.self.now.rules.now)) g.T.Theory.label_of c.add.new.self.classes.items c.open_new.new.pending c.in_ok-open_new.ensures.goes_on.under.sound)
 
 pub returns-in_err-open_leaves : goal.returns-in_err-open_leaves
 returns-in_err-open_leaves g c = record {
-  classes = IfOk-from_err c.from_residual.result _ c.from_residual.ensures.0;
-  complete = IfOk-from_err c.from_residual.result _ c.from_residual.ensures.0;
-  kinds = IfOk-from_err c.from_residual.result _ c.from_residual.ensures.0;
-  few = IfOk-from_err c.from_residual.result _ c.from_residual.ensures.0;
+  whole = IfOk-from_err c.from_residual.result _ c.from_residual.ensures.0;
   stop = passed c.from_residual.result _ c.in_err-open_leaves.field-0.0 c.from_residual.ensures.1 c.in_err-open_leaves.ensures.stop;
 }
 
 pub returns-in_err-kept : goal.returns-in_err-kept
 returns-in_err-kept g c = record {
-  classes = IfOk-from_err c.from_residual-in_err-kept.result _ c.from_residual-in_err-kept.ensures.0;
-  complete = IfOk-from_err c.from_residual-in_err-kept.result _ c.from_residual-in_err-kept.ensures.0;
-  kinds = IfOk-from_err c.from_residual-in_err-kept.result _ c.from_residual-in_err-kept.ensures.0;
-  few = IfOk-from_err c.from_residual-in_err-kept.result _ c.from_residual-in_err-kept.ensures.0;
+  whole = IfOk-from_err c.from_residual-in_err-kept.result _ c.from_residual-in_err-kept.ensures.0;
   stop = passed c.from_residual-in_err-kept.result _ _ c.from_residual-in_err-kept.ensures.1 tt;
 }
 
 pub returns-in_err-add : goal.returns-in_err-add
 returns-in_err-add g c = record {
-  classes = IfOk-from_err c.from_residual-in_err-add.result _ c.from_residual-in_err-add.ensures.0;
-  complete = IfOk-from_err c.from_residual-in_err-add.result _ c.from_residual-in_err-add.ensures.0;
-  kinds = IfOk-from_err c.from_residual-in_err-add.result _ c.from_residual-in_err-add.ensures.0;
-  few = IfOk-from_err c.from_residual-in_err-add.result _ c.from_residual-in_err-add.ensures.0;
+  whole = IfOk-from_err c.from_residual-in_err-add.result _ c.from_residual-in_err-add.ensures.0;
   stop = passed c.from_residual-in_err-add.result _ _ c.from_residual-in_err-add.ensures.1 tt;
 }
 
 pub returns-in_err-open_new : goal.returns-in_err-open_new
 returns-in_err-open_new g c = record {
-  classes = IfOk-from_err c.from_residual-in_err-open_new.result _ c.from_residual-in_err-open_new.ensures.0;
-  complete = IfOk-from_err c.from_residual-in_err-open_new.result _ c.from_residual-in_err-open_new.ensures.0;
-  kinds = IfOk-from_err c.from_residual-in_err-open_new.result _ c.from_residual-in_err-open_new.ensures.0;
-  few = IfOk-from_err c.from_residual-in_err-open_new.result _ c.from_residual-in_err-open_new.ensures.0;
+  whole = IfOk-from_err c.from_residual-in_err-open_new.result _ c.from_residual-in_err-open_new.ensures.0;
   stop = passed c.from_residual-in_err-open_new.result _ c.in_err-open_new.field-0.0 c.from_residual-in_err-open_new.ensures.1 c.in_err-open_new.ensures.stop;
 }

@@ -6,80 +6,68 @@ use Rattle.model_sta.specs.Least.{counts_of, nodes_at, cost}
 use Rattle.model_sta.proofs.Reached.{same_default}
 use Rattle.sta_classes.specs.Rules.{plain_rules, meaning_of}
 use Rattle.sta_classes.specs.Rows.{founds, lists_of}
-use Rattle.sta_classes.specs.Searched.{IsOpened}
+use Rattle.sta_classes.specs.Searched.{HasOffered}
 use Rattle.sta_classes.specs.declared.class.TheConstants.{CAP}
 use Rattle.sta_theory.proofs.Lists.{in_map}
 use Rattle.sta_classes.proofs.Rows.{list_at}
 use Rattle.sta_classes.proofs.Opens.{lists_same, list_low, list_has, above_all}
+use Rattle.sta_classes.proofs.Runs.{goes_further, begun}
 use Rattle.sta_classes.proofs.Turns.{opened_later}
 use Rattle.sta_classes.proofs.Keeping.{passed}
 use Rattle.sta_classes.proofs.search.Search.open_place.Goals as goal
 
 pub open-requires : goal.open-requires
-open-requires g c = record {
-  ready = c.requires.ready;
-  low = c.requires.low;
-  wide = ap length c.deref-in-lists.ensures.value ∙ (((lists_same (Contains (lists_of c.in_ok-lists.lists.items)) c.deref.result.now (get_or (lists_of c.args.known.now.places.items) c.args.constructor []) c.args.place _ (length c.args.known.now.classes.items - 1) (get_or c.args.self.now.ranks.now c.args.constructor 0)
-      (list_at c.args.known.now.places.items c.args.constructor c.index.result.now c.deref.result.now (omega (arith, c.requires.low, c.requires.kinds.many)) c.index.ensures c.deref.ensures.value) (omega (arith, c.len-last.ensures, c.args.known.now.classes.ok.0)) (c.requires.kinds.each c.args.constructor c.requires.low).many c.in_ok-lists.ensures c.children-item.result.items).0 (in_map (λ v. v.items) c.in_ok-lists.lists.items c.children-item.result (subst (λ l. Contains l c.children-item.result) c.deref-children-items.ensures.value (c.lists.children-index, c.lists-test.true, sym c.children-item.is))))).0;
-  children = subst (All (λ k. k < length c.args.known.now.classes.items)) (sym c.deref-in-lists.ensures.value) (list_low g.T.Theory.atom_holds c.args.self.now.ranks.now c.args.self.now.rules.now c.args.known.now.classes.items c.args.known.now.places.items c.requires.kinds c.args.constructor c.args.place (length c.args.known.now.classes.items - 1) c.children-item.result.items c.requires.low ((lists_same (Contains (lists_of c.in_ok-lists.lists.items)) c.deref.result.now (get_or (lists_of c.args.known.now.places.items) c.args.constructor []) c.args.place _ (length c.args.known.now.classes.items - 1) (get_or c.args.self.now.ranks.now c.args.constructor 0)
-      (list_at c.args.known.now.places.items c.args.constructor c.index.result.now c.deref.result.now (omega (arith, c.requires.low, c.requires.kinds.many)) c.index.ensures c.deref.ensures.value) (omega (arith, c.len-last.ensures, c.args.known.now.classes.ok.0)) (c.requires.kinds.each c.args.constructor c.requires.low).many c.in_ok-lists.ensures c.children-item.result.items).0 (in_map (λ v. v.items) c.in_ok-lists.lists.items c.children-item.result (subst (λ l. Contains l c.children-item.result) c.deref-children-items.ensures.value (c.lists.children-index, c.lists-test.true, sym c.children-item.is)))));
-  above = λ k low. subst (λ ks. get_or (counts_of (founds g.T.Theory.label_of c.args.known.now.classes.items)) k 0 ≤ cost CAP (nodes_at (founds g.T.Theory.label_of c.args.known.now.classes.items) ks)) (sym c.deref-in-lists.ensures.value)
-      (above_all c.args.self.now.ranks.now (g.T.Theory.meaning c.args.self.now.theory.now).has (g.T.Theory.meaning c.args.self.now.theory.now).keeps (meaning_of g.T.Theory.atom_holds (plain_rules c.args.self.now.rules.now)) g.T.Theory.label_of c.args.known.now.classes.items c.lists.pending c.lists.invariant.sound c.children-item.result.items (list_has g.T.Theory.atom_holds c.args.self.now.ranks.now c.args.self.now.rules.now c.args.known.now.classes.items c.args.known.now.places.items c.requires.kinds c.args.constructor c.args.place (length c.args.known.now.classes.items - 1) c.children-item.result.items c.requires.place ((lists_same (Contains (lists_of c.in_ok-lists.lists.items)) c.deref.result.now (get_or (lists_of c.args.known.now.places.items) c.args.constructor []) c.args.place _ (length c.args.known.now.classes.items - 1) (get_or c.args.self.now.ranks.now c.args.constructor 0)
-      (list_at c.args.known.now.places.items c.args.constructor c.index.result.now c.deref.result.now (omega (arith, c.requires.low, c.requires.kinds.many)) c.index.ensures c.deref.ensures.value) (omega (arith, c.len-last.ensures, c.args.known.now.classes.ok.0)) (c.requires.kinds.each c.args.constructor c.requires.low).many c.in_ok-lists.ensures c.children-item.result.items).0 (in_map (λ v. v.items) c.in_ok-lists.lists.items c.children-item.result (subst (λ l. Contains l c.children-item.result) c.deref-children-items.ensures.value (c.lists.children-index, c.lists-test.true, sym c.children-item.is))))) k low);
-  sound = c.lists.invariant.sound;
-  splits = c.lists.invariant.splits;
-}
+open-requires g c =
+    let listed = (lists_same (Contains (lists_of c.in_ok-lists.lists.items)) c.deref.result.now (get_or (lists_of c.args.known.now.places.items) c.args.constructor []) c.args.place _ (length c.args.known.now.classes.items - 1) (get_or c.args.self.now.ranks.now c.args.constructor 0)
+    (list_at c.args.known.now.places.items c.args.constructor c.index.result.now c.deref.result.now (omega (arith, c.requires.low, c.requires.kinds.many)) c.index.ensures c.deref.ensures.value) (omega (arith, c.len-last.ensures, c.args.known.now.classes.ok.0)) (c.requires.kinds.each c.args.constructor c.requires.low).many c.in_ok-lists.ensures c.children-item.result.items).0 (in_map (λ v. v.items) c.in_ok-lists.lists.items c.children-item.result (subst (λ l. Contains l c.children-item.result) c.deref-children-items.ensures.value (c.lists.children-index, c.lists-test.true, sym c.children-item.is))) in
+    record {
+      ready = c.requires.ready;
+      over = record {
+        low = c.requires.low;
+        wide = ap length c.deref-in-lists.ensures.value ∙ (listed).0;
+        children = subst (All (λ k. k < length c.args.known.now.classes.items)) (sym c.deref-in-lists.ensures.value) (list_low g.T.Theory.atom_holds c.args.self.now.ranks.now c.args.self.now.rules.now c.args.known.now.classes.items c.args.known.now.places.items c.requires.kinds c.args.constructor c.args.place (length c.args.known.now.classes.items - 1) c.children-item.result.items c.requires.low listed);
+      };
+      above = λ k low. subst (λ ks. get_or (counts_of (founds g.T.Theory.label_of c.args.known.now.classes.items)) k 0 ≤ cost CAP (nodes_at (founds g.T.Theory.label_of c.args.known.now.classes.items) ks)) (sym c.deref-in-lists.ensures.value)
+          (above_all c.args.self.now.ranks.now (g.T.Theory.meaning c.args.self.now.theory.now).has (g.T.Theory.meaning c.args.self.now.theory.now).keeps (meaning_of g.T.Theory.atom_holds (plain_rules c.args.self.now.rules.now)) g.T.Theory.label_of c.args.known.now.classes.items c.lists.pending c.lists.invariant.under.sound c.children-item.result.items (list_has g.T.Theory.atom_holds c.args.self.now.ranks.now c.args.self.now.rules.now c.args.known.now.classes.items c.args.known.now.places.items c.requires.kinds c.args.constructor c.args.place (length c.args.known.now.classes.items - 1) c.children-item.result.items c.requires.place listed) k low);
+      under = c.lists.invariant.under;
+    }
 
 pub lists-preserved : goal.lists-preserved
-lists-preserved g c = record {
-  sound = c.in_ok-open.ensures.sound;
-  better = λ q n m. c.in_ok-open.ensures.better q n (c.lists.invariant.better q n m);
-  splits = c.in_ok-open.ensures.splits;
-  few = c.in_ok-open.ensures.few;
-  opened = λ i low inside. elim (cases_lt i c.lists.children-index) [
-    | inl below ↦ opened_later c.args.self.now.ranks.now (g.T.Theory.meaning c.args.self.now.theory.now).has (g.T.Theory.meaning c.args.self.now.theory.now).keeps (meaning_of g.T.Theory.atom_holds (plain_rules c.args.self.now.rules.now)) g.T.Theory.label_of c.args.known.now.classes.items c.lists.pending c.open.new.pending c.lists.invariant.sound c.args.constructor (get_or (lists_of c.deref-children-items.result.now) i []) c.in_ok-open.ensures.better (c.lists.invariant.opened i below inside)
-    | inr past ↦
-        let same_place : i ≡ c.lists.children-index = omega (arith, past, low) in
-        let same : c.deref-in-lists.result.now ≡ get_or (lists_of c.deref-children-items.result.now) i [] =
-        list_at c.deref-children-items.result.now c.lists.children-index c.children-item.result c.deref-in-lists.result.now c.lists-test.true c.children-item.is c.deref-in-lists.ensures.value ∙ ap (λ k. get_or (lists_of c.deref-children-items.result.now) k []) (sym same_place) in
-        subst (IsOpened c.args.self.now.ranks.now (g.T.Theory.meaning c.args.self.now.theory.now).has (g.T.Theory.meaning c.args.self.now.theory.now).keeps (meaning_of g.T.Theory.atom_holds (plain_rules c.args.self.now.rules.now)) g.T.Theory.label_of c.args.known.now.classes.items c.open.new.pending c.args.constructor) same c.in_ok-open.ensures.opened
-  ];
-}
+lists-preserved g c = goes_further (g.T.Theory.meaning c.args.self.now.theory.now) c.args.self.now.ranks.now c.args.self.now.rules.now c.args.self.now.own.now c.args.self.now.most c.args.known.now.classes.items c.lists.invariant c.in_ok-open.ensures.goes_on _ (λ old new sound better before here i low inside. elim (cases_lt i c.lists.children-index) [
+  | inl below ↦ opened_later c.args.self.now.ranks.now (g.T.Theory.meaning c.args.self.now.theory.now).has (g.T.Theory.meaning c.args.self.now.theory.now).keeps (meaning_of g.T.Theory.atom_holds (plain_rules c.args.self.now.rules.now)) g.T.Theory.label_of c.args.known.now.classes.items old new sound c.args.constructor (get_or (lists_of c.deref-children-items.result.now) i []) better (before i below inside)
+  | inr past ↦
+      let same_place : i ≡ c.lists.children-index = omega (arith, past, low) in
+      let same : c.deref-in-lists.result.now ≡ get_or (lists_of c.deref-children-items.result.now) i [] =
+      list_at c.deref-children-items.result.now c.lists.children-index c.children-item.result c.deref-in-lists.result.now c.lists-test.true c.children-item.is c.deref-in-lists.ensures.value ∙ ap (λ k. get_or (lists_of c.deref-children-items.result.now) k []) (sym same_place) in
+      subst (λ k. HasOffered (g.T.Theory.meaning c.args.self.now.theory.now) c.args.self.now.ranks.now c.args.self.now.rules.now c.args.known.now.classes.items c.args.constructor k new) same here
+])
 
 pub returns : goal.returns
 returns g c = record {
-  sound = c.lists.invariant.sound;
-  better = c.lists.invariant.better;
-  opened = λ ks listed. let (i, low, is) = (lists_same (Contains (lists_of c.in_ok-lists.lists.items)) c.deref.result.now (get_or (lists_of c.args.known.now.places.items) c.args.constructor []) c.args.place _ (length c.args.known.now.classes.items - 1) (get_or c.args.self.now.ranks.now c.args.constructor 0)
-      (list_at c.args.known.now.places.items c.args.constructor c.index.result.now c.deref.result.now (omega (arith, c.requires.low, c.requires.kinds.many)) c.index.ensures c.deref.ensures.value) (omega (arith, c.len-last.ensures, c.args.known.now.classes.ok.0)) (c.requires.kinds.each c.args.constructor c.requires.low).many c.in_ok-lists.ensures ks).1 listed in
-      let long : length (lists_of c.deref-children-items.result.now) ≡ length (lists_of c.in_ok-lists.lists.items) = ap (λ l. length (lists_of l)) c.deref-children-items.ensures.value in
-      let count : length (lists_of c.deref-children-items.result.now) ≡ length c.deref-children-items.result.now = length-map c.deref-children-items.result.now (λ v. v.items) in
-      subst (IsOpened c.args.self.now.ranks.now (g.T.Theory.meaning c.args.self.now.theory.now).has (g.T.Theory.meaning c.args.self.now.theory.now).keeps (meaning_of g.T.Theory.atom_holds (plain_rules c.args.self.now.rules.now)) g.T.Theory.label_of c.args.known.now.classes.items c.lists.pending c.args.constructor) (ap (λ l. get_or (lists_of l) i []) c.deref-children-items.ensures.value ∙ same_default (lists_of c.in_ok-lists.lists.items) i [] ks low ∙ is)
-      (c.lists.invariant.opened i (omega (arith, low, long, count, c.lists-test.false)) (omega (arith, low, long)));
-  few = c.lists.invariant.few;
-  splits = c.lists.invariant.splits;
+  goes_on = record {
+    under = c.lists.invariant.under;
+    better = c.lists.invariant.better;
+    offered = λ ks listed. let (i, low, is) = (lists_same (Contains (lists_of c.in_ok-lists.lists.items)) c.deref.result.now (get_or (lists_of c.args.known.now.places.items) c.args.constructor []) c.args.place _ (length c.args.known.now.classes.items - 1) (get_or c.args.self.now.ranks.now c.args.constructor 0)
+        (list_at c.args.known.now.places.items c.args.constructor c.index.result.now c.deref.result.now (omega (arith, c.requires.low, c.requires.kinds.many)) c.index.ensures c.deref.ensures.value) (omega (arith, c.len-last.ensures, c.args.known.now.classes.ok.0)) (c.requires.kinds.each c.args.constructor c.requires.low).many c.in_ok-lists.ensures ks).1 listed in
+        let long : length (lists_of c.deref-children-items.result.now) ≡ length (lists_of c.in_ok-lists.lists.items) = ap (λ l. length (lists_of l)) c.deref-children-items.ensures.value in
+        let count : length (lists_of c.deref-children-items.result.now) ≡ length c.deref-children-items.result.now = length-map c.deref-children-items.result.now (λ v. v.items) in
+        subst (λ k. HasOffered (g.T.Theory.meaning c.args.self.now.theory.now) c.args.self.now.ranks.now c.args.self.now.rules.now c.args.known.now.classes.items c.args.constructor k c.lists.pending) (ap (λ l. get_or (lists_of l) i []) c.deref-children-items.ensures.value ∙ same_default (lists_of c.in_ok-lists.lists.items) i [] ks low ∙ is)
+        (c.lists.invariant.offered i (omega (arith, low, long, count, c.lists-test.false)) (omega (arith, low, long)));
+  };
   stop = tt;
 }
 
 pub lists-init : goal.lists-init
-lists-init g c = record { sound = c.requires.sound; better = λ q n m. m; splits = c.requires.splits; few = c.requires.few; opened = λ i low inside. absurd (omega (arith, low)) }
+lists-init g c = begun (g.T.Theory.meaning c.args.self.now.theory.now) c.args.self.now.ranks.now c.args.self.now.rules.now c.args.self.now.own.now c.args.self.now.most c.args.known.now.classes.items c.requires.under _ (λ i low inside. absurd (omega (arith, low)))
 
 pub returns-in_err-open : goal.returns-in_err-open
 returns-in_err-open g c = record {
-  sound = IfOk-from_err c.from_residual-in_err-open.result _ c.from_residual-in_err-open.ensures.0;
-  better = IfOk-from_err c.from_residual-in_err-open.result _ c.from_residual-in_err-open.ensures.0;
-  opened = IfOk-from_err c.from_residual-in_err-open.result _ c.from_residual-in_err-open.ensures.0;
-  few = IfOk-from_err c.from_residual-in_err-open.result _ c.from_residual-in_err-open.ensures.0;
-  splits = IfOk-from_err c.from_residual-in_err-open.result _ c.from_residual-in_err-open.ensures.0;
+  goes_on = IfOk-from_err c.from_residual-in_err-open.result _ c.from_residual-in_err-open.ensures.0;
   stop = passed c.from_residual-in_err-open.result _ c.in_err-open.field-0.0 c.from_residual-in_err-open.ensures.1 c.in_err-open.ensures.stop;
 }
 
 pub returns-in_err-lists : goal.returns-in_err-lists
 returns-in_err-lists g c = record {
-  sound = IfOk-from_err c.from_residual.result _ c.from_residual.ensures.0;
-  better = IfOk-from_err c.from_residual.result _ c.from_residual.ensures.0;
-  opened = IfOk-from_err c.from_residual.result _ c.from_residual.ensures.0;
-  few = IfOk-from_err c.from_residual.result _ c.from_residual.ensures.0;
-  splits = IfOk-from_err c.from_residual.result _ c.from_residual.ensures.0;
+  goes_on = IfOk-from_err c.from_residual.result _ c.from_residual.ensures.0;
   stop = passed c.from_residual.result _ _ c.from_residual.ensures.1 tt;
 }

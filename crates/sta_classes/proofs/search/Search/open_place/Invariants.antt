@@ -1,15 +1,7 @@
-use Rattle.std.proofs.Common.{ℕ, [], ◌<◌, ◌≤◌, length, get_or}
-use Rattle.sta_classes.specs.Rules.{plain_rules, meaning_of}
-use Rattle.sta_classes.specs.Rows.{class_rows, lists_of}
-use Rattle.sta_classes.specs.Pending.{IsBetter}
-use Rattle.sta_classes.specs.Searched.{AreSplit, IsSound, IsOpened}
+use Rattle.std.proofs.Common.{ℕ, [], ◌<◌, length, get_or}
+use Rattle.sta_classes.specs.Rows.{lists_of}
+use Rattle.sta_classes.specs.Searched.{GoesOn, HasOffered}
 use Rattle.sta_classes.proofs.search.Search.open_place.Given as goal
 
 abbrev pub invariant-lists : goal.invariant-lists
-invariant-lists g l = record {
-  sound : IsSound l.self.ranks.now (g.T.Theory.meaning l.self.theory.now).has (g.T.Theory.meaning l.self.theory.now).keeps (meaning_of g.T.Theory.atom_holds (plain_rules l.self.rules.now)) g.T.Theory.label_of l.known.classes.items l.pending;
-  better : IsBetter l.initial.pending l.pending;
-  splits : AreSplit (g.T.Theory.meaning l.self.theory.now) l.self.ranks.now l.self.own.now (class_rows l.known.classes.items) l.splits.items;
-  few : length l.pending.sets.keys ≤ l.self.most;
-  opened : (i : ℕ) → i < l.children-index → i < length (lists_of l.children-items) → IsOpened l.self.ranks.now (g.T.Theory.meaning l.self.theory.now).has (g.T.Theory.meaning l.self.theory.now).keeps (meaning_of g.T.Theory.atom_holds (plain_rules l.self.rules.now)) g.T.Theory.label_of l.known.classes.items l.pending l.constructor (get_or (lists_of l.children-items) i []);
-}
+invariant-lists g l = GoesOn (g.T.Theory.meaning l.self.theory.now) l.self.ranks.now l.self.rules.now l.self.own.now l.self.most l.known.classes.items l.initial.pending l.pending l.splits.items (λ s. (i : ℕ) → i < l.children-index → i < length (lists_of l.children-items) → HasOffered (g.T.Theory.meaning l.self.theory.now) l.self.ranks.now l.self.rules.now l.known.classes.items l.constructor (get_or (lists_of l.children-items) i []) s)
