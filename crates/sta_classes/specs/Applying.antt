@@ -2,7 +2,7 @@
 use Rattle.std.specs.Prelude.{ℕ, ◌≡◌, ◌<◌, ◌↔◌, Bool, true, false, not, ◌&&◌, List, [], ◌∷◌, map, get_or, length, All, Contains, Vec}
 use Rattle.std.specs.List.{list_all}
 use Rattle.model_tree.specs.Label.{Label}
-use Rattle.model_tree.specs.Formula.{Formula, yes, no, atom, negation, all_of, some_of, Formulas, no_formulas, formula, formula_holds}
+use Rattle.model_tree.specs.Formula.{EveryAtom, Formula, yes, no, atom, negation, all_of, some_of, Formulas, no_formulas, formula, formula_holds}
 use Rattle.model_sta.specs.Sets.{Row, has}
 use Rattle.label_core.specs.SameFormula.{same_formula}
 use Rattle.sta_core.specs.Machine.{PlainRule, plain_rule}
@@ -70,6 +70,12 @@ module _ {A : Type 0} where
     pub all_are : own.all ≡ map (λ x. true) own.list.items
     pub guarded_are : own.guarded ≡ map (λ x. not (is_fixed (plain_rule x.rule.now).guard)) own.list.items
     pub alike : AreLike eq own.list.items own.likes.items
+
+-- the guards of the rules fit, it is told which of the rules have guards, and which guards are the same
+pub record AreFit {A : Type 0} (eq : A → A → Bool) (fits : A → Type 0) (own : Rules A) : Type 0 where
+  pub fit : All (λ x. EveryAtom fits (plain_rule x.rule.now).guard) own.list.items
+  pub guarded : length own.guarded ≡ length own.list.items
+  pub likes : AreLike eq own.list.items own.likes.items
 
 -- an element with one of the numbers is taken to the number
 abbrev pub IsTakenTo : {X : Type 0} → (X → ℕ) → List X → Row → ℕ → Type 0

@@ -41,3 +41,10 @@ module _ {A V W : Type 0} {label_of : V → Label} {holds : A → Label → Bool
   pub record AreAllTold (s : Splits V) : Type 0 where
     pub many : length s.told.items ≡ length s.sets.keys
     pub each : (i : ℕ) → i < length s.sets.keys → AreTold (get_or s.sets.keys i []) (get_or (lists_of s.told.items) i [])
+
+  -- under this number are labels that tell the guards of the rules with these numbers apart, the rest is as it was
+  pub record IsUnder (numbers : Row) (old new : Splits V) (number : ℕ) : Type 0 where
+    pub met : new.met ≡ old.met
+    pub all : AreAllTold new
+    pub low : number < length new.told.items
+    pub told : AreTold numbers (get_or (lists_of new.told.items) number [])

@@ -117,8 +117,7 @@ impl<V: Drop> Pending<V> {
     ) -> Result<(), Memory>
         requires kept { AreKept self.old }
         requires capped { over.now.nodes ≤ CAP }
-        ensures kept { OnOk result (AreKept self.new) }
-        ensures offered { OnOk result (IsOffered T.label_of self.old self.new (record { row = row; nodes = over.now.nodes; constructor = over.now.constructor; label = T.label_of value.now; children = over.now.children.now })) }
+        ensures { OnOk result (AreKept self.new × IsOffered T.label_of self.old self.new (record { row = row; nodes = over.now.nodes; constructor = over.now.constructor; label = T.label_of value.now; children = over.now.children.now })) }
     {
         let (number, new) = self.sets.insert_full(row)?;
         if !new && !is_dearer(&self.best[number], over.nodes) {

@@ -5,10 +5,9 @@ ghost use Rattle.std.specs.Global.{Global};
 ghost use Rattle.model_sta.specs.Sets.{rows_meet};
 ghost use Rattle.model_tree.specs.Formula.{EveryAtom};
 ghost use Rattle.sta_core.specs.Machine.{plain_rule};
-ghost use Rattle.sta_classes.specs.Applying.{guards_in, AreLike};
+ghost use Rattle.sta_classes.specs.Applying.{guards_in, AreFit};
 ghost use Rattle.sta_classes.specs.Bits.{both};
-ghost use Rattle.sta_classes.specs.Rows.{lists_of};
-ghost use Rattle.sta_classes.specs.Splits.{AreMet, AreTelling, AreTold, AreAllTold};
+ghost use Rattle.sta_classes.specs.Splits.{AreMet, AreTelling, AreTold, AreAllTold, IsUnder};
 ghost use Rattle.sta_classes.specs.Stop.{ClassStopsFor};
 ghost use Rattle.sta_classes.specs.declared.splits.Told.{Told};
 
@@ -139,14 +138,10 @@ impl<V: Drop> Splits<V> {
         own: &Rules<T::Atom>,
         key: &Row,
     ) -> Result<usize, ClassStop<T::Chain>>
-        requires fit { All (λ x. EveryAtom (T.atom_fits theory.now) (plain_rule x.rule.now).guard) own.now.list.items }
+        requires fit { AreFit T.Atom.eq (T.atom_fits theory.now) own.now }
         requires many { length key.now ≡ length own.now.guarded }
-        requires likes { AreLike T.Atom.eq own.now.list.items own.now.likes.items }
-        requires guarded { length own.now.guarded ≡ length own.now.list.items }
         requires told { AreAllTold (T.meaning theory.now) own.now.list.items self.old }
-        ensures told { OnOk result (AreAllTold (T.meaning theory.now) own.now.list.items self.new) }
-        ensures met { OnOk result (self.new.met ≡ self.old.met) }
-        ensures number { IfOk result (λ n. (n < length self.new.told.items) × AreTold (T.meaning theory.now) own.now.list.items (both own.now.guarded key.now) (get_or (lists_of self.new.told.items) n [])) }
+        ensures number { IfOk result (IsUnder (T.meaning theory.now) own.now.list.items (both own.now.guarded key.now) self.old self.new) }
         ensures stop { IfErr result (ClassStopsFor (T.meaning theory.now) ⊥ (guards_in own.now.list.items)) }
     {
         let open = own.open_guards(alloc, key)?;

@@ -46,15 +46,15 @@ labels-preserved g c =
     let row_is = row_made (g.T.Theory.meaning c.args.self.now.theory.now) c.args.self.now.ranks.now c.args.self.now.rules.now c.args.known.now.classes.items c.args.constructor c.index-self-constructor.result is c.args.children.now c.in_ok-key.key c.deref-label-items.result.now are c.label-item.result there c.in_ok-row.row c.in_ok-row.ensures.many fired in
     let made = made_over (g.T.Theory.meaning c.args.self.now.theory.now) c.args.self.now.ranks.now c.args.self.now.rules.now c.args.known.now.classes.items c.args.constructor c.index-self-constructor.result is c.args.children.now c.in_ok-key.key c.deref-label-items.result.now are c.cost_over-nodes.result c.label-item.result c.in_ok-row.row c.requires.over.low c.requires.over.wide c.requires.over.children there row_is (counts_as g.T.Theory.label_of c.args.known.now.classes.items c.deref.result.now c.args.children.now c.cost_over-nodes.result c.deref.ensures.value c.cost_over-nodes.ensures) in
     record {
-      sound = sound_offered c.args.self.now.ranks.now (g.T.Theory.meaning c.args.self.now.theory.now).has (g.T.Theory.meaning c.args.self.now.theory.now).keeps (meaning_of g.T.Theory.atom_holds (plain_rules c.args.self.now.rules.now)) g.T.Theory.label_of c.args.known.now.classes.items c.labels.pending c.offer.new.self c.labels.invariant.sound (record { row = c.in_ok-row.row; nodes = c.cost_over-nodes.result; constructor = c.args.constructor; label = g.T.Theory.label_of c.label-item.result.value; children = c.args.children.now }) c.in_ok-offer.ensures.kept c.in_ok-offer.ensures.offered made (λ k low. subst (λ n. get_or (counts_of (founds g.T.Theory.label_of c.args.known.now.classes.items)) k 0 ≤ n) (sym (counts_as g.T.Theory.label_of c.args.known.now.classes.items c.deref.result.now c.args.children.now c.cost_over-nodes.result c.deref.ensures.value c.cost_over-nodes.ensures)) (c.requires.above k low));
-      better = λ q n m. c.in_ok-offer.ensures.offered.better q n (c.labels.invariant.better q n m);
+      sound = sound_offered c.args.self.now.ranks.now (g.T.Theory.meaning c.args.self.now.theory.now).has (g.T.Theory.meaning c.args.self.now.theory.now).keeps (meaning_of g.T.Theory.atom_holds (plain_rules c.args.self.now.rules.now)) g.T.Theory.label_of c.args.known.now.classes.items c.labels.pending c.offer.new.self c.labels.invariant.sound (record { row = c.in_ok-row.row; nodes = c.cost_over-nodes.result; constructor = c.args.constructor; label = g.T.Theory.label_of c.label-item.result.value; children = c.args.children.now }) c.in_ok-offer.ensures.0 c.in_ok-offer.ensures.1 made (λ k low. subst (λ n. get_or (counts_of (founds g.T.Theory.label_of c.args.known.now.classes.items)) k 0 ≤ n) (sym (counts_as g.T.Theory.label_of c.args.known.now.classes.items c.deref.result.now c.args.children.now c.cost_over-nodes.result c.deref.ensures.value c.cost_over-nodes.ensures)) (c.requires.above k low));
+      better = λ q n m. c.in_ok-offer.ensures.1.better q n (c.labels.invariant.better q n m);
       met = λ i r low inside at. elim (cases_lt i c.labels.label-index) [
-        | inl below ↦ c.in_ok-offer.ensures.offered.better _ _ (c.labels.invariant.met i r below inside at)
+        | inl below ↦ c.in_ok-offer.ensures.1.better _ _ (c.labels.invariant.met i r below inside at)
         | inr past ↦
             let same_place : i ≡ c.labels.label-index = omega (arith, past, low) in
             let same : c.label-item.result ≡ r = c.label-item.is ∙ same_default c.deref-label-items.result.now c.labels.label-index c.label-item.result r c.labels-test.true ∙ ap (λ k. get_or c.deref-label-items.result.now k r) (sym same_place) ∙ at in
             subst (λ z. IsMet c.offer.new.self (step (meaning_of g.T.Theory.atom_holds (plain_rules c.args.self.now.rules.now)) c.args.constructor (g.T.Theory.label_of z.value) (rows_at (founds g.T.Theory.label_of c.args.known.now.classes.items) c.args.children.now)) c.cost_over-nodes.result) same
-            (subst (λ q. IsMet c.offer.new.self q c.cost_over-nodes.result) made.row_is c.in_ok-offer.ensures.offered.met)
+            (subst (λ q. IsMet c.offer.new.self q c.cost_over-nodes.result) made.row_is c.in_ok-offer.ensures.1.met)
       ];
     }
 

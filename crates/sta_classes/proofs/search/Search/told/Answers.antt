@@ -20,15 +20,15 @@ use Rattle.sta_classes.proofs.search.Search.told.Goals as goal
 pub number-number-requires : goal.number-number-requires
 number-number-requires g c = record {
   fit = let is : IsRules g.T.Atom.PartialEq.eq c.args.self.now.rules.now c.args.over.now.constructor c.index-self-over.result = c.requires.ready.own_are c.args.over.now.constructor c.index-self-over.result (omega (arith, c.requires.over.low, c.requires.ready.many)) (sym c.index-self-over.is) in
-      subst (λ R. All (λ x. EveryAtom (g.T.Theory.atom_fits c.args.self.now.theory.now) (plain_rule x.rule.now).guard) R.list.items) c.index-self-over.is
+      record {
+        fit = subst (λ R. All (λ x. EveryAtom (g.T.Theory.atom_fits c.args.self.now.theory.now) (plain_rule x.rule.now).guard) R.list.items) c.index-self-over.is
       (guards_fit c.args.self.now.rules.now c.args.over.now.constructor c.index-self-over.result.list.items is.owned (g.T.Theory.atom_fits c.args.self.now.theory.now) c.requires.ready.fit);
+        guarded = subst (λ R. length R.guarded ≡ length R.list.items) c.index-self-over.is (ap length is.guarded_are ∙ length-map _ _);
+        likes = subst (λ R. AreLike g.T.Atom.PartialEq.eq R.list.items R.likes.items) c.index-self-over.is is.alike;
+      };
   many = let is : IsRules g.T.Atom.PartialEq.eq c.args.self.now.rules.now c.args.over.now.constructor c.index-self-over.result = c.requires.ready.own_are c.args.over.now.constructor c.index-self-over.result (omega (arith, c.requires.over.low, c.requires.ready.many)) (sym c.index-self-over.is) in
       let met = met_at (g.T.Theory.meaning c.args.self.now.theory.now) c.args.self.now.ranks.now c.args.self.now.own.now (class_rows c.args.known.now.classes.items) c.args.splits.now.items c.requires.splits c.args.over.now.constructor c.index-self-over.result c.index_mut-split.result.now (omega (arith, c.requires.over.low, c.requires.ready.many)) (omega (arith, c.requires.over.low, c.requires.splits.many)) c.index_mut-split.ensures.value (length c.args.over.now.children.now) c.requires.over.wide in
       ap length (c.in_ok-key.ensures (class_rows c.args.known.now.classes.items) met) ∙ length-map _ _ ∙ sym (subst (λ R. length R.guarded ≡ length R.list.items) c.index-self-over.is (ap length is.guarded_are ∙ length-map _ _));
-  likes = let is : IsRules g.T.Atom.PartialEq.eq c.args.self.now.rules.now c.args.over.now.constructor c.index-self-over.result = c.requires.ready.own_are c.args.over.now.constructor c.index-self-over.result (omega (arith, c.requires.over.low, c.requires.ready.many)) (sym c.index-self-over.is) in
-      subst (λ R. AreLike g.T.Atom.PartialEq.eq R.list.items R.likes.items) c.index-self-over.is is.alike;
-  guarded = let is : IsRules g.T.Atom.PartialEq.eq c.args.self.now.rules.now c.args.over.now.constructor c.index-self-over.result = c.requires.ready.own_are c.args.over.now.constructor c.index-self-over.result (omega (arith, c.requires.over.low, c.requires.ready.many)) (sym c.index-self-over.is) in
-      subst (λ R. length R.guarded ≡ length R.list.items) c.index-self-over.is (ap length is.guarded_are ∙ length-map _ _);
   told = all_told_at (g.T.Theory.meaning c.args.self.now.theory.now) c.args.self.now.ranks.now c.args.self.now.own.now (class_rows c.args.known.now.classes.items) c.args.splits.now.items c.requires.splits c.args.over.now.constructor c.index-self-over.result c.index_mut-split.result.now (omega (arith, c.requires.over.low, c.requires.ready.many)) (omega (arith, c.requires.over.low, c.requires.splits.many)) c.index_mut-split.ensures.value;
 }
 
@@ -42,15 +42,15 @@ returns g c = record {
         let low : c.args.over.now.constructor < length c.args.self.now.own.now = omega (arith, c.requires.over.low, c.requires.ready.many) in
         let s_low : c.args.over.now.constructor < length c.args.splits.now.items = omega (arith, c.requires.over.low, c.requires.splits.many) in
         let same : c.index-self-over.result ≡ R = c.index-self-over.is ∙ same_default c.args.self.now.own.now c.args.over.now.constructor c.index-self-over.result R low ∙ of in (
-          subst (λ z. AreMet R.list.items (get_or c.args.self.now.ranks.now c.args.over.now.constructor 0) (class_rows c.args.known.now.classes.items) z.items) (sym (IfOk-at_ok _ made c.number-number.ensures.met)) (c.requires.splits.met c.args.over.now.constructor R c.index_mut-split.result.now s_low of (sym c.index_mut-split.ensures.value)),
-          subst (λ z. AreAllTold (g.T.Theory.meaning c.args.self.now.theory.now) z.list.items c.number-number.new.self) (sym c.index-self-over.is ∙ same) (IfOk-at_ok _ made c.number-number.ensures.told),
+          subst (λ z. AreMet R.list.items (get_or c.args.self.now.ranks.now c.args.over.now.constructor 0) (class_rows c.args.known.now.classes.items) z.items) (sym (IfOk-at_ok _ made c.number-number.ensures.number).met) (c.requires.splits.met c.args.over.now.constructor R c.index_mut-split.result.now s_low of (sym c.index_mut-split.ensures.value)),
+          subst (λ z. AreAllTold (g.T.Theory.meaning c.args.self.now.theory.now) z.list.items c.number-number.new.self) (sym c.index-self-over.is ∙ same) (IfOk-at_ok _ made c.number-number.ensures.number).all,
         ))
         c.requires.splits;
     told = λ R s of at.
         let met = met_at (g.T.Theory.meaning c.args.self.now.theory.now) c.args.self.now.ranks.now c.args.self.now.own.now (class_rows c.args.known.now.classes.items) c.args.splits.now.items c.requires.splits c.args.over.now.constructor c.index-self-over.result c.index_mut-split.result.now (omega (arith, c.requires.over.low, c.requires.ready.many)) (omega (arith, c.requires.over.low, c.requires.splits.many)) c.index_mut-split.ensures.value (length c.args.over.now.children.now) c.requires.over.wide in
         subst (λ key. (x.1 < length s.told.items) × IsTold (g.T.Theory.meaning c.args.self.now.theory.now) R (class_rows_at c.args.known.now.classes.items c.args.over.now.children.now) key (get_or (lists_of s.told.items) x.1 [])) same
         (told_found (g.T.Theory.meaning c.args.self.now.theory.now) c.args.self.now.ranks.now c.args.self.now.own.now (class_rows c.args.known.now.classes.items) c.args.splits.now.items c.args.over.now.constructor c.args.over.now.children.now c.index-self-over.result R c.number-number.new.self s c.in_ok-key.key x.1 (omega (arith, c.requires.over.low, c.requires.ready.many)) of (omega (arith, c.requires.over.low, c.requires.splits.many)) at
-        (c.in_ok-key.ensures (class_rows c.args.known.now.classes.items) met) (IfOk-at_ok _ made c.number-number.ensures.number));
+        (c.in_ok-key.ensures (class_rows c.args.known.now.classes.items) met) ((IfOk-at_ok _ made c.number-number.ensures.number).low, (IfOk-at_ok _ made c.number-number.ensures.number).told));
   });
   stop = beside_err c.in_ok-key.key _ c.number-number.result c.both.result refl c.both.ensures _ (IfErr-weaker c.number-number.result _ _ (λ stop h.
       let is : IsRules g.T.Atom.PartialEq.eq c.args.self.now.rules.now c.args.over.now.constructor c.index-self-over.result = c.requires.ready.own_are c.args.over.now.constructor c.index-self-over.result (omega (arith, c.requires.over.low, c.requires.ready.many)) (sym c.index-self-over.is) in

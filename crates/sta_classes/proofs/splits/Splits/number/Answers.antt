@@ -17,69 +17,62 @@ use Rattle.sta_classes.proofs.Keeping.{passed}
 use Rattle.sta_classes.proofs.splits.Splits.number.Goals as goal
 use Rattle.sta_classes.proofs.splits.Splits.number.Goals.{then-new+in_ok-tell, else-new}
 
-pub returns-clause-told : goal.returns-clause-told
-returns-clause-told g c = elim c.if-new.branch [
-  | then-new+in_ok-tell w ↦
-      let at : w.index-as_slice-number.result ≡ c.in_ok-open.open =
-      w.index-as_slice-number.is ∙ ap (λ k. get_or k c.in_ok-number.number w.index-as_slice-number.result) w.as_slice.ensures.keys
-      ∙ same_default c.insert_full.new.self.keys c.in_ok-number.number w.index-as_slice-number.result [] (slice_get_within c.insert_full.new.self.keys c.in_ok-number.number c.in_ok-number.ensures.stored.0 c.in_ok-number.ensures.stored.1)
-      ∙ row_at c.args.self.now.sets.keys c.insert_full.new.self.keys c.in_ok-open.open c.in_ok-number.number c.in_ok-number.new c.in_ok-number.ensures.added c.in_ok-number.ensures.keys c.in_ok-number.ensures.stored in
-      let (labels, are, items) = w.in_ok-tell.ensures.told in
-      let told : AreTold (g.T.Theory.meaning c.args.theory.now) c.args.own.now.list.items c.in_ok-open.open labels.items =
-      subst (λ z. AreTold (g.T.Theory.meaning c.args.theory.now) z c.in_ok-open.open labels.items) w.deref.ensures.value (subst (λ z. AreTold (g.T.Theory.meaning c.args.theory.now) w.deref.result.now z labels.items) at are) in
-      subst (AreAllTold (g.T.Theory.meaning c.args.theory.now) c.args.own.now.list.items) (sym w.self-is)
-      (all_told_more (g.T.Theory.meaning c.args.theory.now) c.args.own.now.list.items c.args.self.now _ c.in_ok-open.open labels
-      (is_new c.args.self.now.sets.keys c.insert_full.new.self.keys c.in_ok-open.open c.in_ok-number.number c.in_ok-number.new c.in_ok-number.ensures.added c.in_ok-number.ensures.keys c.in_ok-number.ensures.stored w.if-new.true) items told c.requires.told)
-  | else-new w ↦
-      subst (AreAllTold (g.T.Theory.meaning c.args.theory.now) c.args.own.now.list.items) (sym w.self-is)
-      (all_told_same (g.T.Theory.meaning c.args.theory.now) c.args.own.now.list.items c.args.self.now _
-      (was_there c.args.self.now.sets.keys c.insert_full.new.self.keys c.in_ok-open.open c.in_ok-number.number c.in_ok-number.new c.in_ok-number.ensures.added c.in_ok-number.ensures.keys c.in_ok-number.ensures.stored w.if-new.false) refl c.requires.told)
-]
-
 pub returns-clause-number : goal.returns-clause-number
 returns-clause-number g c =
+    let told : AreAllTold (g.T.Theory.meaning c.args.theory.now) c.args.own.now.list.items c.if-new.self =
+    elim c.if-new.branch [
+      | then-new+in_ok-tell w ↦
+          let at : w.index-as_slice-number.result ≡ c.in_ok-open.open =
+          w.index-as_slice-number.is ∙ ap (λ k. get_or k c.in_ok-number.number w.index-as_slice-number.result) w.as_slice.ensures.keys
+          ∙ same_default c.insert_full.new.self.keys c.in_ok-number.number w.index-as_slice-number.result [] (slice_get_within c.insert_full.new.self.keys c.in_ok-number.number c.in_ok-number.ensures.stored.0 c.in_ok-number.ensures.stored.1)
+          ∙ row_at c.args.self.now.sets.keys c.insert_full.new.self.keys c.in_ok-open.open c.in_ok-number.number c.in_ok-number.new c.in_ok-number.ensures.added c.in_ok-number.ensures.keys c.in_ok-number.ensures.stored in
+          let (labels, are, items) = w.in_ok-tell.ensures.told in
+          let told : AreTold (g.T.Theory.meaning c.args.theory.now) c.args.own.now.list.items c.in_ok-open.open labels.items =
+          subst (λ z. AreTold (g.T.Theory.meaning c.args.theory.now) z c.in_ok-open.open labels.items) w.deref.ensures.value (subst (λ z. AreTold (g.T.Theory.meaning c.args.theory.now) w.deref.result.now z labels.items) at are) in
+          subst (AreAllTold (g.T.Theory.meaning c.args.theory.now) c.args.own.now.list.items) (sym w.self-is)
+          (all_told_more (g.T.Theory.meaning c.args.theory.now) c.args.own.now.list.items c.args.self.now _ c.in_ok-open.open labels
+          (is_new c.args.self.now.sets.keys c.insert_full.new.self.keys c.in_ok-open.open c.in_ok-number.number c.in_ok-number.new c.in_ok-number.ensures.added c.in_ok-number.ensures.keys c.in_ok-number.ensures.stored w.if-new.true) items told c.requires.told)
+      | else-new w ↦
+          subst (AreAllTold (g.T.Theory.meaning c.args.theory.now) c.args.own.now.list.items) (sym w.self-is)
+          (all_told_same (g.T.Theory.meaning c.args.theory.now) c.args.own.now.list.items c.args.self.now _
+          (was_there c.args.self.now.sets.keys c.insert_full.new.self.keys c.in_ok-open.open c.in_ok-number.number c.in_ok-number.new c.in_ok-number.ensures.added c.in_ok-number.ensures.keys c.in_ok-number.ensures.stored w.if-new.false) refl c.requires.told)
+    ] in
     let keys : c.if-new.self.sets ≡ c.insert_full.new.self = elim c.if-new.branch [ then-new+in_ok-tell w ↦ ap (λ s. s.sets) w.self-is | else-new w ↦ ap (λ s. s.sets) w.self-is ] in
     let numbered =
-    told_numbered (g.T.Theory.meaning c.args.theory.now) c.args.own.now.list.items c.if-new.self (returns-clause-told g c) c.in_ok-number.number c.in_ok-open.open
+    told_numbered (g.T.Theory.meaning c.args.theory.now) c.args.own.now.list.items c.if-new.self told c.in_ok-number.number c.in_ok-open.open
     (subst (λ z. c.in_ok-number.number < length z.keys) (sym keys) (slice_get_within c.insert_full.new.self.keys c.in_ok-number.number c.in_ok-number.ensures.stored.0 c.in_ok-number.ensures.stored.1))
-    (ap (λ z. get_or z.keys c.in_ok-number.number []) keys ∙ row_at c.args.self.now.sets.keys c.insert_full.new.self.keys c.in_ok-open.open c.in_ok-number.number c.in_ok-number.new c.in_ok-number.ensures.added c.in_ok-number.ensures.keys c.in_ok-number.ensures.stored) in (
-      numbered.0,
-      told_likes (g.T.Theory.meaning c.args.theory.now) g.T.Atom.PartialEq.eq g.met.T.Theory.equal_atoms c.args.own.now.list.items c.args.own.now.likes.items c.requires.likes (both c.args.own.now.guarded c.args.key.now) c.in_ok-open.open (both_length c.args.own.now.guarded c.args.key.now c.requires.many ∙ c.requires.guarded) c.in_ok-open.ensures (get_or (lists_of c.if-new.self.told.items) c.in_ok-number.number []) numbered.1,
-    )
+    (ap (λ z. get_or z.keys c.in_ok-number.number []) keys ∙ row_at c.args.self.now.sets.keys c.insert_full.new.self.keys c.in_ok-open.open c.in_ok-number.number c.in_ok-number.new c.in_ok-number.ensures.added c.in_ok-number.ensures.keys c.in_ok-number.ensures.stored) in
+    record {
+      met = elim c.if-new.branch [ then-new+in_ok-tell w ↦ ap (λ s. s.met) w.self-is | else-new w ↦ ap (λ s. s.met) w.self-is ];
+      all = told;
+      low = numbered.0;
+      told = told_likes (g.T.Theory.meaning c.args.theory.now) g.T.Atom.PartialEq.eq g.met.T.Theory.equal_atoms c.args.own.now.list.items c.args.own.now.likes.items c.requires.fit.likes (both c.args.own.now.guarded c.args.key.now) c.in_ok-open.open (both_length c.args.own.now.guarded c.args.key.now c.requires.many ∙ c.requires.fit.guarded) c.in_ok-open.ensures (get_or (lists_of c.if-new.self.told.items) c.in_ok-number.number []) numbered.1;
+    }
 
 pub open_guards-requires : goal.open_guards-requires
 open_guards-requires g c = record {
   many = c.requires.many;
-  low = likes_low c.args.own.now.list.items g.T.Atom.PartialEq.eq c.args.own.now.likes.items c.requires.likes;
-  likes = c.requires.likes.many ∙ sym c.requires.guarded;
+  low = likes_low c.args.own.now.list.items g.T.Atom.PartialEq.eq c.args.own.now.likes.items c.requires.fit.likes;
+  likes = c.requires.fit.likes.many ∙ sym c.requires.fit.guarded;
 }
-
-pub returns-clause-met : goal.returns-clause-met
-returns-clause-met g c = elim c.if-new.branch [ then-new+in_ok-tell w ↦ ap (λ s. s.met) w.self-is | else-new w ↦ ap (λ s. s.met) w.self-is ]
 
 pub returns-in_err-open : goal.returns-in_err-open
 returns-in_err-open g c = record {
-  told = IfOk-from_err c.from_residual.result _ c.from_residual.ensures.0;
-  met = IfOk-from_err c.from_residual.result _ c.from_residual.ensures.0;
   number = IfOk-from_err c.from_residual.result _ c.from_residual.ensures.0;
   stop = passed c.from_residual.result _ _ c.from_residual.ensures.1 tt;
 }
 
 pub returns-in_err-number : goal.returns-in_err-number
 returns-in_err-number g c = record {
-  told = IfOk-from_err c.from_residual-in_err-number.result _ c.from_residual-in_err-number.ensures.0;
-  met = IfOk-from_err c.from_residual-in_err-number.result _ c.from_residual-in_err-number.ensures.0;
   number = IfOk-from_err c.from_residual-in_err-number.result _ c.from_residual-in_err-number.ensures.0;
   stop = passed c.from_residual-in_err-number.result _ _ c.from_residual-in_err-number.ensures.1 tt;
 }
 
 pub returns-in_err-tell : goal.returns-in_err-tell
 returns-in_err-tell g c = record {
-  told = IfOk-from_err c.from_residual-in_err-tell.result _ c.from_residual-in_err-tell.ensures.0;
-  met = IfOk-from_err c.from_residual-in_err-tell.result _ c.from_residual-in_err-tell.ensures.0;
   number = IfOk-from_err c.from_residual-in_err-tell.result _ c.from_residual-in_err-tell.ensures.0;
   stop = passed c.from_residual-in_err-tell.result _ c.in_err-tell.field-0.0 c.from_residual-in_err-tell.ensures.1 (subst (λ l. ClassStopsFor (g.T.Theory.meaning c.args.theory.now) ⊥ (guards_in l) c.in_err-tell.field-0.0) c.deref.ensures.value c.in_err-tell.ensures.stop);
 }
 
 pub tell-requires : goal.tell-requires
-tell-requires g c = record { fit = subst (λ l. All (λ x. EveryAtom (g.T.Theory.atom_fits c.args.theory.now) (plain_rule x.rule.now).guard) l) (sym c.deref.ensures.value) c.requires.fit }
+tell-requires g c = record { fit = subst (λ l. All (λ x. EveryAtom (g.T.Theory.atom_fits c.args.theory.now) (plain_rule x.rule.now).guard) l) (sym c.deref.ensures.value) c.requires.fit.fit }
