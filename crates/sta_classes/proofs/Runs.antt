@@ -1,5 +1,5 @@
 -- The search from its first turn to its last.
-use Rattle.std.proofs.Common.{ℕ, Vec, ◌≡◌, ◌<◌, ◌+◌, ◌-◌, inl, inr, Bool, List, [], ◌∷◌, ◌++◌, length, get_or, Contains, refl, sym, ap, subst, ◌∙◌, arith}
+use Rattle.std.proofs.Common.{ℕ, Vec, ◌≡◌, ◌<◌, ◌≤◌, ◌+◌, ◌-◌, inl, inr, Bool, List, [], ◌∷◌, ◌++◌, length, get_or, Contains, refl, sym, ap, subst, ◌∙◌, arith}
 use Rattle.std.proofs.lemmas.Bool.{cases_lt}
 use Rattle.std.proofs.lemmas.List.{length_push, map-append}
 use Rattle.model_tree.specs.Label.{Label}
@@ -11,7 +11,7 @@ use Rattle.sta_classes.specs.Rules.{plain_rules, meaning_of}
 use Rattle.sta_classes.specs.Rows.{founds, class_rows, lists_of}
 use Rattle.sta_classes.specs.Lists.{IsListWith}
 use Rattle.sta_classes.specs.Pending.{AreKept, IsBetter, IsTaken, IsDone}
-use Rattle.sta_classes.specs.Searched.{firsts_of, listed_at, ArePlaces, AreKinds, NextPlaces, IsSound, IsOpened, AreOpened, AreSplit, IsUnderway, GoesOn}
+use Rattle.sta_classes.specs.Searched.{firsts_of, listed_at, ArePlaces, AreKinds, NextPlaces, IsSound, IsOpened, AreOpened, AreSplit, HasOfferedAt, IsUnderway, GoesOn}
 use Rattle.sta_classes.specs.declared.class.Class.{Class}
 use Rattle.sta_classes.specs.declared.place.Place.{Place}
 use Rattle.sta_classes.specs.declared.pending.Pending.{Pending}
@@ -79,16 +79,24 @@ module _ {A V W G H : Type 0} {label_of : V → Label} {holds : A → Label → 
           (λ n low ks wide listed want. opened_later ranks M.has M.keeps (meaning_of holds (plain_rules rules)) label_of classes old mid sound n ks taken.better (opened n low ks wide listed want))
           (subst (λ k. AreOpened ranks M.has M.keeps (meaning_of holds (plain_rules rules)) label_of classes' places' s (λ n ks. Contains ks k)) last touched)
 
-  -- the lists with the last class at places before one more
-  pub last_more : (classes : List (Class V)) (places : List (Vec Place H)) (old new : Pending V) → Sound M ranks rules classes old → IsBetter old new → (c n : ℕ)
-      → ((j : ℕ) (ks : List ℕ) → j < n → j < get_or ranks c 0 → IsListWith (firsts_of (get_or (lists_of places) c [])) j (length classes - 1) (get_or ranks c 0) ks → Opened M ranks rules classes old c ks)
-      → ((ks : List ℕ) → n < get_or ranks c 0 → IsListWith (firsts_of (get_or (lists_of places) c [])) n (length classes - 1) (get_or ranks c 0) ks → Opened M ranks rules classes new c ks)
-      → (j : ℕ) (ks : List ℕ) → j < n + 1 → j < get_or ranks c 0 → IsListWith (firsts_of (get_or (lists_of places) c [])) j (length classes - 1) (get_or ranks c 0) ks → Opened M ranks rules classes new c ks
-  last_more classes places old new sound better c n before here j ks low inside listed = elim (cases_lt j n) [
-    | inl below ↦ opened_later ranks M.has M.keeps (meaning_of holds (plain_rules rules)) label_of classes old new sound c ks better (before j ks below inside listed)
+  -- the lists with the last class at places before this one, or of constructors before this one, are offered
+  abbrev pub Below : List (Class V) → List (Vec Place H) → ℕ → ℕ → Pending V → Type 0
+  Below classes places c n s = (j : ℕ) → j < n → j < get_or ranks c 0 → HasOfferedAt M ranks rules classes places c j s
+
+  abbrev pub Before : List (Class V) → List (Vec Place H) → ℕ → Pending V → Type 0
+  Before classes places n s = (c : ℕ) → c < n → (j : ℕ) → j < get_or ranks c 0 → HasOfferedAt M ranks rules classes places c j s
+
+  -- what is offered stays so
+  pub before_later : (classes : List (Class V)) (places : List (Vec Place H)) (old new : Pending V) → Sound M ranks rules classes old → IsBetter old new → (n : ℕ) → Before classes places n old → Before classes places n new
+  before_later classes places old new sound better n before c low j inside ks listed = opened_later ranks M.has M.keeps (meaning_of holds (plain_rules rules)) label_of classes old new sound c ks better (before c low j inside ks listed)
+
+  -- one place more
+  pub last_more : (classes : List (Class V)) (places : List (Vec Place H)) (old new : Pending V) → Sound M ranks rules classes old → IsBetter old new → (c n : ℕ) → Below classes places c n old → HasOfferedAt M ranks rules classes places c n new → Below classes places c (n + 1) new
+  last_more classes places old new sound better c n before here j low inside ks listed = elim (cases_lt j n) [
+    | inl below ↦ opened_later ranks M.has M.keeps (meaning_of holds (plain_rules rules)) label_of classes old new sound c ks better (before j below inside ks listed)
     | inr past ↦
         let same : j ≡ n = omega (arith, past, low) in
-        here ks (omega (arith, same, inside)) (subst (λ k. IsListWith (firsts_of (get_or (lists_of places) c [])) k (length classes - 1) (get_or ranks c 0) ks) same listed)
+        here ks (subst (λ k. IsListWith (firsts_of (get_or (lists_of places) c [])) k (length classes - 1) (get_or ranks c 0) ks) same listed)
   ]
 
   -- where the last class is not the first of its kind at a place, no list has it there
@@ -102,26 +110,22 @@ module _ {A V W G H : Type 0} {label_of : V → Label} {holds : A → Label → 
       let firsts : get_or (firsts_of (get_or (lists_of places) c [])) n [] ≡ p.firsts.items = map_at (λ z. z.firsts.items) (get_or (lists_of places) c []) n p [] low ∙ ap (λ z. z.firsts.items) at in
       other (listed_first p.states.items p.kind_of.items p.firsts.items p.kinds.keys (class_rows classes) [] numbered (length classes - 1) (subst (Contains p.firsts.items) (may.0 refl) (subst (λ l. Contains l (get_or ks n 0)) firsts there)))
 
-  -- the lists with the last class of constructors before one more
-  pub new_more : (classes : List (Class V)) (places : List (Vec Place H)) (old new : Pending V) → Sound M ranks rules classes old → IsBetter old new → (n : ℕ)
-      → ((c : ℕ) → c < n → (j : ℕ) (ks : List ℕ) → j < get_or ranks c 0 → IsListWith (firsts_of (get_or (lists_of places) c [])) j (length classes - 1) (get_or ranks c 0) ks → Opened M ranks rules classes old c ks)
-      → ((j : ℕ) (ks : List ℕ) → j < get_or ranks n 0 → IsListWith (firsts_of (get_or (lists_of places) n [])) j (length classes - 1) (get_or ranks n 0) ks → Opened M ranks rules classes new n ks)
-      → (c : ℕ) → c < n + 1 → (j : ℕ) (ks : List ℕ) → j < get_or ranks c 0 → IsListWith (firsts_of (get_or (lists_of places) c [])) j (length classes - 1) (get_or ranks c 0) ks → Opened M ranks rules classes new c ks
-  new_more classes places old new sound better n before here c low j ks inside listed = elim (cases_lt c n) [
-    | inl below ↦ opened_later ranks M.has M.keeps (meaning_of holds (plain_rules rules)) label_of classes old new sound c ks better (before c below j ks inside listed)
+  -- one constructor more
+  pub new_more : (classes : List (Class V)) (places : List (Vec Place H)) (s : Pending V) (n : ℕ) → Before classes places n s → ((j : ℕ) → j < get_or ranks n 0 → HasOfferedAt M ranks rules classes places n j s) → Before classes places (n + 1) s
+  new_more classes places s n before here c low j inside ks listed = elim (cases_lt c n) [
+    | inl below ↦ before c below j inside ks listed
     | inr past ↦
         let same : c ≡ n = omega (arith, past, low) in
-        subst (λ k. Opened M ranks rules classes new k ks) (sym same)
-        (here j ks (subst (λ k. j < get_or ranks k 0) same inside) (subst (λ k. IsListWith (firsts_of (get_or (lists_of places) k [])) j (length classes - 1) (get_or ranks k 0) ks) same listed))
+        subst (λ k. Opened M ranks rules classes s k ks) (sym same)
+        (here j (subst (λ k. j < get_or ranks k 0) same inside) ks (subst (λ k. IsListWith (firsts_of (get_or (lists_of places) k [])) j (length classes - 1) (get_or ranks k 0) ks) same listed))
   ]
 
   -- a list with the last class is one by the first place where it stands
-  pub run_touched : (classes : List (Class V)) (places : List (Vec Place H)) (s : Pending V)
-      → ((c : ℕ) → c < length ranks → (j : ℕ) (ks : List ℕ) → j < get_or ranks c 0 → IsListWith (firsts_of (get_or (lists_of places) c [])) j (length classes - 1) (get_or ranks c 0) ks → Opened M ranks rules classes s c ks)
+  pub run_touched : (classes : List (Class V)) (places : List (Vec Place H)) (s : Pending V) → Before classes places (length ranks) s
       → AreOpened ranks M.has M.keeps (meaning_of holds (plain_rules rules)) label_of classes places s (λ n ks. Contains ks (length classes - 1))
   run_touched classes places s h c low ks wide listed at =
       let (j, j_low, is, none) = first_place ks (length classes - 1) at in
-      h c low j ks (omega (arith, j_low, wide)) (list_with (firsts_of (get_or (lists_of places) c [])) (get_or ranks c 0) (length classes - 1) j ks wide listed is none)
+      h c low j (omega (arith, j_low, wide)) ks (list_with (firsts_of (get_or (lists_of places) c [])) (get_or ranks c 0) (length classes - 1) j ks wide listed is none)
 
 module _ {A V W G : Type 0} {label_of : V → Label} {holds : A → Label → Bool} (M : Meaning label_of holds W) (ranks : List ℕ) (rules : List (Vec (StaRule A) G)) (own : List (Rules A)) (most : ℕ) (found : List (Class V)) where
   -- a search goes on where nothing was done
@@ -140,6 +144,28 @@ module _ {A V W G : Type 0} {label_of : V → Label} {holds : A → Label → Bo
   -- and so it does under other names
   pub goes_as : (first : Pending V) {new new' : Pending V} {split split' : List (Splits V)} → new' ≡ new → split' ≡ split → (P : Pending V → Type 0) → GoesOn M ranks rules own most found first new split P → GoesOn M ranks rules own most found first new' split' P
   goes_as first {new} {new'} {split} {split'} same same_split P goes = subst (λ z. GoesOn M ranks rules own most found first z split' P) (sym same) (subst (λ z. GoesOn M ranks rules own most found first new z P) (sym same_split) goes)
+
+  module _ {H : Type 0} (places : List (Vec Place H)) (first : Pending V) where
+    -- the lists of constructors before this one are offered, and those of its own with the last class at places before this one
+    abbrev pub OffersTo : ℕ → ℕ → Pending V → Type 0
+    OffersTo c n s = Before M ranks rules found places c s × Below M ranks rules found places c n s
+
+    pub offers_first : (s : Pending V) (split : List (Splits V)) (c : ℕ) → GoesOn M ranks rules own most found first s split (Before M ranks rules found places c) → GoesOn M ranks rules own most found first s split (OffersTo c 0)
+    offers_first s split c goes = record { under = goes.under; better = goes.better; offered = (goes.offered, λ j low. absurd (omega (arith, low))) }
+
+    pub offers_more : (old new : Pending V) (split split' : List (Splits V)) (c n : ℕ) → GoesOn M ranks rules own most found first old split (OffersTo c n) → GoesOn M ranks rules own most found old new split' (HasOfferedAt M ranks rules found places c n)
+        → GoesOn M ranks rules own most found first new split' (OffersTo c (n + 1))
+    offers_more old new split split' c n before after = record {
+      under = after.under;
+      better = λ q m met. after.better q m (before.better q m met);
+      offered = (
+        before_later M ranks rules found places old new before.under.sound after.better c before.offered.0,
+        last_more M ranks rules found places old new before.under.sound after.better c n before.offered.1 after.offered,
+      );
+    }
+
+    pub offers_last : (s : Pending V) (split : List (Splits V)) (c n : ℕ) → get_or ranks c 0 ≤ n → GoesOn M ranks rules own most found first s split (OffersTo c n) → GoesOn M ranks rules own most found first s split (Before M ranks rules found places (c + 1))
+    offers_last s split c n all goes = record { under = goes.under; better = goes.better; offered = new_more M ranks rules found places s c goes.offered.0 (λ j low. goes.offered.1 j (omega (arith, low, all)) low) }
 
 -- a class that was taken, under another name
 pub taken_as : {V : Type 0} (old mid : Pending V) (c d : Class V) → d ≡ c → IsTaken old mid c → IsTaken old mid d

@@ -1,5 +1,5 @@
 -- How far a search for classes is.
-use Rattle.std.specs.Prelude.{ℕ, ◌^◌, ◌≡◌, ◌<◌, ◌≤◌, ◌↔◌, Bool, List, [], map, get_or, length, All, Contains, Vec}
+use Rattle.std.specs.Prelude.{ℕ, ◌^◌, ◌≡◌, ◌<◌, ◌≤◌, ◌-◌, ◌↔◌, Bool, List, [], map, get_or, length, All, Contains, Vec}
 use Rattle.model_tree.specs.Label.{Label}
 use Rattle.model_sta.specs.Automaton.{Rule}
 use Rattle.model_sta.specs.Sets.{Row, rows_meet, step}
@@ -12,6 +12,7 @@ use Rattle.sta_classes.specs.Bits.{both}
 use Rattle.sta_classes.specs.Guards.{GuardsFit}
 use Rattle.sta_classes.specs.Rules.{plain_rules, meaning_of}
 use Rattle.sta_classes.specs.Splits.{AreMet, AreTold, AreAllTold}
+use Rattle.sta_classes.specs.Lists.{IsListWith}
 use Rattle.sta_classes.specs.Meant.{AreFound, AreAllFound}
 use Rattle.sta_classes.specs.Rows.{found_of, founds, class_rows, class_rows_at, lists_of}
 use Rattle.sta_classes.specs.Places.{AreAsked, IsNumbered, IsNext}
@@ -103,6 +104,10 @@ module _ {A V W G : Type 0} {label_of : V → Label} {holds : A → Label → Bo
   -- the trees over these children are offered
   abbrev pub HasOffered : List (Class V) → ℕ → List ℕ → Pending V → Type 0
   HasOffered found c ks s = IsOpened ranks M.has M.keeps (meaning_of holds (plain_rules rules)) label_of found s c ks
+
+  -- and so are those over all lists of kinds with the last class at the place, and at none before it
+  abbrev pub HasOfferedAt : {H : Type 0} → List (Class V) → List (Vec Place H) → ℕ → ℕ → Pending V → Type 0
+  HasOfferedAt found places c j s = (ks : List ℕ) → IsListWith (firsts_of (get_or (lists_of places) c [])) j (length found - 1) (get_or ranks c 0) ks → HasOffered found c ks s
 
   -- and so are those over all lists of kinds that are wanted
   abbrev pub HasAllOffered : {H : Type 0} → List (Class V) → List (Vec Place H) → (ℕ → List ℕ → Type 0) → Pending V → Type 0

@@ -6,10 +6,9 @@
 ghost use Rattle.std.specs.Prelude.{ℕ, ◌≡◌, ◌≤◌, ◌<◌, ◌-◌, ◌++◌, ◌∷◌, [], Bool, List, length, get_or, Contains, IfOk, IfErr, OnOk};
 ghost use Rattle.model_sta.specs.Least.{counts_of, nodes_at, cost};
 ghost use Rattle.sta_classes.specs.Rules.{plain_rules};
-ghost use Rattle.sta_classes.specs.Rows.{founds, lists_of, class_rows};
-ghost use Rattle.sta_classes.specs.Lists.{IsListWith};
+ghost use Rattle.sta_classes.specs.Rows.{founds, class_rows};
 ghost use Rattle.sta_classes.specs.Meant.{StopsClasses};
-ghost use Rattle.sta_classes.specs.Searched.{IsReady, IsOver, AreSplit, AreToldAt, AreKinds, HasOffered, HasAllOffered, IsUnderway, GoesOn, IsBegun, IsWhole, firsts_of};
+ghost use Rattle.sta_classes.specs.Searched.{IsReady, IsOver, AreSplit, AreToldAt, AreKinds, HasOffered, HasOfferedAt, HasAllOffered, IsUnderway, GoesOn, IsBegun, IsWhole};
 
 use crate::class::{CAP, cost_over};
 use crate::keep::{both, kept};
@@ -137,7 +136,7 @@ impl<T: Theory> Search<'_, T> {
         requires low { constructor < length self.now.ranks.now }
         requires place { place < get_or self.now.ranks.now constructor 0 }
         requires under { IsUnderway (T.meaning self.now.theory.now) self.now.ranks.now self.now.rules.now self.now.own.now self.now.most known.now.classes.items pending.old splits.old.items }
-        ensures goes_on { OnOk result (GoesOn (T.meaning self.now.theory.now) self.now.ranks.now self.now.rules.now self.now.own.now self.now.most known.now.classes.items pending.old pending.new splits.new.items (λ s. (ks : List ℕ) → IsListWith (firsts_of (get_or (lists_of known.now.places.items) constructor [])) place (length known.now.classes.items - 1) (get_or self.now.ranks.now constructor 0) ks → HasOffered (T.meaning self.now.theory.now) self.now.ranks.now self.now.rules.now known.now.classes.items constructor ks s)) }
+        ensures goes_on { OnOk result (GoesOn (T.meaning self.now.theory.now) self.now.ranks.now self.now.rules.now self.now.own.now self.now.most known.now.classes.items pending.old pending.new splits.new.items (HasOfferedAt (T.meaning self.now.theory.now) self.now.ranks.now self.now.rules.now known.now.classes.items known.now.places.items constructor place)) }
         ensures stop { IfErr result (StopsClasses (T.meaning self.now.theory.now) (record { ranks = self.now.ranks.now; rules = plain_rules self.now.rules.now }) self.now.most) }
     {
         let last = known.classes.len() - 1;

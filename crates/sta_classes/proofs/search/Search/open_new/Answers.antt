@@ -1,11 +1,8 @@
-use Rattle.std.specs.Prelude.{⊤}
 use Rattle.std.proofs.lemmas.Result.{IfOk-from_err}
 use Rattle.std.proofs.Common.{◌≡◌, ◌<◌, ◌-◌, ◌∙◌, true≢false, length, get_or, refl, sym, ap, arith}
 use Rattle.std.proofs.lemmas.List.{length-map}
-use Rattle.sta_classes.specs.Rules.{plain_rules, meaning_of}
 use Rattle.sta_classes.proofs.Rows.{list_at}
-use Rattle.sta_classes.proofs.Runs.{last_more, last_absent, new_more, run_touched, goes_as, goes_further, begun}
-use Rattle.sta_classes.proofs.Turns.{opened_later}
+use Rattle.sta_classes.proofs.Runs.{last_absent, run_touched, goes_as, begun, offers_first, offers_more, offers_last}
 use Rattle.sta_classes.proofs.Keeping.{passed}
 use Rattle.sta_classes.proofs.search.Search.open_new.Goals as goal
 use Rattle.sta_classes.proofs.search.Search.open_new.Goals.{then-begins+in_ok-open_place, else-begins}
@@ -27,18 +24,13 @@ places-preserved g c =
     elim c.if-begins.branch [
       | then-begins+in_ok-open_place w ↦
           goes_as (g.T.Theory.meaning c.args.self.now.theory.now) c.args.self.now.ranks.now c.args.self.now.rules.now c.args.self.now.own.now c.args.self.now.most c.args.known.now.classes.items c.args.pending.now w.pending-is (ap (λ v. v.items) w.splits-is) _
-          (goes_further (g.T.Theory.meaning c.args.self.now.theory.now) c.args.self.now.ranks.now c.args.self.now.rules.now c.args.self.now.own.now c.args.self.now.most c.args.known.now.classes.items c.places.invariant w.in_ok-open_place.ensures.goes_on _ (λ old new sound better before here. (
-            λ n low j ks inside listed. opened_later c.args.self.now.ranks.now (g.T.Theory.meaning c.args.self.now.theory.now).has (g.T.Theory.meaning c.args.self.now.theory.now).keeps (meaning_of g.T.Theory.atom_holds (plain_rules c.args.self.now.rules.now)) g.T.Theory.label_of c.args.known.now.classes.items old new sound n ks better (before.0 n low j ks inside listed),
-            last_more (g.T.Theory.meaning c.args.self.now.theory.now) c.args.self.now.ranks.now c.args.self.now.rules.now c.args.known.now.classes.items c.args.known.now.places.items old new sound better c.constructors.constructor c.places.place before.1 (λ ks inside listed. here ks listed),
-          )))
+          (offers_more (g.T.Theory.meaning c.args.self.now.theory.now) c.args.self.now.ranks.now c.args.self.now.rules.now c.args.self.now.own.now c.args.self.now.most c.args.known.now.classes.items c.args.known.now.places.items c.args.pending.now _ _ _ _ c.constructors.constructor c.places.place c.places.invariant w.in_ok-open_place.ensures.goes_on)
       | else-begins w ↦
           goes_as (g.T.Theory.meaning c.args.self.now.theory.now) c.args.self.now.ranks.now c.args.self.now.rules.now c.args.self.now.own.now c.args.self.now.most c.args.known.now.classes.items c.args.pending.now w.pending-is (ap (λ v. v.items) w.splits-is) _
-          (goes_further (g.T.Theory.meaning c.args.self.now.theory.now) c.args.self.now.ranks.now c.args.self.now.rules.now c.args.self.now.own.now c.args.self.now.most c.args.known.now.classes.items c.places.invariant (begun (g.T.Theory.meaning c.args.self.now.theory.now) c.args.self.now.ranks.now c.args.self.now.rules.now c.args.self.now.own.now c.args.self.now.most c.args.known.now.classes.items c.places.invariant.under (λ s. ⊤) tt) _ (λ old new sound better before here. (
-            λ n low j ks inside listed. opened_later c.args.self.now.ranks.now (g.T.Theory.meaning c.args.self.now.theory.now).has (g.T.Theory.meaning c.args.self.now.theory.now).keeps (meaning_of g.T.Theory.atom_holds (plain_rules c.args.self.now.rules.now)) g.T.Theory.label_of c.args.known.now.classes.items old new sound n ks better (before.0 n low j ks inside listed),
-            last_more (g.T.Theory.meaning c.args.self.now.theory.now) c.args.self.now.ranks.now c.args.self.now.rules.now c.args.known.now.classes.items c.args.known.now.places.items old new sound better c.constructors.constructor c.places.place before.1
-                (λ ks inside listed. absurd (last_absent (g.T.Theory.meaning c.args.self.now.theory.now) c.args.self.now.ranks.now c.args.self.now.rules.now c.args.known.now.classes.items c.args.known.now.places.items c.requires.kinds c.constructors.constructor c.places.place c.constructors-test.true in_rank c.index-in-places-2.result.now (ap (λ l. get_or l c.places.place c.index-in-places-2.result.now) (sym (list_at c.args.known.now.places.items c.constructors.constructor c.index-in-places.result.now c.index-in-places.result.now.items (omega (arith, c.constructors-test.true, c.requires.kinds.many)) c.index-in-places.ensures refl)) ∙ sym c.index-in-places-2.ensures)
-                (λ e. true≢false (sym (c.begins.ensures.1 (ap (λ k. get_or c.index-in-places-2.result.now.firsts.items (get_or c.index-in-places-2.result.now.kind_of.items k 0) 0) last ∙ e ∙ sym last)) ∙ w.if-begins.false)) ks listed)),
-          )))
+          (offers_more (g.T.Theory.meaning c.args.self.now.theory.now) c.args.self.now.ranks.now c.args.self.now.rules.now c.args.self.now.own.now c.args.self.now.most c.args.known.now.classes.items c.args.known.now.places.items c.args.pending.now _ _ _ _ c.constructors.constructor c.places.place c.places.invariant
+          (begun (g.T.Theory.meaning c.args.self.now.theory.now) c.args.self.now.ranks.now c.args.self.now.rules.now c.args.self.now.own.now c.args.self.now.most c.args.known.now.classes.items c.places.invariant.under _
+          (λ ks listed. absurd (last_absent (g.T.Theory.meaning c.args.self.now.theory.now) c.args.self.now.ranks.now c.args.self.now.rules.now c.args.known.now.classes.items c.args.known.now.places.items c.requires.kinds c.constructors.constructor c.places.place c.constructors-test.true in_rank c.index-in-places-2.result.now (ap (λ l. get_or l c.places.place c.index-in-places-2.result.now) (sym (list_at c.args.known.now.places.items c.constructors.constructor c.index-in-places.result.now c.index-in-places.result.now.items (omega (arith, c.constructors-test.true, c.requires.kinds.many)) c.index-in-places.ensures refl)) ∙ sym c.index-in-places-2.ensures)
+          (λ e. true≢false (sym (c.begins.ensures.1 (ap (λ k. get_or c.index-in-places-2.result.now.firsts.items (get_or c.index-in-places-2.result.now.kind_of.items k 0) 0) last ∙ e ∙ sym last)) ∙ w.if-begins.false)) ks listed))))
     ]
 
 pub open_place-requires : goal.open_place-requires
@@ -52,23 +44,19 @@ open_place-requires g c = record {
 }
 
 pub places-init : goal.places-init
-places-init g c = goes_further (g.T.Theory.meaning c.args.self.now.theory.now) c.args.self.now.ranks.now c.args.self.now.rules.now c.args.self.now.own.now c.args.self.now.most c.args.known.now.classes.items c.constructors.invariant (begun (g.T.Theory.meaning c.args.self.now.theory.now) c.args.self.now.ranks.now c.args.self.now.rules.now c.args.self.now.own.now c.args.self.now.most c.args.known.now.classes.items c.constructors.invariant.under (λ s. ⊤) tt) _ (λ old new sound better before here. (
-  λ n low j ks inside listed. opened_later c.args.self.now.ranks.now (g.T.Theory.meaning c.args.self.now.theory.now).has (g.T.Theory.meaning c.args.self.now.theory.now).keeps (meaning_of g.T.Theory.atom_holds (plain_rules c.args.self.now.rules.now)) g.T.Theory.label_of c.args.known.now.classes.items old new sound n ks better (before n low j ks inside listed),
-  λ j ks low inside listed. absurd (omega (arith, low)),
-))
+places-init g c = offers_first (g.T.Theory.meaning c.args.self.now.theory.now) c.args.self.now.ranks.now c.args.self.now.rules.now c.args.self.now.own.now c.args.self.now.most c.args.known.now.classes.items c.args.known.now.places.items c.args.pending.now _ _ c.constructors.constructor c.constructors.invariant
 
 pub constructors-preserved : goal.constructors-preserved
-constructors-preserved g c = goes_further (g.T.Theory.meaning c.args.self.now.theory.now) c.args.self.now.ranks.now c.args.self.now.rules.now c.args.self.now.own.now c.args.self.now.most c.args.known.now.classes.items c.places.invariant (begun (g.T.Theory.meaning c.args.self.now.theory.now) c.args.self.now.ranks.now c.args.self.now.rules.now c.args.self.now.own.now c.args.self.now.most c.args.known.now.classes.items c.places.invariant.under (λ s. ⊤) tt) _ (λ old new sound better before here.
-    new_more (g.T.Theory.meaning c.args.self.now.theory.now) c.args.self.now.ranks.now c.args.self.now.rules.now c.args.known.now.classes.items c.args.known.now.places.items old new sound better c.constructors.constructor before.0
-    (λ j ks low listed. opened_later c.args.self.now.ranks.now (g.T.Theory.meaning c.args.self.now.theory.now).has (g.T.Theory.meaning c.args.self.now.theory.now).keeps (meaning_of g.T.Theory.atom_holds (plain_rules c.args.self.now.rules.now)) g.T.Theory.label_of c.args.known.now.classes.items old new sound c.constructors.constructor ks better
-    (before.1 j ks (omega (arith, low, c.places-test.false, c.len-place-end.ensures, c.index.result.now.ok.0, ap length (list_at c.args.known.now.places.items c.constructors.constructor c.index.result.now c.index.result.now.items (omega (arith, c.constructors-test.true, c.requires.kinds.many)) c.index.ensures refl), (c.requires.kinds.each c.constructors.constructor c.constructors-test.true).many)) low listed)))
+constructors-preserved g c = offers_last (g.T.Theory.meaning c.args.self.now.theory.now) c.args.self.now.ranks.now c.args.self.now.rules.now c.args.self.now.own.now c.args.self.now.most c.args.known.now.classes.items c.args.known.now.places.items c.args.pending.now _ _ c.constructors.constructor c.places.place
+    (omega (arith, c.places-test.false, c.len-place-end.ensures, c.index.result.now.ok.0, ap length (list_at c.args.known.now.places.items c.constructors.constructor c.index.result.now c.index.result.now.items (omega (arith, c.constructors-test.true, c.requires.kinds.many)) c.index.ensures refl), (c.requires.kinds.each c.constructors.constructor c.constructors-test.true).many))
+    c.places.invariant
 
 pub returns : goal.returns
 returns g c = record {
   goes_on = record {
     under = c.constructors.invariant.under;
     better = c.constructors.invariant.better;
-    offered = run_touched (g.T.Theory.meaning c.args.self.now.theory.now) c.args.self.now.ranks.now c.args.self.now.rules.now c.args.known.now.classes.items c.args.known.now.places.items c.constructors.pending (λ n low j ks inside listed. c.constructors.invariant.offered n (omega (arith, low, c.constructors-test.false)) j ks inside listed);
+    offered = run_touched (g.T.Theory.meaning c.args.self.now.theory.now) c.args.self.now.ranks.now c.args.self.now.rules.now c.args.known.now.classes.items c.args.known.now.places.items c.constructors.pending (λ n low. c.constructors.invariant.offered n (omega (arith, low, c.constructors-test.false)));
   };
   stop = tt;
 }

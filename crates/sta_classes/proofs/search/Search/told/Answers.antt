@@ -22,7 +22,7 @@ number-number-requires g c = record {
   fit = let is : IsRules g.T.Atom.PartialEq.eq c.args.self.now.rules.now c.args.over.now.constructor c.index-self-over.result = c.requires.ready.own_are c.args.over.now.constructor c.index-self-over.result (omega (arith, c.requires.over.low, c.requires.ready.many)) (sym c.index-self-over.is) in
       record {
         fit = subst (λ R. All (λ x. EveryAtom (g.T.Theory.atom_fits c.args.self.now.theory.now) (plain_rule x.rule.now).guard) R.list.items) c.index-self-over.is
-      (guards_fit c.args.self.now.rules.now c.args.over.now.constructor c.index-self-over.result.list.items is.owned (g.T.Theory.atom_fits c.args.self.now.theory.now) c.requires.ready.fit);
+            (guards_fit c.args.self.now.rules.now c.args.over.now.constructor c.index-self-over.result.list.items is.owned (g.T.Theory.atom_fits c.args.self.now.theory.now) c.requires.ready.fit);
         guarded = subst (λ R. length R.guarded ≡ length R.list.items) c.index-self-over.is (ap length is.guarded_are ∙ length-map _ _);
         likes = subst (λ R. AreLike g.T.Atom.PartialEq.eq R.list.items R.likes.items) c.index-self-over.is is.alike;
       };
