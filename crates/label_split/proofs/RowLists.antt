@@ -1,5 +1,5 @@
 -- Facts on lists of rows of signs.
-use Rattle.std.proofs.Common.{◌≡◌, ◌⊎◌, inl, inr, Bool, true, false, not, List, [], ◌∷◌, ◌++◌, map, length, get_or, All, Contains, ℕ, zero, suc, ◌<◌, ◌≤◌, ◌+◌, ◌-◌, take, refl, sym, ap, ◌∙◌, subst, append_assoc, Option, Some, None, MatchOption, Result, Ok, Err, IfOk, IfErr, MatchResult, cond, arith}
+use Rattle.std.proofs.Common.{◌≡◌, ◌⊎◌, inl, inr, Bool, true, false, not, List, [], ◌∷◌, ◌++◌, map, length, get_or, All, Contains, ℕ, zero, suc, ◌<◌, ◌≤◌, ◌+◌, ◌-◌, take, refl, sym, ap, ◌∙◌, subst, append_assoc, Option, Some, None, MatchOption, Result, Ok, Err, IfOk, IfErr, OnOk, MatchResult, cond, arith}
 use Rattle.std.specs.List.{AllPairs}
 use Rattle.std.specs.Result.{IsErrAnd}
 use Rattle.std.proofs.lemmas.List.{length-append, length-map, length-take, map-append}
@@ -13,12 +13,16 @@ use Rattle.label_split.specs.declared.rows.SplitStop.{SplitStop}
 use Rattle.label_split.specs.declared.rows.SplitStop.TheVariants.{TooMany, Wide, Memory}
 use Rattle.label_split.specs.declared.rows.Noted.{Noted}
 use Rattle.label_split.specs.declared.rows.Sample.{Sample}
+use Rattle.label_split.specs.declared.rows.Sample.TheVariants.{Nowhere, At as Sampled}
 use Rattle.label_core.specs.declared.formula.Formula.{Formula}
+use Rattle.label_core.specs.Verdict.{DecidesAll}
 use Rattle.label_core.specs.declared.theory.Verdict.{Verdict}
+use Rattle.label_core.specs.declared.theory.Verdict.TheVariants as Verdicts
+use Rattle.label_core.specs.declared.theory.Verdict.TheVariants.{Unsat}
 use Rattle.label_split.specs.Numbers.{number_holds}
 use Rattle.label_split.specs.Search.{DecidesSigns}
 use Rattle.label_split.specs.Signs.{signs_at}
-use Rattle.label_split.specs.Noted.{rows_of, IsFoundBy, IsStopOf}
+use Rattle.label_split.specs.Noted.{rows_of, IsFoundBy, IsSample, IsStopOf}
 use Rattle.label_split.specs.Split.{IsRow, Stops, SplitsInto, HasMoreRows, HasUnkeptRow, AreLonger, Extends, IsPartly}
 
 -- the last of a list, and what comes before it
@@ -240,6 +244,30 @@ module _ {A V W : Type 0} {label_of : V → Label} {holds : A → Label → Bool
   pub start_alone : (value : V) → M.keeps (label_of value) → (rows : List (SignRow V)) → ((r : SignRow V) × (r.value ≡ value) × (r.signs.items ≡ []) × (rows ≡ r ∷ [])) → SplitsInto M (λ _. []) rows
   start_alone value k rows (r, is, none, e) = subst (SplitsInto M (λ _. [])) (sym e) (start_row r (subst M.keeps (ap label_of (sym is)) k) none)
 
+  -- there is no label
+  pub start_none : (v : Verdict V W) → v ≡ Unsat → DecidesAll M [] v → (rows : List (Noted V)) → rows ≡ [] → SplitsInto M (λ _. []) (rows_of rows)
+  start_none v is d rows none = subst (λ xs. SplitsInto M (λ _. []) (rows_of xs)) (sym none) (record {
+    sound = All-nil (IsRow M (λ _. []));
+    complete = λ l has. absurd (subst (DecidesAll M []) is d l has (All-nil (λ x. holds x.atom l ≡ x.sign)));
+    apart = λ i j d less low. absurd (omega arith);
+  })
+
+  -- whether there is a label is too wide
+  pub start_wide : (atoms : List A) (v : Verdict V W) (w : W) → v ≡ Verdicts.Wide w → DecidesAll M [] v → Stops M ⊥ (λ _. []) atoms (Wide w)
+  start_wide atoms v w is d =
+      let found = subst (DecidesAll M []) is d in
+      ((([], (λ k x low. absurd (omega arith)), found.0.0), found.0.1), λ far. let only = found.1 far in (only.0.0, only.0.1, λ m k e. only.1 m k (All-nil (λ x. holds x.atom m ≡ x.sign))))
+
+  module _ (after : Label → List Bool) where
+    -- what a sample says of the signs that end with its own
+    pub nowhere_shown : (sign : Bool) (sample : Sample V) → IsSample M after sign sample → sample ≡ Nowhere → (before : List Bool) (l : Label) → M.has l → ¬ (after l ≡ before ++ sign ∷ [])
+    nowhere_shown sign sample h is before l has = subst (IsSample M after sign) is h l has before
+
+    pub copy_shown : (sign : Bool) (sample : Sample V) → IsSample M after sign sample → (found copy : Noted V) → sample ≡ Sampled found → (signs : List Bool) → found.row.signs.items ≡ signs → copy.row.signs.items ≡ found.row.signs.items → label_of copy.row.value ≡ label_of found.row.value → IsRow M after copy.row × (copy.row.signs.items ≡ signs)
+    copy_shown sign sample h found copy is signs same s v =
+        let row = subst (IsSample M after sign) is h in
+        ((subst M.keeps (sym v) row.0, s ∙ row.1 ∙ ap after (sym v)), s ∙ same)
+
 module _ {A V W : Type 0} {label_of : V → Label} {holds : A → Label → Bool} (M : Meaning label_of holds W) (before signs : Label → List Bool) (part : List Bool → List Bool) (is_part : (l : Label) → before l ≡ part (signs l)) (some more : List A) (grows : (w : W) → IsChainOver M some w → IsChainOver M more w) (many : Type 0) where
   -- what stops the list of parts stops the list
   pub stop_by_part : (stop : SplitStop W) → Stops M ⊥ before some stop → Stops M many signs more stop
@@ -296,6 +324,10 @@ few_rows noted rows n most e is few = subst (λ xs. length xs ≤ most) (sym e) 
 pub stops_by : {X S : Type 0} (P : X → Type 0) (Q : S → Type 0) (r : Result X S) (stop : S) → IsErrAnd r (λ e. e ≡ stop) → Q stop → MatchResult r P Q
 stops_by P Q (Ok x) stop is h = absurd is
 stops_by P Q (Err e) stop is h = subst Q (sym is) h
+
+pub on_ok : {X S : Type 0} (P : Type 0) → P → (r : Result X S) → OnOk r P
+on_ok P p (Ok x) = p
+on_ok P p (Err e) = tt
 
 pub both_made : {V : Type 0} (P : Bool → Sample V → Type 0) (on off : Sample V) → P true on → P false off → (s : Bool) → P s (cond s on off)
 both_made P on off p q true = p

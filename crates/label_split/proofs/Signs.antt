@@ -1,6 +1,6 @@
 -- Facts on rows of signs.
 use Rattle.std.proofs.Common.{map, drop, length-append, ◌≡◌, Bool, true, IsTrue, All, replicate, List, [], ◌∷◌, ◌++◌, take, length, get_or, ℕ, zero, suc, ◌+◌, ◌-◌, ◌<◌, refl, sym, ap, ap₂, ◌∙◌, subst, arith}
-use Rattle.std.proofs.lemmas.List.{take_more, map-append, take_all, length-map, drop-map, drop_at, length-drop}
+use Rattle.std.proofs.lemmas.List.{take_more, map-append, take_all, length-map, drop-map, drop_at, length-drop, length-take-le}
 use Rattle.std.proofs.lemmas.List.Elements.{All-nil, All-cons, All-drop}
 use Rattle.model_tree.specs.Label.{Label}
 use Rattle.model_tree.specs.Formula.{formula_holds}
@@ -11,6 +11,13 @@ use Rattle.label_split.specs.Numbers.{AreAsked}
 use Rattle.label_split.specs.Signs.{signs_at}
 
 module _ {A : Type 0} (holds : A → Label → Bool) where
+  -- the signs of all but the last formula, and one more
+  pub one_sign_more : (fs : List (Formula A)) (signs : List Bool) (l : Label) → 0 < length fs → signs ≡ signs_at holds (take (length fs - 1) fs) l → length signs + 1 ≡ length fs
+  one_sign_more fs signs l some is =
+      let many = ap length is ∙ length-map (take (length fs - 1) fs) (λ f. formula_holds (λ a. holds a l) (plain_formula f)) in
+      let taken = length-take-le (length fs - 1) fs (omega arith) in
+      omega (arith, many, taken, some)
+
   pub signs_append : (fs gs : List (Formula A)) (l : Label) → signs_at holds (fs ++ gs) l ≡ signs_at holds fs l ++ signs_at holds gs l
   signs_append fs gs l = map-append (λ f. formula_holds (λ a. holds a l) (plain_formula f)) fs gs
 

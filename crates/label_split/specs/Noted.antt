@@ -34,12 +34,6 @@ IsStopOf verdict TooMany = ⊥
 IsStopOf verdict (Chain w) = verdict ≡ Ok (Wide w)
 IsStopOf verdict Memory = Unit {0}
 
--- of the signs a sample shows that no label has them, or a row that it has itself
-abbrev pub ShowsSigns : {V : Type 0} → (V → Label) → Sample V → List Bool → Sample V → Type 0
-ShowsSigns label_of sample signs Nowhere = sample ≡ Nowhere
-ShowsSigns {V} label_of sample signs (At noted) = (found : Noted V) × (sample ≡ At found) × (found.row.signs.items ≡ signs) × (noted.row.signs.items ≡ signs) × (label_of noted.row.value ≡ label_of found.row.value)
-ShowsSigns label_of sample signs Unknown = Unit {0}
-
 -- the other row is added, if there is one, and then the row with one more sign
 pub record AreAdded {V : Type 0} (row : SignRow V) (sign : Bool) (other : Option (Noted V)) (old new : List (Noted V)) : Type 0 where
   pub longer : Noted V

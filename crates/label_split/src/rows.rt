@@ -9,13 +9,13 @@ ghost use Rattle.label_split.specs.Numbers.{number_holds};
 ghost use Rattle.label_split.specs.Search.{DecidesSigns};
 ghost use Rattle.label_split.specs.Signs.{FormulasFit, signs_at};
 ghost use Rattle.label_split.specs.Split.{SplitsInto, IsRow, Stops, StopsFor, HasMoreRows, Extends};
-ghost use Rattle.label_split.specs.Noted.{rows_of, IsSample, IsFoundBy, IsStopOf, ShowsSigns, AreAdded};
+ghost use Rattle.label_split.specs.Noted.{rows_of, IsSample, IsFoundBy, IsStopOf, AreAdded};
 
 use crate::numbers::number_all;
 use crate::search::{Asked, holds_of, note, search};
 use fast_fault::Memory;
 use label_core::{Formula, Theory, Verdict};
-use std::alloc::{AllocError, AllocFailed, Global};
+use std::alloc::Global;
 
 /// The sign of each formula, and a value of a label that gives them these signs.
 #[derive(Drop)]
@@ -43,46 +43,13 @@ impl<W> From<Memory> for SplitStop<W> {
     }
 }
 
-impl<W> From<AllocError> for SplitStop<W> {
-    ghost use Rattle.std.specs.Prelude.{◌≡◌};
-    ghost use Rattle.label_split.specs.declared.rows.SplitStop.TheVariants as stop;
-
-    ghost from_gives = { λ _ e. e ≡ stop.Memory };
-
-    fn from(_refused: AllocError) -> SplitStop<W> {
-        SplitStop::Memory
-    }
-}
-
-impl<T: Drop, W> From<AllocFailed<T>> for SplitStop<W> {
-    ghost use Rattle.std.specs.Prelude.{◌≡◌};
-    ghost use Rattle.label_split.specs.declared.rows.SplitStop.TheVariants as stop;
-
-    ghost from_gives = { λ _ e. e ≡ stop.Memory };
-
-    fn from(_refused: AllocFailed<T>) -> SplitStop<W> {
-        SplitStop::Memory
-    }
-}
-
-/// The signs, and one more.
-fn with_last(alloc: Global, signs: &[bool], last: bool) -> Result<Vec<bool>, Memory>
-    ensures { IfOk result (λ made. made.items ≡ signs.now ++ last ∷ []) }
+/// The elements, and one more.
+fn with_last<E: Copy + Drop>(alloc: Global, elements: &[E], last: E) -> Result<Vec<E>, Memory>
+    ensures { IfOk result (λ made. made.items ≡ elements.now ++ last ∷ []) }
 {
-    let mut made = Vec::from_slice(alloc, signs)?;
+    let mut made = Vec::from_slice(alloc, elements)?;
     made.push(last)?;
     Ok(made)
-}
-
-/// The row with one more sign.
-fn with_sign<V: Drop>(row: SignRow<V>, sign: bool) -> Result<SignRow<V>, Memory>
-    ensures value { IfOk result (λ made. made.value ≡ row.value) }
-    ensures signs { IfOk result (λ made. made.signs.items ≡ row.signs.items ++ sign ∷ []) }
-{
-    let value = row.value;
-    let mut signs = row.signs;
-    signs.push(sign)?;
-    Ok(SignRow { signs, value })
 }
 
 /// A row, with the numbers of formulas that tell it from others.
@@ -200,23 +167,6 @@ fn search_last<T: Theory>(
     search(theory, alloc, atoms, &asked, &mut active)
 }
 
-/// The row of the value's label.
-fn row_at<T: Theory>(
-    theory: &T,
-    alloc: Global,
-    atoms: &[T::Atom],
-    formulas: &[Formula<usize>],
-    value: T::Value,
-) -> Result<SignRow<T::Value>, Memory>
-    requires within { All (IsWithin (length atoms.now)) formulas.now }
-    requires fit { All (T.atom_fits theory.now) atoms.now }
-    requires kept { KeepsValue (T.meaning theory.now) value }
-    ensures { IfOk result (IsRow (T.meaning theory.now) (signs_at (number_holds T.atom_holds atoms.now) formulas.now)) }
-{
-    let signs = signs_of(theory, alloc, atoms, formulas, &value)?;
-    Ok(SignRow { signs, value })
-}
-
 /// A sample for the sign of the last formula.
 fn find_sample<T: Theory>(
     theory: &T,
@@ -234,8 +184,9 @@ fn find_sample<T: Theory>(
         Verdict::Unsat => Ok(Sample::Nowhere),
         Verdict::Wide(_) => Ok(Sample::Unknown),
         Verdict::Sat(value) => {
-            let row = row_at(theory, alloc, atoms, formulas, value)?;
+            let signs = signs_of(theory, alloc, atoms, formulas, &value)?;
             let active = vec![in alloc; formulas.len() - 1; 1]?;
+            let row = SignRow { signs, value };
             Ok(Sample::At(Noted { row, active }))
         }
     }
@@ -256,41 +207,20 @@ fn are_same(signs: &[bool], others: &[bool]) -> bool
     true
 }
 
-/// A copy of the row.
+/// A copy of the row and of the numbers that tell it from others.
 fn copy_of<T: Theory>(
     theory: &T,
     alloc: Global,
-    found: &SignRow<T::Value>,
-) -> Result<SignRow<T::Value>, Memory>
-    ensures signs { IfOk result (λ copy. copy.signs.items ≡ found.now.signs.items) }
-    ensures value { IfOk result (λ copy. T.label_of copy.value ≡ T.label_of found.now.value) }
+    found: &Noted<T::Value>,
+) -> Result<Noted<T::Value>, Memory>
+    ensures signs { IfOk result (λ copy. copy.row.signs.items ≡ found.now.row.signs.items) }
+    ensures value { IfOk result (λ copy. T.label_of copy.row.value ≡ T.label_of found.now.row.value) }
 {
-    let signs = Vec::from_slice(alloc, &found.signs)?;
-    let value = theory.copy_value(alloc, &found.value)?;
-    Ok(SignRow { signs, value })
-}
-
-/// What the sample shows of these signs: a copy of it, if it has them.
-fn shown<T: Theory>(
-    theory: &T,
-    alloc: Global,
-    sample: &Sample<T::Value>,
-    signs: &[bool],
-) -> Result<Sample<T::Value>, Memory>
-    ensures { IfOk result (ShowsSigns T.label_of sample.now signs.now) }
-{
-    match sample {
-        Sample::Nowhere => Ok(Sample::Nowhere),
-        Sample::Unknown => Ok(Sample::Unknown),
-        Sample::At(found) => {
-            if !are_same(&found.row.signs, signs) {
-                return Ok(Sample::Unknown);
-            }
-            let row = copy_of(theory, alloc, &found.row)?;
-            let active = found.active.clone()?;
-            Ok(Sample::At(Noted { row, active }))
-        }
-    }
+    let signs = Vec::from_slice(alloc, &found.row.signs)?;
+    let active = Vec::from_slice(alloc, &found.active)?;
+    let value = theory.copy_value(alloc, &found.row.value)?;
+    let row = SignRow { signs, value };
+    Ok(Noted { row, active })
 }
 
 /// Adds the numbers, but for that of the last formula.
@@ -301,13 +231,6 @@ fn learn(active: &mut Vec<usize>, tried: &[usize], last: usize) -> Result<(), Me
         }
     }
     Ok(())
-}
-
-/// The active numbers, and that of the last formula.
-fn tried_with(alloc: Global, active: &[usize], last: usize) -> Result<Vec<usize>, Memory> {
-    let mut tried = Vec::from_slice(alloc, active)?;
-    tried.push(last)?;
-    Ok(tried)
 }
 
 /// What a verdict on these signs says: the row with them and the value, if there is one. The formulas that tell the row from
@@ -355,7 +278,7 @@ fn row_with<T: Theory>(
     ensures stop { IfErr result (Stops (T.meaning theory.now) ⊥ (signs_at (number_holds T.atom_holds atoms.now) formulas.now) atoms.now) }
 {
     let last = formulas.len() - 1;
-    let mut tried = tried_with(alloc, active, last)?;
+    let mut tried = with_last(alloc, active, last)?;
     let asked = Asked {
         formulas,
         signs: &signs,
@@ -382,43 +305,28 @@ fn longer_row<T: Theory>(
     ensures kept { OnOk result (row.new.row ≡ row.old.row) }
 {
     let signs = with_last(alloc, &row.row.signs, sign)?;
-    match shown(theory, alloc, last.of(sign), &signs)? {
+    match last.of(sign) {
         Sample::Nowhere => Ok(None),
-        Sample::At(found) => Ok(Some(found)),
-        Sample::Unknown => row_with(theory, alloc, atoms, last.formulas, signs, &mut row.active),
+        Sample::At(found) if are_same(&found.row.signs, &signs) => {
+            Ok(Some(copy_of(theory, alloc, found)?))
+        }
+        _ => row_with(theory, alloc, atoms, last.formulas, signs, &mut row.active),
     }
 }
 
-/// Of the numbers that tell a row from others the fewest: its own, or those of the sample, if that has its signs.
-fn fewest<V: Drop>(
-    sample: &Sample<V>,
-    signs: &[bool],
-    own: Vec<usize>,
-) -> Result<Vec<usize>, Memory> {
-    match sample {
-        Sample::Nowhere | Sample::Unknown => Ok(own),
-        Sample::At(found) => {
-            if found.active.len() < own.len() && are_same(&found.row.signs, signs) {
-                return Ok(found.active.clone()?);
-            }
-            Ok(own)
+/// The row with one more sign, and the fewest numbers that tell it from others: its own, or those of the sample, if that
+/// has its signs.
+fn lengthen<V: Drop>(row: &mut Noted<V>, sign: bool, sample: &Sample<V>) -> Result<(), Memory>
+    ensures value { OnOk result (row.new.row.value ≡ row.old.row.value) }
+    ensures signs { OnOk result (row.new.row.signs.items ≡ row.old.row.signs.items ++ sign ∷ []) }
+{
+    row.row.signs.push(sign)?;
+    if let Sample::At(found) = sample {
+        if found.active.len() < row.active.len() && are_same(&found.row.signs, &row.row.signs) {
+            row.active = found.active.clone()?;
         }
     }
-}
-
-/// The row with one more sign, and the fewest numbers that tell it from others.
-fn noted_with_sign<V: Drop>(
-    sample: &Sample<V>,
-    row: Noted<V>,
-    sign: bool,
-) -> Result<Noted<V>, Memory>
-    ensures value { IfOk result (λ made. made.row.value ≡ row.row.value) }
-    ensures signs { IfOk result (λ made. made.row.signs.items ≡ row.row.signs.items ++ sign ∷ []) }
-{
-    let own = row.active;
-    let row = with_sign(row.row, sign)?;
-    let active = fewest(sample, &row.signs, own)?;
-    Ok(Noted { row, active })
+    Ok(())
 }
 
 /// Adds the row, if there is one.
@@ -436,13 +344,14 @@ fn add_rows<V: Drop>(
     rows: &mut Vec<Noted<V>>,
     other: Option<Noted<V>>,
     sample: &Sample<V>,
-    row: Noted<V>,
+    mut row: Noted<V>,
     sign: bool,
 ) -> Result<(), Memory>
     ensures { OnOk result (AreAdded row.row sign other rows.old.items rows.new.items) }
 {
     add_found(rows, other)?;
-    rows.push(noted_with_sign(sample, row, sign)?)?;
+    lengthen(&mut row, sign, sample)?;
+    rows.push(row)?;
     Ok(())
 }
 

@@ -2,9 +2,9 @@ use Rattle.label_split.proofs.rows.add_rows.Goals as goal
 
 pub returns : goal.returns
 returns g c = record {
-  longer = c.in_ok-noted_with_sign.field-0;
-  value = c.in_ok-noted_with_sign.ensures.value;
-  signs = c.in_ok-noted_with_sign.ensures.signs;
+  longer = c.lengthen.new.row;
+  value = c.in_ok-lengthen.ensures.value;
+  signs = c.in_ok-lengthen.ensures.signs;
   between = c.add_found.new.rows.items;
   found = c.in_ok-add_found.ensures;
   pushed = c.in_ok-push.ensures.items;

@@ -3,10 +3,11 @@ use Rattle.model_tree.specs.Label.{Label}
 use Rattle.label_split.specs.Known.{holds_at}
 use Rattle.label_split.specs.Numbers.{truths_at, number_holds}
 use Rattle.label_split.specs.Signs.{signs_at}
-use Rattle.label_split.proofs.Signs.{last_sign}
+use Rattle.label_split.proofs.Signs.{last_sign, one_sign_more}
 use Rattle.label_split.proofs.RowLists.{extends_found, stops_by}
 use Rattle.std.proofs.lemmas.Result.{IfOk-from_err}
 use Rattle.label_split.specs.declared.rows.SplitStop.TheVariants.{Memory}
+use Rattle.std.proofs.Common.{arith}
 use Rattle.label_split.proofs.rows.extend.Goals as goal
 
 pub returns-clause-added : goal.returns-clause-added
@@ -45,3 +46,18 @@ returns-in_err-add_rows g c = record {
   added = IfOk-from_err c.from_residual-in_err-add_rows.result _ c.from_residual-in_err-add_rows.ensures.0;
   stop = stops_by _ _ c.from_residual-in_err-add_rows.result Memory c.from_residual-in_err-add_rows.ensures.1 tt;
 }
+
+pub overflow_sub-number : goal.overflow_sub-number
+overflow_sub-number g c = c.requires.some
+
+pub offset_bounds-last-number : goal.offset_bounds-last-number
+offset_bounds-last-number g c = omega arith
+
+pub bounds-last-number : goal.bounds-last-number
+bounds-last-number g c = omega (arith, c.requires.some)
+
+pub holds_of-holds-requires-clause-kept : goal.holds_of-holds-requires-clause-kept
+holds_of-holds-requires-clause-kept g c = c.requires.row.0
+
+pub longer_row-requires-clause-lengths : goal.longer_row-requires-clause-lengths
+longer_row-requires-clause-lengths g c = one_sign_more (number_holds g.T.Theory.atom_holds c.args.atoms.now) c.args.last.now.formulas.now c.args.row.row.signs.items (g.T.Theory.label_of c.args.row.row.value) c.requires.some c.requires.row.1

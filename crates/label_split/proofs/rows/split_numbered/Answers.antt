@@ -74,3 +74,9 @@ overflow_cast-most g c = omega arith
 
 pub overflow_cast-most-2 : goal.overflow_cast-most-2
 overflow_cast-most-2 g c = omega arith
+
+pub overflow_add-i : goal.overflow_add-i
+overflow_add-i g c = omega (arith, c.loop-i-test.true)
+
+pub slice_bounds-refine-end : goal.slice_bounds-refine-end
+slice_bounds-refine-end g c = sym (length-take-le (c.loop-i.i + 1) c.args.formulas.now (omega (arith, c.loop-i-test.true)))

@@ -1,5 +1,5 @@
 use Rattle.label_split.specs.Noted.{rows_of}
-use Rattle.label_split.proofs.RowLists.{start_alone, stops_by}
+use Rattle.label_split.proofs.RowLists.{start_alone, start_none, start_wide, stops_by}
 use Rattle.std.proofs.lemmas.Result.{IfOk-from_err}
 use Rattle.label_split.specs.declared.rows.SplitStop.TheVariants.{Memory}
 use Rattle.label_split.proofs.rows.start.Goals as goal
@@ -20,3 +20,9 @@ returns-in_err-alone-in-Sat g c = record {
   rows = IfOk-from_err c.from_residual-in_err-alone-in-Sat.result _ c.from_residual-in_err-alone-in-Sat.ensures.0;
   stop = stops_by _ _ c.from_residual-in_err-alone-in-Sat.result Memory c.from_residual-in_err-alone-in-Sat.ensures.1 tt;
 }
+
+pub returns-in-Unsat-clause-rows : goal.returns-in-Unsat-clause-rows
+returns-in-Unsat-clause-rows g c = start_none (g.T.Theory.meaning c.args.theory.now) _ c.in-Unsat.is c.in_ok-decide_any.ensures c.new.result.items c.new.ensures.items
+
+pub returns-in-Wide-clause-stop : goal.returns-in-Wide-clause-stop
+returns-in-Wide-clause-stop g c = start_wide (g.T.Theory.meaning c.args.theory.now) c.args.atoms.now _ c.in-Wide.chain c.in-Wide.is c.in_ok-decide_any.ensures
