@@ -7,6 +7,7 @@ mod Looking
 pub mod Weights
 pub mod Branches
 pub mod Numbering
+mod Numbered
 pub mod RowLists
 pub mod Signs
 pub mod Verdicts

@@ -1,13 +1,10 @@
 -- A formula over numbers says what the formula says.
-use Rattle.std.proofs.Common.{◌≡◌, Bool, true, false, not, cond, Some, None, nat_lt, ◌&&◌, ◌||◌, IsTrue, List, [], ◌∷◌, map, length, get_or, ℕ, suc, ◌<◌, All, refl, sym, ap, ap₂, ◌∙◌, subst, arith}
-use Rattle.std.specs.List.{position, position_or_len}
+use Rattle.std.proofs.Common.{◌≡◌, Bool, true, false, not, ◌&&◌, ◌||◌, IsTrue, List, [], ◌∷◌, map, length, get_or, ℕ, suc, ◌<◌, All, refl, sym, ap, ap₂, ◌∙◌, subst, arith}
 use Rattle.std.proofs.lemmas.List.Elements.{All-nil, All-cons}
 use Rattle.model_tree.specs.Label.{Label}
 use Rattle.model_tree.specs.Formula.{Formula, yes, no, atom, negation, all_of, some_of, Formulas, no_formulas, formula, formulas_of, formula_holds, all_hold, some_hold, EveryAtom, EveryAtomOfAll}
 use Rattle.std.specs.Cmp.{IsEquivalence}
-use Rattle.std.proofs.lemmas.Bool.Decides.{nat_tests}
 use Rattle.std.proofs.lemmas.List.{length-map}
-use Rattle.std.proofs.lemmas.List.Sums.{prefix_len-le-length}
 use Rattle.label_core.specs.Atoms.{has_equal, EachHasEqual}
 use Rattle.label_core.specs.Formula.{plain_formula}
 use Rattle.label_core.specs.declared.formula.Formula.{Formula as Written}
@@ -91,14 +88,6 @@ module _ {A : Type 0} (eq : A → A → Bool) where
         let head : plain_formula g ≡ numbered eq atoms (plain_formula f) = cc in
         let tail : map plain_formula gs ≡ map (λ f. numbered eq atoms (plain_formula f)) fs = cc in
         ap₂ (λ x xs. x ∷ xs) (ap (formula_holds (truth_at (truths_at holds atoms l))) head ∙ same_truth holds equal atoms l (plain_formula f) (h 0 f (omega arith))) (same_signs holds equal fs gs l tail (λ k d b. h (suc k) d (omega (arith, b))))
-
--- an atom that isn't there has the number behind the last
-pub none_place : {X : Type 0} (p : X → Bool) (xs : List X) → position p xs ≡ None → length xs ≡ position_or_len p xs
-none_place p xs e = by (nat_lt (position_or_len p xs) (length xs)) refl
-  where
-    by : (b : Bool) → nat_lt (position_or_len p xs) (length xs) ≡ b → length xs ≡ position_or_len p xs
-    by true t = let no : Some (position_or_len p xs) ≡ None = subst (λ b. cond b (Some (position_or_len p xs)) None ≡ None) t e in cc
-    by false f = let low = prefix_len-le-length (λ x. not (p x)) xs in grind (arith, nat_tests)
 
 -- the formulas of numbers are over the atoms that were gathered
 pub gathered : {A : Type 0} (eq : A → A → Bool) → IsEquivalence eq → (fs : List (Written A)) (atoms : List A) → ((a : A) → has_equal eq atoms a ≡ has_equal eq (atoms_in_each fs) a) → FormulasFit (λ a. IsTrue (has_equal eq atoms a)) fs

@@ -1,10 +1,8 @@
 -- Facts on atoms up to their own equality.
-use Rattle.std.proofs.Common.{◌≡◌, Bool, true, false, ◌||◌, IsTrue, List, [], ◌∷◌, ◌++◌, All, drop, length, get_or, ℕ, suc, ◌+◌, ◌<◌, ◌≤◌, add-one, refl, sym, ap, ◌∙◌, if◌then◌else◌, arith}
+use Rattle.std.proofs.Common.{◌≡◌, Bool, true, false, ◌||◌, IsTrue, List, [], ◌∷◌, ◌++◌, All, get_or, suc, refl, sym, ap, ◌∙◌, arith}
 use Rattle.std.specs.List.{list_any}
 use Rattle.std.specs.Cmp.{IsEquivalence}
 use Rattle.std.proofs.lemmas.List.Elements.{All-nil, All-cons, All-append}
-use Rattle.std.proofs.lemmas.List.{drop_all}
-use Rattle.std.proofs.Math.Seq.{drop-cons}
 use Rattle.std.proofs.lemmas.List.Folds.{list_any-append}
 use Rattle.model_tree.specs.Formula as plain
 use Rattle.model_tree.specs.Formula.{yes, no, atom, negation, all_of, some_of, no_formulas, formula, EveryAtom, EveryAtomOfAll}
@@ -12,7 +10,6 @@ use Rattle.label_core.specs.Atoms.{has_equal, EachHasEqual}
 use Rattle.label_core.specs.Formula.{plain_formula, atoms_in, atoms_in_all}
 use Rattle.label_core.specs.declared.formula.Formula.{Formula}
 use Rattle.label_split.specs.Signs.{atoms_in_each, FormulasFit}
-use Rattle.indexmap.specs.IndexSet.{insert_key}
 
 or_true : (b : Bool) → (b || true) ≡ true
 or_true true = refl
@@ -26,11 +23,11 @@ other_true : (a b : Bool) → IsTrue b → IsTrue (a || b)
 other_true true b h = refl
 other_true false b h = h
 
-or_none : (b : Bool) → (b || false) ≡ b
+pub or_none : (b : Bool) → (b || false) ≡ b
 or_none true = refl
 or_none false = refl
 
-or_assoc : (a b c : Bool) → ((a || b) || c) ≡ (a || (b || c))
+pub or_assoc : (a b c : Bool) → ((a || b) || c) ≡ (a || (b || c))
 or_assoc true b c = refl
 or_assoc false b c = refl
 
@@ -50,36 +47,8 @@ module _ {A : Type 0} (eq : A → A → Bool) (laws : IsEquivalence eq) where
   same_at : (x copy a : A) → eq copy x ≡ true → eq a copy ≡ eq a x
   same_at x copy a e = laws.symm a copy ∙ laws.congr copy x a e ∙ laws.symm x a
 
-  atom_is_last : (xs : List A) (x copy a : A) → eq copy x ≡ true → has_equal eq (xs ++ copy ∷ []) a ≡ (has_equal eq xs a || eq a x)
+  pub atom_is_last : (xs : List A) (x copy a : A) → eq copy x ≡ true → has_equal eq (xs ++ copy ∷ []) a ≡ (has_equal eq xs a || eq a x)
   atom_is_last xs x copy a e = list_any-append (eq a) xs (copy ∷ []) ∙ ap (λ b. has_equal eq xs a || b) (or_none (eq a copy) ∙ same_at x copy a e)
-
-  -- an atom of which a copy is inserted
-  pub atom_is_inserted : (xs : List A) (x copy a : A) → eq copy x ≡ true → has_equal eq (insert_key eq xs copy) a ≡ (has_equal eq xs a || eq a x)
-  atom_is_inserted xs x copy a e = by (has_equal eq xs copy) refl
-    where
-      by : (b : Bool) → has_equal eq xs copy ≡ b → has_equal eq (if b then xs else xs ++ copy ∷ []) a ≡ (has_equal eq xs a || eq a x)
-      by true h = there xs copy a (eq a copy) refl h ∙ ap (λ b. has_equal eq xs a || b) (same_at x copy a e)
-      by false h = atom_is_last xs x copy a e
-
-module _ {A : Type 0} (eq : A → A → Bool) where
-  -- one more formula of a list
-  pub atoms_more : (old new : List A) (f : Formula A) (fs : List (Formula A)) (a : A) → has_equal eq new a ≡ (has_equal eq old a || has_equal eq (atoms_in (plain_formula f)) a)
-      → (has_equal eq new a || has_equal eq (atoms_in_each fs) a) ≡ (has_equal eq old a || has_equal eq (atoms_in_each (f ∷ fs)) a)
-  atoms_more old new f fs a e =
-      ap (λ b. b || has_equal eq (atoms_in_each fs) a) e
-      ∙ or_assoc (has_equal eq old a) (has_equal eq (atoms_in (plain_formula f)) a) (has_equal eq (atoms_in_each fs) a)
-      ∙ ap (λ b. has_equal eq old a || b) (sym (list_any-append (eq a) (atoms_in (plain_formula f)) (atoms_in_each fs)))
-
-  dropped : (fs : List (Formula A)) (i : ℕ) (f : Formula A) → i < length fs → f ≡ get_or fs i f → drop i fs ≡ f ∷ drop (i + 1) fs
-  dropped fs i f low is = drop-cons fs i f low ∙ (λ j. sym is j ∷ drop (sym (add-one i) j) fs)
-
-  -- a step of a loop over formulas, and its end
-  pub atoms_step : (old new : List A) (fs : List (Formula A)) (i : ℕ) (f : Formula A) (all : Bool) (a : A) → i < length fs → f ≡ get_or fs i f → has_equal eq new a ≡ (has_equal eq old a || has_equal eq (atoms_in (plain_formula f)) a)
-      → (has_equal eq old a || has_equal eq (atoms_in_each (drop i fs)) a) ≡ all → (has_equal eq new a || has_equal eq (atoms_in_each (drop (i + 1) fs)) a) ≡ all
-  atoms_step old new fs i f all a low is e h = atoms_more old new f (drop (i + 1) fs) a e ∙ ap (λ gs. has_equal eq old a || has_equal eq (atoms_in_each gs) a) (sym (dropped fs i f low is)) ∙ h
-
-  pub atoms_end : (atoms : List A) (fs : List (Formula A)) (i : ℕ) (all : Bool) (a : A) → length fs ≤ i → (has_equal eq atoms a || has_equal eq (atoms_in_each (drop i fs)) a) ≡ all → has_equal eq atoms a ≡ all
-  atoms_end atoms fs i all a high h = sym (or_none (has_equal eq atoms a)) ∙ ap (λ gs. has_equal eq atoms a || has_equal eq (atoms_in_each gs) a) (sym (drop_all i fs high)) ∙ h
 
 module _ {A : Type 0} (P : A → Type 0) where
   front : (xs ys : List A) → All P (xs ++ ys) → All P xs
@@ -137,5 +106,3 @@ module _ {A : Type 0} (eq : A → A → Bool) where
   pub own_equal : IsEquivalence eq → (bs : List A) → EachHasEqual eq bs bs
   own_equal laws [] = All-nil (λ a. IsTrue (has_equal eq [] a))
   own_equal laws (b ∷ bs) = All-cons (λ a. IsTrue (has_equal eq (b ∷ bs) a)) b bs (either_true (eq b b) (has_equal eq bs b) (laws.refl b)) (λ k d l. other_true (eq (get_or bs k d) b) (has_equal eq bs (get_or bs k d)) (own_equal laws bs k d l))
-
-pub ruleset on_atoms = (atom_is_there, atom_is_inserted)

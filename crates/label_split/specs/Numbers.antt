@@ -1,13 +1,15 @@
 -- Formulas over the numbers of their atoms in a list.
-use Rattle.std.specs.Prelude.{◌≡◌, ◌<◌, ℕ, Bool, false, Option, Some, List, map, length, All, slice_index_or}
+use Rattle.std.specs.Prelude.{◌≡◌, ◌<◌, ◌++◌, ◌||◌, ℕ, Bool, false, Option, Some, List, map, length, All, slice_index_or}
 use Rattle.std.specs.List.{position_or_len}
 use Rattle.model_tree.specs.Label.{Label}
 use Rattle.model_tree.specs.Formula.{Formula, yes, no, atom, negation, all_of, some_of, Formulas, no_formulas, formula}
 use Rattle.label_core.specs.declared.formula.Formula.{Formula as Written}
 use Rattle.std.specs.Cmp.{IsEquivalence}
-use Rattle.label_core.specs.Atoms.{EachHasEqual}
+use Rattle.label_core.specs.Atoms.{EachHasEqual, has_equal}
+use Rattle.label_core.specs.Formula.{plain_formula, atoms_in}
 use Rattle.label_core.specs.Lit.{SatisfiesAll, LitsFit, atoms_of}
 use Rattle.label_core.specs.declared.theory.Lit.{Lit}
+use Rattle.label_split.specs.Signs.{atoms_in_each}
 use Rattle.label_split.specs.Known.{IsWithin, Follows, truth_at, holds_at, settled}
 
 module _ {A : Type 0} (eq : A → A → Bool) (atoms : List A) where
@@ -27,6 +29,19 @@ module _ {A : Type 0} (eq : A → A → Bool) (atoms : List A) where
     pub all_numbered : Formulas A → Formulas ℕ
     all_numbered no_formulas = no_formulas
     all_numbered (formula f fs) = formula (numbered f) (all_numbered fs)
+
+module _ {A : Type 0} (eq : A → A → Bool) where
+  -- these atoms came to the others, unless equal ones were there; what was made has their numbers, whatever atoms come later
+  pub record AreNumbered {X : Type 0} (old new atoms : List A) (made : X) (numbers : List A → X) : Type 0 where
+    pub grown : (added : List A) × (new ≡ old ++ added)
+    pub gathered : (a : A) → has_equal eq new a ≡ (has_equal eq old a || has_equal eq atoms a)
+    pub numbers_are : (later : List A) → made ≡ numbers (new ++ later)
+
+  abbrev pub IsNumbered : List A → List A → Formula A → Written ℕ → Type 0
+  IsNumbered old new f made = AreNumbered old new (atoms_in f) (plain_formula made) (λ keys. numbered eq keys f)
+
+  abbrev pub EachNumbered : List A → List A → List (Written A) → List (Written ℕ) → Type 0
+  EachNumbered old new fs made = AreNumbered old new (atoms_in_each fs) (map plain_formula made) (λ keys. map (λ f. numbered eq keys (plain_formula f)) fs)
 
 -- the truth values of the atoms at a label, and that of the atom with a number
 abbrev pub truths_at : {A : Type 0} → (A → Label → Bool) → List A → Label → List Bool
