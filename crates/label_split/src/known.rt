@@ -1,9 +1,10 @@
 //! What is known of a formula, where truth values of some atoms are. Atoms are numbers.
 
-ghost use Rattle.std.specs.Prelude.{◌≡◌, ◌<◌, ℕ, false, None, Some, IfNone, IfOk, IfSome, IsSome, length, replicate, slice_set};
+ghost use Rattle.std.specs.Prelude.{◌≡◌, [], ◌∷◌, ◌<◌, ℕ, false, None, Some, IfNone, IfOk, IfSome, IsSome, length, replicate, slice_set};
 ghost use Rattle.std.specs.List.{All};
 ghost use Rattle.label_core.specs.Formula.{joined};
 ghost use Rattle.label_split.specs.Known.{IsWithin, Forces, known_at, truth_at, formula_known, settled};
+ghost use Rattle.label_split.specs.Search.{branch_lists};
 
 use fast_fault::Memory;
 use label_core::Formula;
@@ -16,12 +17,14 @@ pub struct Known {
 }
 
 impl Known {
-    /// Nothing of so many atoms.
-    pub fn nothing(alloc: Global, atoms: usize) -> Result<Known, Memory>
-        ensures { IfOk result (λ known. known.signs.items ≡ replicate atoms None) }
+    /// Nothing of so many atoms, alone in a list.
+    pub fn nothing(alloc: Global, atoms: usize) -> Result<Vec<Known>, Memory>
+        ensures { IfOk result (λ all. branch_lists all.items ≡ replicate atoms None ∷ []) }
     {
         let signs = vec![in alloc; None; atoms]?;
-        Ok(Known { signs })
+        let mut all = Vec::new(alloc);
+        all.push(Known { signs })?;
+        Ok(all)
     }
 
     /// What is known of the atom.

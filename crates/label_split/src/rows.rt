@@ -379,35 +379,12 @@ fn extend<T: Theory>(
 }
 
 /// The rows of the formulas, from those of all but the last.
-fn extend_each<T: Theory>(
-    theory: &T,
-    alloc: Global,
-    atoms: &[T::Atom],
-    last: &Sampled<T::Value>,
-    mut rows: Vec<Noted<T::Value>>,
-) -> Result<Vec<Noted<T::Value>>, SplitStop<T::Chain>>
-    requires within { All (IsWithin (length atoms.now)) last.now.formulas.now }
-    requires fit { All (T.atom_fits theory.now) atoms.now }
-    requires some { 0 < length last.now.formulas.now }
-    requires samples { (s : Bool) → IsSample (T.meaning theory.now) (signs_at (number_holds T.atom_holds atoms.now) last.now.formulas.now) s (cond s last.now.on last.now.off) }
-    requires rows { SplitsInto (T.meaning theory.now) (signs_at (number_holds T.atom_holds atoms.now) (take (length last.now.formulas.now - 1) last.now.formulas.now)) (rows_of rows.items) }
-    ensures rows { IfOk result (λ refined. SplitsInto (T.meaning theory.now) (signs_at (number_holds T.atom_holds atoms.now) last.now.formulas.now) (rows_of refined.items)) }
-    ensures stop { IfErr result (Stops (T.meaning theory.now) ⊥ (signs_at (number_holds T.atom_holds atoms.now) last.now.formulas.now) atoms.now) }
-{
-    let mut refined = Vec::new(alloc);
-    'rest: while let Some(row) = rows.pop() {
-        extend(theory, alloc, atoms, last, row, &mut refined)?;
-    }
-    Ok(refined)
-}
-
-/// The rows of the formulas, from those of all but the last.
 fn refine<T: Theory>(
     theory: &T,
     alloc: Global,
     atoms: &[T::Atom],
     formulas: &[Formula<usize>],
-    rows: Vec<Noted<T::Value>>,
+    mut rows: Vec<Noted<T::Value>>,
 ) -> Result<Vec<Noted<T::Value>>, SplitStop<T::Chain>>
     requires within { All (IsWithin (length atoms.now)) formulas.now }
     requires fit { All (T.atom_fits theory.now) atoms.now }
@@ -419,7 +396,11 @@ fn refine<T: Theory>(
     let on = find_sample(theory, alloc, atoms, formulas, true)?;
     let off = find_sample(theory, alloc, atoms, formulas, false)?;
     let last = Sampled { formulas, on, off };
-    extend_each(theory, alloc, atoms, &last, rows)
+    let mut refined = Vec::new(alloc);
+    'rest: while let Some(row) = rows.pop() {
+        extend(theory, alloc, atoms, &last, row, &mut refined)?;
+    }
+    Ok(refined)
 }
 
 /// The rows, without the numbers.

@@ -8,7 +8,7 @@ ghost use Rattle.label_core.specs.Formula.{joined};
 ghost use Rattle.label_core.specs.Meaning.{KeepsValue};
 ghost use Rattle.label_core.specs.declared.theory.Verdict.TheVariants.{Sat, Wide};
 ghost use Rattle.label_split.specs.Known.{Forces, Follows, known_at, truth_at, holds_at, settled};
-ghost use Rattle.label_split.specs.Numbers.{truths_at, AreAsked, HaveSigns, IsUnsettled, IsWrong, AreLiterals};
+ghost use Rattle.label_split.specs.Numbers.{truths_at, AreAsked, HaveSigns, IsUnsettled, IsWrong};
 ghost use Rattle.label_split.specs.Search.{branch_lists, with_both_signs, DecidesKnown, DecidesSigns, IsFollowed, IsNearer, IsNext, IsTaken, Looks, MayFollow};
 
 use crate::force::force;
@@ -110,26 +110,6 @@ fn take_signs(asked: &Asked, numbers: &[usize], known: &mut Known) -> bool
     true
 }
 
-/// What is known, as literals.
-fn literals_of<T: Theory>(
-    _theory: &T,
-    alloc: Global,
-    atoms: &[T::Atom],
-    known: &Known,
-) -> Result<Vec<Lit<T::Atom>>, Memory>
-    requires { length known.now.signs.items ≡ length atoms.now }
-    ensures { IfOk result (λ literals. AreLiterals (T.atom_fits _theory.now) T.atom_holds atoms.now known.now.signs.items literals.items) }
-{
-    let mut literals = Vec::new(alloc);
-    for i in 0..atoms.len() {
-        if let Some(sign) = known.of(i) {
-            let atom = atoms[i].duplicate(alloc)?;
-            literals.push(Lit { atom, sign })?;
-        }
-    }
-    Ok(literals)
-}
-
 /// The last formula that has another sign at the value's label: those that came last are the likeliest.
 fn wrong<T: Theory>(theory: &T, atoms: &[T::Atom], asked: &Asked, value: &T::Value) -> Option<usize>
     requires asked { AreAsked (length atoms.now) asked.now.formulas.now asked.now.signs.now }
@@ -200,7 +180,13 @@ fn decide_known<T: Theory>(
     requires fit { All (T.atom_fits theory.now) atoms.now }
     ensures { IfOk result (DecidesKnown (T.meaning theory.now) atoms.now known.now.signs.items) }
 {
-    let literals = literals_of(theory, alloc, atoms, known)?;
+    let mut literals = Vec::new(alloc);
+    for i in 0..atoms.len() {
+        if let Some(sign) = known.of(i) {
+            let atom = atoms[i].duplicate(alloc)?;
+            literals.push(Lit { atom, sign })?;
+        }
+    }
     theory.decide(alloc, &literals)
 }
 
@@ -357,15 +343,6 @@ fn take_branch<T: Theory>(
     }
 }
 
-/// The branch in which nothing is known of so many atoms, alone.
-fn one_branch(alloc: Global, atoms: usize) -> Result<Vec<Known>, Memory>
-    ensures { IfOk result (λ branches. branch_lists branches.items ≡ replicate atoms None ∷ []) }
-{
-    let mut branches = Vec::new(alloc);
-    branches.push(Known::nothing(alloc, atoms)?)?;
-    Ok(branches)
-}
-
 /// Of two chains, where there are two, one that isn't far, if there is one.
 fn nearer<T: Theory>(theory: &T, first: Option<T::Chain>, second: T::Chain) -> T::Chain
     requires { IfSome first (T.meaning theory.now).passes }
@@ -390,7 +367,7 @@ pub fn search<T: Theory>(
     requires fit { All (T.atom_fits theory.now) atoms.now }
     ensures { IfOk result (DecidesSigns (T.meaning theory.now) atoms.now asked.now.formulas.now asked.now.signs.now) }
 {
-    let mut branches = one_branch(alloc, atoms.len())?;
+    let mut branches = Known::nothing(alloc, atoms.len())?;
     let mut wide = None;
     'branches: while !branches.is_empty() {
         match take_branch(theory, alloc, atoms, asked, active, &mut branches)? {
