@@ -11,8 +11,8 @@ use Rattle.label_core.specs.declared.formula.Formula.{Formula}
 use Rattle.label_core.specs.declared.formula.Formula.TheVariants.{Atom, Not, And, Or}
 use Rattle.label_core.proofs.Formulas.{not_of, and_of, or_of, all_hold_of_list, some_hold_of_list}
 use Rattle.label_split.specs.Known.{Agrees, known_at, truth_at, Follows, holds_at, joined, Forces, IsOnly}
-use Rattle.label_split.specs.Numbers.{truths_at, IsWrong}
-use Rattle.label_split.proofs.Truths.{settled_holds, not_same}
+use Rattle.label_split.specs.Numbers.{truths_at, HaveSigns, IsWrong}
+use Rattle.label_split.proofs.Truths.{settled_holds, sign_at, not_same}
 
 pub forces_none : (P : List Bool → Type 0) (known : List (Option Bool)) → Forces P known known
 forces_none P known = record { many = refl; grown = λ i s. refl; follow = λ truths p h. h }
@@ -26,6 +26,10 @@ forces_more P a b c f g = record {
 
 pub forces_by : (P Q : List Bool → Type 0) (a b : List (Option Bool)) → ((truths : List Bool) → P truths → Follows a truths → Q truths) → Forces Q a b → Forces P a b
 forces_by P Q a b to f = record { many = f.many; grown = f.grown; follow = λ truths p h. f.follow truths (to truths p h) h }
+
+-- what a formula says where it has its sign
+pub forces_sign : (formulas : List (Formula ℕ)) (signs : List Bool) (k : ℕ) (f : Formula ℕ) → k < length formulas → f ≡ get_or formulas k f → (old new : List (Option Bool)) → Forces (λ truths. holds_at truths (get_or formulas k f) ≡ get_or signs k false) old new → Forces (HaveSigns formulas signs) old new
+forces_sign formulas signs k f low is old new = forces_by (HaveSigns formulas signs) (λ truths. holds_at truths (get_or formulas k f) ≡ get_or signs k false) old new (λ truths have follows. ap (holds_at truths) (sym is) ∙ sign_at formulas signs truths k f low is have)
 
 some_none : (x : Option Bool) → x ≡ None → ¬ IsSome x
 some_none None e s = cc

@@ -23,3 +23,6 @@ returns g c = record {
   row = row_found (g.T.Theory.meaning c.args.theory.now) c.args.atoms.now c.args.formulas.now c.args.signs.items c.search-verdict.result (subst (λ signs. IfOk c.search-verdict.result (DecidesSigns (g.T.Theory.meaning c.args.theory.now) c.args.atoms.now c.args.formulas.now signs)) c.deref-2.ensures.value c.search-verdict.ensures) c.found_row.result _ c.found_row.ensures;
   stop = row_stopped (g.T.Theory.meaning c.args.theory.now) c.args.atoms.now c.args.formulas.now c.args.signs.items c.search-verdict.result (subst (λ signs. IfOk c.search-verdict.result (DecidesSigns (g.T.Theory.meaning c.args.theory.now) c.args.atoms.now c.args.formulas.now signs)) c.deref-2.ensures.value c.search-verdict.ensures) c.found_row.result _ c.found_row.ensures;
 }
+
+pub overflow_sub-last : goal.overflow_sub-last
+overflow_sub-last g c = c.requires.some

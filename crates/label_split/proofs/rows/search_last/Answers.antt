@@ -2,6 +2,7 @@ use Rattle.std.proofs.Common.{◌∷◌, [], IfOk, length, subst}
 use Rattle.std.proofs.lemmas.Result.{IfOk-from_err}
 use Rattle.label_split.specs.Search.{DecidesSigns}
 use Rattle.label_split.proofs.Signs.{last_asked, last_part}
+use Rattle.std.proofs.Common.{arith}
 use Rattle.label_split.proofs.rows.search_last.Goals as goal
 
 pub returns-in_err-active : goal.returns-in_err-active
@@ -15,3 +16,18 @@ search-requires-clause-asked g c = last_asked (length c.args.atoms.now) c.args.f
 
 pub returns : goal.returns
 returns g c = subst (λ part. IfOk c.search.result (DecidesSigns (g.T.Theory.meaning c.args.theory.now) c.args.atoms.now part (c.args.sign ∷ []))) (last_part c.args.formulas.now) c.search.ensures
+
+pub overflow_sub-last : goal.overflow_sub-last
+overflow_sub-last g c = c.requires.some
+
+pub offset_bounds-formulas-last : goal.offset_bounds-formulas-last
+offset_bounds-formulas-last g c = omega arith
+
+pub slice_bounds-asked-count : goal.slice_bounds-asked-count
+slice_bounds-asked-count g c = omega arith
+
+pub slice_bounds-asked-start : goal.slice_bounds-asked-start
+slice_bounds-asked-start g c = omega arith
+
+pub slice_bounds-asked-end : goal.slice_bounds-asked-end
+slice_bounds-asked-end g c = omega arith

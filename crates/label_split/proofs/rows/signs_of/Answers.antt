@@ -4,6 +4,7 @@ use Rattle.std.proofs.Common.{◌∙◌, ◌++◌, ◌∷◌, [], ap₂, sym}
 use Rattle.label_split.specs.Numbers.{number_holds}
 use Rattle.label_split.proofs.Signs.{signs_of_more}
 use Rattle.std.proofs.lemmas.Result.{IfOk-from_err}
+use Rattle.std.proofs.Common.{arith}
 use Rattle.label_split.proofs.rows.signs_of.Goals as goal
 
 pub loop-formula-preserved : goal.loop-formula-preserved
@@ -23,3 +24,6 @@ returns g c = c.loop-formula.invariant ∙ ap (λ fs. signs_at (number_holds g.T
 
 pub returns-in_err-push : goal.returns-in_err-push
 returns-in_err-push g c = IfOk-from_err c.from_residual.result _ c.from_residual.ensures.0
+
+pub offset_bounds-formulas-formula-index : goal.offset_bounds-formulas-formula-index
+offset_bounds-formulas-formula-index g c = omega arith

@@ -72,3 +72,9 @@ holds_of-holds-requires-clause-value_fits g t c = c.requires.kept
 
 pub holds_of-returns-then-atom-atoms : goal.holds_of-returns-then-atom-atoms
 holds_of-returns-then-atom-atoms g t c = holds_inside g.T.Theory.atom_holds c.args.atoms.now (g.T.Theory.label_of c.args.value.now) c.args.formula.now c.in-Atom.atom c.index-atoms-atom.result c.holds.result c.in-Atom.is c.if-atom-atoms.true c.index-atoms-atom.is c.holds.ensures
+
+pub holds_of-bounds-atoms-atom : goal.holds_of-bounds-atoms-atom
+holds_of-bounds-atoms-atom g t c = c.if-atom-atoms.true
+
+pub holds_of-offset_bounds-atoms-atom : goal.holds_of-offset_bounds-atoms-atom
+holds_of-offset_bounds-atoms-atom g t c = omega (arith, c.if-atom-atoms.true)

@@ -59,3 +59,6 @@ look_at_chain-requires-clause-chain g c = subst (DecidesKnown (g.T.Theory.meanin
 
 pub returns-in-Unsat-clause-looks : goal.returns-in-Unsat-clause-looks
 returns-in-Unsat-clause-looks g c = λ l has follows asked. subst (DecidesKnown (g.T.Theory.meaning c.args.theory.now) c.args.atoms.now c.take_signs.new.known.signs.items) c.in-Unsat.is c.in_ok-decide_known.ensures l has follows
+
+pub take_signs-requires : goal.take_signs-requires
+take_signs-requires g c = record { asked = c.requires.asked }

@@ -30,3 +30,6 @@ go_on-requires g c = c.in-Some-open_after.ensures.some.0
 
 pub returns-clause-forces : goal.returns-clause-forces
 returns-clause-forces g c = c.open_after.ensures.forces
+
+pub unsettled-requires : goal.unsettled-requires
+unsettled-requires g c = record { asked = c.requires.asked }

@@ -1,8 +1,9 @@
 use Rattle.std.proofs.Common.{◌∙◌, ◌<◌, sym, ap, length, false, get_or, subst}
 use Rattle.label_split.specs.Known.{settled}
 use Rattle.label_split.specs.Numbers.{HaveSigns}
-use Rattle.label_split.proofs.Forcing.{forces_none, true_isnt_false}
+use Rattle.label_split.proofs.Forcing.{forces_none, forces_sign, true_isnt_false}
 use Rattle.label_split.proofs.Truths.{settled_holds, sign_at, other_bools}
+use Rattle.std.proofs.Common.{arith}
 use Rattle.label_split.proofs.search.take_sign.Goals as goal
 
 pub returns-in-Some-clause-may : goal.returns-in-Some-clause-may
@@ -34,3 +35,12 @@ returns-in-Some-clause-forces c = forces_none (HaveSigns c.args.asked.now.formul
 
 pub returns-in-None-clause-may : goal.returns-in-None-clause-may
 returns-in-None-clause-may c = λ e truths follows have. true_isnt_false e
+
+pub offset_bounds-asked-number : goal.offset_bounds-asked-number
+offset_bounds-asked-number c = omega arith
+
+pub offset_bounds-asked-number-in-None : goal.offset_bounds-asked-number-in-None
+offset_bounds-asked-number-in-None c = omega arith
+
+pub returns-in-None-clause-forces : goal.returns-in-None-clause-forces
+returns-in-None-clause-forces c = forces_sign c.args.asked.now.formulas.now c.args.asked.now.signs.now c.args.number c.index-asked-number-in-None.result c.if-number-asked.false c.index-asked-number-in-None.is c.args.known.now.signs.items c.force.new.known.signs.items c.force.ensures

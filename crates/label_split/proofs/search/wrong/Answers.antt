@@ -19,3 +19,18 @@ holds_of-requires-clause-kept g c = c.requires.kept
 
 pub returns-then-holds_of-asked-clause-wrong : goal.returns-then-holds_of-asked-clause-wrong
 returns-then-holds_of-asked-clause-wrong g c = is_wrong c.args.asked.now.formulas.now c.args.asked.now.signs.now (truths_at g.T.Theory.atom_holds c.args.atoms.now (g.T.Theory.label_of c.args.value.now)) (c.loop-i.i - 1) c.index-asked-i.result c.holds_of.result (omega (arith, c.loop-i-test.true, c.loop-i.auto.i)) c.index-asked-i.is (c.holds_of.ensures ∙ ap (holds_at (truths_at g.T.Theory.atom_holds c.args.atoms.now (g.T.Theory.label_of c.args.value.now))) (sym c.index-asked-i.is)) c.if-holds_of-asked.true
+
+pub overflow_step-i : goal.overflow_step-i
+overflow_step-i g c = omega (arith, c.loop-i-test.true)
+
+pub offset_bounds-asked-i : goal.offset_bounds-asked-i
+offset_bounds-asked-i g c = omega arith
+
+pub bounds-asked-i : goal.bounds-asked-i
+bounds-asked-i g c = omega (arith, c.loop-i-test.true, c.loop-i.auto.i)
+
+pub bounds-asked-i-in-loop-i : goal.bounds-asked-i-in-loop-i
+bounds-asked-i-in-loop-i g c = omega (arith, c.loop-i-test.true, c.loop-i.auto.i, c.requires.asked.lengths)
+
+pub loop-i-smaller : goal.loop-i-smaller
+loop-i-smaller g c = omega (arith, c.loop-i-test.true)
