@@ -58,7 +58,7 @@ module _ {A : Type 0} (k : A → Option Bool) (h : A → Bool) (follows : (a : A
     known_of_some no_formulas = refl
     known_of_some (formula f fs) = agrees_either (formula_known k f) (some_known k fs) (formula_holds h f) (some_hold h fs) (known_is_true f) (known_of_some fs)
 
-some_not : (x : Option Bool) → IsSome x → IsSome (denied x)
+pub some_not : (x : Option Bool) → IsSome x → IsSome (denied x)
 some_not None h = h
 some_not (Some a) h = h
 

@@ -96,7 +96,6 @@ fn settled_each(parts: &[Formula<usize>], every: bool, known: &Known) -> Option<
 }
 
 /// An atom of the formula that isn't known, unless the formula is settled.
-#[tactic(auto, using(crate::proofs::Opens::on_opens))]
 #[cycle(open)]
 pub fn open_atom(formula: &Formula<usize>, known: &Known) -> Option<usize>
     ensures none { IfNone result (IsSome (settled known.now.signs.items formula.now)) }
