@@ -42,7 +42,7 @@ returns-in-Nowhere-clause-row g c = nowhere_shown (g.T.Theory.meaning c.args.the
 
 pub returns-in_ok-copy_of-in-At-clause-row : goal.returns-in_ok-copy_of-in-At-clause-row
 returns-in_ok-copy_of-in-At-clause-row g c =
-    let are = c.in_ok-signs.ensures {u = tt} ∙ ap (λ signs. signs ++ c.args.sign ∷ []) c.deref.ensures.value in
+    let are : c.in_ok-signs.signs.items ≡ c.args.row.now.row.signs.items ++ c.args.sign ∷ [] = c.in_ok-signs.ensures {u = tt} ∙ ap (λ signs. signs ++ c.args.sign ∷ []) c.deref.ensures.value in
     let same : c.in-At.found.row.signs.items ≡ c.in_ok-signs.signs.items = search (rules, c.are_same.ensures c.if-are_same.true) in
     copy_shown (g.T.Theory.meaning c.args.theory.now) (signs_at (number_holds g.T.Theory.atom_holds c.args.atoms.now) c.args.last.now.formulas.now) c.args.sign (cond c.args.sign c.args.last.now.on c.args.last.now.off) (c.requires.samples c.args.sign) c.in-At.found c.in_ok-copy_of-in-At.field-0 (sym c.of.ensures ∙ c.in-At.is) (c.args.row.now.row.signs.items ++ c.args.sign ∷ []) (same ∙ are) c.in_ok-copy_of-in-At.ensures.signs c.in_ok-copy_of-in-At.ensures.value
 
