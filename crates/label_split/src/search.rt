@@ -2,7 +2,7 @@
 //! asks the theory only for what is known there. A label that it shows is looked at: the next atom is one of a formula
 //! that has another sign.
 
-ghost use Rattle.std.specs.Prelude.{◌≡◌, ◌<◌, Bool, false, List, None, Some, length, IfOk, OnOk, IfSome, IfNone, MatchResult, All, replicate, [], ◌∷◌};
+ghost use Rattle.std.specs.Prelude.{◌≡◌, ◌<◌, Bool, false, List, None, Some, length, IfOk, OnOk, IfSome, IfNone, MatchResult, All};
 ghost use Rattle.model_tree.specs.Formula.{formula_holds};
 ghost use Rattle.label_core.specs.Formula.{joined};
 ghost use Rattle.label_core.specs.Meaning.{KeepsValue};
