@@ -10,7 +10,7 @@ use Rattle.model_program.specs.Grammar.{IsWord, IsSign, sign, Many}
 use Rattle.read_forms.specs.Parts.{Ends, HasSample, other_than}
 use Rattle.read_forms.proofs.Forms.{Makes, as_read, as_fails, then_read, then_fails, first_fails, ends_closed, ends_starting, sample_as, sample_pair, starts_append, starts_wider, starts_joined, starts_as, starts_stops, stops_of, stops_other_than, alternative, remade, Chained, chained_read, chained_fails, chained_first_fails}
 use Rattle.read_forms.proofs.Words.{sign_starts, next_of, sample_sign}
-use Rattle.read_forms.proofs.Lists.{IsPartWay}
+use Rattle.read_forms.proofs.Lists.{IsPartWay, to_left, to_right}
 use Rattle.model_grammar.specs.declared.Chain.{Chain}
 use Rattle.model_grammar.specs.declared.Chain.TheVariants.{Disjunction, Conjunction, Product}
 use Rattle.model_grammar.specs.declared.Chain.TheVariants as kinds
@@ -174,11 +174,8 @@ sample_behind_first k op first = sample_as (λ (v : Expr × (List Expr × Unit {
 
 -- Two operands.
 
-abbrev pub two_parts : Expr × (Expr × Unit {0}) → List Lexeme → Type 0
-two_parts = IsExpr Prim ⊗ (IsExpr Prim ⊗ IsSign RoundClose)
-
-pub two_makes : (tokens : List Lexeme) → Makes two_parts AreTwo (λ v. (v.0, v.1.0)) closed tokens
-two_makes tokens = remade (λ v ts spelled. spelled) (λ b ts spelled. ((b.0, (b.1, tt)), spelled, refl))
+pub two_makes : (tokens : List Lexeme) → Makes ((IsExpr Prim ⊗ IsExpr Prim) ⊗ IsSign RoundClose) AreTwo (λ v. v.0) closed tokens
+two_makes tokens = remade (λ v ts spelled. to_right (IsExpr Prim v.0.0) (IsExpr Prim v.0.1) (sign RoundClose) ts spelled) (λ b ts spelled. ((b, tt), to_left (IsExpr Prim b.0) (IsExpr Prim b.1) (sign RoundClose) ts spelled, refl))
 
 pub sample_two : HasSample AreTwo
 sample_two = sample_as (λ (v : Expr × (Expr × Unit {0})). (v.0, v.1.0)) (λ v ts spelled. spelled) (sample_pair sample_prim (sample_pair sample_prim (sample_sign RoundClose)))
@@ -593,11 +590,3 @@ minus_close_fails {tokens = tokens} bad from whole fails = as_fails bad (behind_
 
 pub minus_close_read : {e same : Expr} {tokens behind rest end : List Lexeme} {s : Lexeme} → IsFromMinus e tokens behind rest s → IsWhole e behind same rest → IsRead (IsSign RoundClose) closed rest tt end → IsRead IsInside closed tokens same end
 minus_close_read {e} {same} {tokens} {end = end} from whole read = subst (λ (x : Expr). IsRead IsInside closed tokens x end) (sym whole.is) (as_read (behind_minus_makes tokens (minus_next from)) (chained_read ends_minus (spelled_read from.read) (as_read (close_behind from whole) read)))
-
--- the remainder of two operands, gathered
-pub percent_is : (place : Pos) (op : Lexeme) (a b e : Expr) (zero one two : Chain) (none first both : List (Bool × Expr)) → op.word ≡ Percent → op.place ≡ place → zero ≡ Product → none ≡ [] → one ≡ zero → first ≡ none ++ (mark_in zero false, a) ∷ [] → two ≡ one → both ≡ first ++ (mark_in one true, b) ∷ []
-    → e ≡ chain two place (parts_from both) → chain_of Product a ((op, b) ∷ []) ≡ e
-percent_is place op a b e zero one two none first both is at is_zero is_none is_one is_first is_two is_both is_e =
-    let kind_one : one ≡ Product = is_one ∙ is_zero in
-    let parts : both ≡ (false, a) ∷ (true, b) ∷ [] = is_both ∙ ap (λ l. l ++ (mark_in one true, b) ∷ []) (is_first ∙ ap (λ l. l ++ (mark_in zero false, a) ∷ []) is_none ∙ ap (λ k. (mark_in k false, a) ∷ []) is_zero) ∙ ap (λ k. (false, a) ∷ (mark_in k true, b) ∷ []) kind_one in
-    (λ i. chain Product (at i) (part false a (part (is_marking (is i)) b no_parts))) ∙ sym (is_e ∙ (λ i. chain ((is_two ∙ kind_one) i) place (parts_from (parts i))))

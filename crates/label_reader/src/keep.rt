@@ -3,6 +3,11 @@
 //! It is of any type, so that a reader that stops drops it whole, and not part by part.
 
 ghost use Rattle.std.specs.Prelude.{◌≡◌, MatchResult, Ok, Err};
+ghost use Rattle.label_reader.specs.Results.{left, ReadsToClose};
+
+use crate::reader::Reader;
+use crate::stop::Stop;
+use fast_lex::Word;
 
 /// The value, and what was made behind it.
 pub fn kept<A: Drop, B, E>(value: A, made: Result<B, E>) -> Result<(A, B), E>
@@ -22,4 +27,12 @@ pub fn kept_if<A: Drop, E>(value: A, read: Result<(), E>) -> Result<A, E>
         Ok(_) => Ok(value),
         Err(why) => Err(why),
     }
+}
+
+/// What was read, where its closing parenthesis stands behind it.
+pub fn to_close<A: Drop>(read: Result<A, Stop>, reader: &mut Reader) -> Result<A, Stop>
+    ensures { ReadsToClose read (left reader.old) (left reader.new) result }
+{
+    let value = read?;
+    kept_if(value, reader.sign(Word::RoundClose))
 }

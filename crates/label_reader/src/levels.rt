@@ -1,30 +1,32 @@
 //! Label expressions, from the loosest level to the tightest.
 
-ghost use Rattle.std.specs.Prelude.{◌≡◌, ◌∷◌, IfOk, MatchOption, MatchResult};
-ghost use Rattle.fast_fault.specs.declared.place.Pos.{Pos};
+ghost use Rattle.std.specs.Prelude.{◌≡◌, ◌∷◌, true, false, MatchOption, MatchResult};
 ghost use Rattle.model_program.specs.declared.Word.TheVariants.{RoundOpen, Minus};
 ghost use Rattle.model_program.specs.Joined.{IsOther};
 ghost use Rattle.read_forms.specs.Reads.{closed};
-ghost use Rattle.model_grammar.specs.declared.Chain.TheVariants as kinds;
+ghost use Rattle.model_grammar.specs.declared.Chain.TheVariants.{Product};
 ghost use Rattle.model_grammar.specs.declared.Level.TheVariants.{Neg, Cmp, Unary, Prim};
 ghost use Rattle.model_grammar.specs.Operators.{IsMany};
 ghost use Rattle.model_grammar.specs.Expressions.{IsExpr};
-ghost use Rattle.model_grammar.specs.Syntax.{compare};
+ghost use Rattle.model_grammar.specs.Syntax.{compare, chain, part, no_parts};
 ghost use Rattle.model_grammar.specs.Printed.{chain_level};
 ghost use Rattle.fast_lex.specs.Tokens.{lexeme};
-ghost use Rattle.fast_syntax.specs.Plain.{plain_expr, plain_node};
-ghost use Rattle.label_reader.specs.Results.{left, behind, Reads};
+ghost use Rattle.fast_syntax.specs.Plain.{plain_expr};
+ghost use Rattle.label_reader.specs.Results.{left, behind, Reads, IfMade};
+ghost use Rattle.label_reader.specs.Operands.{prefixed};
 ghost use Rattle.label_reader.specs.Levels.{GoesOn};
 ghost use Rattle.label_reader.specs.Constants.{NoNumeral, IsNumeralNext};
 ghost use Rattle.label_reader.specs.Inside.{IsInside, IsBehindFirst, AreTwo, IsBare, IsUnsigned, IsWhole};
 
 use crate::constants::{numeral_next, read_numeral, read_string};
-use crate::keep::{kept, kept_if};
+use crate::keep::{kept, to_close};
 use crate::operands::Operands;
-use crate::operators::{is_marking, many_next, operand, rel_next, sign_next, starts_primary};
+use crate::operators::{
+    Prefix, is_marking, many_next, operand, rel_next, sign_next, starts_primary,
+};
 use crate::reader::Reader;
 use crate::stop::Stop;
-use fast_fault::Memory;
+use fast_fault::Pos;
 use fast_lex::{Token, Word};
 use fast_syntax::Text;
 use fast_syntax::expressions::{Expr, Node};
@@ -57,11 +59,10 @@ fn read_chain(reader: &mut Reader, kind: Chain) -> Result<Expr, Stop>
     let Some(sign) = sign_next(reader, kind) else {
         return Ok(first);
     };
-    let mut parts = Operands::new(reader.alloc, kind).with(false, first)?;
+    let mut parts = Operands::new(reader.alloc, kind).with(false, Ok(first))?;
     'parts: while let Some(next) = sign_next(reader, kind) {
         reader.advance();
-        let (so_far, part) = kept(parts, read_level(reader, operand(kind)))?;
-        parts = so_far.with(is_marking(next.word), part)?;
+        parts = parts.with(is_marking(next.word), read_level(reader, operand(kind)))?;
     }
     let place = sign.place;
     let node = parts.into_node();
@@ -76,9 +77,28 @@ fn read_negation(reader: &mut Reader) -> Result<Expr, Stop>
         return read_level(reader, Level::Cmp);
     };
     reader.advance();
-    let inside = read_level(reader, Level::Cmp)?;
-    let place = sign.place;
-    let node = Node::Not(Box::new(reader.alloc, inside)?);
+    prefixed(
+        reader.alloc,
+        sign.place,
+        Prefix::Not,
+        read_level(reader, Level::Cmp),
+    )
+}
+
+/// `not` or `-` before the operand that was read.
+fn prefixed(
+    alloc: Global,
+    place: Pos,
+    prefix: Prefix,
+    read: Result<Expr, Stop>,
+) -> Result<Expr, Stop>
+    ensures { IfMade read (λ inside whole. plain_expr whole ≡ prefixed prefix place (plain_expr inside)) result }
+{
+    let inside = Box::new(alloc, read?)?;
+    let node = match prefix {
+        Prefix::Not => Node::Not(inside),
+        Prefix::Minus => Node::Minus(inside),
+    };
     Ok(Expr { place, node })
 }
 
@@ -91,18 +111,31 @@ fn read_comparison(reader: &mut Reader) -> Result<Expr, Stop>
         return Ok(left);
     };
     reader.advance();
-    let (left, right) = kept(left, read_level(reader, Level::Sum))?;
-    let place = sign.place;
-    let node = compared(reader.alloc, rel, left, right)?;
+    let both = kept(left, read_level(reader, Level::Sum));
+    compared(reader.alloc, sign.place, rel, both)
+}
+
+fn compared(
+    alloc: Global,
+    place: Pos,
+    rel: Rel,
+    read: Result<(Expr, Expr), Stop>,
+) -> Result<Expr, Stop>
+    ensures { IfMade read (λ both whole. plain_expr whole ≡ compare place rel (plain_expr both.0) (plain_expr both.1)) result }
+{
+    let (left, right) = read?;
+    let (right, left) = kept(right, Box::new(alloc, left))?;
+    let right = Box::new(alloc, right)?;
+    let node = Node::Compare(rel, left, right);
     Ok(Expr { place, node })
 }
 
-fn compared(alloc: Global, rel: Rel, left: Expr, right: Expr) -> Result<Node, Memory>
-    ensures { IfOk result (λ node. (place : Pos) → plain_node node place ≡ compare place rel (plain_expr left) (plain_expr right)) }
+/// The remainder of the first of two expressions by the second.
+fn remainder(alloc: Global, place: Pos, read: Result<(Expr, Expr), Stop>) -> Result<Expr, Stop>
+    ensures { IfMade read (λ both whole. plain_expr whole ≡ chain Product place (part false (plain_expr both.0) (part true (plain_expr both.1) no_parts))) result }
 {
-    let (right, left) = kept(right, Box::new(alloc, left))?;
-    let right = Box::new(alloc, right)?;
-    Ok(Node::Compare(rel, left, right))
+    let node = Operands::two(alloc, Chain::Product, true, read)?.into_node();
+    Ok(Expr { place, node })
 }
 
 /// A number with `-` before it is a constant.
@@ -114,15 +147,18 @@ fn read_unary(reader: &mut Reader) -> Result<Expr, Stop>
         return read_primary(reader);
     };
     reader.advance();
-    let place = sign.place;
     if reader.is_next(Word::Number) {
         let (_digits, number) = read_numeral(reader)?;
+        let place = sign.place;
         let node = Node::Num(-number);
         return Ok(Expr { place, node });
     }
-    let inside = read_primary(reader)?;
-    let node = Node::Minus(Box::new(reader.alloc, inside)?);
-    Ok(Expr { place, node })
+    prefixed(
+        reader.alloc,
+        sign.place,
+        Prefix::Minus,
+        read_primary(reader),
+    )
 }
 
 #[cycle(expression)]
@@ -186,20 +222,13 @@ fn read_inside(reader: &mut Reader) -> Result<Expr, Stop>
     }
     if let Some(op) = reader.peek_if(Word::Percent) {
         reader.advance();
-        let (left, right) = read_two(reader)?;
-        let place = op.place;
-        let node = Operands::two(reader.alloc, Chain::Product, true, left, right)?.into_node();
-        return Ok(Expr { place, node });
+        return remainder(reader.alloc, op.place, read_two(reader));
     }
     if let Some((op, rel)) = rel_next(reader) {
         reader.advance();
-        let (left, right) = read_two(reader)?;
-        let place = op.place;
-        let node = compared(reader.alloc, rel, left, right)?;
-        return Ok(Expr { place, node });
+        return compared(reader.alloc, op.place, rel, read_two(reader));
     }
-    let inside = read_level(reader, Level::E)?;
-    kept_if(inside, reader.sign(Word::RoundClose))
+    to_close(read_level(reader, Level::E), reader)
 }
 
 /// Behind `(` and `-` either an expression goes on, or the operands follow that are subtracted.
@@ -213,7 +242,7 @@ fn read_behind_minus<'t>(reader: &mut Reader<'t>, sign: Token<'t>) -> Result<Exp
     let whole = read_level(reader, Level::E)?;
     match unsigned(whole, &before, reader) {
         Ok(first) => read_further(reader, Chain::Sum, sign, first),
-        Err(inside) => kept_if(inside, reader.sign(Word::RoundClose)),
+        Err(inside) => to_close(Ok(inside), reader),
     }
 }
 
@@ -261,16 +290,15 @@ fn read_further<'t>(
     requires { IsMany kind op.word }
     ensures { Reads (IsBehindFirst kind (lexeme op.entry) (plain_expr first)) closed (left reader.old) (left reader.new) plain_expr result }
 {
-    let (first, second) = kept(first, read_primary(reader))?;
     let mark = is_marking(op.word);
-    let mut parts = Operands::two(reader.alloc, kind, mark, first, second)?;
+    let both = kept(first, read_primary(reader));
+    let mut parts = Operands::two(reader.alloc, kind, mark, both)?;
     'parts: while !reader.is_next(Word::RoundClose) {
-        let (so_far, next) = kept(parts, read_primary(reader))?;
-        parts = so_far.with(mark, next)?;
+        parts = parts.with(mark, read_primary(reader))?;
     }
-    let all = kept_if(parts, reader.sign(Word::RoundClose))?;
+    reader.advance();
     let place = op.place;
-    let node = all.into_node();
+    let node = parts.into_node();
     Ok(Expr { place, node })
 }
 
@@ -280,6 +308,5 @@ fn read_two(reader: &mut Reader) -> Result<(Expr, Expr), Stop>
     ensures { Reads AreTwo closed (left reader.old) (left reader.new) (λ x. (plain_expr x.0, plain_expr x.1)) result }
 {
     let left = read_primary(reader)?;
-    let (left, right) = kept(left, read_primary(reader))?;
-    kept_if((left, right), reader.sign(Word::RoundClose))
+    to_close(kept(left, read_primary(reader)), reader)
 }

@@ -1,13 +1,14 @@
 //! The operands of a chain, gathered one by one.
 
-ghost use Rattle.std.specs.Prelude.{◌≡◌, ◌∷◌, ◌++◌, [], IfOk, false};
+ghost use Rattle.std.specs.Prelude.{◌≡◌, []};
 ghost use Rattle.fast_fault.specs.declared.place.Pos.{Pos};
 ghost use Rattle.fast_syntax.specs.Plain.{plain_expr, plain_node};
 ghost use Rattle.model_grammar.specs.Syntax.{chain};
-ghost use Rattle.label_reader.specs.Operands.{kind_of, marked, mark_in, parts_from};
+ghost use Rattle.label_reader.specs.Results.{IfMade};
+ghost use Rattle.label_reader.specs.Operands.{kind_of, marked, IsMore, AreTwoOf, parts_from};
 
 use crate::keep::kept;
-use fast_fault::Memory;
+use crate::stop::Stop;
 use fast_syntax::expressions::{Expr, Node, ProdPart, SumPart};
 use model_grammar::Chain;
 use std::alloc::Global;
@@ -33,12 +34,12 @@ impl Operands {
         }
     }
 
-    /// One operand more, marked where it is subtracted, or where the remainder by it is taken.
-    pub(crate) fn with(self, mark: bool, part: Expr) -> Result<Operands, Memory>
-        ensures kind { IfOk result (λ all. kind_of all ≡ kind_of self) }
-        ensures more { IfOk result (λ all. marked all ≡ marked self ++ (mark_in (kind_of self) mark, plain_expr part) ∷ []) }
+    /// One operand more, where it was read: marked where it is subtracted, or where the remainder by it is taken.
+    pub(crate) fn with(self, mark: bool, read: Result<Expr, Stop>) -> Result<Operands, Stop>
+        ensures { IfMade read (λ part all. IsMore (kind_of self) (marked self) mark (plain_expr part) (kind_of all) (marked all)) result }
     {
-        match self {
+        let (before, part) = kept(self, read)?;
+        match before {
             Operands::Or(mut all) => {
                 all.push(part)?;
                 Ok(Operands::Or(all))
@@ -64,15 +65,13 @@ impl Operands {
         alloc: Global,
         kind: Chain,
         mark: bool,
-        first: Expr,
-        second: Expr,
-    ) -> Result<Operands, Memory>
-        ensures kind { IfOk result (λ all. kind_of all ≡ kind) }
-        ensures are { IfOk result (λ all. marked all ≡ (mark_in kind false, plain_expr first) ∷ (mark_in kind mark, plain_expr second) ∷ []) }
+        read: Result<(Expr, Expr), Stop>,
+    ) -> Result<Operands, Stop>
+        ensures { IfMade read (λ both all. AreTwoOf kind mark (plain_expr both.0) (plain_expr both.1) (kind_of all) (marked all)) result }
     {
-        let (second, one) = kept(second, Operands::new(alloc, kind).with(false, first))?;
-        let both = one.with(mark, second)?;
-        Ok(both)
+        let (first, second) = read?;
+        let (second, one) = kept(second, Operands::new(alloc, kind).with(false, Ok(first)))?;
+        one.with(mark, Ok(second))
     }
 
     pub(crate) fn into_node(self) -> Node

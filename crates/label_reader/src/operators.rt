@@ -14,6 +14,13 @@ use crate::reader::{Reader, is_same};
 use fast_lex::{Token, Word};
 use model_grammar::{Chain, Level, Rel};
 
+/// An operator that stands before its one operand.
+#[derive(Clone, Copy)]
+pub(crate) enum Prefix {
+    Not,
+    Minus,
+}
+
 /// The level of the operands of a chain.
 pub(crate) fn operand(kind: Chain) -> Level
     ensures { result ≡ operand kind }

@@ -16,20 +16,6 @@ use Rattle.label_reader.specs.declared.reader.Reader.{Reader}
 use Rattle.label_reader.specs.declared.stop.Stop.{Stop}
 use Rattle.label_reader.specs.Results.{lexemes, left, behind, Reads}
 
--- the next token is the word
-next_in : (w : Word) (n : ℕ) (tokens : List Token) → IsNext w (lexemes (drop n tokens)) → (t : Lexeme) × (lexemes (drop n tokens) ≡ t ∷ lexemes (drop (n + 1) tokens)) × (t.word ≡ w)
-next_in w n [] is_next = absurd (subst (λ (l : List Token). IsNext w (lexemes l)) (drop-nil n) is_next)
-next_in w zero (t ∷ ts) is_next = (lexeme t, refl, is_next)
-next_in w (suc n) (t ∷ ts) is_next =
-    let e = next_in w n ts is_next in
-    let one_more : suc (n + 1) ≡ suc n + 1 = omega arith in
-    (e.0, e.1 ∙ ap (λ m. e.0 ∷ lexemes (drop m (t ∷ ts))) one_more, e.2)
-
-pub sign_next : {w : Word} {rest : List Lexeme} (r : Reader) → IsNext w (left r) → rest ≡ behind r → IsRead (IsSign w) closed (left r) tt rest
-sign_next {w} {rest} r is_next is =
-    let e = next_in w r.place r.tokens.now is_next in
-    subst (λ (l : List Lexeme). IsRead (IsSign w) closed (left r) tt l) (sym is) (as_read (sign_makes w closed (left r)) (word_read w e.0 (left r) (behind r) e.1 e.2))
-
 -- what is left where a token is taken
 pub token_taken : {tokens after rest : List Lexeme} {t : Lexeme} → tokens ≡ t ∷ after → rest ≡ after → tokens ≡ t ∷ rest
 token_taken {t = t} here is = here ∙ ap (λ l. t ∷ l) (sym is)

@@ -4,20 +4,21 @@ use Rattle.read_forms.proofs.Forms.{as_read, as_fails, then_read, then_fails, fi
 use Rattle.read_forms.proofs.Words.{word_read, next_of, sample_sign}
 use Rattle.model_grammar.specs.declared.Level.TheVariants.{Unary, Prim}
 use Rattle.model_grammar.specs.declared.Chain.TheVariants.{Product}
-use Rattle.model_grammar.specs.Syntax.{negation, minus, number, chain}
+use Rattle.model_grammar.specs.Operators.{is_marking}
+use Rattle.model_grammar.specs.Syntax.{number, chain, part, no_parts}
 use Rattle.fast_lex.specs.Tokens.{lexeme}
 use Rattle.fast_syntax.specs.Plain.{plain_expr}
 use Rattle.label_reader.specs.Levels.{GoesOn, BeginsAt}
-use Rattle.label_reader.specs.Operands.{marked, mark_in, kind_of, parts_from}
+use Rattle.label_reader.specs.Operands.{marked, mark_in, parts_from}
 use Rattle.label_reader.proofs.Digits.{negated_number_is}
-use Rattle.label_reader.proofs.Exits.{stepped, exit, reads_as, reads_wider, shorter, not_longer, taken}
-use Rattle.label_reader.proofs.Keeping.{told_read, told_fails, reads_whole, reads_kept_if}
+use Rattle.label_reader.proofs.Exits.{stepped, exit, reads_as, reads_wider, shorter, not_longer, taken, sign_next}
+use Rattle.label_reader.proofs.Keeping.{told_read, reads_whole, reads_kept, reads_closed, reads_to_close, told_kept, passes_kept, made_of_kept, made_reads, made_fails}
 use Rattle.label_reader.proofs.Joins.{without_read, without_fails}
 use Rattle.label_reader.proofs.LevelForms.{level_begins, sample_prim, wider_read, wider_fails, first_operand_fails, one_operand, chain_fails, negated_makes, not_negated_makes, cmp_in_neg, left_fails, left_alone, right_fails, both_read, rel_read}
 use Rattle.label_reader.proofs.Gathered.{chaining_starts, chaining_more, chaining_ends, operand_fails, operand_read}
 use Rattle.label_reader.proofs.Primaries.{minus_makes, no_minus_makes, negated_number, negated_other, sample_without, closed_by, open_makes}
-use Rattle.label_reader.proofs.Insides.{further_fails, two_makes, many_makes, many_read, sample_behind_first, percent_makes, percent_is, rel_makes, nested_makes, ends_e, minus_whole_fails, minus_further_fails, minus_further_read, minus_close_fails, minus_close_read}
-use Rattle.label_reader.proofs.Further.{further_begins, further_goes_on, further_next_fails, further_end_fails, further_ends}
+use Rattle.label_reader.proofs.Insides.{further_fails, two_makes, many_makes, many_read, sample_behind_first, percent_makes, rel_makes, nested_makes, ends_e, minus_whole_fails, minus_further_fails, minus_further_read, minus_close_fails, minus_close_read}
+use Rattle.label_reader.proofs.Further.{further_begins, further_goes_on, further_next_fails, further_ends}
 use Rattle.label_reader.proofs.levels.+expression.Goals as goal
 
 -- Chains.
@@ -28,24 +29,27 @@ read_chain-returns-in_err-first t c = exit _ _ _ _ c.from_residual.result c.from
 pub read_chain-returns-in_default : goal.read_chain-returns-in_default
 read_chain-returns-in_default t c = one_operand _ _ _ _ (operand_read _ _ c.operand.ensures c.in_ok-first.ensures) c.in_default.ensures
 
+pub read_chain-returns-in_err-parts : goal.read_chain-returns-in_err-parts
+read_chain-returns-in_err-parts t c = exit _ _ _ _ c.from_residual-in_err-parts.result c.from_residual-in_err-parts.ensures.1 (made_fails _ _ _ plain_expr _ _ c.in_ok-first.ensures c.in_err-parts.ensures (λ bad fails. first_operand_fails _ _ _ (operand_fails _ _ _ _ c.operand.ensures fails)))
+
 pub read_chain-parts-init : goal.read_chain-parts-init
-read_chain-parts-init t c = let e = c.in-Some.ensures in (
-  chaining_starts _ _ _ _ _ _ _ _ _ c.new.ensures.kind c.new.ensures.none c.in_ok-parts.ensures.more (operand_read _ _ c.operand.ensures c.in_ok-first.ensures) e.0,
-  c.in_ok-parts.ensures.kind ∙ c.new.ensures.kind,
+read_chain-parts-init t c = let e = c.in_ok-parts.ensures in (
+  chaining_starts _ _ _ _ _ _ _ _ _ c.new.ensures.kind c.new.ensures.none e.2.1 (operand_read _ _ c.operand.ensures (told_read _ _ plain_expr e.1 c.in_ok-first.ensures)) c.in-Some.ensures.0,
+  e.2.0 ∙ c.new.ensures.kind,
 )
 
-pub read_chain-returns-in_err-so_far : goal.read_chain-returns-in_err-so_far
-read_chain-returns-in_err-so_far t c = let e = stepped _ c.in-Some-sign_next.ensures c.advance.ensures in
-    exit _ _ _ _ c.from_residual-in_err-so_far.result c.from_residual-in_err-so_far.ensures.1 (chain_fails _ _ _ _ _ _ _ c.parts.invariant.0.part_way e.0 e.1 (operand_fails _ _ _ _ c.operand-in-Some-sign_next.ensures (told_fails _ _ _ c.in_err-so_far.ensures c.read_level-in-Some-sign_next.ensures)))
+pub read_chain-returns-in_err-parts-2 : goal.read_chain-returns-in_err-parts-2
+read_chain-returns-in_err-parts-2 t c = let e = stepped _ c.in-Some-sign_next.ensures c.advance.ensures in
+    exit _ _ _ _ c.from_residual-in_err-parts-2.result c.from_residual-in_err-parts-2.ensures.1 (made_fails _ _ _ plain_expr _ _ c.read_level-in-Some-sign_next.ensures c.in_err-parts-2.ensures
+    (λ bad fails. chain_fails _ _ _ _ _ _ _ c.parts.invariant.0.part_way e.0 e.1 (operand_fails _ _ _ _ c.operand-in-Some-sign_next.ensures fails)))
 
 pub read_chain-parts-smaller : goal.read_chain-parts-smaller
-read_chain-parts-smaller t c = let a = taken _ _ _ (stepped _ c.in-Some-sign_next.ensures c.advance.ensures).0 in let b = not_longer _ _ (told_read _ _ _ c.in_ok-so_far.ensures.1 c.read_level-in-Some-sign_next.ensures) in omega (arith, a, b)
+read_chain-parts-smaller t c = let a = taken _ _ _ (stepped _ c.in-Some-sign_next.ensures c.advance.ensures).0 in let b = not_longer _ _ (told_read _ _ _ c.in_ok-parts-2.ensures.1 c.read_level-in-Some-sign_next.ensures) in omega (arith, a, b)
 
 pub read_chain-parts-preserved : goal.read_chain-parts-preserved
-read_chain-parts-preserved t c = let e = stepped _ c.in-Some-sign_next.ensures c.advance.ensures in let k = c.in_ok-so_far.ensures in let kind = ap kind_of k.0 ∙ c.parts.invariant.1 in (
-  chaining_more _ _ _ _ _ _ _ _ _ _ c.parts.invariant.0 e.0 e.1 (operand_read _ _ c.operand-in-Some-sign_next.ensures (told_read _ _ _ k.1 c.read_level-in-Some-sign_next.ensures)) _ kind _ c.is_marking.ensures
-      (c.in_ok-parts-2.ensures.more ∙ ap (λ s. marked s ++ (mark_in (kind_of c.in_ok-so_far.so_far) c.is_marking.result, plain_expr c.in_ok-so_far.part) ∷ []) k.0),
-  c.in_ok-parts-2.ensures.kind ∙ kind,
+read_chain-parts-preserved t c = let e = stepped _ c.in-Some-sign_next.ensures c.advance.ensures in let k = c.in_ok-parts-2.ensures in (
+  chaining_more _ _ _ _ _ _ _ _ _ _ c.parts.invariant.0 e.0 e.1 (operand_read _ _ c.operand-in-Some-sign_next.ensures (told_read _ _ plain_expr k.1 c.read_level-in-Some-sign_next.ensures)) _ c.parts.invariant.1 _ c.is_marking.ensures k.2.1,
+  k.2.0 ∙ c.parts.invariant.1,
 )
 
 pub read_chain-returns : goal.read_chain-returns
@@ -58,13 +62,11 @@ read_chain-returns t c =
 pub read_negation-returns-in_default : goal.read_negation-returns-in_default
 read_negation-returns-in_default t c = reads_as _ _ _ _ (not_negated_makes _ c.in_default.ensures) (reads_wider _ _ _ _ _ _ _ cmp_in_neg c.read_level.ensures)
 
-pub read_negation-returns-in_err-inside : goal.read_negation-returns-in_err-inside
-read_negation-returns-in_err-inside t c = let e = stepped _ c.in-Some.ensures c.advance.ensures in
-    exit _ _ _ _ c.from_residual.result c.from_residual.ensures.1 (as_fails _ (negated_makes _ (next_of Not _ _ _ e.0 e.1)) (then_fails _ (ends_closed _ _) (word_read Not _ _ _ e.0 e.1) (wider_fails _ cmp_in_neg c.in_err-inside.ensures)))
-
 pub read_negation-returns : goal.read_negation-returns
-read_negation-returns t c = let e = stepped _ c.in-Some.ensures c.advance.ensures in
-    read_at (ap (λ x. negation c.in-Some.sign.place (plain_expr x)) (sym c.in_ok-new.ensures.ok)) (as_read (negated_makes _ (next_of Not _ _ _ e.0 e.1)) (then_read (ends_closed _ _) (word_read Not _ _ _ e.0 e.1) (wider_read cmp_in_neg c.in_ok-inside.ensures)))
+read_negation-returns t c = let e = stepped _ c.in-Some.ensures c.advance.ensures in let makes = negated_makes _ (next_of Not _ _ _ e.0 e.1) in
+    made_reads _ _ _ plain_expr plain_expr _ _ _ c.read_level-2.ensures c.prefixed.ensures
+    (λ x y is read. read_at (sym is) (as_read makes (then_read (ends_closed _ _) (word_read Not _ _ _ e.0 e.1) (wider_read cmp_in_neg read))))
+    (λ bad fails. as_fails _ makes (then_fails _ (ends_closed _ _) (word_read Not _ _ _ e.0 e.1) (wider_fails _ cmp_in_neg fails)))
 
 -- Comparisons.
 
@@ -74,13 +76,11 @@ read_comparison-returns-in_err-left t c = exit _ _ _ _ c.from_residual.result c.
 pub read_comparison-returns-in_default : goal.read_comparison-returns-in_default
 read_comparison-returns-in_default t c = left_alone _ _ _ c.in_ok-left.ensures c.in_default.ensures
 
-pub read_comparison-returns-in_err-left-2 : goal.read_comparison-returns-in_err-left-2
-read_comparison-returns-in_err-left-2 t c = let e = stepped _ c.in-Some.ensures c.advance.ensures in
-    exit _ _ _ _ c.from_residual-in_err-left-2.result c.from_residual-in_err-left-2.ensures.1 (right_fails _ _ _ _ _ _ _ c.in_ok-left.ensures e.0 e.1 (told_fails _ _ _ c.in_err-left-2.ensures c.read_level-2.ensures))
-
 pub read_comparison-returns : goal.read_comparison-returns
-read_comparison-returns t c = let e = stepped _ c.in-Some.ensures c.advance.ensures in let k = c.in_ok-left-2.ensures in
-    read_at (sym (c.in_ok-node.ensures c.in-Some.sign.place)) (both_read _ _ _ _ _ _ _ _ (read_at (ap plain_expr (sym k.0)) c.in_ok-left.ensures) e.0 e.1 (told_read _ _ _ k.1 c.read_level-2.ensures))
+read_comparison-returns t c = let e = stepped _ c.in-Some.ensures c.advance.ensures in
+    made_reads _ _ _ plain_expr plain_expr _ _ _ c.read_level-2.ensures (made_of_kept _ _ _ _ _ c.kept-both.ensures c.compared.ensures)
+    (λ x y is read. read_at (sym is) (both_read _ _ _ _ _ _ _ _ c.in_ok-left.ensures e.0 e.1 read))
+    (λ bad fails. right_fails _ _ _ _ _ _ _ c.in_ok-left.ensures e.0 e.1 fails)
 
 -- Minus.
 
@@ -96,13 +96,11 @@ read_unary-returns-then-is_next t c = let e = stepped _ c.in-Some.ensures c.adva
     read_at (ap (λ n. number c.in-Some.sign.place n) (sym (negated_number_is _ _ v.0 v.1)))
     (as_read (minus_makes _ (next_of Minus _ _ _ e.0 e.1)) (then_read (ends_closed _ _) (word_read Minus _ _ _ e.0 e.1) (as_read (negated_number _ _ (c.is_next.ensures.yes c.if-is_next.true)) (closed_read c.in_ok-_digits.ensures.read))))
 
-pub read_unary-returns-in_err-inside : goal.read_unary-returns-in_err-inside
-read_unary-returns-in_err-inside t c = let e = stepped _ c.in-Some.ensures c.advance.ensures in let other = c.is_next.ensures.no c.if-is_next.false in
-    exit _ _ _ _ c.from_residual-in_err-inside.result c.from_residual-in_err-inside.ensures.1 (as_fails _ (minus_makes _ (next_of Minus _ _ _ e.0 e.1)) (then_fails _ (ends_closed _ _) (word_read Minus _ _ _ e.0 e.1) (as_fails _ (negated_other _ _ other) (without_fails _ _ sample_without other (closed_fails _ c.in_err-inside.ensures)))))
-
 pub read_unary-returns : goal.read_unary-returns
-read_unary-returns t c = let e = stepped _ c.in-Some.ensures c.advance.ensures in let other = c.is_next.ensures.no c.if-is_next.false in
-    read_at (ap (λ x. minus c.in-Some.sign.place (plain_expr x)) (sym c.in_ok-new.ensures.ok)) (as_read (minus_makes _ (next_of Minus _ _ _ e.0 e.1)) (then_read (ends_closed _ _) (word_read Minus _ _ _ e.0 e.1) (as_read (negated_other _ _ other) (without_read _ other (closed_read c.in_ok-inside.ensures)))))
+read_unary-returns t c = let e = stepped _ c.in-Some.ensures c.advance.ensures in let other = c.is_next.ensures.no c.if-is_next.false in let makes = minus_makes _ (next_of Minus _ _ _ e.0 e.1) in
+    made_reads _ _ _ plain_expr plain_expr _ _ _ c.read_primary-2.ensures c.prefixed.ensures
+    (λ x y is read. read_at (sym is) (as_read makes (then_read (ends_closed _ _) (word_read Minus _ _ _ e.0 e.1) (as_read (negated_other _ _ other) (without_read _ other (closed_read read))))))
+    (λ bad fails. as_fails _ makes (then_fails _ (ends_closed _ _) (word_read Minus _ _ _ e.0 e.1) (as_fails _ (negated_other _ _ other) (without_fails _ _ sample_without other (closed_fails _ fails)))))
 
 -- Parentheses.
 
@@ -112,51 +110,44 @@ read_primary-returns t c = let e = stepped _ c.in-Some.ensures c.advance.ensures
     (λ bad fails. as_fails _ (open_makes _ (next_of RoundOpen _ _ _ e.0 e.1)) (then_fails _ (ends_closed _ _) (word_read RoundOpen _ _ _ e.0 e.1) fails))
 
 pub read_two-returns-in_err-left : goal.read_two-returns-in_err-left
-read_two-returns-in_err-left t c = exit _ _ _ _ c.from_residual.result c.from_residual.ensures.1 (as_fails _ (two_makes _) (first_fails _ (ends_closed _ _) (sample_pair sample_prim (sample_sign RoundClose)) c.in_err-left.ensures))
+read_two-returns-in_err-left t c = exit _ _ _ _ c.from_residual.result c.from_residual.ensures.1 (as_fails _ (two_makes _) (first_fails _ (ends_closed _ _) (sample_sign RoundClose) (first_fails _ (ends_closed _ _) sample_prim c.in_err-left.ensures)))
 
 pub read_two-read_primary-requires-2 : goal.read_two-read_primary-requires-2
 read_two-read_primary-requires-2 t c = let a = not_longer _ _ c.in_ok-left.ensures in (omega (arith, a, c.decreases), tt)
 
-pub read_two-returns-in_err-left-2 : goal.read_two-returns-in_err-left-2
-read_two-returns-in_err-left-2 t c = exit _ _ _ _ c.from_residual-in_err-left-2.result c.from_residual-in_err-left-2.ensures.1 (as_fails _ (two_makes _) (then_fails _ (ends_closed _ _) c.in_ok-left.ensures (first_fails _ (ends_closed _ _) (sample_sign RoundClose) (told_fails _ _ _ c.in_err-left-2.ensures c.read_primary-2.ensures))))
-
 pub read_two-returns : goal.read_two-returns
-read_two-returns t c = let e = c.in_ok-left-2.ensures in reads_kept_if _ _ _ _ _ _ _ c.kept_if.ensures c.sign.ensures
-    (λ read. as_read (two_makes _) (then_read (ends_closed _ _) (read_at (ap plain_expr (sym e.0)) c.in_ok-left.ensures) (then_read (ends_closed _ _) (told_read _ _ _ e.1 c.read_primary-2.ensures) read)))
-    (λ bad fails. as_fails _ (two_makes _) (then_fails _ (ends_closed _ _) c.in_ok-left.ensures (then_fails _ (ends_closed _ _) (told_read _ _ _ e.1 c.read_primary-2.ensures) fails)))
+read_two-returns t c = reads_to_close _ _ _ _ _ (λ x. (plain_expr x.0, plain_expr x.1)) _ c.to_close.result
+    (reads_kept _ _ _ plain_expr (λ x. (plain_expr x.0, plain_expr x.1)) _ _ c.kept.ensures c.read_primary-2.ensures (λ x read. then_read (ends_closed _ _) c.in_ok-left.ensures read) (λ bad fails. then_fails _ (ends_closed _ _) c.in_ok-left.ensures fails))
+    c.to_close.ensures (ends_closed _ _) (two_makes _)
 
-pub read_further-returns-in_err-first : goal.read_further-returns-in_err-first
-read_further-returns-in_err-first t c = exit _ _ _ _ c.from_residual.result c.from_residual.ensures.1 (further_fails _ _ _ _ _ (told_fails _ _ _ c.in_err-first.ensures c.read_primary.ensures))
+pub read_further-returns-in_err-parts : goal.read_further-returns-in_err-parts
+read_further-returns-in_err-parts t c = exit _ _ _ _ c.from_residual.result c.from_residual.ensures.1 (made_fails _ _ _ plain_expr _ _ c.read_primary.ensures (passes_kept _ _ _ _ c.kept-both.ensures c.in_err-parts.ensures) (λ bad fails. further_fails _ _ _ _ _ fails))
 
 pub read_further-parts-init : goal.read_further-parts-init
-read_further-parts-init t c = let e = c.in_ok-first.ensures in (
-  further_begins _ _ _ _ _ _ [] _ _ _ _ _ c.requires (told_read _ _ _ e.1 c.read_primary.ensures) refl refl c.is_marking-mark.ensures refl (c.in_ok-parts.ensures.are ∙ ap (λ x. (mark_in c.args.kind false, plain_expr x) ∷ (mark_in c.args.kind c.is_marking-mark.result, plain_expr c.in_ok-first.second) ∷ []) e.0),
-  c.in_ok-parts.ensures.kind,
+read_further-parts-init t c = let e = c.in_ok-parts.ensures in let k = told_kept _ _ c.kept-both.ensures e.1 in (
+  further_begins _ _ _ _ _ _ [] _ _ _ _ _ c.requires (told_read _ _ plain_expr k.1 c.read_primary.ensures) refl refl c.is_marking-mark.ensures refl (e.2.1 ∙ ap (λ x. (mark_in c.args.kind false, plain_expr x) ∷ (mark_in c.args.kind c.is_marking-mark.result, plain_expr e.0.1) ∷ []) k.0),
+  e.2.0,
   c.is_marking-mark.ensures,
 )
 
-pub read_further-returns-in_err-so_far : goal.read_further-returns-in_err-so_far
-read_further-returns-in_err-so_far t c = exit _ _ _ _ c.from_residual-in_err-so_far.result c.from_residual-in_err-so_far.ensures.1 (further_next_fails _ _ _ _ _ _ _ c.parts.invariant.0 (c.is_next.ensures.no c.parts-test.true) (told_fails _ _ _ c.in_err-so_far.ensures c.read_primary-in-parts.ensures))
+pub read_further-returns-in_err-parts-2 : goal.read_further-returns-in_err-parts-2
+read_further-returns-in_err-parts-2 t c = exit _ _ _ _ c.from_residual-in_err-parts-2.result c.from_residual-in_err-parts-2.ensures.1 (made_fails _ _ _ plain_expr _ _ c.read_primary-in-parts.ensures c.in_err-parts-2.ensures (λ bad fails. further_next_fails _ _ _ _ _ _ _ c.parts.invariant.0 (c.is_next.ensures.no c.parts-test.true) fails))
 
 pub read_further-parts-smaller : goal.read_further-parts-smaller
-read_further-parts-smaller t c = shorter (BeginsAt Prim) _ _ (level_begins Prim) (told_read _ _ _ c.in_ok-so_far.ensures.1 c.read_primary-in-parts.ensures)
+read_further-parts-smaller t c = shorter (BeginsAt Prim) _ _ (level_begins Prim) (told_read _ _ plain_expr c.in_ok-parts-2.ensures.1 c.read_primary-in-parts.ensures)
 
 pub read_further-parts-preserved : goal.read_further-parts-preserved
-read_further-parts-preserved t c = let k = c.in_ok-so_far.ensures in let kind = ap kind_of k.0 ∙ c.parts.invariant.1 in (
-  further_goes_on _ _ _ _ _ _ _ _ _ _ _ c.requires c.parts.invariant.0 (c.is_next.ensures.no c.parts-test.true) (told_read _ _ _ k.1 c.read_primary-in-parts.ensures) c.parts.invariant.2 kind
-      (c.in_ok-parts-2.ensures.more ∙ ap (λ s. marked s ++ (mark_in (kind_of c.in_ok-so_far.so_far) c.is_marking-mark.result, plain_expr c.in_ok-so_far.next) ∷ []) k.0),
-  c.in_ok-parts-2.ensures.kind ∙ kind,
+read_further-parts-preserved t c = let k = c.in_ok-parts-2.ensures in (
+  further_goes_on _ _ _ _ _ _ _ _ _ _ _ c.requires c.parts.invariant.0 (c.is_next.ensures.no c.parts-test.true) (told_read _ _ plain_expr k.1 c.read_primary-in-parts.ensures) c.parts.invariant.2 c.parts.invariant.1 k.2.1,
+  k.2.0 ∙ c.parts.invariant.1,
   c.parts.invariant.2,
 )
 
-pub read_further-returns-in_err-all : goal.read_further-returns-in_err-all
-read_further-returns-in_err-all t c = exit _ _ _ _ c.from_residual-in_err-all.result c.from_residual-in_err-all.ensures.1 (further_end_fails _ _ _ _ _ _ _ c.parts.invariant.0 (c.is_next.ensures.yes c.parts-test.false) (told_fails _ _ _ c.in_err-all.ensures c.sign.ensures))
-
 pub read_further-returns : goal.read_further-returns
 read_further-returns t c =
-    let place = c.args.op.place in let k = c.in_ok-all.ensures in
-    further_ends _ _ _ _ _ _ _ _ c.parts.invariant.0 (c.is_next.ensures.yes c.parts-test.false) (told_read _ _ _ k.1 c.sign.ensures)
-    (c.into_node-node.ensures place ∙ ap (λ s. chain (kind_of s) place (parts_from (marked s))) k.0 ∙ ap (λ k. chain k place (parts_from (marked c.parts.parts))) c.parts.invariant.1)
+    let place = c.args.op.place in let next = c.is_next.ensures.yes c.parts-test.false in
+    further_ends _ _ _ _ _ _ _ _ c.parts.invariant.0 next (sign_next c.parts.reader next c.advance.ensures)
+    (c.into_node-node.ensures place ∙ ap (λ k. chain k place (parts_from (marked c.parts.parts))) c.parts.invariant.1)
 
 pub read_inside-returns-in_err-first : goal.read_inside-returns-in_err-first
 read_inside-returns-in_err-first t c = let e = stepped _ c.in-Some-many_next.ensures c.advance.ensures in
@@ -170,32 +161,21 @@ read_inside-returns-in-Some-many_next t c = let e = stepped _ c.in-Some-many_nex
     (λ x read. as_read (many_makes _ _ _ _ e.0 e.1 c.in_default.ensures) (chained_read (λ x. ends_closed _ _) (many_read _ _ _ _ e.0 e.1) (chained_read (λ x. ends_closed _ _) c.in_ok-first.ensures read)))
     (λ bad fails. as_fails _ (many_makes _ _ _ _ e.0 e.1 c.in_default.ensures) (chained_fails _ (λ x. ends_closed _ _) (many_read _ _ _ _ e.0 e.1) (chained_fails _ (λ x. ends_closed _ _) c.in_ok-first.ensures fails)))
 
-pub read_inside-returns-in_err-left : goal.read_inside-returns-in_err-left
-read_inside-returns-in_err-left t c = let e = stepped _ c.in-Some-peek_if.ensures c.advance-in-Some-peek_if.ensures in
-    exit _ _ _ _ c.from_residual-in_err-left.result c.from_residual-in_err-left.ensures.1 (as_fails _ (percent_makes _ (next_of Percent _ _ _ e.0 e.1)) (then_fails _ (ends_closed _ _) (word_read Percent _ _ _ e.0 e.1) c.in_err-left.ensures))
-
 pub read_inside-returns-in-Some-peek_if : goal.read_inside-returns-in-Some-peek_if
-read_inside-returns-in-Some-peek_if t c = let e = stepped _ c.in-Some-peek_if.ensures c.advance-in-Some-peek_if.ensures in
+read_inside-returns-in-Some-peek_if t c = let e = stepped _ c.in-Some-peek_if.ensures c.advance-in-Some-peek_if.ensures in let makes = percent_makes _ (next_of Percent _ _ _ e.0 e.1) in
     let place = c.in-Some-peek_if.op.place in
-    read_at (percent_is place (lexeme c.in-Some-peek_if.op) _ _ _ Product Product _ [] _ _ e.1 refl refl refl refl refl c.in_ok-two.ensures.kind c.in_ok-two.ensures.are (c.into_node-node.ensures place))
-    (as_read (percent_makes _ (next_of Percent _ _ _ e.0 e.1)) (then_read (ends_closed _ _) (word_read Percent _ _ _ e.0 e.1) c.in_ok-left.ensures))
-
-pub read_inside-returns-in_err-left-2 : goal.read_inside-returns-in_err-left-2
-read_inside-returns-in_err-left-2 t c = let e = stepped _ c.in-Some-rel_next.ensures c.advance-in-Some-rel_next.ensures in
-    exit _ _ _ _ c.from_residual-in_err-left-2.result c.from_residual-in_err-left-2.ensures.1 (as_fails _ (rel_makes _ _ _ _ e.0 e.1) (then_fails _ (ends_closed _ _) (rel_read _ _ _ _ e.0 e.1) c.in_err-left-2.ensures))
+    made_reads _ _ _ (λ x. (plain_expr x.0, plain_expr x.1)) plain_expr _ _ _ c.read_two.ensures c.remainder.ensures
+    (λ x y is read. read_at (ap (λ w. chain Product place (part false (plain_expr x.0) (part (is_marking w) (plain_expr x.1) no_parts))) e.1 ∙ sym is) (as_read makes (then_read (ends_closed _ _) (word_read Percent _ _ _ e.0 e.1) read)))
+    (λ bad fails. as_fails _ makes (then_fails _ (ends_closed _ _) (word_read Percent _ _ _ e.0 e.1) fails))
 
 pub read_inside-returns-in-Some-rel_next : goal.read_inside-returns-in-Some-rel_next
 read_inside-returns-in-Some-rel_next t c = let e = stepped _ c.in-Some-rel_next.ensures c.advance-in-Some-rel_next.ensures in
-    read_at (sym (c.in_ok-node.ensures c.in-Some-rel_next.op.place)) (as_read (rel_makes _ _ _ _ e.0 e.1) (then_read (ends_closed _ _) (rel_read _ _ _ _ e.0 e.1) c.in_ok-left-2.ensures))
-
-pub read_inside-returns-in_err-inside : goal.read_inside-returns-in_err-inside
-read_inside-returns-in_err-inside t c = exit _ _ _ _ c.from_residual-in_err-inside.result c.from_residual-in_err-inside.ensures.1
-    (as_fails _ (nested_makes _ c.in_default.ensures c.in_default-many_next.ensures c.in_default-peek_if.ensures c.in_default-rel_next.ensures) (first_fails _ ends_e (sample_sign RoundClose) c.in_err-inside.ensures))
+    made_reads _ _ _ (λ x. (plain_expr x.0, plain_expr x.1)) plain_expr _ _ _ c.read_two-in-Some-rel_next.ensures c.compared.ensures
+    (λ x y is read. read_at (sym is) (as_read (rel_makes _ _ _ _ e.0 e.1) (then_read (ends_closed _ _) (rel_read _ _ _ _ e.0 e.1) read)))
+    (λ bad fails. as_fails _ (rel_makes _ _ _ _ e.0 e.1) (then_fails _ (ends_closed _ _) (rel_read _ _ _ _ e.0 e.1) fails))
 
 pub read_inside-returns : goal.read_inside-returns
-read_inside-returns t c = reads_kept_if _ _ _ _ _ _ _ c.kept_if.ensures c.sign.ensures
-    (λ read. as_read (nested_makes _ c.in_default.ensures c.in_default-many_next.ensures c.in_default-peek_if.ensures c.in_default-rel_next.ensures) (then_read ends_e c.in_ok-inside.ensures read))
-    (λ bad fails. as_fails _ (nested_makes _ c.in_default.ensures c.in_default-many_next.ensures c.in_default-peek_if.ensures c.in_default-rel_next.ensures) (then_fails _ ends_e c.in_ok-inside.ensures fails))
+read_inside-returns t c = reads_to_close _ _ _ _ _ plain_expr _ c.to_close.result c.read_level.ensures c.to_close.ensures ends_e (nested_makes _ c.in_default.ensures c.in_default-many_next.ensures c.in_default-peek_if.ensures c.in_default-rel_next.ensures)
 
 -- Parentheses that begin with `-`.
 
@@ -211,6 +191,6 @@ read_behind_minus-returns-in-Ok t c = reads_whole _ _ _ _ _ _ c.read_further.ens
     (λ bad fails. minus_further_fails _ (record { read = c.in_ok-whole.ensures; here = c.requires.here; word = c.requires.minus }) c.in-Ok.ensures fails)
 
 pub read_behind_minus-returns-in-Err : goal.read_behind_minus-returns-in-Err
-read_behind_minus-returns-in-Err t c = reads_kept_if _ _ _ _ _ _ _ c.kept_if.ensures c.sign.ensures
+read_behind_minus-returns-in-Err t c = reads_closed _ _ _ plain_expr _ c.to_close.ensures
     (λ read. minus_close_read (record { read = c.in_ok-whole.ensures; here = c.requires.here; word = c.requires.minus }) c.in-Err.ensures read)
     (λ bad fails. minus_close_fails _ (record { read = c.in_ok-whole.ensures; here = c.requires.here; word = c.requires.minus }) c.in-Err.ensures fails)

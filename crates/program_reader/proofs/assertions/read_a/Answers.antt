@@ -1,7 +1,6 @@
 use Rattle.read_forms.proofs.Forms.{as_read, as_fails, then_read, then_fails, ends_closed}
-use Rattle.label_reader.proofs.Exits.{reads_as}
+use Rattle.label_reader.proofs.Exits.{reads_as, sign_next}
 use Rattle.label_reader.proofs.Keeping.{reads_whole}
-use Rattle.program_reader.proofs.Steps.{sign_next}
 use Rattle.program_reader.proofs.AssertForms.{a_open_makes, a_plain_makes}
 use Rattle.program_reader.proofs.assertions.read_a.Goals as goal
 

@@ -1,8 +1,8 @@
 use Rattle.read_forms.proofs.Forms.{as_read, as_fails, then_read, then_fails, first_fails, ends_closed}
 use Rattle.read_forms.proofs.Fronts.{left_leaves, left_made, first_left}
-use Rattle.label_reader.proofs.Exits.{exit}
+use Rattle.label_reader.proofs.Exits.{exit, sign_next}
 use Rattle.label_reader.proofs.Keeping.{reads_whole}
-use Rattle.program_reader.proofs.Steps.{sign_next, reads_left}
+use Rattle.program_reader.proofs.Steps.{reads_left}
 use Rattle.program_reader.proofs.AssertForms.{b_open_makes, compared_makes, sample_right}
 use Rattle.program_reader.proofs.assertions.read_b.Goals as goal
 

@@ -1,8 +1,7 @@
 use Rattle.read_forms.proofs.Forms.{as_read, as_fails, then_read, then_fails, first_fails, ends_closed}
 use Rattle.read_forms.proofs.Words.{sample_sign}
-use Rattle.label_reader.proofs.Exits.{exit}
+use Rattle.label_reader.proofs.Exits.{exit, sign_next}
 use Rattle.label_reader.proofs.Keeping.{reads_kept_if}
-use Rattle.program_reader.proofs.Steps.{sign_next}
 use Rattle.program_reader.proofs.AssertForms.{empty_makes}
 use Rattle.program_reader.proofs.assertions.read_empty.Goals as goal
 

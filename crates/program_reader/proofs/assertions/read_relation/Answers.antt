@@ -1,6 +1,5 @@
 use Rattle.read_forms.proofs.Forms.{as_read, as_fails}
-use Rattle.label_reader.proofs.Exits.{exit}
-use Rattle.program_reader.proofs.Steps.{sign_next}
+use Rattle.label_reader.proofs.Exits.{exit, sign_next}
 use Rattle.program_reader.proofs.AssertForms.{same_makes, in_makes, element_makes}
 use Rattle.program_reader.proofs.assertions.read_relation.Goals as goal
 

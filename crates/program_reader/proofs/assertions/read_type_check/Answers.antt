@@ -1,10 +1,9 @@
 use Rattle.std.proofs.Common.{sym, ap, ◌∙◌}
 use Rattle.read_forms.proofs.Forms.{as_read, as_fails, then_read, then_fails, first_fails, ends_closed, sample_pair, read_at}
 use Rattle.read_forms.proofs.Words.{sample_sign}
-use Rattle.label_reader.proofs.Exits.{exit}
+use Rattle.label_reader.proofs.Exits.{exit, sign_next}
 use Rattle.label_reader.proofs.Keeping.{told_read, told_fails, reads_kept_if}
 use Rattle.fast_syntax.specs.Plain.{plain_x}
-use Rattle.program_reader.proofs.Steps.{sign_next}
 use Rattle.program_reader.proofs.XForms.{sample_x}
 use Rattle.program_reader.proofs.AssertForms.{check_makes}
 use Rattle.program_reader.proofs.assertions.read_type_check.Goals as goal

@@ -1,8 +1,7 @@
 use Rattle.model_program.specs.Grammar.{IsName}
 use Rattle.read_forms.proofs.Forms.{as_read, as_fails, closed_read, closed_fails}
 use Rattle.read_forms.proofs.Lists.{opened_read, opened_fails}
-use Rattle.label_reader.proofs.Exits.{exit}
-use Rattle.program_reader.proofs.Steps.{sign_next}
+use Rattle.label_reader.proofs.Exits.{exit, sign_next}
 use Rattle.program_reader.proofs.ItemForms.{into_makes, into_none}
 use Rattle.program_reader.proofs.items.read_into.Goals as goal
 

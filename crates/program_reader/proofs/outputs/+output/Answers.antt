@@ -7,11 +7,10 @@ use Rattle.read_forms.proofs.Words.{sign_starts}
 use Rattle.model_grammar.specs.Terms.{IsOut}
 use Rattle.fast_syntax.specs.View.{plain_name}
 use Rattle.fast_syntax.specs.Plain.{plain_expr, plain_out}
-use Rattle.label_reader.proofs.Exits.{exit, shorter, not_longer}
+use Rattle.label_reader.proofs.Exits.{exit, shorter, not_longer, sign_next}
 use Rattle.label_reader.proofs.Keeping.{told_read, told_fails}
 use Rattle.label_reader.proofs.Names.{sample_name}
 use Rattle.label_reader.proofs.Closings.{closing_begins, closing_more, closing_more_fails, closing_read}
-use Rattle.program_reader.proofs.Steps.{sign_next}
 use Rattle.program_reader.proofs.OutForms.{child_makes, open_makes, call_makes, node_makes, outs_closable, sample_outs, sample_behind}
 use Rattle.program_reader.proofs.Rows.{plain_made}
 use Rattle.program_reader.proofs.outputs.+output.Goals as goal

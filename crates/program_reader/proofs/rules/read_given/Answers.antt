@@ -2,8 +2,7 @@ use Rattle.std.proofs.Common.{map, sym, ap, ◌∙◌, ◌∷◌, []}
 use Rattle.std.proofs.lemmas.List.{map-append}
 use Rattle.read_forms.proofs.Forms.{read_at}
 use Rattle.fast_syntax.specs.View.{plain_demand}
-use Rattle.label_reader.proofs.Exits.{exit, shorter}
-use Rattle.program_reader.proofs.Steps.{sign_next}
+use Rattle.label_reader.proofs.Exits.{exit, shorter, sign_next}
 use Rattle.program_reader.proofs.RuleForms.{given_none, given_begins, given_more, given_fails, given_ends, demand_starts}
 use Rattle.program_reader.proofs.rules.read_given.Goals as goal
 

@@ -1,7 +1,6 @@
 use Rattle.read_forms.proofs.Forms.{as_read, as_fails, then_read, then_fails, ends_closed}
-use Rattle.label_reader.proofs.Exits.{exit}
+use Rattle.label_reader.proofs.Exits.{exit, sign_next}
 use Rattle.label_reader.proofs.LevelForms.{wider_read, wider_fails}
-use Rattle.program_reader.proofs.Steps.{sign_next}
 use Rattle.program_reader.proofs.RuleForms.{guard_makes, guard_none, in_guard}
 use Rattle.program_reader.proofs.rules.read_guard.Goals as goal
 

@@ -1,7 +1,7 @@
 use Rattle.std.proofs.Common.{sym, map}
 use Rattle.fast_syntax.specs.View.{plain_name}
 use Rattle.fast_syntax.specs.Plain.{plain_expr, plain_x}
-use Rattle.program_reader.proofs.Steps.{sign_next}
+use Rattle.label_reader.proofs.Exits.{sign_next}
 use Rattle.program_reader.proofs.Rows.{plain_literal}
 use Rattle.program_reader.proofs.Growing.{row_closes, row_further, done_as}
 use Rattle.program_reader.proofs.terms.begin_child.Goals as goal

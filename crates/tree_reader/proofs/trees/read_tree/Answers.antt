@@ -1,7 +1,6 @@
 use Rattle.std.proofs.Common.{sym, ap, ◌∙◌, ◌∷◌, [], map}
 use Rattle.std.proofs.lemmas.List.{map-append}
-use Rattle.label_reader.proofs.Exits.{exit}
-use Rattle.program_reader.proofs.Steps.{sign_next}
+use Rattle.label_reader.proofs.Exits.{exit, sign_next}
 use Rattle.tree_reader.specs.Plain.{plain_tree}
 use Rattle.tree_reader.proofs.Growing.{trees_start, trees_deeper, trees_deeper_fails, trees_higher, trees_end}
 use Rattle.tree_reader.proofs.trees.read_tree.Goals as goal
