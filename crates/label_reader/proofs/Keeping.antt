@@ -1,5 +1,5 @@
 -- What readers returned whose result goes on as a whole.
-use Rattle.std.proofs.Common.{◌≡◌, List, sym, ap, subst, Option, Result, Ok, Err}
+use Rattle.std.proofs.Common.{◌≡◌, List, sym, ap, ◌∙◌, subst, Option, Result, Ok, Err}
 use Rattle.std.specs.Prelude.{MatchResult, IfOk}
 use Rattle.model_program.specs.declared.Word.{Word}
 use Rattle.model_program.specs.declared.Word.TheVariants.{RoundClose}
@@ -95,3 +95,8 @@ pub reads_closed : {B Y : Type 0} {q : B → List Lexeme → Type 0} {many : Wor
     → Reads q many tokens rest whole r
 reads_closed {Y = Y} {q = q} {many = many} {y = y} tokens middle rest whole (Ok x) close found failed = subst (λ (y : Y). IsRead q many tokens (whole y) rest) (sym close.0) (found close.1)
 reads_closed tokens middle rest whole (Err e) close found failed = failed _ close
+
+-- a value that was read up to the closing parenthesis was read
+pub told_closed : {A : Type 0} (read result : Result A Stop) (tokens rest : List Lexeme) {y : A} → result ≡ Ok y → ReadsToClose read tokens rest result → read ≡ Ok y
+told_closed {A = A} (Ok x) result tokens rest is close = ap Ok (sym (subst (λ (r : Result A Stop). ReadsToClose (Ok x) tokens rest r) is close).0)
+told_closed (Err e) result tokens rest is close = sym close.0 ∙ is

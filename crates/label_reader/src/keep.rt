@@ -2,8 +2,8 @@
 //!
 //! It is of any type, so that a reader that stops drops it whole, and not part by part.
 
-ghost use Rattle.std.specs.Prelude.{◌≡◌, MatchResult, Ok, Err};
-ghost use Rattle.label_reader.specs.Results.{left, ReadsToClose};
+ghost use Rattle.std.specs.Prelude.{◌≡◌, ◌∷◌, ◌++◌, [], MatchResult, Ok, Err};
+ghost use Rattle.label_reader.specs.Results.{left, IfMade, ReadsToClose};
 
 use crate::reader::Reader;
 use crate::stop::Stop;
@@ -35,4 +35,13 @@ pub fn to_close<A: Drop>(read: Result<A, Stop>, reader: &mut Reader) -> Result<A
 {
     let value = read?;
     kept_if(value, reader.sign(Word::RoundClose))
+}
+
+/// The items with one more, where it was read.
+pub fn pushed<T: Drop>(items: Vec<T>, read: Result<T, Stop>) -> Result<Vec<T>, Stop>
+    ensures { IfMade read (λ item all. all.items ≡ items.items ++ item ∷ []) result }
+{
+    let (mut all, item) = kept(items, read)?;
+    all.push(item)?;
+    Ok(all)
 }

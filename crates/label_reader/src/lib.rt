@@ -14,7 +14,7 @@ mod reader;
 mod stop;
 
 pub use constants::{read_numeral, read_string};
-pub use keep::{kept, kept_if, to_close};
+pub use keep::{kept, kept_if, pushed, to_close};
 pub use levels::read_level;
 pub use lists::{Between, Items, read_any, read_some, read_to};
 pub use reader::{Reader, is_same};

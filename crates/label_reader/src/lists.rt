@@ -8,6 +8,7 @@ ghost use Rattle.label_reader.specs.Results.{left, Reads};
 ghost use Rattle.label_reader.specs.Lists.{Skips, AnyTo, SomeTo, IsItem};
 
 use crate::Stop;
+use crate::keep::pushed;
 use crate::reader::Reader;
 use fast_lex::Word;
 
@@ -74,17 +75,14 @@ fn read_some_to<L: Items>(
     requires { IsItem between close L.spelled L.goes_on }
     ensures { Reads (SomeTo between L.spelled close) closed (left reader.old) (left reader.new) (λ x. map L.plain x.items) result }
 {
-    let first = L::read_item(reader)?;
-    let mut all = Vec::new(reader.alloc);
-    all.push(first)?;
+    let mut all = pushed(Vec::new(reader.alloc), L::read_item(reader))?;
     'items: loop {
         if let Some(_close) = reader.peek_if(close) {
             reader.advance();
             return Ok(all);
         }
         skip_between(reader, between)?;
-        let item = L::read_item(reader)?;
-        all.push(item)?;
+        all = pushed(all, L::read_item(reader))?;
     }
 }
 

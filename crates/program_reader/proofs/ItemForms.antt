@@ -18,18 +18,15 @@ use Rattle.model_grammar.specs.Syntax.{X, OutRule, TransItem, Claim, Body, sorts
 use Rattle.model_grammar.specs.Grammar.{IsRule, IsOutRule, InBraces, IsTreeItem, IsLangItem, IsTransItem, IsInto, IsDefItem, IsA, IsBody, IsItem, IsProgram}
 use Rattle.label_reader.specs.declared.stop.Stop.{Stop}
 use Rattle.label_reader.specs.Results.{bad_of, Reads}
-use Rattle.label_reader.proofs.Names.{sample_name}
 use Rattle.label_reader.proofs.Primaries.{missing}
 use Rattle.program_reader.specs.Goings.{arrow_word}
-use Rattle.program_reader.specs.Items.{IsNameBehind, IsTyped, IsAssigned, item_at, asserted, IsBehind}
+use Rattle.program_reader.specs.Names.{IsNameBehind}
+use Rattle.program_reader.specs.Items.{IsTyped, IsAssigned, item_at, asserted, IsBehind}
 use Rattle.program_reader.proofs.XForms.{sample_x}
 use Rattle.program_reader.proofs.AssertForms.{sample_a}
 
 back_as : (p q r : List Lexeme → Type 0) (ts : List Lexeme) → ((l : List Lexeme) → q l → r l) → (p ⌢ q) ts → (p ⌢ r) ts
 back_as p q r ts wider joined = record { front = joined.front; back = joined.back; split = joined.split; at_front = joined.at_front; at_back = wider joined.back joined.at_back }
-
-pub sample_behind : (w : Word) → HasSample (IsNameBehind w)
-sample_behind w = sample_as (λ (v : Unit {0} × Name). v.1) (λ v ts spelled. spelled) (sample_pair (sample_sign w) sample_name)
 
 -- ID : ID, in front of more
 typed_into : (n m : Name) (r : List Lexeme → Type 0) (ts : List Lexeme) → (IsTyped (n, m) ⌢ r) ts → (IsName n ⌢ sign Colon ⌢ IsName m ⌢ r) ts

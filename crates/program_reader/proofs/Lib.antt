@@ -9,4 +9,5 @@ pub mod AssertForms
 pub mod Rows
 pub mod ItemForms
 pub mod Texts
+pub mod NameForms
 pub mod Growing

@@ -9,12 +9,15 @@ use Rattle.model_program.specs.Grammar.{IsSign, sign, IsName, Many}
 use Rattle.read_forms.specs.Parts.{HasSample, AllStartIn, other_than}
 use Rattle.read_forms.proofs.Forms.{Makes, sample_as, sample_pair, alternative, ends_closed, starts_joined, starts_wider, stops_other, stops_other_than, remade}
 use Rattle.read_forms.proofs.Words.{sign_starts, sample_sign}
+use Rattle.read_forms.proofs.Lists.{to_left, to_right}
+use Rattle.read_forms.proofs.Fronts.{makes_of_made}
 use Rattle.model_grammar.specs.Syntax.{Expr, Out, child, call, node, Outs, no_out, and_out, outs_of}
 use Rattle.model_grammar.specs.Terms.{AreLabels, IsOut, unchanged, called, made, AreOuts, no_outs, outs_on}
 use Rattle.label_reader.proofs.Names.{sample_name, name_starts}
 use Rattle.label_reader.specs.Lists.{closing_of}
 use Rattle.label_reader.proofs.Closings.{IsClosable, sample_to_close}
-use Rattle.program_reader.specs.Nodes.{IsNameToClose, AreOutsToClose, IsBehindOutName}
+use Rattle.program_reader.specs.Nodes.{AreOutsToClose, IsBehindOutName}
+use Rattle.program_reader.specs.Names.{IsNameBehind, IsNameTo}
 
 pub child_makes : (tokens : List Lexeme) → IsNext Id tokens → Makes IsName IsOut child closed tokens
 child_makes tokens is_next = alternative (other_than Id) tokens (λ n ts spelled. unchanged n ts spelled) (λ b ts spelled. back b ts spelled) (stops_other_than Id tokens is_next)
@@ -46,7 +49,7 @@ outs_are outs ts no_outs = record { list = []; is = refl; spelled = refl }
 outs_are outs ts (outs_on out more front back is are) = let later = outs_are more back are in
     record { list = out ∷ later.list; is = ap (λ l. and_out out l) later.is; spelled = record { front = front; back = back; split = refl; at_front = is; at_back = later.spelled } }
 
-pub open_makes : (tokens : List Lexeme) → IsOther Id tokens → Makes out_parts IsOut (λ v. out_of v.1.0 v.1.1) closed tokens
+open_makes : (tokens : List Lexeme) → IsOther Id tokens → Makes out_parts IsOut (λ v. out_of v.1.0 v.1.1) closed tokens
 open_makes tokens is_other = alternative (λ w. w ≡ Id) tokens (λ v ts spelled. into v.1.0 v.1.1 ts spelled) (λ b ts spelled. back b ts spelled) (stops_other Id tokens is_other)
   where
     into : (n : Name) (m : Name ⊎ (List Expr × List Out)) (ts : List Lexeme) → (sign RoundOpen ⌢ (IsName n ⌢ IsBehindOutName m)) ts → IsOut (out_of n m) ts
@@ -86,13 +89,16 @@ open_makes tokens is_other = alternative (λ w. w ≡ Id) tokens (λ v ts spelle
       ap (λ l. node n labels l) list.is,
     )
 
-pub name_closes : (tokens : List Lexeme) → Makes (IsName ⊗ IsSign RoundClose) IsNameToClose (λ v. v.0) closed tokens
-name_closes tokens = remade (λ v ts spelled. spelled) (λ n ts spelled. ((n, tt), spelled, refl))
+-- the opening parenthesis and the name, and what stands behind them
+pub opened_makes : (tokens : List Lexeme) → IsOther Id tokens → Makes (IsNameBehind RoundOpen ⊗ IsBehindOutName) IsOut (λ v. out_of v.0 v.1) closed tokens
+opened_makes tokens is_other = makes_of_made {to = λ v. (tt, (v.0, v.1))} (remade
+    (λ v ts spelled. to_right (sign RoundOpen) (IsName v.0) (IsBehindOutName v.1) ts spelled)
+    (λ b ts spelled. (b.1, to_left (sign RoundOpen) (IsName b.1.0) (IsBehindOutName b.1.1) ts spelled, refl))) (open_makes tokens is_other)
 
-pub call_makes : (tokens : List Lexeme) → IsNext Id tokens → Makes IsNameToClose IsBehindOutName (λ n. inl n) closed tokens
+pub call_makes : (tokens : List Lexeme) → IsNext Id tokens → Makes (IsNameTo RoundClose) IsBehindOutName (λ n. inl n) closed tokens
 call_makes tokens is_next = alternative (other_than Id) tokens (λ n ts spelled. spelled) (λ b ts spelled. back b ts spelled) (stops_other_than Id tokens is_next)
   where
-    back : (b : Name ⊎ (List Expr × List Out)) (ts : List Lexeme) → IsBehindOutName b ts → StartsIn (other_than Id) ts ⊎ ((n : Name) × IsNameToClose n ts × (b ≡ inl n))
+    back : (b : Name ⊎ (List Expr × List Out)) (ts : List Lexeme) → IsBehindOutName b ts → StartsIn (other_than Id) ts ⊎ ((n : Name) × IsNameTo RoundClose n ts × (b ≡ inl n))
     back (inl y) ts spelled = inr (y, spelled, refl)
     back (inr v) ts spelled = inl (starts_wider (λ w. w ≡ SquareOpen) (other_than Id) ts (λ w a e. let f : SquareOpen ≡ Id = sym a ∙ e in cc) (starts_joined (λ w. w ≡ SquareOpen) _ _ ts (λ l labels. starts_joined (λ w. w ≡ SquareOpen) _ _ l ((sign_starts SquareOpen).starts tt) labels) spelled))
 

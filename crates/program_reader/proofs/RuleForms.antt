@@ -6,11 +6,11 @@ use Rattle.model_program.specs.Lexeme.{Lexeme}
 use Rattle.model_program.specs.Syntax.{Name, Demand}
 use Rattle.model_program.specs.Joined.{IsNext, IsOther, ◌⊗◌}
 use Rattle.read_forms.specs.Reads.{IsRead, Fails, StartsIn, closed}
-use Rattle.model_program.specs.Grammar.{IsSign, IsName, Many, IsDemand, AreVars, IsGiven}
+use Rattle.model_program.specs.Grammar.{IsSign, sign, IsName, Many, IsDemand, AreVars, IsGiven}
 use Rattle.read_forms.specs.Parts.{Ends, HasSample, AllStartIn}
 use Rattle.read_forms.proofs.Forms.{Makes, as_read, as_fails, then_read, then_fails, first_fails, read_at, sample_pair, sample_as, remade, stands, left_out, ends_left_out, ends_starting, ends_closed, starts_joined, starts_next, stops_other}
 use Rattle.read_forms.proofs.Words.{sample_sign, sign_starts}
-use Rattle.read_forms.proofs.Lists.{IsPartWay, many_make, many_end, sample_many}
+use Rattle.read_forms.proofs.Lists.{IsPartWay, to_left, to_right, many_make, many_end, sample_many}
 use Rattle.model_grammar.specs.declared.Level.TheVariants.{E}
 use Rattle.model_grammar.specs.Syntax.{Expr, Rule, Out}
 use Rattle.model_grammar.specs.Expressions.{IsE}
@@ -22,20 +22,25 @@ use Rattle.label_reader.proofs.Listed.{named_item, bar_tail, sample_any_to, samp
 use Rattle.label_reader.specs.Levels.{strength, GoesOn}
 use Rattle.label_reader.proofs.Names.{sample_name, name_starts}
 use Rattle.program_reader.specs.Goings.{guard_words, given_words, rule_words}
+use Rattle.program_reader.specs.Names.{IsNameBehind, IsNameTo}
+use Rattle.program_reader.proofs.NameForms.{sample_behind, sample_name_to}
 use Rattle.program_reader.proofs.OutForms.{sample_out}
 
 -- no sign between operands
 no_sign : (v w : Word) → strength v ≡ 0 → w ≡ v → GoesOn E w → ⊥
 no_sign v w none is goes = let e : strength w ≡ 0 = ap strength is ∙ none in omega arith
 
-abbrev pub demand_parts : Unit {0} × (Name × (Name × Unit {0})) → List Lexeme → Type 0
-demand_parts = IsSign RoundOpen ⊗ (IsName ⊗ (IsName ⊗ IsSign RoundClose))
+abbrev pub demand_of : Name × Name → Demand
+demand_of v = record { language = v.0; child = v.1 }
 
-pub demand_makes : (goes_on : Word → Type 0) (tokens : List Lexeme) → Makes demand_parts IsDemand (λ v. record { language = v.1.0; child = v.1.1.0 }) goes_on tokens
-demand_makes goes_on tokens = remade (λ v ts spelled. spelled) (λ d ts spelled. ((tt, (d.language, (d.child, tt))), spelled, refl))
+demand_into : (v : Name × Name) (ts : List Lexeme) → (IsNameBehind RoundOpen ⊗ IsNameTo RoundClose) v ts → IsDemand (demand_of v) ts
+demand_into v ts spelled = to_right (sign RoundOpen) (IsName v.0) (IsNameTo RoundClose v.1) ts spelled
+
+pub demand_makes : (goes_on : Word → Type 0) (tokens : List Lexeme) → Makes (IsNameBehind RoundOpen ⊗ IsNameTo RoundClose) IsDemand demand_of goes_on tokens
+demand_makes goes_on tokens = remade demand_into (λ d ts spelled. ((d.language, d.child), to_left (sign RoundOpen) (IsName d.language) (IsNameTo RoundClose d.child) ts spelled, refl))
 
 pub sample_demand : HasSample IsDemand
-sample_demand = sample_as (λ (v : Unit {0} × (Name × (Name × Unit {0}))). record { language = v.1.0; child = v.1.1.0 }) (λ v ts spelled. spelled) (sample_pair (sample_sign RoundOpen) (sample_pair sample_name (sample_pair sample_name (sample_sign RoundClose))))
+sample_demand = sample_as demand_of demand_into (sample_pair (sample_behind RoundOpen) (sample_name_to RoundClose))
 
 pub demand_starts : AllStartIn (λ w. w ≡ RoundOpen) IsDemand
 demand_starts = record { starts = λ d ts spelled. starts_joined (λ w. w ≡ RoundOpen) _ _ ts ((sign_starts RoundOpen).starts tt) spelled }

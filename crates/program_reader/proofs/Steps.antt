@@ -1,20 +1,11 @@
 -- What a reader did behind a front of the tokens.
-use Rattle.std.proofs.Common.{◌≡◌, ℕ, ◌+◌, List, [], ◌∷◌, drop, refl, sym, ap, ◌∙◌, subst, arith, zero, suc, Result, Ok, Err}
-use Rattle.std.proofs.Math.Seq.{drop-nil}
+use Rattle.std.proofs.Common.{◌≡◌, List, ◌∷◌, sym, ap, ◌∙◌, Result, Ok, Err}
 use Rattle.model_program.specs.declared.Word.{Word}
 use Rattle.model_program.specs.Lexeme.{Lexeme}
-use Rattle.model_program.specs.Joined.{IsNext}
-use Rattle.model_program.specs.Grammar.{IsSign}
-use Rattle.read_forms.specs.Reads.{IsRead, closed}
 use Rattle.read_forms.specs.Fronts.{Leaves}
-use Rattle.read_forms.proofs.Forms.{as_read}
 use Rattle.read_forms.proofs.Fronts.{left_read, left_fails}
-use Rattle.read_forms.proofs.Words.{word_read, sign_makes}
-use Rattle.fast_lex.specs.declared.Token.{Token}
-use Rattle.fast_lex.specs.Tokens.{lexeme}
-use Rattle.label_reader.specs.declared.reader.Reader.{Reader}
 use Rattle.label_reader.specs.declared.stop.Stop.{Stop}
-use Rattle.label_reader.specs.Results.{lexemes, left, behind, Reads}
+use Rattle.label_reader.specs.Results.{Reads}
 
 -- what is left where a token is taken
 pub token_taken : {tokens after rest : List Lexeme} {t : Lexeme} → tokens ≡ t ∷ after → rest ≡ after → tokens ≡ t ∷ rest

@@ -7,16 +7,19 @@ use Rattle.model_program.specs.Lexeme.{Lexeme}
 use Rattle.model_program.specs.Syntax.{Name, FieldItem, CtorItem}
 use Rattle.model_program.specs.Joined.{IsNext, IsOther, ◌⊗◌}
 use Rattle.read_forms.specs.Reads.{IsRead, StartsIn, closed}
-use Rattle.model_program.specs.Grammar.{IsWord, IsSign, IsName, IsNumber, IsCtor, sort_text, IsSort, IsField, AreFields, AreFieldsOrNone, square_word, AreCtors, IsTypeItem}
+use Rattle.model_program.specs.Grammar.{IsWord, IsSign, sign, IsName, IsNumber, IsCtor, sort_text, IsSort, IsField, AreFields, AreFieldsOrNone, square_word, AreCtors, IsTypeItem}
 use Rattle.read_forms.specs.Parts.{Ends, HasSample, AllStartIn}
 use Rattle.read_forms.proofs.Forms.{Makes, sample_pair, sample_as, remade, stands, left_out, ends_closed, ends_starting, starts_joined, starts_next, stops_other}
 use Rattle.read_forms.proofs.Words.{sample_word, sample_sign, sign_starts}
+use Rattle.read_forms.proofs.Lists.{to_left, to_right}
 use Rattle.label_reader.specs.declared.lists.Between.TheVariants.{Comma}
 use Rattle.label_reader.specs.Lists.{IsItem}
 use Rattle.label_reader.proofs.Listed.{named_item, sample_some_to}
 use Rattle.label_reader.specs.Constants.{IsNumeral}
 use Rattle.label_reader.proofs.Names.{sample_name, name_starts}
 use Rattle.label_reader.proofs.Primaries.{sample_numeral}
+use Rattle.program_reader.specs.Names.{IsNameTo}
+use Rattle.program_reader.proofs.NameForms.{sample_name_to}
 
 pub sort_makes : (goes_on : Word → Type 0) (tokens : List Lexeme) → Makes (IsWord Id) IsSort (λ t. record { text = sort_text t.text; place = t.place }) goes_on tokens
 sort_makes goes_on tokens = remade (λ t ts is_word. (t, is_word, refl)) (λ n ts is_sort. (is_sort.0, is_sort.1, is_sort.2))
@@ -24,20 +27,29 @@ sort_makes goes_on tokens = remade (λ t ts is_word. (t, is_word, refl)) (λ n t
 pub sample_sort : HasSample IsSort
 sample_sort = sample_as (λ t. record { text = sort_text t.text; place = t.place }) (λ t ts is_word. (t, is_word, refl)) (sample_word Id)
 
-pub number_makes : (goes_on : Word → Type 0) (tokens : List Lexeme) → Makes IsNumeral IsNumber (λ t. pos (digits_value 10 t.text)) goes_on tokens
-number_makes goes_on tokens = remade (λ t ts spelled. (t, spelled.0, spelled.1, refl)) (λ n ts spelled. (spelled.0, (spelled.1, spelled.2), spelled.3))
-
 pub sample_number : HasSample IsNumber
 sample_number = sample_as (λ t. pos (digits_value 10 t.text)) (λ t ts spelled. (t, spelled.0, spelled.1, refl)) sample_numeral
 
-abbrev pub ctor_parts : Name × (Unit {0} × (ℤ × Unit {0})) → List Lexeme → Type 0
-ctor_parts = IsName ⊗ (IsSign RoundOpen ⊗ (IsNumber ⊗ IsSign RoundClose))
+-- the number and the closing parenthesis, by the token of the number
+pub rank_makes : (tokens : List Lexeme) → Makes (IsNumeral ⊗ IsSign RoundClose) (IsNumber ⊗ IsSign RoundClose) (λ v. (pos (digits_value 10 v.0.text), v.1)) closed tokens
+rank_makes tokens = remade
+    (λ v ts spelled. record { front = spelled.front; back = spelled.back; split = spelled.split; at_front = (v.0, spelled.at_front.0, spelled.at_front.1, refl); at_back = spelled.at_back })
+    (λ b ts spelled. let n = spelled.at_front in ((n.0, b.1), record { front = spelled.front; back = spelled.back; split = spelled.split; at_front = (n.1, n.2); at_back = spelled.at_back }, (λ i. (n.3 i, b.1))))
 
-pub ctor_makes : (goes_on : Word → Type 0) (tokens : List Lexeme) → Makes ctor_parts IsCtor (λ v. record { name = v.0; rank = v.1.1.0 }) goes_on tokens
-ctor_makes goes_on tokens = remade (λ v ts spelled. spelled) (λ c ts spelled. ((c.name, (tt, (c.rank, tt))), spelled, refl))
+abbrev pub ctor_of : Name × (ℤ × Unit {0}) → CtorItem
+ctor_of v = record { name = v.0; rank = v.1.0 }
+
+ctor_into : (v : Name × (ℤ × Unit {0})) (ts : List Lexeme) → (IsNameTo RoundOpen ⊗ (IsNumber ⊗ IsSign RoundClose)) v ts → IsCtor (ctor_of v) ts
+ctor_into v ts spelled = to_right (IsName v.0) (sign RoundOpen) ((IsNumber ⊗ IsSign RoundClose) v.1) ts spelled
+
+pub ctor_makes : (goes_on : Word → Type 0) (tokens : List Lexeme) → Makes (IsNameTo RoundOpen ⊗ (IsNumber ⊗ IsSign RoundClose)) IsCtor ctor_of goes_on tokens
+ctor_makes goes_on tokens = remade ctor_into (λ c ts spelled. ((c.name, (c.rank, tt)), to_left (IsName c.name) (sign RoundOpen) ((IsNumber ⊗ IsSign RoundClose) (c.rank, tt)) ts spelled, refl))
+
+pub sample_rank : HasSample (IsNumber ⊗ IsSign RoundClose)
+sample_rank = sample_pair sample_number (sample_sign RoundClose)
 
 pub sample_ctor : HasSample IsCtor
-sample_ctor = sample_as (λ (v : Name × (Unit {0} × (ℤ × Unit {0}))). record { name = v.0; rank = v.1.1.0 }) (λ v ts spelled. spelled) (sample_pair sample_name (sample_pair (sample_sign RoundOpen) (sample_pair sample_number (sample_sign RoundClose))))
+sample_ctor = sample_as ctor_of ctor_into (sample_pair (sample_name_to RoundOpen) sample_rank)
 
 pub ctor_starts : AllStartIn (λ w. w ≡ Id) IsCtor
 ctor_starts = record { starts = λ c ts spelled. starts_joined (λ w. w ≡ Id) _ _ ts (name_starts.starts c.name) spelled }
@@ -48,17 +60,20 @@ ctor_item = named_item Comma CurlyClose sample_ctor ctor_starts (λ h. cc) (λ h
 pub sample_ctors : HasSample AreCtors
 sample_ctors = sample_as (λ (v : Unit {0} × List CtorItem). v.1) (λ v ts spelled. spelled) (sample_pair (sample_sign CurlyOpen) (sample_some_to Comma IsCtor CurlyClose sample_ctor))
 
-abbrev pub field_parts : Name × (Unit {0} × Name) → List Lexeme → Type 0
-field_parts = IsName ⊗ (IsSign Colon ⊗ IsSort)
+abbrev pub field_of : Name × Name → FieldItem
+field_of v = record { name = v.0; sort = v.1 }
 
-pub field_makes : (goes_on : Word → Type 0) (tokens : List Lexeme) → Makes field_parts IsField (λ v. record { name = v.0; sort = v.1.1 }) goes_on tokens
-field_makes goes_on tokens = remade (λ v ts spelled. spelled) (λ f ts spelled. ((f.name, (tt, f.sort)), spelled, refl))
+field_into : (v : Name × Name) (ts : List Lexeme) → (IsNameTo Colon ⊗ IsSort) v ts → IsField (field_of v) ts
+field_into v ts spelled = to_right (IsName v.0) (sign Colon) (IsSort v.1) ts spelled
+
+pub field_makes : (goes_on : Word → Type 0) (tokens : List Lexeme) → Makes (IsNameTo Colon ⊗ IsSort) IsField field_of goes_on tokens
+field_makes goes_on tokens = remade field_into (λ f ts spelled. ((f.name, f.sort), to_left (IsName f.name) (sign Colon) (IsSort f.sort) ts spelled, refl))
 
 pub field_starts : AllStartIn (λ w. w ≡ Id) IsField
 field_starts = record { starts = λ f ts spelled. starts_joined (λ w. w ≡ Id) _ _ ts (name_starts.starts f.name) spelled }
 
 sample_field : HasSample IsField
-sample_field = sample_as (λ (v : Name × (Unit {0} × Name)). record { name = v.0; sort = v.1.1 }) (λ v ts spelled. spelled) (sample_pair sample_name (sample_pair (sample_sign Colon) sample_sort))
+sample_field = sample_as field_of field_into (sample_pair (sample_name_to Colon) sample_sort)
 
 pub field_item : IsItem Comma SquareClose IsField closed
 field_item = named_item Comma SquareClose sample_field field_starts (λ h. cc) (λ h. cc, λ h. cc) (ends_closed _ closed)

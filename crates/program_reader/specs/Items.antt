@@ -11,10 +11,7 @@ use Rattle.read_forms.specs.Fronts.{Made}
 use Rattle.model_grammar.specs.Syntax.{X, Claim, Body, sorts, tree, lang, trans, def, assertion, Item}
 use Rattle.model_grammar.specs.Terms.{IsX}
 use Rattle.model_grammar.specs.Grammar.{IsTreeItem, IsLangItem, IsTransItem, IsDefItem, IsA}
-
--- a name behind a sign
-abbrev pub IsNameBehind : Word → Name → List Lexeme → Type 0
-IsNameBehind w n = sign w ⌢ IsName n
+use Rattle.program_reader.specs.Names.{IsNameBehind}
 
 -- ID : ID
 abbrev pub IsTyped : Name × Name → List Lexeme → Type 0

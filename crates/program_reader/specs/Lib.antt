@@ -1,5 +1,6 @@
 pub mod Operations
 pub mod Goings
+pub mod Names
 pub mod Nodes
 pub mod Assertions
 pub mod Items

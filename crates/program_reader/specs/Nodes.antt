@@ -11,6 +11,7 @@ use Rattle.model_grammar.specs.declared.Op2.{Op2}
 use Rattle.model_grammar.specs.Operators.{op1_word, op2_word}
 use Rattle.model_grammar.specs.Syntax.{Expr, X, one, two, literal, xs_of, Out}
 use Rattle.model_grammar.specs.Terms.{AreLabels, IsX, IsOut}
+use Rattle.program_reader.specs.Names.{IsNameTo}
 
 -- children and the closing parenthesis
 abbrev pub AreXsToClose : List X → List Lexeme → Type 0
@@ -18,10 +19,6 @@ AreXsToClose xs = Many IsX xs ⌢ sign RoundClose
 
 abbrev pub AreOutsToClose : List Out → List Lexeme → Type 0
 AreOutsToClose outs = Many IsOut outs ⌢ sign RoundClose
-
--- a name and the closing parenthesis
-abbrev pub IsNameToClose : Name → List Lexeme → Type 0
-IsNameToClose n = IsName n ⌢ sign RoundClose
 
 pub data IsXInside : X → List Lexeme → Type 0 where
   -- Op1 X )
@@ -33,5 +30,5 @@ pub data IsXInside : X → List Lexeme → Type 0 where
 
 -- What stands behind the first name of an output term: a child and the closing parenthesis, or labels and children.
 abbrev pub IsBehindOutName : Name ⊎ (List Expr × List Out) → List Lexeme → Type 0
-IsBehindOutName (inl y) = IsNameToClose y
+IsBehindOutName (inl y) = IsNameTo RoundClose y
 IsBehindOutName (inr v) = AreLabels v.0 ⌢ AreOutsToClose v.1

@@ -1,6 +1,5 @@
 //! Assertions, whose parentheses may be left out: which of the readings applies is seen from the next tokens alone.
 
-ghost use Rattle.std.specs.Prelude.{◌≡◌};
 ghost use Rattle.model_program.specs.declared.Word.TheVariants as word;
 ghost use Rattle.model_program.specs.Joined.{IsNext};
 ghost use Rattle.read_forms.specs.Reads.{closed};
@@ -14,7 +13,7 @@ use crate::labels::read_labels;
 use crate::terms::{read_x, read_x_inside, read_xs};
 use fast_lex::Word;
 use fast_syntax::items::{Claim, X};
-use label_reader::{Reader, Stop, kept, kept_if};
+use label_reader::{Reader, Stop, kept, kept_if, to_close};
 
 /// `==`, for which it answers true, or `in`.
 fn read_relation(reader: &mut Reader) -> Result<bool, Stop>
@@ -36,26 +35,19 @@ fn read_right(reader: &mut Reader) -> Result<(bool, X), Stop>
     ensures { Reads IsRight closed (left reader.old) (left reader.new) (λ x. (x.0, plain_x x.1)) result }
 {
     let equal = read_relation(reader)?;
-    let right = read_x(reader)?;
-    Ok((equal, right))
-}
-
-fn claim_of(left: X, equal: bool, right: X) -> Claim
-    ensures { plain_claim result ≡ related (plain_x left) (equal, plain_x right) }
-{
-    if equal {
-        Claim::Equal(left, right)
-    } else {
-        Claim::Member(left, right)
-    }
+    kept(equal, read_x(reader))
 }
 
 /// The comparison with a left side that has been read.
 fn read_compared(reader: &mut Reader, side: X) -> Result<Claim, Stop>
     ensures { Reads (Made (related (plain_x side)) IsRight) closed (left reader.old) (left reader.new) plain_claim result }
 {
-    let (side, (equal, right)) = kept(side, read_right(reader))?;
-    Ok(claim_of(side, equal, right))
+    let (left, (equal, right)) = kept(side, read_right(reader))?;
+    if equal {
+        Ok(Claim::Equal(left, right))
+    } else {
+        Ok(Claim::Member(left, right))
+    }
 }
 
 fn read_empty(reader: &mut Reader) -> Result<Claim, Stop>
@@ -114,8 +106,7 @@ fn read_named(reader: &mut Reader) -> Result<Claim, Stop>
         let ((name, labels), children) = kept(head, read_xs(reader))?;
         return read_compared(reader, X::Literal(name, labels, children));
     }
-    let claim = read_compared(reader, X::Named(name))?;
-    kept_if(claim, reader.sign(Word::RoundClose))
+    to_close(read_compared(reader, X::Named(name)), reader)
 }
 
 /// What stands behind the first parenthesis of an assertion.
@@ -123,8 +114,7 @@ fn read_a_inside(reader: &mut Reader) -> Result<Claim, Stop>
     ensures { Reads IsAInside closed (left reader.old) (left reader.new) plain_claim result }
 {
     if reader.is_next(Word::RoundOpen) {
-        let claim = read_b(reader)?;
-        return kept_if(claim, reader.sign(Word::RoundClose));
+        return to_close(read_b(reader), reader);
     }
     if reader.is_next(Word::Id) {
         return read_named(reader);

@@ -10,9 +10,10 @@ ghost use Rattle.fast_syntax.specs.View.{plain_name};
 ghost use Rattle.fast_syntax.specs.Plain.{plain_x, plain_into, plain_item, plain_program};
 ghost use Rattle.label_reader.specs.Results.{lexemes, left, Reads, IfWrong};
 ghost use Rattle.program_reader.specs.Goings.{arrow_word};
-ghost use Rattle.program_reader.specs.Items.{IsNameBehind, IsTyped, IsAssigned, IsAsserted, IsBehind};
+ghost use Rattle.program_reader.specs.Items.{IsTyped, IsAssigned, IsAsserted, IsBehind};
 
 use crate::assertions::read_a;
+use crate::names::read_name_behind;
 use crate::rules::{read_out_rules, read_rules};
 use crate::terms::read_x;
 use crate::types::read_type;
@@ -21,16 +22,8 @@ use fast_syntax::items::{
     AssertItem, Body, DefItem, Item, LangItem, Program, TransItem, TreeItem, X,
 };
 use fast_syntax::{Name, Pos};
-use label_reader::{ReadTokensStop, Reader, Stop, kept};
+use label_reader::{ReadTokensStop, Reader, Stop, kept, pushed};
 use std::alloc::Global;
-
-/// A name behind a sign.
-fn read_name_behind(reader: &mut Reader, sign: Word) -> Result<Name, Stop>
-    ensures { Reads (IsNameBehind sign) closed (left reader.old) (left reader.new) plain_name result }
-{
-    reader.sign(sign)?;
-    reader.name()
-}
 
 /// A name, and the name of its type.
 fn read_typed(reader: &mut Reader) -> Result<(Name, Name), Stop>
@@ -160,8 +153,7 @@ fn read_program(reader: &mut Reader) -> Result<Vec<Item>, Stop>
 {
     let mut all = Vec::new(reader.alloc);
     'items: while reader.count_left() > 0 {
-        let next = read_item(reader)?;
-        all.push(next)?;
+        all = pushed(all, read_item(reader))?;
     }
     Ok(all)
 }

@@ -7,6 +7,7 @@
 mod assertions;
 mod items;
 mod labels;
+mod names;
 mod operations;
 mod outputs;
 mod rules;

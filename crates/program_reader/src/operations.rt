@@ -1,16 +1,15 @@
-//! Operations: whether one comes next, and which one, exactly as the grammar has them.
+//! Operations: whether a word is one, and which one, exactly as the grammar has them.
 
-ghost use Rattle.std.specs.Prelude.{◌≡◌, ◌∷◌, MatchOption};
+ghost use Rattle.std.specs.Prelude.{◌≡◌, MatchOption};
 ghost use Rattle.model_grammar.specs.Operators.{op1_word, op2_word};
-ghost use Rattle.fast_lex.specs.Tokens.{lexeme};
-ghost use Rattle.label_reader.specs.Results.{left, behind};
-ghost use Rattle.program_reader.specs.Operations.{IsNoOp1, IsNoOp2, NoOp1, NoOp2};
+ghost use Rattle.program_reader.specs.Operations.{IsNoOp1, IsNoOp2};
 
-use fast_lex::{Token, Word};
+use fast_lex::Word;
 use fast_syntax::{Op1, Op2};
-use label_reader::{Reader, is_same};
+use label_reader::is_same;
 
-fn op1_of(word: Word) -> Option<Op1>
+/// The operation on one operand that the word is.
+pub(crate) fn op1_of(word: Word) -> Option<Op1>
     ensures { MatchOption result (IsNoOp1 word) (λ op. word ≡ op1_word op) }
 {
     if is_same(word, Word::Complement) {
@@ -28,7 +27,8 @@ fn op1_of(word: Word) -> Option<Op1>
     None
 }
 
-fn op2_of(word: Word) -> Option<Op2>
+/// The operation on two operands that the word is.
+pub(crate) fn op2_of(word: Word) -> Option<Op2>
     ensures { MatchOption result (IsNoOp2 word) (λ op. word ≡ op2_word op) }
 {
     if is_same(word, Word::Intersect) {
@@ -56,22 +56,4 @@ fn op2_of(word: Word) -> Option<Op2>
         return Some(Op2::Apply);
     }
     None
-}
-
-/// The next token, where it is an operation on one operand.
-pub(crate) fn op1_next<'t>(reader: &Reader<'t>) -> Option<(Token<'t>, Op1)>
-    ensures { MatchOption result (NoOp1 (left reader.now)) (λ x. (left reader.now ≡ lexeme x.0 ∷ behind reader.now) × (x.0.word ≡ op1_word x.1)) }
-{
-    let token = reader.peek()?;
-    let op = op1_of(token.word)?;
-    Some((token, op))
-}
-
-/// The next token, where it is an operation on two operands.
-pub(crate) fn op2_next<'t>(reader: &Reader<'t>) -> Option<(Token<'t>, Op2)>
-    ensures { MatchOption result (NoOp2 (left reader.now)) (λ x. (left reader.now ≡ lexeme x.0 ∷ behind reader.now) × (x.0.word ≡ op2_word x.1)) }
-{
-    let token = reader.peek()?;
-    let op = op2_of(token.word)?;
-    Some((token, op))
 }

@@ -3,16 +3,15 @@
 ghost use Rattle.std.specs.Prelude.{map};
 ghost use Rattle.read_forms.specs.Reads.{closed};
 ghost use Rattle.model_grammar.specs.Terms.{IsOut};
-ghost use Rattle.fast_syntax.specs.View.{plain_name};
 ghost use Rattle.fast_syntax.specs.Plain.{plain_out};
 ghost use Rattle.label_reader.specs.Results.{left, Reads};
-ghost use Rattle.program_reader.specs.Nodes.{IsNameToClose, AreOutsToClose};
+ghost use Rattle.program_reader.specs.Nodes.{AreOutsToClose};
 
 use crate::labels::read_labels;
+use crate::names::{read_name_behind, read_name_to};
 use fast_lex::Word;
-use fast_syntax::Name;
 use fast_syntax::items::Out;
-use label_reader::{Reader, Stop, kept, kept_if};
+use label_reader::{Reader, Stop, kept, pushed};
 
 /// A child, a transformation of a child, or a new node.
 #[cycle(output)]
@@ -23,23 +22,14 @@ pub(crate) fn read_out(reader: &mut Reader) -> Result<Out, Stop>
         let name = reader.name()?;
         return Ok(Out::Child(name));
     }
-    reader.sign(Word::RoundOpen)?;
-    let name = reader.name()?;
+    let name = read_name_behind(reader, Word::RoundOpen)?;
     if reader.is_next(Word::Id) {
-        let (name, child) = kept(name, read_child(reader))?;
+        let (name, child) = kept(name, read_name_to(reader, Word::RoundClose))?;
         return Ok(Out::Call(name, child));
     }
     let head = kept(name, read_labels(reader))?;
     let ((name, labels), children) = kept(head, read_outs(reader))?;
     Ok(Out::Node(name, labels, children))
-}
-
-/// The child of a call, and the closing parenthesis.
-fn read_child(reader: &mut Reader) -> Result<Name, Stop>
-    ensures { Reads IsNameToClose closed (left reader.old) (left reader.new) plain_name result }
-{
-    let child = reader.name()?;
-    kept_if(child, reader.sign(Word::RoundClose))
 }
 
 /// The children of a new node, and the closing parenthesis.
@@ -49,9 +39,7 @@ fn read_outs(reader: &mut Reader) -> Result<Vec<Out>, Stop>
 {
     let mut all = Vec::new(reader.alloc);
     'items: while !reader.is_next(Word::RoundClose) {
-        let (so_far, next) = kept(all, read_out(reader))?;
-        all = so_far;
-        all.push(next)?;
+        all = pushed(all, read_out(reader))?;
     }
     reader.advance();
     Ok(all)

@@ -9,21 +9,23 @@ ghost use Rattle.fast_syntax.specs.Plain.{plain_guard, plain_rule, plain_out_rul
 ghost use Rattle.label_reader.specs.Results.{left, Reads};
 ghost use Rattle.program_reader.specs.Goings.{guard_words, given_words};
 
+use crate::names::{read_name_behind, read_name_to};
 use crate::outputs::read_out;
 use fast_lex::Word;
 use fast_syntax::expressions::Expr;
 use fast_syntax::items::{OutRule, Rule};
 use fast_syntax::{Demand, Name};
-use label_reader::{Between, Items, Reader, Stop, kept, kept_if, read_any, read_level, read_some};
+use label_reader::{
+    Between, Items, Reader, Stop, kept, kept_if, pushed, read_any, read_level, read_some,
+};
 use model_grammar::Level;
 
 fn read_demand(reader: &mut Reader) -> Result<Demand, Stop>
     ensures { Reads IsDemand closed (left reader.old) (left reader.new) plain_demand result }
 {
-    reader.sign(Word::RoundOpen)?;
-    let language = reader.name()?;
-    let child = reader.name()?;
-    kept_if(Demand { language, child }, reader.sign(Word::RoundClose))
+    let language = read_name_behind(reader, Word::RoundOpen)?;
+    let (language, child) = kept(language, read_name_to(reader, Word::RoundClose))?;
+    Ok(Demand { language, child })
 }
 
 /// The variables of a rule.
@@ -76,8 +78,7 @@ fn read_given(reader: &mut Reader) -> Result<Vec<Demand>, Stop>
     }
     reader.advance();
     'items: loop {
-        let next = read_demand(reader)?;
-        all.push(next)?;
+        all = pushed(all, read_demand(reader))?;
         if !reader.is_next(Word::RoundOpen) {
             return Ok(all);
         }

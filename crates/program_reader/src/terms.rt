@@ -14,7 +14,7 @@ ghost use Rattle.program_reader.specs.Nodes.{IsXInside, AreXsToClose};
 ghost use Rattle.program_reader.specs.Growing.{Closes, IsRow, IsGrown, IsLeft, Begins};
 
 use crate::labels::read_labels;
-use crate::operations::{op1_next, op2_next};
+use crate::operations::{op1_of, op2_of};
 use fast_fault::Memory;
 use fast_lex::Word;
 use fast_syntax::expressions::Expr;
@@ -88,13 +88,16 @@ fn begin_x(reader: &mut Reader) -> Result<Begun, Stop>
 fn begin_x_inside(reader: &mut Reader) -> Result<Begun, Stop>
     ensures { Begins IsXInside (left reader.old) (left reader.new) result }
 {
-    if let Some((sign, op)) = op1_next(reader) {
+    let Some(first) = reader.peek() else {
+        return Err(Stop::Wrong);
+    };
+    if let Some(op) = op1_of(first.word) {
         reader.advance();
-        return Ok(Begun::Part(Open::One(op, sign.place)));
+        return Ok(Begun::Part(Open::One(op, first.place)));
     }
-    if let Some((sign, op)) = op2_next(reader) {
+    if let Some(op) = op2_of(first.word) {
         reader.advance();
-        return Ok(Begun::Part(Open::First(op, sign.place)));
+        return Ok(Begun::Part(Open::First(op, first.place)));
     }
     let name = reader.name()?;
     let (name, labels) = kept(name, read_labels(reader))?;

@@ -7,10 +7,11 @@ ghost use Rattle.model_program.specs.Grammar.{IsSort, AreFields, AreFieldsOrNone
 ghost use Rattle.label_reader.specs.Results.{left, Reads};
 ghost use Rattle.fast_syntax.specs.View.{plain_name, plain_field, plain_ctor, plain_type};
 
+use crate::names::read_name_to;
 use fast_lex::Word;
 use fast_syntax::{CtorItem, FieldItem, Name, Text, TypeItem};
 use label_reader::{
-    Between, Items, Reader, Stop, kept, kept_if, read_any, read_numeral, read_some,
+    Between, Items, Reader, Stop, kept, read_any, read_numeral, read_some, to_close,
 };
 
 /// The sort's name, with a capital.
@@ -54,9 +55,8 @@ impl Items for Fields {
     ghost goes_on = { closed };
 
     fn read_item(reader: &mut Reader) -> Result<FieldItem, Stop> {
-        let name = reader.name()?;
-        reader.sign(Word::Colon)?;
-        let sort = read_sort(reader)?;
+        let name = read_name_to(reader, Word::Colon)?;
+        let (name, sort) = kept(name, read_sort(reader))?;
         Ok(FieldItem { name, sort })
     }
 }
@@ -96,10 +96,9 @@ impl Items for Ctors {
     ghost goes_on = { closed };
 
     fn read_item(reader: &mut Reader) -> Result<CtorItem, Stop> {
-        let name = reader.name()?;
-        reader.sign(Word::RoundOpen)?;
-        let (_digits, rank) = read_numeral(reader)?;
-        kept_if(CtorItem { name, rank }, reader.sign(Word::RoundClose))
+        let name = read_name_to(reader, Word::RoundOpen)?;
+        let (name, (_digits, rank)) = kept(name, to_close(read_numeral(reader), reader))?;
+        Ok(CtorItem { name, rank })
     }
 }
 

@@ -1,11 +1,9 @@
 use Rattle.std.proofs.Common.{sym, ap, ◌∙◌, map}
-use Rattle.read_forms.proofs.Fronts.{left_read, left_fails}
-use Rattle.read_forms.proofs.Forms.{as_read, as_fails, then_read, then_fails, first_fails, ends_closed, sample_pair, read_at}
-use Rattle.read_forms.proofs.Words.{sample_sign}
+use Rattle.read_forms.proofs.Forms.{as_fails, then_fails, first_fails, ends_closed, sample_pair, read_at}
 use Rattle.label_reader.proofs.Exits.{exit}
-use Rattle.label_reader.proofs.Keeping.{told_read, told_fails, reads_kept_if}
+use Rattle.label_reader.proofs.Keeping.{told_read, told_fails, reads_to_close}
 use Rattle.fast_syntax.specs.View.{plain_name}
-use Rattle.fast_syntax.specs.Plain.{plain_expr}
+use Rattle.fast_syntax.specs.Plain.{plain_expr, plain_claim}
 use Rattle.program_reader.proofs.Steps.{reads_left}
 use Rattle.program_reader.proofs.XForms.{sample_xs}
 use Rattle.program_reader.proofs.Rows.{plain_literal}
@@ -27,10 +25,5 @@ returns-then-is_next c = let one = c.in_ok-head.ensures in let two = c.in_ok-nam
     reads_left _ _ _ _ _ (tree_left _ (plain_literal c.in_ok-name-2.name c.in_ok-name-2.labels c.in_ok-name-2.children) c.requires (read_at (ap plain_name (sym (ap (λ v. v.0) two.0 ∙ one.0))) c.in_ok-name.ensures) (c.is_next.ensures.yes c.if-is_next.true)
     (read_at (ap (λ v. map plain_expr v.1.items) (sym two.0)) (told_read _ _ _ one.1 c.read_labels.ensures)) (told_read _ _ _ two.1 c.read_xs.ensures)) c.read_compared.ensures
 
-pub returns-in_err-claim : goal.returns-in_err-claim
-returns-in_err-claim c = exit _ _ _ _ c.from_residual-in_err-claim.result c.from_residual-in_err-claim.ensures.1 (left_fails _ (name_left c.requires c.in_ok-name.ensures) (as_fails _ (behind_makes _ _ (c.is_next.ensures.no c.if-is_next.false)) (first_fails _ (ends_closed _ _) (sample_sign _) c.in_err-claim.ensures)))
-
 pub returns : goal.returns
-returns c = reads_kept_if _ _ _ _ _ _ _ c.kept_if.ensures c.sign.ensures
-    (λ read. left_read (name_left c.requires c.in_ok-name.ensures) (as_read (behind_makes _ _ (c.is_next.ensures.no c.if-is_next.false)) (then_read (ends_closed _ _) c.in_ok-claim.ensures read)))
-    (λ bad fails. left_fails _ (name_left c.requires c.in_ok-name.ensures) (as_fails _ (behind_makes _ _ (c.is_next.ensures.no c.if-is_next.false)) (then_fails _ (ends_closed _ _) c.in_ok-claim.ensures fails)))
+returns c = reads_left _ _ _ _ _ (name_left c.requires c.in_ok-name.ensures) (reads_to_close _ _ _ _ _ plain_claim _ c.to_close.result c.read_compared-2.ensures c.to_close.ensures (ends_closed _ _) (behind_makes _ _ (c.is_next.ensures.no c.if-is_next.false)))

@@ -2,7 +2,8 @@ use Rattle.std.proofs.Common.{sym, ap, ◌∙◌}
 use Rattle.read_forms.proofs.Forms.{as_read, as_fails, then_read, then_fails, first_fails, ends_closed, sample_pair, read_at}
 use Rattle.fast_syntax.specs.View.{plain_name}
 use Rattle.program_reader.proofs.RuleForms.{sample_braces, sample_out_rule}
-use Rattle.program_reader.proofs.ItemForms.{trans_makes, sample_behind}
+use Rattle.program_reader.proofs.ItemForms.{trans_makes}
+use Rattle.program_reader.proofs.NameForms.{sample_behind}
 use Rattle.label_reader.proofs.Exits.{exit}
 use Rattle.label_reader.proofs.Keeping.{told_read, told_fails}
 use Rattle.program_reader.proofs.items.read_trans_item.Goals as goal

@@ -1,7 +1,7 @@
 use Rattle.read_forms.proofs.Forms.{then_read, then_fails, first_fails, ends_closed}
 use Rattle.label_reader.proofs.Exits.{exit}
 use Rattle.label_reader.proofs.Keeping.{reads_kept}
-use Rattle.program_reader.proofs.ItemForms.{sample_behind}
+use Rattle.program_reader.proofs.NameForms.{sample_behind}
 use Rattle.program_reader.proofs.items.read_typed.Goals as goal
 
 pub returns-in_err-name : goal.returns-in_err-name

@@ -3,7 +3,7 @@ use Rattle.read_forms.proofs.Lists.{open_fails}
 use Rattle.label_reader.proofs.Exits.{exit}
 use Rattle.label_reader.proofs.Listed.{opened_reads}
 use Rattle.label_reader.proofs.Names.{sample_name}
-use Rattle.program_reader.proofs.items.read_name_behind.Goals as goal
+use Rattle.program_reader.proofs.names.read_name_behind.Goals as goal
 
 pub returns-in_err-sign : goal.returns-in_err-sign
 returns-in_err-sign c = exit _ _ _ _ c.from_residual.result c.from_residual.ensures.1 (open_fails _ IsName _ sample_name c.in_err-sign.ensures)
