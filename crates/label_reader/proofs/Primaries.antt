@@ -1,15 +1,15 @@
 -- Primary expressions, and `-` before them.
-use Rattle.std.proofs.Common.{◌≡◌, ℕ, pos, true, false, List, [], ◌∷◌, ◌++◌, refl, sym, ap, ◌∙◌, subst, arith, ◌⊎◌, inl, inr, map}
+use Rattle.std.proofs.Common.{◌≡◌, ℕ, pos, true, false, List, [], ◌∷◌, ◌++◌, refl, sym, ap, ◌∙◌, subst, arith, Option, Some, ◌⊎◌, inl, inr, map}
 use Rattle.std.specs.Str.Parse.{digits_value}
 use Rattle.model_program.specs.declared.Word.{Word}
 use Rattle.model_program.specs.declared.Word.TheVariants.{True, False, Id, Number, Quoted, RoundOpen, Minus}
 use Rattle.model_program.specs.Lexeme.{Lexeme}
 use Rattle.model_program.specs.Joined.{◌⌢◌, IsNext, IsOther, ◌⊗◌}
-use Rattle.read_forms.specs.Reads.{GoesOnAs, Stops, IsRead, IsRefused, StartsIn, closed}
+use Rattle.read_forms.specs.Reads.{GoesOnAs, Stops, IsRead, IsRefused, Fails, StartsIn, closed}
 use Rattle.model_program.specs.Grammar.{IsWord, IsDigits}
 use Rattle.model_program.specs.Quotes.{IsQuoted, no_units}
 use Rattle.read_forms.specs.Parts.{HasSample, AllStartIn, other_than}
-use Rattle.read_forms.proofs.Forms.{Makes, stops_next, stops_other, stops_other_than, alternative}
+use Rattle.read_forms.proofs.Forms.{Makes, as_fails, stops_next, stops_other, stops_other_than, alternative}
 use Rattle.read_forms.proofs.Words.{sample_token, word_starts}
 use Rattle.model_grammar.specs.declared.Chain.TheVariants.{Product}
 use Rattle.model_grammar.specs.declared.Level.TheVariants.{Unary, Prim}
@@ -18,6 +18,7 @@ use Rattle.model_grammar.specs.Expressions.{IsExpr, negative_number, minus_of, n
 use Rattle.label_reader.specs.Levels.{GoesOn, BeginsAt}
 use Rattle.label_reader.specs.Inside.{IsInside, nested, many, remainder}
 use Rattle.label_reader.specs.Inside.{compared as inside_compared}
+use Rattle.fast_lex.specs.Units.{IsQuotedText}
 use Rattle.label_reader.specs.Constants.{IsNumeral, NoNumeral, IsString, NoString}
 use Rattle.label_reader.proofs.LevelForms.{level_begins}
 use Rattle.label_reader.specs.Lists.{Without}
@@ -82,6 +83,15 @@ string_token = record (sample_token Quoted) { text = 34 ∷ 34 ∷ [] }
 pub sample_string : HasSample IsString
 unfolding string_token
 sample_string = record { value = (string_token, []); tokens = string_token ∷ []; spelled = ((refl, refl), record { inside = []; quotes = refl; units = no_units }) }
+
+pub other_no_string : (tokens : List Lexeme) → IsOther Quoted tokens → NoString tokens
+other_no_string tokens other t rest values here is quoted = subst (λ (l : List Lexeme). IsOther Quoted l) here other is
+
+pub unquoted : (t : Lexeme) {tokens after : List Lexeme} → tokens ≡ t ∷ after → (IsQuotedText t.text → ⊥) → NoString tokens
+unquoted t {after = after} here none u rest values other is quoted =
+    let e : t ∷ after ≡ u ∷ rest = sym here ∙ other in
+    let f : u ≡ t = cc in
+    none (record { values = values; is = subst (λ (l : Lexeme). IsQuoted l.text values) f quoted })
 
 pub string_missing : (tokens : List Lexeme) → NoString tokens → IsRefused IsString closed tokens tokens
 string_missing tokens no_string = missing tokens sample_string (λ more other after v as_rest same spelled. by tokens no_string more after v.0 v.1 as_rest (same ∙ ap (λ l. l ++ after) spelled.0.0) spelled.0.1 spelled.1)
@@ -254,3 +264,7 @@ prim_in_unary w none = absurd none
 
 pub closed_by : (goes_on : Word → Type 0) (w : Word) → closed w → goes_on w
 closed_by goes_on w none = absurd none
+
+-- no token is left
+pub prim_ended : (tokens : List Lexeme) → tokens ≡ [] → Fails (IsExpr Prim) closed tokens (Some tokens)
+prim_ended tokens ended = subst (λ (l : List Lexeme). Fails (IsExpr Prim) closed l (Some l)) (sym ended) (as_fails _ (number_makes [] tt tt tt tt tt) (record { why = numeral_missing [] (λ t rest here is digits. absurd cc) }))

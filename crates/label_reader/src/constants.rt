@@ -4,12 +4,10 @@ ghost use Rattle.std.specs.Prelude.{◌≡◌, ◌∷◌, [], MatchOption, IfOk,
 ghost use Rattle.std.specs.Str.{chars};
 ghost use Rattle.std.specs.Str.Parse.{digits_value};
 ghost use Rattle.read_forms.specs.Reads.{closed};
-ghost use Rattle.model_program.specs.declared.Word as Word;
 ghost use Rattle.model_program.specs.Grammar.{IsDigits};
-ghost use Rattle.fast_lex.specs.Units.{IsQuotedText};
 ghost use Rattle.fast_lex.specs.Tokens.{lexeme};
 ghost use Rattle.label_reader.specs.Results.{left, behind, Reads};
-ghost use Rattle.label_reader.specs.Constants.{IsNumeral, NoNumeral, IsNumeralAt, IsAmount, IsString, NoString};
+ghost use Rattle.label_reader.specs.Constants.{IsNumeral, NoNumeral, IsNumeralAt, IsAmount, IsString};
 
 use crate::reader::{Reader, is_same};
 use crate::stop::Stop;
@@ -70,25 +68,16 @@ pub fn read_numeral<'t>(reader: &mut Reader<'t>) -> Result<(Token<'t>, i128), St
     Ok(found)
 }
 
-/// The next token, where it is a quoted text.
-fn quoted_next<'t>(reader: &Reader<'t>) -> Option<Token<'t>>
-    ensures { MatchOption result (NoString (left reader.now)) (λ t. (left reader.now ≡ lexeme t ∷ behind reader.now) × (t.word ≡ Word.Quoted) × IsQuotedText (chars t.text.now)) }
-{
-    let token = reader.peek()?;
-    if is_same(token.word, Word::Quoted) && is_quoted(token.text) {
-        Some(token)
-    } else {
-        None
-    }
-}
-
 /// A quoted text: its token, and what it stands for.
 pub fn read_string<'t>(reader: &mut Reader<'t>) -> Result<(Token<'t>, Text), Stop>
     ensures { Reads IsString closed (left reader.old) (left reader.new) (λ x. (lexeme x.0, x.1)) result }
 {
-    let Some(token) = quoted_next(reader) else {
+    let Some(token) = reader.peek_if(Word::Quoted) else {
         return Err(Stop::Wrong);
     };
+    if !is_quoted(token.text) {
+        return Err(Stop::Wrong);
+    }
     let text = quoted_value(reader.alloc, token.text)?;
     reader.advance();
     Ok((token, text))

@@ -177,34 +177,39 @@ fn read_leaf(reader: &mut Reader) -> Result<Expr, Stop>
     requires { IsOther RoundOpen (left reader.old) }
     ensures { Reads (IsExpr Prim) closed (left reader.old) (left reader.new) plain_expr result }
 {
-    if let Some(token) = reader.peek_if(Word::Id) {
-        reader.advance();
-        let place = token.place;
-        let node = Node::Field(Text::of(reader.alloc, token.text)?);
-        return Ok(Expr { place, node });
-    }
-    if let Some(token) = reader.peek_if(Word::True) {
-        reader.advance();
-        let place = token.place;
-        let node = Node::Truth(true);
-        return Ok(Expr { place, node });
-    }
-    if let Some(token) = reader.peek_if(Word::False) {
-        reader.advance();
-        let place = token.place;
-        let node = Node::Truth(false);
-        return Ok(Expr { place, node });
-    }
-    if reader.is_next(Word::Quoted) {
-        let (token, text) = read_string(reader)?;
-        let place = token.place;
-        let node = Node::Str(text);
-        return Ok(Expr { place, node });
-    }
-    let (token, number) = read_numeral(reader)?;
+    let Some(token) = reader.peek() else {
+        return Err(Stop::Wrong);
+    };
     let place = token.place;
-    let node = Node::Num(number);
-    Ok(Expr { place, node })
+    match token.word {
+        Word::Id => {
+            reader.advance();
+            let node = Node::Field(Text::of(reader.alloc, token.text)?);
+            Ok(Expr { place, node })
+        }
+        Word::True => {
+            reader.advance();
+            let node = Node::Truth(true);
+            Ok(Expr { place, node })
+        }
+        Word::False => {
+            reader.advance();
+            let node = Node::Truth(false);
+            Ok(Expr { place, node })
+        }
+        Word::Quoted => {
+            let (quoted, text) = read_string(reader)?;
+            let place = quoted.place;
+            let node = Node::Str(text);
+            Ok(Expr { place, node })
+        }
+        _ => {
+            let (numeral, number) = read_numeral(reader)?;
+            let place = numeral.place;
+            let node = Node::Num(number);
+            Ok(Expr { place, node })
+        }
+    }
 }
 
 /// What stands behind an opening parenthesis: an expression, or an operator before its operands.

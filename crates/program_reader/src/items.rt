@@ -14,7 +14,7 @@ ghost use Rattle.program_reader.specs.Items.{IsTyped, IsAssigned, IsAsserted, Is
 
 use crate::assertions::read_a;
 use crate::names::read_name_behind;
-use crate::rules::{read_out_rules, read_rules};
+use crate::rules::{OutRules, Rules};
 use crate::terms::read_x;
 use crate::types::read_type;
 use fast_lex::{Token, Word};
@@ -22,7 +22,7 @@ use fast_syntax::items::{
     AssertItem, Body, DefItem, Item, LangItem, Program, TransItem, TreeItem, X,
 };
 use fast_syntax::{Name, Pos};
-use label_reader::{ReadTokensStop, Reader, Stop, kept, pushed};
+use label_reader::{Between, ReadTokensStop, Reader, Stop, kept, pushed, read_some};
 use std::alloc::Global;
 
 /// A name, and the name of its type.
@@ -65,7 +65,8 @@ fn read_lang_item(reader: &mut Reader, place: Pos) -> Result<Item, Stop>
     ensures { Reads (IsBehind word.Lang place) closed (left reader.old) (left reader.new) plain_item result }
 {
     let names = read_typed(reader)?;
-    let ((name, of), rules) = kept(names, read_rules(reader))?;
+    let rules = read_some::<Rules>(reader, Word::CurlyOpen, Between::Bar, Word::CurlyClose);
+    let ((name, of), rules) = kept(names, rules)?;
     let body = Body::Lang(LangItem { name, of, rules });
     Ok(Item { place, body })
 }
@@ -76,7 +77,8 @@ fn read_trans_item(reader: &mut Reader, place: Pos) -> Result<Item, Stop>
 {
     let names = read_typed(reader)?;
     let head = kept(names, read_name_behind(reader, Word::Arrow))?;
-    let (((name, from), into), rules) = kept(head, read_out_rules(reader))?;
+    let rules = read_some::<OutRules>(reader, Word::CurlyOpen, Between::Bar, Word::CurlyClose);
+    let (((name, from), into), rules) = kept(head, rules)?;
     let body = Body::Trans(TransItem {
         name,
         from,

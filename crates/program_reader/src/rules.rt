@@ -2,10 +2,10 @@
 
 ghost use Rattle.std.specs.Prelude.{map};
 ghost use Rattle.read_forms.specs.Reads.{closed};
-ghost use Rattle.model_program.specs.Grammar.{IsDemand, AreVars, IsGiven};
-ghost use Rattle.model_grammar.specs.Grammar.{IsGuard, IsRule, IsOutRule, InBraces};
-ghost use Rattle.fast_syntax.specs.View.{plain_name, plain_demand};
-ghost use Rattle.fast_syntax.specs.Plain.{plain_guard, plain_rule, plain_out_rule};
+ghost use Rattle.model_program.specs.Grammar.{IsDemand, IsGiven};
+ghost use Rattle.model_grammar.specs.Grammar.{IsGuard};
+ghost use Rattle.fast_syntax.specs.View.{plain_demand};
+ghost use Rattle.fast_syntax.specs.Plain.{plain_guard};
 ghost use Rattle.label_reader.specs.Results.{left, Reads};
 ghost use Rattle.program_reader.specs.Goings.{guard_words, given_words};
 
@@ -15,9 +15,7 @@ use fast_lex::Word;
 use fast_syntax::expressions::Expr;
 use fast_syntax::items::{OutRule, Rule};
 use fast_syntax::{Demand, Name};
-use label_reader::{
-    Between, Items, Reader, Stop, kept, kept_if, pushed, read_any, read_level, read_some,
-};
+use label_reader::{Between, Items, Reader, Stop, kept, kept_if, pushed, read_any, read_level};
 use model_grammar::Level;
 
 fn read_demand(reader: &mut Reader) -> Result<Demand, Stop>
@@ -52,12 +50,6 @@ impl Items for Variables {
     }
 }
 
-fn read_vars(reader: &mut Reader) -> Result<Vec<Name>, Stop>
-    ensures { Reads AreVars closed (left reader.old) (left reader.new) (λ x. map plain_name x.items) result }
-{
-    read_any::<Variables>(reader, Word::RoundOpen, Between::Comma, Word::RoundClose)
-}
-
 fn read_guard(reader: &mut Reader) -> Result<Option<Expr>, Stop>
     ensures { Reads IsGuard guard_words (left reader.old) (left reader.new) plain_guard result }
 {
@@ -86,7 +78,7 @@ fn read_given(reader: &mut Reader) -> Result<Vec<Demand>, Stop>
 }
 
 /// The rules of a language.
-struct Rules;
+pub(crate) struct Rules;
 
 impl Items for Rules {
     ghost use Rattle.model_grammar.specs.Syntax as plain;
@@ -106,7 +98,8 @@ impl Items for Rules {
 
     fn read_item(reader: &mut Reader) -> Result<Rule, Stop> {
         let ctor = reader.name()?;
-        let head = kept(ctor, read_vars(reader))?;
+        let vars = read_any::<Variables>(reader, Word::RoundOpen, Between::Comma, Word::RoundClose);
+        let head = kept(ctor, vars)?;
         let guarded = kept(head, read_guard(reader))?;
         let (((ctor, vars), guard), given) = kept(guarded, read_given(reader))?;
         Ok(Rule {
@@ -119,7 +112,7 @@ impl Items for Rules {
 }
 
 /// The rules of a transformation.
-struct OutRules;
+pub(crate) struct OutRules;
 
 impl Items for OutRules {
     ghost use Rattle.model_grammar.specs.Syntax as plain;
@@ -143,16 +136,4 @@ impl Items for OutRules {
         let (rule, out) = kept(rule, read_out(reader))?;
         Ok(OutRule { rule, out })
     }
-}
-
-pub(crate) fn read_rules(reader: &mut Reader) -> Result<Vec<Rule>, Stop>
-    ensures { Reads (InBraces IsRule) closed (left reader.old) (left reader.new) (λ x. map plain_rule x.items) result }
-{
-    read_some::<Rules>(reader, Word::CurlyOpen, Between::Bar, Word::CurlyClose)
-}
-
-pub(crate) fn read_out_rules(reader: &mut Reader) -> Result<Vec<OutRule>, Stop>
-    ensures { Reads (InBraces IsOutRule) closed (left reader.old) (left reader.new) (λ x. map plain_out_rule x.items) result }
-{
-    read_some::<OutRules>(reader, Word::CurlyOpen, Between::Bar, Word::CurlyClose)
 }

@@ -3,9 +3,9 @@
 ghost use Rattle.std.specs.Prelude.{◌≡◌, map};
 ghost use Rattle.std.specs.Str.{chars};
 ghost use Rattle.read_forms.specs.Reads.{closed};
-ghost use Rattle.model_program.specs.Grammar.{IsSort, AreFields, AreFieldsOrNone, AreCtors, IsTypeItem, square_word, sort_text};
+ghost use Rattle.model_program.specs.Grammar.{IsSort, AreFieldsOrNone, IsTypeItem, square_word, sort_text};
 ghost use Rattle.label_reader.specs.Results.{left, Reads};
-ghost use Rattle.fast_syntax.specs.View.{plain_name, plain_field, plain_ctor, plain_type};
+ghost use Rattle.fast_syntax.specs.View.{plain_name, plain_field, plain_type};
 
 use crate::names::read_name_to;
 use fast_lex::Word;
@@ -61,19 +61,13 @@ impl Items for Fields {
     }
 }
 
-fn read_fields(reader: &mut Reader) -> Result<Vec<FieldItem>, Stop>
-    ensures { Reads AreFields closed (left reader.old) (left reader.new) (λ x. map plain_field x.items) result }
-{
-    read_any::<Fields>(reader, Word::SquareOpen, Between::Comma, Word::SquareClose)
-}
-
 fn read_fields_or_none(reader: &mut Reader) -> Result<Vec<FieldItem>, Stop>
     ensures { Reads AreFieldsOrNone square_word (left reader.old) (left reader.new) (λ x. map plain_field x.items) result }
 {
     if !reader.is_next(Word::SquareOpen) {
         return Ok(Vec::new(reader.alloc));
     }
-    read_fields(reader)
+    read_any::<Fields>(reader, Word::SquareOpen, Between::Comma, Word::SquareClose)
 }
 
 /// The constructors of a type.
@@ -102,18 +96,13 @@ impl Items for Ctors {
     }
 }
 
-fn read_ctors(reader: &mut Reader) -> Result<Vec<CtorItem>, Stop>
-    ensures { Reads AreCtors closed (left reader.old) (left reader.new) (λ x. map plain_ctor x.items) result }
-{
-    read_some::<Ctors>(reader, Word::CurlyOpen, Between::Comma, Word::CurlyClose)
-}
-
 pub(crate) fn read_type(reader: &mut Reader) -> Result<TypeItem, Stop>
     ensures { Reads IsTypeItem closed (left reader.old) (left reader.new) plain_type result }
 {
     let name = reader.name()?;
     let head = kept(name, read_fields_or_none(reader))?;
-    let ((name, fields), ctors) = kept(head, read_ctors(reader))?;
+    let ctors = read_some::<Ctors>(reader, Word::CurlyOpen, Between::Comma, Word::CurlyClose);
+    let ((name, fields), ctors) = kept(head, ctors)?;
     Ok(TypeItem {
         name,
         fields,

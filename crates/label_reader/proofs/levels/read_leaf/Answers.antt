@@ -2,33 +2,38 @@ use Rattle.std.proofs.Common.{sym, ap, ◌∙◌}
 use Rattle.std.proofs.lemmas.Int.{to_z-of_z}
 use mir.Syntax.{w128}
 use Rattle.label_reader.proofs.Digits.{fits_below}
-use Rattle.model_program.specs.declared.Word.TheVariants.{Id, True, False}
+use Rattle.model_program.specs.declared.Word.TheVariants.{Id, True, False, Quoted}
 use Rattle.read_forms.proofs.Forms.{as_read, as_fails, read_at}
 use Rattle.read_forms.proofs.Words.{word_read, next_of}
 use Rattle.model_grammar.specs.Syntax.{field, number}
-use Rattle.label_reader.proofs.Exits.{stepped, exit}
-use Rattle.label_reader.proofs.Primaries.{name_makes, true_makes, false_makes, string_makes, number_makes}
+use Rattle.label_reader.proofs.Exits.{stepped, exit, other_next}
+use Rattle.label_reader.proofs.Primaries.{name_makes, true_makes, false_makes, string_makes, number_makes, prim_ended}
 use Rattle.label_reader.proofs.levels.read_leaf.Goals as goal
 
-pub returns-in-Some : goal.returns-in-Some
-returns-in-Some c = let e = stepped _ c.in-Some.ensures c.advance.ensures in read_at (ap (λ l. field c.in-Some.token.place l) (sym c.in_ok-of.ensures)) (as_read (name_makes _ (next_of Id _ _ _ e.0 e.1)) (word_read Id _ _ _ e.0 e.1))
+pub returns-in_default : goal.returns-in_default
+returns-in_default c = prim_ended _ c.in_default.ensures
 
-pub returns-in-Some-peek_if : goal.returns-in-Some-peek_if
-returns-in-Some-peek_if c = let e = stepped _ c.in-Some-peek_if.ensures c.advance-in-Some-peek_if.ensures in as_read (true_makes _ (next_of True _ _ _ e.0 e.1)) (word_read True _ _ _ e.0 e.1)
+pub returns-in_ok-of-in-Id : goal.returns-in_ok-of-in-Id
+returns-in_ok-of-in-Id c = let e = stepped _ (c.in-Some.ensures, c.in-Id.is) c.advance.ensures in read_at (ap (λ l. field c.in-Some.token.place l) (sym c.in_ok-of-in-Id.ensures)) (as_read (name_makes _ (next_of Id _ _ _ e.0 e.1)) (word_read Id _ _ _ e.0 e.1))
 
-pub returns-in-Some-peek_if-2 : goal.returns-in-Some-peek_if-2
-returns-in-Some-peek_if-2 c = let e = stepped _ c.in-Some-peek_if-2.ensures c.advance-in-Some-peek_if-2.ensures in as_read (false_makes _ (next_of False _ _ _ e.0 e.1)) (word_read False _ _ _ e.0 e.1)
+pub returns-in-True : goal.returns-in-True
+returns-in-True c = let e = stepped _ (c.in-Some.ensures, c.in-True.is) c.advance-in-True.ensures in as_read (true_makes _ (next_of True _ _ _ e.0 e.1)) (word_read True _ _ _ e.0 e.1)
 
-pub returns-in_err-token : goal.returns-in_err-token
-returns-in_err-token c = exit _ _ _ _ c.from_residual-in_err-token.result c.from_residual-in_err-token.ensures.1 (as_fails _ (string_makes _ (c.is_next.ensures.yes c.if-is_next.true)) c.in_err-token.ensures)
+pub returns-in-False : goal.returns-in-False
+returns-in-False c = let e = stepped _ (c.in-Some.ensures, c.in-False.is) c.advance-in-False.ensures in as_read (false_makes _ (next_of False _ _ _ e.0 e.1)) (word_read False _ _ _ e.0 e.1)
 
-pub returns-then-is_next : goal.returns-then-is_next
-returns-then-is_next c = as_read (string_makes _ (c.is_next.ensures.yes c.if-is_next.true)) c.in_ok-token.ensures
+pub returns-in_err-quoted-in-Quoted : goal.returns-in_err-quoted-in-Quoted
+returns-in_err-quoted-in-Quoted c = exit _ _ _ _ c.from_residual-in_err-quoted-in-Quoted.result c.from_residual-in_err-quoted-in-Quoted.ensures.1 (as_fails _ (string_makes _ (next_of Quoted _ _ _ c.in-Some.ensures c.in-Quoted.is)) c.in_err-quoted-in-Quoted.ensures)
 
-pub returns-in_err-token-2 : goal.returns-in_err-token-2
-returns-in_err-token-2 c = exit _ _ _ _ c.from_residual-in_err-token-2.result c.from_residual-in_err-token-2.ensures.1
-    (as_fails _ (number_makes _ c.requires c.in_default.ensures c.in_default-peek_if.ensures c.in_default-peek_if-2.ensures (c.is_next.ensures.no c.if-is_next.false)) c.in_err-token-2.ensures.read)
+pub returns-in_ok-quoted-in-Quoted : goal.returns-in_ok-quoted-in-Quoted
+returns-in_ok-quoted-in-Quoted c = as_read (string_makes _ (next_of Quoted _ _ _ c.in-Some.ensures c.in-Quoted.is)) c.in_ok-quoted-in-Quoted.ensures
 
-pub returns : goal.returns
-returns c = read_at (ap (λ n. number c.in_ok-token-2.token.place n) (sym (to_z-of_z w128 _ (fits_below _ _ c.in_ok-token-2.ensures.value.0 c.in_ok-token-2.ensures.value.1) ∙ c.in_ok-token-2.ensures.value.0)))
-    (as_read (number_makes _ c.requires c.in_default.ensures c.in_default-peek_if.ensures c.in_default-peek_if-2.ensures (c.is_next.ensures.no c.if-is_next.false)) c.in_ok-token-2.ensures.read)
+pub returns-in_err-numeral-in_default-word : goal.returns-in_err-numeral-in_default-word
+returns-in_err-numeral-in_default-word c = let d = c.in_default-word in let here = c.in-Some.ensures in
+    exit _ _ _ _ c.from_residual-in_err-numeral-in_default-word.result c.from_residual-in_err-numeral-in_default-word.ensures.1
+    (as_fails _ (number_makes _ c.requires (other_next Id _ here d.not-Id) (other_next True _ here d.not-True) (other_next False _ here d.not-False) (other_next Quoted _ here d.not-Quoted)) c.in_err-numeral-in_default-word.ensures.read)
+
+pub returns-in_ok-numeral-in_default-word : goal.returns-in_ok-numeral-in_default-word
+returns-in_ok-numeral-in_default-word c = let d = c.in_default-word in let here = c.in-Some.ensures in let value = c.in_ok-numeral-in_default-word.ensures.value in
+    read_at (ap (λ n. number c.in_ok-numeral-in_default-word.numeral.place n) (sym (to_z-of_z w128 _ (fits_below _ _ value.0 value.1) ∙ value.0)))
+    (as_read (number_makes _ c.requires (other_next Id _ here d.not-Id) (other_next True _ here d.not-True) (other_next False _ here d.not-False) (other_next Quoted _ here d.not-Quoted)) c.in_ok-numeral-in_default-word.ensures.read)

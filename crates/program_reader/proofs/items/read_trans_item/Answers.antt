@@ -1,7 +1,7 @@
 use Rattle.std.proofs.Common.{sym, ap, ◌∙◌}
 use Rattle.read_forms.proofs.Forms.{as_read, as_fails, then_read, then_fails, first_fails, ends_closed, sample_pair, read_at}
 use Rattle.fast_syntax.specs.View.{plain_name}
-use Rattle.program_reader.proofs.RuleForms.{sample_braces, sample_out_rule}
+use Rattle.program_reader.proofs.RuleForms.{sample_braces, sample_out_rule, out_rule_item}
 use Rattle.program_reader.proofs.ItemForms.{trans_makes}
 use Rattle.program_reader.proofs.NameForms.{sample_behind}
 use Rattle.label_reader.proofs.Exits.{exit}
@@ -17,9 +17,12 @@ returns-in_err-head c = exit _ _ _ _ c.from_residual-in_err-head.result c.from_r
 
 pub returns-in_err-name : goal.returns-in_err-name
 returns-in_err-name c = exit _ _ _ _ c.from_residual-in_err-name.result c.from_residual-in_err-name.ensures.1
-    (as_fails _ (trans_makes _ _) (then_fails _ (ends_closed _ _) c.in_ok-names.ensures (then_fails _ (ends_closed _ _) (told_read _ _ _ c.in_ok-head.ensures.1 c.read_name_behind.ensures) (told_fails _ _ _ c.in_err-name.ensures c.read_out_rules.ensures))))
+    (as_fails _ (trans_makes _ _) (then_fails _ (ends_closed _ _) c.in_ok-names.ensures (then_fails _ (ends_closed _ _) (told_read _ _ _ c.in_ok-head.ensures.1 c.read_name_behind.ensures) (told_fails _ _ _ c.in_err-name.ensures c.read_some-rules.ensures))))
 
 pub returns : goal.returns
 returns c = let one = c.in_ok-head.ensures in let two = c.in_ok-name.ensures in
     as_read (trans_makes _ _) (then_read (ends_closed _ _) (read_at (ap (λ v. (plain_name v.0, plain_name v.1)) (sym (ap (λ v. v.0) two.0 ∙ one.0))) c.in_ok-names.ensures)
-    (then_read (ends_closed _ _) (read_at (ap (λ v. plain_name v.1) (sym two.0)) (told_read _ _ _ one.1 c.read_name_behind.ensures)) (told_read _ _ _ two.1 c.read_out_rules.ensures)))
+    (then_read (ends_closed _ _) (read_at (ap (λ v. plain_name v.1) (sym two.0)) (told_read _ _ _ one.1 c.read_name_behind.ensures)) (told_read _ _ _ two.1 c.read_some-rules.ensures)))
+
+pub read_some-rules-requires : goal.read_some-rules-requires
+read_some-rules-requires c = out_rule_item

@@ -3,7 +3,7 @@ use Rattle.read_forms.proofs.Forms.{as_fails, as_read, then_fails, then_read, fi
 use Rattle.fast_syntax.specs.View.{plain_name, plain_field}
 use Rattle.label_reader.proofs.Exits.{exit}
 use Rattle.label_reader.proofs.Keeping.{told_read, told_fails}
-use Rattle.program_reader.proofs.TypeForms.{type_makes, sample_fields, sample_ctors, ends_fields}
+use Rattle.program_reader.proofs.TypeForms.{type_makes, sample_fields, sample_ctors, ends_fields, ctor_item}
 use Rattle.program_reader.proofs.types.read_type.Goals as goal
 
 pub returns-in_err-name : goal.returns-in_err-name
@@ -14,9 +14,12 @@ returns-in_err-head c = exit _ _ _ _ c.from_residual-in_err-head.result c.from_r
 
 pub returns-in_err-name-2 : goal.returns-in_err-name-2
 returns-in_err-name-2 c = exit _ _ _ _ c.from_residual-in_err-name-2.result c.from_residual-in_err-name-2.ensures.1
-    (as_fails _ (type_makes _ _) (then_fails _ (ends_closed _ _) c.in_ok-name.ensures (then_fails _ ends_fields (told_read _ _ _ c.in_ok-head.ensures.1 c.read_fields_or_none.ensures) (told_fails _ _ _ c.in_err-name-2.ensures c.read_ctors.ensures))))
+    (as_fails _ (type_makes _ _) (then_fails _ (ends_closed _ _) c.in_ok-name.ensures (then_fails _ ends_fields (told_read _ _ _ c.in_ok-head.ensures.1 c.read_fields_or_none.ensures) (told_fails _ _ _ c.in_err-name-2.ensures c.read_some-ctors.ensures))))
 
 pub returns : goal.returns
 returns c = let one = c.in_ok-head.ensures in let two = c.in_ok-name-2.ensures in
     as_read (type_makes _ _) (then_read (ends_closed _ _) (read_at (ap plain_name (sym (ap (λ v. v.0) two.0 ∙ one.0))) c.in_ok-name.ensures)
-    (then_read ends_fields (read_at (ap (λ v. map plain_field v.1.items) (sym two.0)) (told_read _ _ _ one.1 c.read_fields_or_none.ensures)) (told_read _ _ _ two.1 c.read_ctors.ensures)))
+    (then_read ends_fields (read_at (ap (λ v. map plain_field v.1.items) (sym two.0)) (told_read _ _ _ one.1 c.read_fields_or_none.ensures)) (told_read _ _ _ two.1 c.read_some-ctors.ensures)))
+
+pub read_some-ctors-requires : goal.read_some-ctors-requires
+read_some-ctors-requires c = ctor_item

@@ -1,4 +1,4 @@
-use Rattle.std.proofs.Common.{false, sym, ap, ◌∙◌, map, ◌∷◌, []}
+use Rattle.std.proofs.Common.{false, ap, ◌∙◌, map, ◌∷◌, []}
 use Rattle.std.proofs.lemmas.List.{map-append}
 use Rattle.fast_syntax.specs.Plain.{plain_expr}
 use Rattle.label_reader.specs.Operands.{plain_part, plain_factor}
