@@ -1,5 +1,5 @@
 -- What stands in parentheses.
-use Rattle.std.proofs.Common.{◌≡◌, ℕ, pos, ◌<◌, Bool, true, false, List, [], ◌∷◌, ◌++◌, refl, sym, ap, ◌∙◌, subst, append_assoc, append-nil, arith, Option, Some, None, ◌⊎◌, inl, inr}
+use Rattle.std.proofs.Common.{◌≡◌, ℕ, pos, ◌<◌, List, [], ◌∷◌, ◌++◌, refl, sym, ap, ◌∙◌, subst, append_assoc, append-nil, arith, Option, Some, None, ◌⊎◌, inl, inr}
 use Rattle.std.specs.Str.Parse.{digits_value}
 use Rattle.model_program.specs.declared.Word.{Word}
 use Rattle.model_program.specs.declared.Word.TheVariants.{And, Or, True, False, Id, Number, Quoted, RoundOpen, RoundClose, Equal, NotEqual, AtMost, AtLeast, Less, Greater, Plus, Minus, Star, Percent}
@@ -18,10 +18,8 @@ use Rattle.model_grammar.specs.declared.Rel.{Rel}
 use Rattle.model_grammar.specs.declared.Rel.TheVariants as rels
 use Rattle.model_grammar.specs.declared.Level.{Level}
 use Rattle.model_grammar.specs.declared.Level.TheVariants.{E, Conj, Neg, Cmp, Sum, Prod, Unary, Prim}
-use Rattle.model_grammar.specs.Operators.{IsMany, rel_word, is_marking}
-use Rattle.fast_fault.specs.declared.place.Pos.{Pos}
-use Rattle.label_reader.specs.Operands.{mark_in, parts_from}
-use Rattle.model_grammar.specs.Syntax.{Expr, field, number, text, truth, negation, compare, minus, chain, no_parts, part}
+use Rattle.model_grammar.specs.Operators.{IsMany, rel_word}
+use Rattle.model_grammar.specs.Syntax.{Expr, field, number, text, truth, negation, compare, minus, chain}
 use Rattle.model_grammar.specs.Expressions.{IsExpr, IsE, disjunction, conjunction, negated, not_negated, compared, not_compared, sum, product, negative_number, minus_of, no_minus, field_name, constant_number, constant_text, constant_true, constant_false, brackets, many_before, remainder_before, compared_before, AreMore, no_more, one_more, ArePrims, no_prims, prims, chain_of, negative}
 use Rattle.model_grammar.specs.Printed.{rank}
 use Rattle.model_grammar.proofs.Levels.{loosest}

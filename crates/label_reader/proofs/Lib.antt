@@ -11,3 +11,4 @@ pub mod Primaries
 pub mod Insides
 pub mod Further
 pub mod Listed
+pub mod NoOperators

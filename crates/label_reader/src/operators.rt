@@ -65,25 +65,15 @@ pub(crate) fn sign_next<'t>(reader: &Reader<'t>, kind: Chain) -> Option<Token<'t
 fn rel_of(word: Word) -> Option<Rel>
     ensures { MatchOption result (IsNoRel word) (λ rel. word ≡ rel_word rel) }
 {
-    if is_same(word, Word::Equal) {
-        return Some(Rel::Equal);
+    match word {
+        Word::Equal => Some(Rel::Equal),
+        Word::NotEqual => Some(Rel::NotEqual),
+        Word::Less => Some(Rel::Less),
+        Word::AtMost => Some(Rel::AtMost),
+        Word::Greater => Some(Rel::Greater),
+        Word::AtLeast => Some(Rel::AtLeast),
+        _ => None,
     }
-    if is_same(word, Word::NotEqual) {
-        return Some(Rel::NotEqual);
-    }
-    if is_same(word, Word::Less) {
-        return Some(Rel::Less);
-    }
-    if is_same(word, Word::AtMost) {
-        return Some(Rel::AtMost);
-    }
-    if is_same(word, Word::Greater) {
-        return Some(Rel::Greater);
-    }
-    if is_same(word, Word::AtLeast) {
-        return Some(Rel::AtLeast);
-    }
-    None
 }
 
 /// The next token, where it is a comparison.
@@ -98,19 +88,13 @@ pub(crate) fn rel_next<'t>(reader: &Reader<'t>) -> Option<(Token<'t>, Rel)>
 fn many_of(word: Word) -> Option<Chain>
     ensures { MatchOption result (IsNoMany word) (λ kind. IsMany kind word) }
 {
-    if is_same(word, Word::Or) {
-        return Some(Chain::Disjunction);
+    match word {
+        Word::Or => Some(Chain::Disjunction),
+        Word::And => Some(Chain::Conjunction),
+        Word::Plus => Some(Chain::Sum),
+        Word::Star => Some(Chain::Product),
+        _ => None,
     }
-    if is_same(word, Word::And) {
-        return Some(Chain::Conjunction);
-    }
-    if is_same(word, Word::Plus) {
-        return Some(Chain::Sum);
-    }
-    if is_same(word, Word::Star) {
-        return Some(Chain::Product);
-    }
-    None
 }
 
 /// The next token, where it is an operator, other than `-`, of any number of operands.

@@ -11,3 +11,4 @@ pub mod ItemForms
 pub mod Texts
 pub mod NameForms
 pub mod Growing
+pub mod NoOperations

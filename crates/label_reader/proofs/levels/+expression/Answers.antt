@@ -1,12 +1,11 @@
-use Rattle.std.proofs.Common.{sym, ap, ◌∙◌, arith, refl, inr, false, ◌++◌, ◌∷◌, []}
+use Rattle.std.proofs.Common.{sym, ap, ◌∙◌, arith, refl, inr, false, ◌∷◌, []}
 use Rattle.model_program.specs.declared.Word.TheVariants.{Not, Minus, Percent, RoundOpen, RoundClose}
-use Rattle.read_forms.proofs.Forms.{as_read, as_fails, then_read, then_fails, first_fails, ends_closed, closed_read, closed_fails, sample_pair, read_at, chained_read, chained_fails, chained_first_fails}
+use Rattle.read_forms.proofs.Forms.{as_read, as_fails, then_read, then_fails, first_fails, ends_closed, closed_read, closed_fails, read_at, chained_read, chained_fails, chained_first_fails}
 use Rattle.read_forms.proofs.Words.{word_read, next_of, sample_sign}
 use Rattle.model_grammar.specs.declared.Level.TheVariants.{Unary, Prim}
 use Rattle.model_grammar.specs.declared.Chain.TheVariants.{Product}
 use Rattle.model_grammar.specs.Operators.{is_marking}
 use Rattle.model_grammar.specs.Syntax.{number, chain, part, no_parts}
-use Rattle.fast_lex.specs.Tokens.{lexeme}
 use Rattle.fast_syntax.specs.Plain.{plain_expr}
 use Rattle.label_reader.specs.Levels.{GoesOn, BeginsAt}
 use Rattle.label_reader.specs.Operands.{marked, mark_in, parts_from}

@@ -1,0 +1,22 @@
+-- Words that are no operators.
+use Rattle.std.proofs.Common.{◌≡◌, inl, inr}
+use Rattle.model_program.specs.declared.Word.{Word}
+use Rattle.model_program.specs.declared.Word.TheVariants as word
+use Rattle.model_grammar.specs.declared.Chain.TheVariants.{Disjunction, Conjunction, Sum, Product}
+use Rattle.model_grammar.specs.declared.Rel.TheVariants.{Equal, NotEqual, Less, AtMost, Greater, AtLeast}
+use Rattle.label_reader.specs.Levels.{IsNoRel, IsNoMany}
+
+pub no_rel : (w : Word) → (w ≡ word.Equal → ⊥) → (w ≡ word.NotEqual → ⊥) → (w ≡ word.Less → ⊥) → (w ≡ word.AtMost → ⊥) → (w ≡ word.Greater → ⊥) → (w ≡ word.AtLeast → ⊥) → IsNoRel w
+no_rel w a b c d e f Equal is = a is
+no_rel w a b c d e f NotEqual is = b is
+no_rel w a b c d e f Less is = c is
+no_rel w a b c d e f AtMost is = d is
+no_rel w a b c d e f Greater is = e is
+no_rel w a b c d e f AtLeast is = f is
+
+pub no_many : (w : Word) → (w ≡ word.Or → ⊥) → (w ≡ word.And → ⊥) → (w ≡ word.Plus → ⊥) → (w ≡ word.Star → ⊥) → IsNoMany w
+no_many w a b c d Disjunction is = absurd (a is)
+no_many w a b c d Conjunction is = absurd (b is)
+no_many w a b c d Sum (inl is) = absurd (c is)
+no_many w a b c d Sum (inr is) = is
+no_many w a b c d Product is = absurd (d is)
