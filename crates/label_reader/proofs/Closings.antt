@@ -57,10 +57,6 @@ pub closing_read : {A B : Type 0} {goes_on : Word → Type 0} {whole : B → Lis
 closing_read {A} {B} {whole = whole} item close to {tokens} {rest} {after} all closable so_far is_next end =
     subst (λ (l : List A). IsRead whole closed tokens (to l) after) (append-nil all) (so_far.read ([], tt) after (as_read (closing_ends item close closable rest is_next) end))
 
-pub closing_read_fails : {A B : Type 0} {goes_on : Word → Type 0} {whole : B → List Lexeme → Type 0} (item : A → List Lexeme → Type 0) (close : Word) {to : List A × Unit {0} → B} {tokens rest : List Lexeme} (bad : Option (List Lexeme)) → IsClosable item goes_on close
-    → IsPartWay whole (closing_of item close) closed to tokens rest → IsNext close rest → Fails (IsSign close) closed rest bad → Fails whole closed tokens bad
-closing_read_fails item close {rest = rest} bad closable so_far is_next fails = so_far.fails bad (as_fails bad (closing_ends item close closable rest is_next) fails)
-
 -- a list that ends by its closing sign
 abbrev pub to_close : {A : Type 0} → (A → List Lexeme → Type 0) → Word → List A → List Lexeme → Type 0
 to_close item close xs = Many item xs ⌢ sign close

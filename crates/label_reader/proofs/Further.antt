@@ -15,7 +15,7 @@ use Rattle.model_grammar.specs.Expressions.{IsExpr}
 use Rattle.label_reader.specs.Operands.{mark_in, parts_from}
 use Rattle.label_reader.specs.Inside.{IsBehindFirst}
 use Rattle.label_reader.specs.Lists.{closing_of}
-use Rattle.label_reader.proofs.Closings.{closing_more, closing_more_fails, closing_read, closing_read_fails}
+use Rattle.label_reader.proofs.Closings.{closing_more, closing_more_fails, closing_read}
 use Rattle.label_reader.proofs.Gathered.{marks_of, signed, prefix_is, two_gathered, more_gathered}
 use Rattle.label_reader.proofs.Insides.{prims_closable, prefix_of, further_starts}
 
@@ -51,9 +51,6 @@ further_goes_on k op first x tokens rest after parts new mark own many so_far ot
 
 pub further_next_fails : (k : Chain) (op : Lexeme) (first : Expr) (tokens rest : List Lexeme) (parts : List (Bool × Expr)) (bad : Option (List Lexeme)) → IsFurther k op first tokens rest parts → IsOther RoundClose rest → Fails (IsExpr Prim) closed rest bad → Fails (IsBehindFirst k op first) closed tokens bad
 further_next_fails k op first tokens rest parts bad so_far other fails = closing_more_fails (IsExpr Prim) RoundClose bad prims_closable so_far.part_way other fails
-
-pub further_end_fails : (k : Chain) (op : Lexeme) (first : Expr) (tokens rest : List Lexeme) (parts : List (Bool × Expr)) (bad : Option (List Lexeme)) → IsFurther k op first tokens rest parts → IsNext RoundClose rest → Fails (IsSign RoundClose) closed rest bad → Fails (IsBehindFirst k op first) closed tokens bad
-further_end_fails k op first tokens rest parts bad so_far is_next fails = closing_read_fails (IsExpr Prim) RoundClose bad prims_closable so_far.part_way is_next fails
 
 pub further_ends : (k : Chain) (op : Lexeme) (first : Expr) (tokens rest after : List Lexeme) (parts : List (Bool × Expr)) (e : Expr) → IsFurther k op first tokens rest parts → IsNext RoundClose rest → IsRead (IsSign RoundClose) closed rest tt after → e ≡ chain k op.place (parts_from parts) → IsRead (IsBehindFirst k op first) closed tokens e after
 further_ends k op first tokens rest after parts e so_far is_next end is =
