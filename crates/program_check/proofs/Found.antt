@@ -4,6 +4,7 @@ use Rattle.std.proofs.lemmas.Option.{slice_get-map, slice_get_read, slice_get_pa
 use Rattle.std.specs.Prelude.{find, slice_get, is_some, nat_lt}
 use Rattle.std.proofs.lemmas.Bool.Decides.{nat_tests}
 use Rattle.std.specs.Option.{option_map, option_and_then}
+use Rattle.std.specs.List.{ItemBy}
 use Rattle.model_grammar.specs.Syntax.{Body, sorts, tree, lang, trans, def, assertion, Item}
 use Rattle.model_names.specs.Declared.{same_text, types_of, own_types, find_type, find_item, declares}
 use Rattle.model_meaning.specs.Types.{signature_of}
@@ -49,6 +50,11 @@ there_by f xs i x low is = sym (slice_get-map f xs i ∙ ap (option_map f) (slic
 
 pub past_by : {A B : Type 0} (f : A → B) (xs : List A) (i : ℕ) → length xs ≤ i → None ≡ slice_get (map f xs) i
 past_by f xs i end = sym (slice_get-map f xs i ∙ ap (option_map f) (slice_get_past xs i end))
+
+-- what std's `get` lends of a slice
+pub got : {R A B : Type 0} (now : R → A) (f : A → B) (xs : List A) (i : ℕ) (r : Option R) → ItemBy now xs i i r → option_map (λ x. f (now x)) r ≡ slice_get (map f xs) i
+got now f xs i None is = past_by f xs i is.3
+got now f xs i (Some x) is = there_by f xs i (now x) is.3.0 is.1
 
 -- what is found by the number of a name
 pub item_found : (name : List ℕ) (items : List Item) (place : Option ℕ) (n : ℕ) (found : Option Item) → place ≡ place_by (declares name) items → place ≡ Some n → found ≡ slice_get items n → found ≡ find_item items name

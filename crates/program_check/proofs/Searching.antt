@@ -1,8 +1,10 @@
 -- What is found by its number, and what a rule is made of.
-use Rattle.std.proofs.Common.{◌≡◌, ℕ, Bool, true, false, cond, List, [], ◌∷◌, Option, Some, None, length, refl, sym, ap, ap₂, ◌∙◌, suc, find}
+use Rattle.std.proofs.Common.{◌≡◌, ℕ, ◌+◌, ◌<◌, ◌≤◌, Bool, true, false, ◌||◌, cond, List, [], ◌∷◌, map, drop, get_or, Option, Some, None, length, refl, sym, ap, ap₂, ◌∙◌, suc, find}
 use Rattle.std.specs.Prelude.{MatchOption, slice_get}
 use Rattle.std.specs.Option.{option_map, option_and_then}
-use Rattle.std.specs.List.{flat_map}
+use Rattle.std.specs.List.{flat_map, list_any}
+use Rattle.std.proofs.lemmas.List.{drop_all}
+use Rattle.fast_syntax.proofs.Appending.{drop_at}
 use Rattle.fast_fault.specs.declared.code.Code.TheVariants.{DuplicateVariable}
 use Rattle.model_program.specs.Syntax.{Name, TypeItem}
 use Rattle.model_grammar.specs.Syntax.{Rule, Item}
@@ -35,3 +37,16 @@ rule_noted items of r t s vars n a b c d e t_is s_is vars_are many one two three
     next (same (ap₂ (λ o m. constructor_failures o r.ctor m) t_is many) one)
     (next two (next (same (ap (λ x. guard_failures x r.guard) (s_is ∙ ap scope_of t_is)) three)
     (same (ap (λ vs. flat_map (demand_failures items of vs) r.given) vars_are) four)))
+
+-- whether one of them passes, seen element by element
+pub any_at : {A B : Type 0} (p : B → Bool) (f : A → B) (xs : List A) (i : ℕ) (x : A) (whole : Bool) → i < length xs → x ≡ get_or xs i x → list_any p (map f (drop i xs)) ≡ whole → (p (f x) || list_any p (map f (drop (i + 1) xs))) ≡ whole
+any_at p f xs i x whole low is so_far = sym (ap (λ l. list_any p (map f l)) (drop_at xs i x low is)) ∙ so_far
+
+pub any_found : {A B : Type 0} (p : B → Bool) (f : A → B) (xs : List A) (i : ℕ) (x : A) (b whole : Bool) → i < length xs → x ≡ get_or xs i x → b ≡ p (f x) → b ≡ true → list_any p (map f (drop i xs)) ≡ whole → true ≡ whole
+any_found p f xs i x b whole low is passes found so_far = ap (λ c. c || list_any p (map f (drop (i + 1) xs))) (sym found ∙ passes) ∙ any_at p f xs i x whole low is so_far
+
+pub any_more : {A B : Type 0} (p : B → Bool) (f : A → B) (xs : List A) (i : ℕ) (x : A) (b whole : Bool) → i < length xs → x ≡ get_or xs i x → b ≡ p (f x) → b ≡ false → list_any p (map f (drop i xs)) ≡ whole → list_any p (map f (drop (i + 1) xs)) ≡ whole
+any_more p f xs i x b whole low is passes found so_far = ap (λ c. c || list_any p (map f (drop (i + 1) xs))) (sym found ∙ passes) ∙ any_at p f xs i x whole low is so_far
+
+pub any_none : {A B : Type 0} (p : B → Bool) (f : A → B) (xs : List A) (i : ℕ) (whole : Bool) → length xs ≤ i → list_any p (map f (drop i xs)) ≡ whole → false ≡ whole
+any_none p f xs i whole end so_far = ap (λ l. list_any p (map f l)) (sym (drop_all i xs end)) ∙ so_far

@@ -1,6 +1,6 @@
 //! What a program declares: each name is numbered once, and found in constant time from then on.
 
-ghost use Rattle.std.specs.Prelude.{◌≡◌, [], Some, None, OnOk, IfOk, map};
+ghost use Rattle.std.specs.Prelude.{◌≡◌, ℕ, List, [], Some, None, OnOk, map};
 ghost use Rattle.std.specs.Option.{option_map};
 ghost use Rattle.model_names.specs.Declared.{own_name, declares};
 ghost use Rattle.fast_syntax.specs.View.{plain_name, plain_ctor, plain_type};
@@ -64,29 +64,30 @@ fn number_name(alloc: Global, names: &mut Names, item: &Item, place: usize) -> R
     }
 }
 
-/// The numbers of the constructors of a type.
-fn number_ctors(alloc: Global, ctors: &[CtorItem]) -> Result<Names, Memory>
-    ensures { IfOk result (HasCtors (map plain_ctor ctors.now)) }
+/// The constructors of an item, where it is a type.
+fn own_ctors(item: &Item) -> &[CtorItem]
+    ensures { map plain_ctor result.now ≡ own_ctors (plain_item item.now) }
 {
-    let mut names = Names::new(alloc);
+    match own_type(item) {
+        Some(own) => &own.ctors,
+        None => &[],
+    }
+}
+
+/// Numbers these constructors, where no name has a number so far.
+fn number_ctors(alloc: Global, names: &mut Names, ctors: &[CtorItem]) -> Result<(), Memory>
+    requires { (name : List ℕ) → place_in names.old name ≡ None }
+    ensures { OnOk result (HasCtors (map plain_ctor ctors.now) names.new) }
+{
     'ctors: for (place, ctor) in ctors.iter().enumerate() {
         names.add(alloc, &ctor.name.text, place)?;
     }
-    Ok(names)
-}
-
-fn own_ctors(alloc: Global, item: &Item) -> Result<Names, Memory>
-    ensures { IfOk result (λ names. place_in names ≡ ctor_place (own_ctors (plain_item item.now))) }
-{
-    match own_type(item) {
-        Some(own) => number_ctors(alloc, &own.ctors),
-        None => Ok(Names::new(alloc)),
-    }
+    Ok(())
 }
 
 impl Declarations {
     /// What no items declare.
-    fn new(alloc: Global) -> Declarations
+    pub(crate) fn new(alloc: Global) -> Declarations
         ensures { AreNumbered [] result }
     {
         Declarations {
@@ -102,18 +103,20 @@ impl Declarations {
     {
         number_type(alloc, &mut self.types, item, place)?;
         number_name(alloc, &mut self.names, item, place)?;
-        self.ctors.push(own_ctors(alloc, item)?)?;
+        let mut ctors = Names::new(alloc);
+        number_ctors(alloc, &mut ctors, own_ctors(item))?;
+        self.ctors.push(ctors)?;
         Ok(())
     }
-}
 
-/// Numbers what the items declare.
-pub(crate) fn number_items(alloc: Global, items: &[Item]) -> Result<Declarations, Memory>
-    ensures { IfOk result (AreNumbered (map plain_item items.now)) }
-{
-    let mut declared = Declarations::new(alloc);
-    'items: for (place, item) in items.iter().enumerate() {
-        declared.add(alloc, item, place)?;
+    /// Numbers what the items declare, where nothing has a number so far.
+    pub(crate) fn number(&mut self, alloc: Global, items: &[Item]) -> Result<(), Memory>
+        requires { AreNumbered [] self.old }
+        ensures { OnOk result (AreNumbered (map plain_item items.now) self.new) }
+    {
+        'items: for (place, item) in items.iter().enumerate() {
+            self.add(alloc, item, place)?;
+        }
+        Ok(())
     }
-    Ok(declared)
 }

@@ -20,46 +20,38 @@ pub(crate) struct DeclaredType<'p> {
     ghost numbered: { HasCtors (map plain_ctor item.now.ctors.items) ctors.now } by { Prim.hlevel props },
 }
 
-impl<'p> DeclaredType<'p> {
-    /// The first constructor of this name.
-    pub(crate) fn ctor(&self, name: &Text) -> Option<&'p CtorItem>
-        ensures { MatchOption result (find_ctor (map plain_ctor self.now.item.now.ctors.items) name.now ≡ None) (λ c. find_ctor (map plain_ctor self.now.item.now.ctors.items) name.now ≡ Some (plain_ctor c.now)) }
-    {
-        match self.ctors.place(name) {
-            Some(place) => ctor_at(&self.item.ctors, place),
-            None => None,
-        }
-    }
-
-    /// The constructor of this name has no children.
-    fn is_leaf(&self, name: &Text) -> bool
-        ensures { result ≡ is_leaf (map plain_ctor self.now.item.now.ctors.items) name.now }
-    {
-        match self.ctor(name) {
-            Some(ctor) => is_rank(0, ctor.rank),
-            None => false,
-        }
-    }
-
-    /// There is a constructor without children.
-    pub(crate) fn has_leaf(&self) -> bool
-        ensures { result ≡ has_leaf (map plain_ctor self.now.item.now.ctors.items) }
-    {
-        'ctors: for ctor in &self.item.ctors {
-            if self.is_leaf(&ctor.name.text) {
-                return true;
-            }
-        }
-        false
+/// The first constructor of this name, where the constructors have these numbers.
+pub(crate) fn ctor_named<'p>(
+    ctors: &'p [CtorItem],
+    numbers: &Names,
+    name: &Text,
+) -> Option<&'p CtorItem>
+    ensures { HasCtors (map plain_ctor ctors.now) numbers.now → MatchOption result (find_ctor (map plain_ctor ctors.now) name.now ≡ None) (λ c. find_ctor (map plain_ctor ctors.now) name.now ≡ Some (plain_ctor c.now)) }
+{
+    match numbers.place(name) {
+        Some(place) => ctors.get(place),
+        None => None,
     }
 }
 
-fn ctor_at(ctors: &[CtorItem], place: usize) -> Option<&CtorItem>
-    ensures { option_map (λ c. plain_ctor c.now) result ≡ slice_get (map plain_ctor ctors.now) place }
+/// There is a constructor without children, where the constructors have these numbers.
+pub(crate) fn has_leaf(ctors: &[CtorItem], numbers: &Names) -> bool
+    ensures { HasCtors (map plain_ctor ctors.now) numbers.now → result ≡ has_leaf (map plain_ctor ctors.now) }
 {
-    if place < ctors.len() {
-        Some(&ctors[place])
-    } else {
-        None
+    'ctors: for ctor in ctors {
+        if is_leaf(ctors, numbers, &ctor.name.text) {
+            return true;
+        }
+    }
+    false
+}
+
+/// The constructor of this name has no children.
+fn is_leaf(ctors: &[CtorItem], numbers: &Names, name: &Text) -> bool
+    ensures { HasCtors (map plain_ctor ctors.now) numbers.now → result ≡ is_leaf (map plain_ctor ctors.now) name.now }
+{
+    match ctor_named(ctors, numbers, name) {
+        Some(ctor) => is_rank(0, ctor.rank),
+        None => false,
     }
 }

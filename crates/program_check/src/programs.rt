@@ -1,6 +1,6 @@
 //! Whole programs: one passes where none of the conditions on programs fails.
 
-ghost use Rattle.std.specs.Prelude.{◌≡◌, ◌<◌, OnOk, IfOk, IfErr, Some, None, true, map};
+ghost use Rattle.std.specs.Prelude.{◌≡◌, ◌<◌, OnOk, IfOk, IfErr, Some, None, true, map, []};
 ghost use Rattle.std.specs.Option.{option_map};
 ghost use Rattle.std.proofs.Props.{props};
 ghost use Rattle.fast_tree.specs.Signatures.{plain_signature};
@@ -13,7 +13,7 @@ ghost use Rattle.program_check.specs.Signed.{own_signature};
 
 use crate::checker::Checker;
 use crate::context::{Context, item_at};
-use crate::declarations::{Declarations, number_items};
+use crate::declarations::Declarations;
 use crate::limits::MOST_ITEMS;
 use crate::signatures::signatures_of;
 use fast_fault::{Code, Memory, Refusal};
@@ -108,6 +108,22 @@ fn signed_if_passing(
     }
 }
 
+/// Numbers what the items declare, and makes the signatures of their types, where the program passes.
+fn number_and_sign(
+    alloc: Global,
+    items: &[Item],
+    declared: &mut Declarations,
+) -> Result<Vec<Option<Signature>>, CheckStop>
+    requires { AreNumbered [] declared.old }
+    ensures well_formed { OnOk result (is_well_formed (map plain_item items.now) ≡ true) }
+    ensures numbered { OnOk result (AreNumbered (map plain_item items.now) declared.new) }
+    ensures signed { IfOk result (λ made. map (option_map plain_signature) made.items ≡ map own_signature (map plain_item items.now)) }
+    ensures refused { IfErr result (IsStop (refusal_of (map plain_item items.now))) }
+{
+    declared.number(alloc, items)?;
+    signed_if_passing(alloc, items, declared)
+}
+
 /// Checks a program. It passes as it is where none of the conditions on programs fails; else the one that comes first in
 /// the text is told. A program with a sum of more parts than a text can have is not checked, for want of memory.
 pub fn check(alloc: Global, program: Program) -> Result<Checked, CheckStop>
@@ -115,8 +131,8 @@ pub fn check(alloc: Global, program: Program) -> Result<Checked, CheckStop>
     ensures same { IfOk result (λ checked. checked.program ≡ program) }
     ensures refused { IfErr result (IsStop (refusal_of (plain_program program))) }
 {
-    let declared = number_items(alloc, &program.items)?;
-    let signatures = signed_if_passing(alloc, &program.items, &declared)?;
+    let mut declared = Declarations::new(alloc);
+    let signatures = number_and_sign(alloc, &program.items, &mut declared)?;
     Ok(Checked {
         program,
         declared,

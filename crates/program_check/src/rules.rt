@@ -18,7 +18,7 @@ ghost use Rattle.program_check.specs.Known.{plain_scope};
 
 use crate::checker::Checker;
 use crate::context::Context;
-use crate::declared_type::DeclaredType;
+use crate::declared_type::{DeclaredType, ctor_named};
 use crate::labels::{Scope, either};
 use crate::names::Names;
 use crate::types::is_rank;
@@ -97,7 +97,7 @@ impl Checker {
         let Some(of) = of else {
             return;
         };
-        match of.ctor(&name.text) {
+        match ctor_named(&of.item.ctors, of.ctors, &name.text) {
             Some(ctor) => {
                 self.note_if(!is_rank(count, ctor.rank), Code::WrongRank, name.place);
             }

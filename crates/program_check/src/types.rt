@@ -12,7 +12,7 @@ ghost use Rattle.program_check.specs.Notes.{Notes};
 ghost use Rattle.program_check.specs.Nodes.{ctors_failures};
 
 use crate::checker::Checker;
-use crate::declared_type::DeclaredType;
+use crate::declared_type::has_leaf;
 use crate::limits::{MOST_CHILDREN, MOST_FIELDS};
 use fast_fault::{Code, Text};
 use fast_syntax::{CtorItem, FieldItem, TypeItem};
@@ -86,15 +86,9 @@ impl Checker {
     fn check_ctors(&mut self, item: &TypeItem)
         ensures { Notes self.old self.new (ctors_failures (plain_type item.now)) }
     {
-        let ctors = self.check_repeated(Code::DuplicateName, &item.ctors);
-        if self.ran_out {
-            return;
-        }
-        let declared = DeclaredType {
-            item,
-            ctors: &ctors,
-        };
-        self.note_if(!declared.has_leaf(), Code::NoLeaf, item.name.place);
+        let numbers = self.check_repeated(Code::DuplicateName, &item.ctors);
+        let leaf = has_leaf(&item.ctors, &numbers);
+        self.note_if(!leaf, Code::NoLeaf, item.name.place);
     }
 
     /// Notes what fails in a type.

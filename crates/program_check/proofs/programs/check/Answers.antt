@@ -10,9 +10,8 @@ use Rattle.program_check.proofs.programs.check.Goals as goal
 pub invariant_of-result : goal.invariant_of-result
 invariant_of-result c =
     let same = ap (λ (xs : List Item). map plain_item xs) c.deref.ensures.value in
-    let same-2 = ap (λ (xs : List Item). map plain_item xs) c.deref-2.ensures.value in
     record {
-      well_formed = ap is_well_formed (sym same-2) ∙ c.in_ok-signatures.ensures.well_formed;
-      numbered = subst (λ (items : List plain.Item). AreNumbered items c.in_ok-declared.declared) same c.in_ok-declared.ensures;
-      signed = c.in_ok-signatures.ensures.signed ∙ ap (map own_signature) same-2;
+      well_formed = ap is_well_formed (sym same) ∙ c.in_ok-signatures.ensures.well_formed;
+      numbered = subst (λ (items : List plain.Item). AreNumbered items c.number_and_sign.new.declared) same c.in_ok-signatures.ensures.numbered;
+      signed = c.in_ok-signatures.ensures.signed ∙ ap (map own_signature) same;
     }
