@@ -21,3 +21,4 @@ pub mod Numbering
 pub mod Signing
 pub mod Weights
 mod Ranked
+pub mod ByHead

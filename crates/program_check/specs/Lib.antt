@@ -10,3 +10,4 @@ pub mod Stops
 pub mod Tells
 pub mod Signed
 pub mod Waiting
+pub mod Heads

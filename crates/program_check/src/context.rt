@@ -10,9 +10,11 @@ ghost use Rattle.fast_syntax.specs.Plain.{plain_item};
 ghost use Rattle.program_check.specs.Naming.{place_in};
 ghost use Rattle.program_check.specs.Numbered.{is_below, own_type_item, own_ctors, ctor_place, type_there, AreNumbered};
 ghost use Rattle.program_check.specs.Typed.{plain_option, type_name};
+ghost use Rattle.program_check.specs.Heads.{plain_head, head_named};
 
 use crate::declarations::Declarations;
 use crate::declared_type::DeclaredType;
+use crate::heads::{Head, head_of};
 use crate::names::Names;
 use fast_fault::Text;
 use fast_syntax::items::{Body, Item};
@@ -72,12 +74,15 @@ impl<'p> Context<'p> {
         }
     }
 
-    /// The first item that declares this name of a language, transformation, definition or tree.
-    pub(crate) fn find_item(&self, name: &Text) -> Option<&'p Item>
-        ensures { option_map (λ item. plain_item item.now) result ≡ find_item (items_of self.now) name.now }
+    /// The head of the first item that declares this name of a language, transformation, definition or tree.
+    pub(crate) fn find_head(&self, name: &Text) -> Option<Head<'p>>
+        ensures { option_map plain_head result ≡ head_named (items_of self.now) name.now }
     {
         match self.declared.names.place(name) {
-            Some(place) => item_at(self.items, place),
+            Some(place) => match self.items.get(place) {
+                Some(item) => head_of(item),
+                None => None,
+            },
             None => None,
         }
     }

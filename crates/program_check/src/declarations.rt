@@ -2,16 +2,17 @@
 
 ghost use Rattle.std.specs.Prelude.{◌≡◌, ℕ, List, [], Some, None, OnOk, map};
 ghost use Rattle.std.specs.Option.{option_map};
-ghost use Rattle.model_names.specs.Declared.{own_name, declares};
-ghost use Rattle.fast_syntax.specs.View.{plain_name, plain_ctor, plain_type};
+ghost use Rattle.model_names.specs.Declared.{declares};
+ghost use Rattle.fast_syntax.specs.View.{plain_ctor, plain_type};
 ghost use Rattle.fast_syntax.specs.Plain.{plain_item};
 ghost use Rattle.program_check.specs.Naming.{place_in, Grows};
 ghost use Rattle.program_check.specs.Numbered.{declares_type, own_type_item, ctor_place, own_ctors, HasCtors, AreNumbered, Declares};
 
+use crate::heads::head_of;
 use crate::names::Names;
 use fast_fault::Memory;
 use fast_syntax::items::{Body, Item};
-use fast_syntax::{CtorItem, Name, TypeItem};
+use fast_syntax::{CtorItem, TypeItem};
 use std::alloc::Global;
 
 /// The number of the first item that declares each type, that of the first that declares each other name, and, for each
@@ -33,19 +34,6 @@ pub(crate) fn own_type(item: &Item) -> Option<&TypeItem>
     }
 }
 
-/// The name of a language, transformation, definition or tree that an item declares.
-fn own_name(item: &Item) -> Option<&Name>
-    ensures { option_map (λ n. plain_name n.now) result ≡ own_name (plain_item item.now).body }
-{
-    match &item.body {
-        Body::Sorts(_) | Body::Assert(_) => None,
-        Body::Tree(own) => Some(&own.name),
-        Body::Lang(own) => Some(&own.name),
-        Body::Trans(own) => Some(&own.name),
-        Body::Def(own) => Some(&own.name),
-    }
-}
-
 fn number_type(alloc: Global, types: &mut Names, item: &Item, place: usize) -> Result<(), Memory>
     ensures { OnOk result (Grows types.old types.new (λ name. declares_type name (plain_item item.now)) place) }
 {
@@ -58,8 +46,8 @@ fn number_type(alloc: Global, types: &mut Names, item: &Item, place: usize) -> R
 fn number_name(alloc: Global, names: &mut Names, item: &Item, place: usize) -> Result<(), Memory>
     ensures { OnOk result (Grows names.old names.new (λ name. declares name (plain_item item.now)) place) }
 {
-    match own_name(item) {
-        Some(own) => names.add(alloc, &own.text, place),
+    match head_of(item) {
+        Some(head) => names.add(alloc, &head.name.text, place),
         None => Ok(()),
     }
 }

@@ -7,20 +7,22 @@ ghost use Rattle.fast_fault.specs.declared.code.Code.TheVariants as code;
 ghost use Rattle.model_grammar.specs.Syntax as plain;
 ghost use Rattle.model_names.specs.Declared.{find_type, find_item};
 ghost use Rattle.model_checks.specs.Failures.{fails_if};
-ghost use Rattle.model_names.specs.Kinds.{taken_by_one, given_by_one, taken_first, taken_second, given_by_two, declared_type, own_kind, own_type, own_output, defined_kind};
+ghost use Rattle.model_names.specs.Kinds.{taken_by_one, given_by_one, taken_first, taken_second, given_by_two, declared_type, defined_kind};
 ghost use Rattle.fast_syntax.specs.View.{plain_name};
-ghost use Rattle.fast_syntax.specs.Plain.{plain_expr, plain_x, plain_item, plain_into};
+ghost use Rattle.fast_syntax.specs.Plain.{plain_expr, plain_x, plain_into};
 ghost use Rattle.fast_syntax.specs.Slices.{plain_children};
-ghost use Rattle.model_checks.specs.Expressions.{place_of_x, is_other_kind, is_known_later, expected_as, nesting_failures, name_failures, x_failures, xs_failures};
+ghost use Rattle.model_checks.specs.Expressions.{place_of_x, is_other_kind, expected_as, nesting_failures, name_failures, x_failures, xs_failures};
 ghost use Rattle.program_check.specs.Notes.{HasMemory, Notes, Left};
 ghost use Rattle.program_check.specs.Typed.{type_name};
+ghost use Rattle.program_check.specs.Heads.{plain_head};
 ghost use Rattle.program_check.specs.Contexts.{items_of, before_of};
 ghost use Rattle.program_check.specs.Waiting.{plain_waiting, weight, weights};
 ghost use Rattle.program_check.specs.Standings.{plain_kind, IsStanding, only_as, as_failures, input_of_two, output_of_two, second_wanted, be_failures, kind_taken, kind_given, kind_given_by_two, standing_of_one, standing_of_two, literal_failures};
 
 use crate::checker::Checker;
 use crate::context::Context;
-use crate::labels::{Scope, both};
+use crate::heads::Head;
+use crate::labels::{Scope, either};
 use crate::limits::MOST_AROUND;
 use crate::outputs::fields_of;
 use crate::rules::differ;
@@ -28,7 +30,7 @@ use crate::waiting::Waiting;
 use fast_fault::{Code, Pos, Text};
 use fast_syntax::Name;
 use fast_syntax::expressions::Expr;
-use fast_syntax::items::{Body, Item, X};
+use fast_syntax::items::X;
 use model_grammar::{Op1, Op2};
 
 /// What an expression stands for.
@@ -113,7 +115,7 @@ pub(crate) fn place_of(x: &X) -> Pos
 }
 
 /// Whether it is known to be of another kind.
-fn is_other_kind(kind: Kind, known: Option<Kind>) -> bool
+pub(crate) fn is_other_kind(kind: Kind, known: Option<Kind>) -> bool
     ensures { result ≡ is_other_kind (plain_kind kind) (option_map plain_kind known) }
 {
     match known {
@@ -209,24 +211,12 @@ fn output_of_two<'p>(op: Op2, first: &Standing<'p>, second: &Standing<'p>) -> Op
 }
 
 /// The name of the type that has this name.
-fn declared<'p>(context: &Context<'p>, name: Option<&Name>) -> Option<&'p Text>
+pub(crate) fn declared<'p>(context: &Context<'p>, name: Option<&Name>) -> Option<&'p Text>
     ensures { type_name result ≡ option_and_then (declared_type (items_of context.now)) (option_map (λ n. plain_name n.now) name.entry) }
 {
     match name {
         Some(name) => context.type_name(&name.text),
         None => None,
-    }
-}
-
-fn own_kind(item: &Item) -> Option<Kind>
-    ensures { option_map plain_kind result ≡ own_kind (plain_item item.now).body }
-{
-    match &item.body {
-        Body::Sorts(_) | Body::Assert(_) => None,
-        Body::Tree(_) => Some(Kind::Tree),
-        Body::Lang(_) => Some(Kind::Language),
-        Body::Trans(_) => Some(Kind::Transformation),
-        Body::Def(own) => Some(defined_kind(&own.into)),
     }
 }
 
@@ -239,50 +229,16 @@ pub(crate) fn defined_kind(into: &Option<Name>) -> Kind
     }
 }
 
-fn own_type(item: &Item) -> Option<&Name>
-    ensures { option_map (λ n. plain_name n.now) result ≡ own_type (plain_item item.now).body }
-{
-    match &item.body {
-        Body::Sorts(_) | Body::Assert(_) => None,
-        Body::Tree(own) => Some(&own.of),
-        Body::Lang(own) => Some(&own.of),
-        Body::Trans(own) => Some(&own.from),
-        Body::Def(own) => Some(&own.from),
-    }
-}
-
-fn own_output(item: &Item) -> Option<&Name>
-    ensures { option_map (λ n. plain_name n.now) result ≡ own_output (plain_item item.now).body }
-{
-    match &item.body {
-        Body::Sorts(_) | Body::Assert(_) | Body::Tree(_) | Body::Lang(_) => None,
-        Body::Trans(own) => Some(&own.into),
-        Body::Def(own) => match &own.into {
-            Some(into) => Some(into),
-            None => None,
-        },
-    }
-}
-
-/// Whether the name of an item is known from the next item on.
-fn is_known_later(item: &Item) -> bool
-    ensures { result ≡ is_known_later (plain_item item.now).body }
-{
-    match &item.body {
-        Body::Tree(_) | Body::Def(_) => true,
-        Body::Sorts(_) | Body::Lang(_) | Body::Trans(_) | Body::Assert(_) => false,
-    }
-}
-
-/// What a name stands for that an item declares.
-fn standing_of<'p>(context: &Context<'p>, name: &Name, item: &Item) -> Standing<'p>
-    requires { find_item (items_of context.now) name.now.text ≡ Some (plain_item item.now) }
-    ensures { IsStanding (items_of context.now) (plain.named (plain_name name.now)) result }
+/// What the name of an item stands for that has this head.
+pub(crate) fn standing_of<'p>(context: &Context<'p>, head: &Head) -> Standing<'p>
+    ensures kind { option_map plain_kind result.kind ≡ Some (plain_head head.now).kind }
+    ensures input { type_name result.input ≡ declared_type (items_of context.now) (plain_head head.now).input }
+    ensures output { type_name result.output ≡ option_and_then (declared_type (items_of context.now)) (plain_head head.now).output }
 {
     Standing {
-        kind: own_kind(item),
-        input: declared(context, own_type(item)),
-        output: declared(context, own_output(item)),
+        kind: Some(head.kind),
+        input: context.type_name(&head.input.text),
+        output: declared(context, head.output),
     }
 }
 
@@ -310,38 +266,22 @@ impl Checker {
         around
     }
 
-    /// A name of a definition or a tree is known from the next item on.
-    fn check_known(&mut self, context: &Context, name: &Name, item: &Item)
-        ensures { Notes self.old self.new (fails_if (is_known_later (plain_item item.now).body && not (is_some (find_item (before_of context.now) name.now.text))) code.UsedTooEarly name.now.place) }
-    {
-        let known = context.has_item_before(&name.text);
-        self.note_if(
-            both(is_known_later(item), !known),
-            Code::UsedTooEarly,
-            name.place,
-        );
-    }
-
+    /// A name. That of a definition or a tree is known from the next item on.
     fn check_word<'p>(&mut self, context: &Context<'p>, name: &Name) -> Standing<'p>
         ensures noted { Notes self.old self.new (name_failures (items_of context.now) (before_of context.now) (plain_name name.now)) }
         ensures standing { IsStanding (items_of context.now) (plain.named (plain_name name.now)) result }
     {
-        let found = context.find_item(&name.text);
-        match found {
-            Some(item) => {
-                let standing = standing_of(context, name, item);
-                self.check_known(context, name, item);
-                standing
-            }
-            None => {
-                self.note(Code::UnknownName, name.place);
-                Standing {
-                    kind: None,
-                    input: None,
-                    output: None,
-                }
-            }
-        }
+        let Some(head) = context.find_head(&name.text) else {
+            self.note(Code::UnknownName, name.place);
+            return Standing {
+                kind: None,
+                input: None,
+                output: None,
+            };
+        };
+        let known = either(head.has_rules, context.has_item_before(&name.text));
+        self.note_if(!known, Code::UsedTooEarly, name.place);
+        standing_of(context, &head)
     }
 
     /// The constructor of a literal of this type, and its labels, which have no names of fields.

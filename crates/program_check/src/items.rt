@@ -2,14 +2,12 @@
 
 ghost use Rattle.std.specs.Prelude.{◌≡◌, ◌++◌, Some, None, map};
 ghost use Rattle.std.specs.List.{flat_map};
-ghost use Rattle.std.specs.Option.{option_map, option_and_then};
-ghost use Rattle.model_names.specs.Kinds.{declared_type};
+ghost use Rattle.std.specs.Option.{option_map};
 ghost use Rattle.fast_syntax.specs.View.{plain_name, plain_type};
 ghost use Rattle.fast_syntax.specs.Plain.{plain_x, plain_rule, plain_out_rule, plain_tree, plain_lang, plain_trans, plain_into, plain_def, plain_claim, plain_body};
 ghost use Rattle.model_checks.specs.Rules.{rule_limit, rule_failures, out_rule_failures};
 ghost use Rattle.model_checks.specs.Programs.{is_tree, type_again, name_again, tree_failures, lang_failures, trans_failures, into_failures, needs_output, def_failures, claim_failures, body_failures};
 ghost use Rattle.program_check.specs.Notes.{HasMemory, Notes};
-ghost use Rattle.program_check.specs.Typed.{type_name};
 ghost use Rattle.program_check.specs.Contexts.{items_of, before_of};
 ghost use Rattle.program_check.specs.Standings.{plain_kind, IsStanding, beside_failures};
 ghost use Rattle.model_grammar.specs.Syntax as plain;
@@ -17,22 +15,12 @@ ghost use Rattle.model_checks.specs.Types.{type_failures};
 
 use crate::checker::Checker;
 use crate::context::Context;
-use crate::expressions::{Kind, Standing, defined_kind, only_as, place_of};
+use crate::expressions::{Kind, Standing, declared, defined_kind, only_as, place_of};
 use crate::limits::MOST_RULES;
 use crate::rules::{Between, differ};
-use fast_fault::{Code, Text};
+use fast_fault::Code;
 use fast_syntax::items::{Body, Claim, DefItem, LangItem, OutRule, Rule, TransItem, TreeItem, X};
 use fast_syntax::{Name, TypeItem};
-
-/// The name of the type of the outputs that a definition says.
-fn output_named<'p>(context: &Context<'p>, into: &Option<Name>) -> Option<&'p Text>
-    ensures { type_name result ≡ option_and_then (declared_type (items_of context.now)) (plain_into into.now) }
-{
-    match into {
-        Some(into) => context.type_name(&into.text),
-        None => None,
-    }
-}
 
 fn is_tree(standing: &Standing) -> bool
     ensures { result ≡ is_tree (option_map plain_kind standing.now.kind) }
@@ -131,7 +119,7 @@ impl Checker {
         requires { HasMemory self.old → IsStanding (items_of context.now) (plain_x x.now) standing.now }
         ensures { Notes self.old self.new (needs_output (items_of context.now) (before_of context.now) (plain_into into.now) (plain_x x.now)) }
     {
-        let wanted = output_named(context, into);
+        let wanted = declared(context, into.as_ref());
         let found = only_as(Kind::Transformation, standing.kind, standing.output);
         self.note_if(differ(wanted, found), Code::WrongType, place_of(x));
     }

@@ -10,6 +10,7 @@ mod context;
 mod declarations;
 mod declared_type;
 mod expressions;
+mod heads;
 mod items;
 mod labels;
 mod limits;

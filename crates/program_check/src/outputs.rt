@@ -16,8 +16,9 @@ ghost use Rattle.program_check.specs.Nodes.{field_at, label_at, node_failures};
 use crate::checker::Checker;
 use crate::context::Context;
 use crate::declared_type::DeclaredType;
+use crate::expressions::{Kind, Standing};
 use crate::labels::{Scope, differ_in_sort};
-use crate::rules::{Between, scope_of, types_differ};
+use crate::rules::{Between, differ, scope_of};
 use crate::types::sort_named;
 use crate::vars::Vars;
 use fast_fault::Code;
@@ -61,12 +62,13 @@ impl Checker {
     fn check_child(&mut self, context: &Context, types: &Between, vars: &Vars, name: &Name)
         ensures { Notes self.old self.new (out_failures (items_of context.now) (plain_name types.now.from.now) (plain_name types.now.into.now) (map plain_name vars.now.all.now) (plain.child (plain_name name.now))) }
     {
-        let differ = types_differ(context, types.from, types.into);
+        let from = context.type_name(&types.from.text);
+        let differ = differ(from, context.type_name(&types.into.text));
         self.check_variable(vars, name);
         self.note_if(differ, Code::WrongType, name.place);
     }
 
-    /// A call of a transformation for a child.
+    /// A call for a child, of a `trans` between these types.
     fn check_call(
         &mut self,
         context: &Context,
@@ -77,7 +79,12 @@ impl Checker {
     )
         ensures { Notes self.old self.new (out_failures (items_of context.now) (plain_name types.now.from.now) (plain_name types.now.into.now) (map plain_name vars.now.all.now) (plain.call (plain_name name.now) (plain_name child.now))) }
     {
-        self.check_transformation(context, types, name);
+        let wanted = Standing {
+            kind: Some(Kind::Transformation),
+            input: context.type_name(&types.from.text),
+            output: context.type_name(&types.into.text),
+        };
+        self.check_ruled(context, &wanted, name);
         self.check_variable(vars, child);
     }
 

@@ -5,27 +5,29 @@ ghost use Rattle.std.specs.Prelude.{◌≡◌, [], Some, None, map, is_some};
 ghost use Rattle.std.specs.List.{flat_map};
 ghost use Rattle.std.specs.Option.{option_map};
 ghost use Rattle.fast_fault.specs.declared.code.Code.TheVariants as code;
-ghost use Rattle.model_names.specs.Declared.{find_type, find_item};
-ghost use Rattle.model_names.specs.Kinds.{declared_type};
+ghost use Rattle.model_names.specs.Declared.{find_type};
 ghost use Rattle.fast_syntax.specs.View.{plain_name};
-ghost use Rattle.fast_syntax.specs.Plain.{plain_guard, plain_rule, plain_lang, plain_trans, plain_item};
+ghost use Rattle.fast_syntax.specs.Plain.{plain_guard, plain_rule};
 ghost use Rattle.model_checks.specs.Types.{repeated};
-ghost use Rattle.model_checks.specs.Rules.{differ, constructor_failures, label_count_failures, scope_of, variable_failures, guard_failures, own_lang, own_trans, type_name_failures, language_failures, transformation_failures, demand_failures, rule_failures};
+ghost use Rattle.model_checks.specs.Rules.{differ, constructor_failures, label_count_failures, scope_of, variable_failures, guard_failures, type_name_failures, demand_failures, rule_failures};
 ghost use Rattle.program_check.specs.Notes.{HasMemory, Notes};
 ghost use Rattle.program_check.specs.Typed.{plain_option, type_name};
 ghost use Rattle.program_check.specs.Contexts.{items_of};
+ghost use Rattle.program_check.specs.Standings.{plain_kind};
+ghost use Rattle.program_check.specs.Heads.{ruled_failures};
 ghost use Rattle.program_check.specs.Known.{plain_scope};
 
 use crate::checker::Checker;
 use crate::context::Context;
 use crate::declared_type::{DeclaredType, ctor_named};
+use crate::expressions::{Kind, Standing, is_other_kind, standing_of};
 use crate::labels::{Scope, either};
 use crate::names::Names;
 use crate::types::is_rank;
 use crate::vars::Vars;
 use fast_fault::{Code, Text};
 use fast_syntax::expressions::Expr;
-use fast_syntax::items::{Body, Item, LangItem, Rule, TransItem};
+use fast_syntax::items::Rule;
 use fast_syntax::{Demand, Name};
 use fast_tree::Sort;
 
@@ -56,37 +58,6 @@ pub(crate) fn scope_of<'p>(of: &Option<DeclaredType<'p>>) -> Scope<'p>
         },
         None => Scope { fields: None },
     }
-}
-
-/// The language that an item is.
-fn own_lang(item: &Item) -> Option<&LangItem>
-    ensures { option_map (λ l. plain_lang l.now) result ≡ own_lang (plain_item item.now).body }
-{
-    match &item.body {
-        Body::Lang(own) => Some(own),
-        _ => None,
-    }
-}
-
-/// The transformation that an item is.
-fn own_trans(item: &Item) -> Option<&TransItem>
-    ensures { option_map (λ t. plain_trans t.now) result ≡ own_trans (plain_item item.now).body }
-{
-    match &item.body {
-        Body::Trans(own) => Some(own),
-        _ => None,
-    }
-}
-
-/// Whether the types of these names are known to differ.
-pub(crate) fn types_differ(context: &Context, left: &Name, right: &Name) -> bool
-    ensures { result ≡ differ (declared_type (items_of context.now) (plain_name left.now)) (declared_type (items_of context.now) (plain_name right.now)) }
-{
-    let (left, right) = (
-        context.type_name(&left.text),
-        context.type_name(&right.text),
-    );
-    differ(left, right)
 }
 
 impl Checker {
@@ -139,44 +110,35 @@ impl Checker {
         }
     }
 
-    /// In a rule for trees of this type a demanded language is a `lang` of trees of the type.
-    fn check_language(&mut self, context: &Context, of: &Name, name: &Name)
-        ensures { Notes self.old self.new (language_failures (items_of context.now) (plain_name of.now) (plain_name name.now)) }
+    /// The name of something with rules that stands for this.
+    pub(crate) fn check_ruled(&mut self, context: &Context, wanted: &Standing, name: &Name)
+        ensures { Notes self.old self.new (ruled_failures (items_of context.now) (option_map plain_kind wanted.now.kind) (type_name wanted.now.input) (type_name wanted.now.output) (plain_name name.now)) }
     {
-        let Some(item) = context.find_item(&name.text) else {
+        let Some(head) = context.find_head(&name.text) else {
             self.note(Code::UnknownName, name.place);
             return;
         };
-        let Some(lang) = own_lang(item) else {
+        if either(!head.has_rules, is_other_kind(head.kind, wanted.kind)) {
             self.note(Code::WrongKind, name.place);
             return;
-        };
-        let differ = types_differ(context, &lang.of, of);
-        self.note_if(differ, Code::WrongType, name.place);
-    }
-
-    /// In a rule between these types a call is of a `trans` between them.
-    pub(crate) fn check_transformation(&mut self, context: &Context, types: &Between, name: &Name)
-        ensures { Notes self.old self.new (transformation_failures (items_of context.now) (plain_name types.now.from.now) (plain_name types.now.into.now) (plain_name name.now)) }
-    {
-        let Some(item) = context.find_item(&name.text) else {
-            self.note(Code::UnknownName, name.place);
-            return;
-        };
-        let Some(trans) = own_trans(item) else {
-            self.note(Code::WrongKind, name.place);
-            return;
-        };
-        let inputs = types_differ(context, &trans.from, types.from);
-        let outputs = types_differ(context, &trans.into, types.into);
+        }
+        let found = standing_of(context, &head);
+        let inputs = differ(found.input, wanted.input);
+        let outputs = differ(found.output, wanted.output);
         self.note_if(either(inputs, outputs), Code::WrongType, name.place);
     }
 
+    /// In a rule for trees of this type a demanded language is a `lang` of trees of the type.
     fn check_given(&mut self, context: &Context, of: &Name, vars: &Vars, rule: &Rule)
         ensures { Notes self.old self.new (flat_map (demand_failures (items_of context.now) (plain_name of.now) (map plain_name vars.now.all.now)) (plain_rule rule.now).given) }
     {
+        let wanted = Standing {
+            kind: Some(Kind::Language),
+            input: context.type_name(&of.text),
+            output: None,
+        };
         'given: for demand in &rule.given {
-            self.check_language(context, of, &demand.language);
+            self.check_ruled(context, &wanted, &demand.language);
             self.check_variable(vars, &demand.child);
         }
     }

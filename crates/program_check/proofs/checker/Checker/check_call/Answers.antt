@@ -1,5 +1,15 @@
-use Rattle.program_check.proofs.Noting.{and_next}
+use Rattle.std.proofs.Common.{◌∙◌, Some, ap₂}
+use Rattle.fast_syntax.specs.View.{plain_name}
+use Rattle.model_names.specs.Kinds.{transformation}
+use Rattle.program_check.specs.Contexts.{items_of}
+use Rattle.program_check.specs.Heads.{ruled_failures}
+use Rattle.program_check.proofs.Noting.{and_next, as_same}
+use Rattle.program_check.proofs.ByHead.{transformation_by_head}
 use Rattle.program_check.proofs.checker.Checker.check_call.Goals as goal
 
 pub returns : goal.returns
-returns c = and_next c.check_transformation.ensures c.check_variable.ensures
+returns c =
+    let items = items_of c.args.context.now in
+    let types = c.args.types.now in
+    let name = plain_name c.args.name.now in
+    and_next (as_same (ap₂ (λ n m. ruled_failures items (Some transformation) n m name) c.type_name.ensures c.type_name-2.ensures ∙ transformation_by_head items (plain_name types.from.now) (plain_name types.into.now) name) c.check_ruled.ensures) c.check_variable.ensures

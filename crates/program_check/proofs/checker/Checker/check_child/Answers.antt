@@ -1,8 +1,9 @@
-use Rattle.std.proofs.Common.{ap}
+use Rattle.std.proofs.Common.{◌∙◌, ap, ap₂}
 use Rattle.model_checks.specs.Failures.{fails_if}
+use Rattle.model_checks.specs.Rules.{differ}
 use Rattle.program_check.proofs.Noting.{and_next, as_same}
 use Rattle.fast_fault.specs.declared.code.Code.TheVariants.{WrongType}
 use Rattle.program_check.proofs.checker.Checker.check_child.Goals as goal
 
 pub returns : goal.returns
-returns c = and_next c.check_variable.ensures (as_same (ap (λ b. fails_if b WrongType c.args.name.now.place) c.types_differ-differ.ensures) c.note_if.ensures)
+returns c = and_next c.check_variable.ensures (as_same (ap (λ b. fails_if b WrongType c.args.name.now.place) (c.differ-differ.ensures ∙ ap₂ differ c.type_name-from.ensures c.type_name.ensures)) c.note_if.ensures)

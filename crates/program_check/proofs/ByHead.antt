@@ -1,0 +1,180 @@
+-- What heads say of names.
+use Rattle.std.proofs.Common.{◌≡◌, ℕ, Bool, true, false, ◌||◌, ◌&&◌, cond, List, [], ◌∷◌, Option, Some, None, refl, sym, ap, ap₂, ◌∙◌, true≢false}
+use Rattle.std.specs.Prelude.{is_some, not, IsSome}
+use Rattle.std.specs.Borrow.{Bor}
+use Rattle.std.specs.Option.{option_map, option_map_or, option_and_then, option_copied}
+use Rattle.fast_fault.specs.declared.code.Code.TheVariants.{UnknownName, UsedTooEarly, WrongKind, WrongType}
+use Rattle.fast_fault.specs.declared.refusal.Refusal.{Refusal}
+use Rattle.model_program.specs.Syntax.{Name}
+use Rattle.model_grammar.specs.Syntax.{named, Body, sorts, tree, lang, trans, def, assertion, Item}
+use Rattle.model_names.specs.Declared.{same_text, own_name, declares, find_item}
+use Rattle.model_names.specs.Kinds.{Kind, language, transformation, own_kind, own_type, own_output, declared_type}
+use Rattle.model_checks.specs.Failures.{failure, fails_if}
+use Rattle.model_checks.specs.Rules.{differ, own_lang, own_trans, language_failures, transformation_failures}
+use Rattle.model_checks.specs.Expressions.{is_other_kind, is_known_later, name_failures}
+use Rattle.program_check.specs.declared.expressions.Standing.{Standing}
+use Rattle.fast_syntax.specs.declared.Name as named
+use Rattle.fast_syntax.specs.View.{plain_name}
+use Rattle.fast_syntax.specs.Plain.{plain_into}
+use Rattle.program_check.specs.Typed.{type_name}
+use Rattle.program_check.specs.Standings.{plain_kind, IsStanding}
+use Rattle.program_check.specs.Heads.{PlainHead, head_of, head_named, not_ruled, ruled_failures}
+
+-- what is lent of something that may be there
+pub lent : {A B : Type 0} (f : A → B) (r : Option (Bor A)) (o : Option A) → option_copied r ≡ o → option_map (λ x. f x.now) r ≡ option_map f o
+lent f None o is = ap (option_map f) is
+lent f (Some x) o is = ap (option_map f) is
+
+-- the type of the outputs that a definition says
+pub into_is : (o : Option named.Name) → option_map plain_name o ≡ plain_into o
+into_is None = refl
+into_is (Some n) = refl
+
+-- the name that an item declares
+pub name_of_head : (b : Body) → option_map (λ h. h.name) (head_of b) ≡ own_name b
+name_of_head (sorts t) = refl
+name_of_head (tree t) = refl
+name_of_head (lang l) = refl
+name_of_head (trans t) = refl
+name_of_head (def d) = refl
+name_of_head (assertion a) = refl
+
+kind_of_head : (b : Body) → own_kind b ≡ option_and_then (λ h. Some h.kind) (head_of b)
+kind_of_head (sorts t) = refl
+kind_of_head (tree t) = refl
+kind_of_head (lang l) = refl
+kind_of_head (trans t) = refl
+kind_of_head (def d) = refl
+kind_of_head (assertion a) = refl
+
+input_of_head : (b : Body) → own_type b ≡ option_and_then (λ h. Some h.input) (head_of b)
+input_of_head (sorts t) = refl
+input_of_head (tree t) = refl
+input_of_head (lang l) = refl
+input_of_head (trans t) = refl
+input_of_head (def d) = refl
+input_of_head (assertion a) = refl
+
+output_of_head : (b : Body) → own_output b ≡ option_and_then (λ h. h.output) (head_of b)
+output_of_head (sorts t) = refl
+output_of_head (tree t) = refl
+output_of_head (lang l) = refl
+output_of_head (trans t) = refl
+output_of_head (def d) = refl
+output_of_head (assertion a) = refl
+
+-- what the item says that declares a name, by its head
+by_head : {A : Type 0} (f : PlainHead → Option A) (g : Body → Option A) → ((b : Body) → g b ≡ option_and_then f (head_of b)) → (o : Option Item) → option_and_then (λ item. g item.body) o ≡ option_and_then f (option_and_then (λ item. head_of item.body) o)
+by_head f g is None = refl
+by_head f g is (Some item) = is item.body
+
+module _ (items : List Item) (name : Name) where
+  pub head_stands : (h : Option PlainHead) (s : Standing) → head_named items name.text ≡ h → option_map plain_kind s.kind ≡ option_and_then (λ h. Some h.kind) h
+      → type_name s.input ≡ option_and_then (declared_type items) (option_and_then (λ h. Some h.input) h) → type_name s.output ≡ option_and_then (declared_type items) (option_and_then (λ h. h.output) h) → IsStanding items (named name) s
+  head_stands h s is kind input output =
+      let item = find_item items name.text in
+      record {
+        kind = kind ∙ sym (by_head (λ h. Some h.kind) own_kind kind_of_head item ∙ ap (option_and_then (λ h. Some h.kind)) is);
+        input = input ∙ sym (ap (option_and_then (declared_type items)) (by_head (λ h. Some h.input) own_type input_of_head item ∙ ap (option_and_then (λ h. Some h.input)) is));
+        output = output ∙ sym (ap (option_and_then (declared_type items)) (by_head (λ h. h.output) own_output output_of_head item ∙ ap (option_and_then (λ h. h.output)) is));
+      }
+
+-- what declares a name has a head
+abbrev HasHead : Option Item → Type 0
+HasHead None = Unit {0}
+HasHead (Some item) = IsSome (head_of item.body)
+
+declared_head : (name : List ℕ) (b : Body) → option_map_or (λ n. same_text n.text name) (own_name b) false ≡ true → IsSome (head_of b)
+declared_head name (sorts t) e = absurd (true≢false (sym e))
+declared_head name (tree t) e = refl
+declared_head name (lang l) e = refl
+declared_head name (trans t) e = refl
+declared_head name (def d) e = refl
+declared_head name (assertion a) e = absurd (true≢false (sym e))
+
+has_head : (name : List ℕ) (items : List Item) → HasHead (find_item items name)
+has_head name [] = tt
+has_head name (x ∷ xs) = by (declares name x) refl (has_head name xs)
+  where
+    by : (b : Bool) → declares name x ≡ b → HasHead (find_item xs name) → HasHead (cond b (Some x) (find_item xs name))
+    by true is later = declared_head name x.body is
+    by false is later = later
+
+-- what fails at a name, by the head of what declares it
+failing_by_head : (f : PlainHead → List Refusal) (g : Body → List Refusal) (u : List Refusal) → ((b : Body) → IsSome (head_of b) → option_map_or f (head_of b) u ≡ g b)
+    → (o : Option Item) → HasHead o → option_map_or f (option_and_then (λ item. head_of item.body) o) u ≡ option_map_or (λ item. g item.body) o u
+failing_by_head f g u is None h = refl
+failing_by_head f g u is (Some item) h = is item.body h
+
+-- a name that is known from the next item on, or from its own on
+name_by_head : (items before : List Item) (name : Name) → option_map_or (λ h. fails_if (not (h.has_rules || is_some (find_item before name.text))) UsedTooEarly name.place) (head_named items name.text) (failure UnknownName name.place) ≡ name_failures items before name
+name_by_head items before name = failing_by_head _ (λ b. fails_if (is_known_later b && not known) UsedTooEarly name.place) (failure UnknownName name.place) of (find_item items name.text) (has_head name.text items)
+  where
+    known : Bool
+    known = is_some (find_item before name.text)
+
+    of : (b : Body) → IsSome (head_of b) → option_map_or (λ h. fails_if (not (h.has_rules || known)) UsedTooEarly name.place) (head_of b) (failure UnknownName name.place) ≡ fails_if (is_known_later b && not known) UsedTooEarly name.place
+    of (sorts t) h = absurd (true≢false (sym h))
+    of (tree t) h = refl
+    of (lang l) h = refl
+    of (trans t) h = refl
+    of (def d) h = refl
+    of (assertion a) h = absurd (true≢false (sym h))
+
+no_more : (b : Bool) → (b || false) ≡ b
+no_more true = refl
+no_more false = refl
+
+-- the name of a language that a demand is of
+pub language_by_head : (items : List Item) (of name : Name) → ruled_failures items (Some language) (declared_type items of) None name ≡ language_failures items of name
+language_by_head items from name = failing_by_head (not_ruled items (Some language) (declared_type items from) None name) failing (failure UnknownName name.place) of (find_item items name.text) (has_head name.text items)
+  where
+    failing : Body → List Refusal
+    failing b = option_map_or (λ l. fails_if (differ (declared_type items l.of) (declared_type items from)) WrongType name.place) (own_lang b) (failure WrongKind name.place)
+
+    of : (b : Body) → IsSome (head_of b) → option_map_or (not_ruled items (Some language) (declared_type items from) None name) (head_of b) (failure UnknownName name.place) ≡ failing b
+    of (sorts t) h = absurd (true≢false (sym h))
+    of (tree t) h = refl
+    of (lang l) h = ap (λ b. fails_if b WrongType name.place) (no_more (differ (declared_type items l.of) (declared_type items from)))
+    of (trans t) h = refl
+    of (def d) h = refl
+    of (assertion a) h = absurd (true≢false (sym h))
+
+-- the name of a transformation that is called
+pub transformation_by_head : (items : List Item) (from into name : Name) → ruled_failures items (Some transformation) (declared_type items from) (declared_type items into) name ≡ transformation_failures items from into name
+transformation_by_head items from into name = failing_by_head (not_ruled items (Some transformation) (declared_type items from) (declared_type items into) name) failing (failure UnknownName name.place) of (find_item items name.text) (has_head name.text items)
+  where
+    failing : Body → List Refusal
+    failing b = option_map_or (λ t. fails_if (differ (declared_type items t.from) (declared_type items from) || differ (declared_type items t.into) (declared_type items into)) WrongType name.place) (own_trans b) (failure WrongKind name.place)
+
+    of : (b : Body) → IsSome (head_of b) → option_map_or (not_ruled items (Some transformation) (declared_type items from) (declared_type items into) name) (head_of b) (failure UnknownName name.place) ≡ failing b
+    of (sorts t) h = absurd (true≢false (sym h))
+    of (tree t) h = refl
+    of (lang l) h = refl
+    of (trans t) h = refl
+    of (def d) h = refl
+    of (assertion a) h = absurd (true≢false (sym h))
+
+-- what fails at a name that is to stand for something with rules, by the head of what declares it
+module _ (items : List Item) (kind : Option Kind) (input output : Option (List ℕ)) (name : Name) where
+  pub none_ruled : head_named items name.text ≡ None → failure UnknownName name.place ≡ ruled_failures items kind input output name
+  none_ruled is = ap (λ h. option_map_or (not_ruled items kind input output name) h (failure UnknownName name.place)) (sym is)
+
+  head_ruled : (h : PlainHead) → head_named items name.text ≡ Some h → not_ruled items kind input output name h ≡ ruled_failures items kind input output name
+  head_ruled h is = ap (λ h. option_map_or (not_ruled items kind input output name) h (failure UnknownName name.place)) (sym is)
+
+  pub other_ruled : (h : PlainHead) (b : Bool) → head_named items name.text ≡ Some h → b ≡ (not h.has_rules || is_other_kind h.kind kind) → b ≡ true → failure WrongKind name.place ≡ ruled_failures items kind input output name
+  other_ruled h b is tells other = ap (λ b. cond b (failure WrongKind name.place) (fails_if (differ (declared_type items h.input) input || differ (option_and_then (declared_type items) h.output) output) WrongType name.place)) (sym other ∙ tells) ∙ head_ruled h is
+
+  pub same_ruled : (h : PlainHead) (b c : Bool) → head_named items name.text ≡ Some h → b ≡ (not h.has_rules || is_other_kind h.kind kind) → b ≡ false
+      → c ≡ (differ (declared_type items h.input) input || differ (option_and_then (declared_type items) h.output) output) → fails_if c WrongType name.place ≡ ruled_failures items kind input output name
+  same_ruled h b c is tells right differs =
+      ap (λ c. fails_if c WrongType name.place) differs
+      ∙ ap (λ b. cond b (failure WrongKind name.place) (fails_if (differ (declared_type items h.input) input || differ (option_and_then (declared_type items) h.output) output) WrongType name.place)) (sym right ∙ tells) ∙ head_ruled h is
+
+module _ (items before : List Item) (name : Name) where
+  pub none_named : head_named items name.text ≡ None → failure UnknownName name.place ≡ name_failures items before name
+  none_named is = ap (λ h. option_map_or (λ (h : PlainHead). fails_if (not (h.has_rules || is_some (find_item before name.text))) UsedTooEarly name.place) h (failure UnknownName name.place)) (sym is) ∙ name_by_head items before name
+
+  pub some_named : (h : PlainHead) (b : Bool) → head_named items name.text ≡ Some h → b ≡ (h.has_rules || is_some (find_item before name.text)) → fails_if (not b) UsedTooEarly name.place ≡ name_failures items before name
+  some_named h b is tells = ap (λ b. fails_if (not b) UsedTooEarly name.place) tells ∙ ap (λ h. option_map_or (λ (h : PlainHead). fails_if (not (h.has_rules || is_some (find_item before name.text))) UsedTooEarly name.place) h (failure UnknownName name.place)) (sym is) ∙ name_by_head items before name

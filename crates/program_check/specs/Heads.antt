@@ -1,0 +1,46 @@
+-- The heads of items, and what a name may stand for that is to have rules.
+use Rattle.std.specs.Prelude.{ℕ, Bool, true, false, ◌||◌, not, cond, List, Option, Some, None}
+use Rattle.std.specs.Option.{option_map, option_map_or, option_and_then}
+use Rattle.fast_fault.specs.declared.code.Code.TheVariants.{UnknownName, WrongKind, WrongType}
+use Rattle.fast_fault.specs.declared.refusal.Refusal.{Refusal}
+use Rattle.model_program.specs.Syntax.{Name}
+use Rattle.model_grammar.specs.Syntax.{Body, sorts, tree, lang, trans, def, assertion, Item}
+use Rattle.model_names.specs.Declared.{find_item}
+use Rattle.model_names.specs.Kinds.{Kind, language, transformation, a_tree, defined_kind, declared_type}
+use Rattle.model_checks.specs.Failures.{failure, fails_if}
+use Rattle.model_checks.specs.Rules.{differ}
+use Rattle.model_checks.specs.Expressions.{is_other_kind}
+use Rattle.fast_syntax.specs.View.{plain_name}
+use Rattle.program_check.specs.declared.heads.Head.{Head}
+use Rattle.program_check.specs.Standings.{plain_kind}
+
+pub record PlainHead : Type 0 where
+  pub name : Name
+  pub kind : Kind
+  pub input : Name
+  pub output : Option Name
+  pub has_rules : Bool
+
+abbrev pub plain_head : Head → PlainHead
+plain_head h = record { name = plain_name h.name.now; kind = plain_kind h.kind; input = plain_name h.input.now; output = option_map (λ n. plain_name n.now) h.output; has_rules = h.has_rules }
+
+abbrev pub head_of : Body → Option PlainHead
+head_of (sorts t) = None
+head_of (tree t) = Some (record { name = t.name; kind = a_tree; input = t.of; output = None; has_rules = false })
+head_of (lang l) = Some (record { name = l.name; kind = language; input = l.of; output = None; has_rules = true })
+head_of (trans t) = Some (record { name = t.name; kind = transformation; input = t.from; output = Some t.into; has_rules = true })
+head_of (def d) = Some (record { name = d.name; kind = defined_kind d.into; input = d.from; output = d.into; has_rules = false })
+head_of (assertion a) = None
+
+-- the head of the first item that declares a name
+abbrev pub head_named : List Item → List ℕ → Option PlainHead
+head_named items name = option_and_then (λ item. head_of item.body) (find_item items name)
+
+-- what has this head isn't something with rules, of this kind and of these types
+abbrev pub not_ruled : List Item → Option Kind → Option (List ℕ) → Option (List ℕ) → Name → PlainHead → List Refusal
+not_ruled items kind input output name h = cond (not h.has_rules || is_other_kind h.kind kind) (failure WrongKind name.place)
+    (fails_if (differ (declared_type items h.input) input || differ (option_and_then (declared_type items) h.output) output) WrongType name.place)
+
+-- the name of something with rules, of this kind and of these types
+abbrev pub ruled_failures : List Item → Option Kind → Option (List ℕ) → Option (List ℕ) → Name → List Refusal
+ruled_failures items kind input output name = option_map_or (not_ruled items kind input output name) (head_named items name.text) (failure UnknownName name.place)
