@@ -39,6 +39,11 @@ as_same e one h = same e (one h)
 pub and_next : {a b c : Checker} {xs ys : List Refusal} → Notes a b xs → Notes b c ys → Notes a c (xs ++ ys)
 and_next one two h = let last = two h in next (one last.had) last
 
+-- these, with none behind
+pub ends : (xs : List Refusal) → xs ++ [] ≡ xs
+ends [] = refl
+ends (x ∷ xs) = ap (λ ys. x ∷ ys) (ends xs)
+
 -- memory ran out
 pub ran : {A : Type 0} {b : Bool} → b ≡ true → b ≡ false → A
 ran is isnt = absurd (true≢false (sym is ∙ isnt))

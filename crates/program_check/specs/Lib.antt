@@ -11,3 +11,4 @@ pub mod Tells
 pub mod Signed
 pub mod Waiting
 pub mod Heads
+pub mod Variables

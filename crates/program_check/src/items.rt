@@ -61,8 +61,9 @@ impl Checker {
     fn check_rules(&mut self, context: &Context, of: &Name, rules: &[Rule])
         ensures { Notes self.old self.new (flat_map (rule_failures (items_of context.now) (plain_name of.now)) (map plain_rule rules.now)) }
     {
+        let types = Between { from: of, into: of };
         'rules: for rule in rules {
-            self.check_rule(context, of, rule);
+            self.check_rule(context, &types, rule, None);
         }
     }
 
@@ -87,7 +88,7 @@ impl Checker {
         ensures { Notes self.old self.new (flat_map (out_rule_failures (items_of context.now) (plain_name types.now.from.now) (plain_name types.now.into.now)) (map plain_out_rule rules.now)) }
     {
         'rules: for rule in rules {
-            self.check_out_rule(context, types, rule);
+            self.check_rule(context, types, &rule.rule, Some(&rule.out));
         }
     }
 

@@ -1,16 +1,18 @@
 //! What may fail in the labels of a node and in an output term, whose labels speak of the input.
 
 ghost use Rattle.std.specs.Prelude.{◌≡◌, [], Some, None, map};
+ghost use Rattle.std.specs.Option.{option_map};
 ghost use Rattle.model_grammar.specs.Syntax as plain;
 ghost use Rattle.fast_syntax.specs.View.{plain_name, plain_field};
-ghost use Rattle.fast_syntax.specs.Plain.{plain_expr, plain_out, plain_out_rule};
+ghost use Rattle.fast_syntax.specs.Plain.{plain_expr, plain_out};
 ghost use Rattle.fast_syntax.specs.Slices.{plain_outputs};
 ghost use Rattle.model_checks.specs.Labels.{labels_failures};
-ghost use Rattle.model_checks.specs.Rules.{fields_of, out_failures, outs_failures, out_rule_failures};
+ghost use Rattle.model_checks.specs.Rules.{fields_of, out_failures, outs_failures};
 ghost use Rattle.program_check.specs.Notes.{Notes};
 ghost use Rattle.program_check.specs.Contexts.{items_of};
 ghost use Rattle.program_check.specs.Known.{plain_scope};
 ghost use Rattle.program_check.specs.Typed.{plain_option};
+ghost use Rattle.program_check.specs.Variables.{plain_vars, Kept, made_failures};
 ghost use Rattle.program_check.specs.Nodes.{field_at, label_at, node_failures};
 
 use crate::checker::Checker;
@@ -23,7 +25,7 @@ use crate::types::sort_named;
 use crate::vars::Vars;
 use fast_fault::Code;
 use fast_syntax::expressions::Expr;
-use fast_syntax::items::{Out, OutRule};
+use fast_syntax::items::Out;
 use fast_syntax::{FieldItem, Name};
 
 /// The fields of a type, or none where it isn't declared.
@@ -60,7 +62,7 @@ impl Checker {
 
     /// A child that is given as it is: the types of inputs and outputs are the same.
     fn check_child(&mut self, context: &Context, types: &Between, vars: &Vars, name: &Name)
-        ensures { Notes self.old self.new (out_failures (items_of context.now) (plain_name types.now.from.now) (plain_name types.now.into.now) (map plain_name vars.now.all.now) (plain.child (plain_name name.now))) }
+        ensures { Kept self.old vars.now → Notes self.old self.new (out_failures (items_of context.now) (plain_name types.now.from.now) (plain_name types.now.into.now) (plain_vars vars.now) (plain.child (plain_name name.now))) }
     {
         let from = context.type_name(&types.from.text);
         let differ = differ(from, context.type_name(&types.into.text));
@@ -77,7 +79,7 @@ impl Checker {
         name: &Name,
         child: &Name,
     )
-        ensures { Notes self.old self.new (out_failures (items_of context.now) (plain_name types.now.from.now) (plain_name types.now.into.now) (map plain_name vars.now.all.now) (plain.call (plain_name name.now) (plain_name child.now))) }
+        ensures { Kept self.old vars.now → Notes self.old self.new (out_failures (items_of context.now) (plain_name types.now.from.now) (plain_name types.now.into.now) (plain_vars vars.now) (plain.call (plain_name name.now) (plain_name child.now))) }
     {
         let wanted = Standing {
             kind: Some(Kind::Transformation),
@@ -91,7 +93,7 @@ impl Checker {
     /// An output term of a rule between these types.
     #[cycle(check_out)]
     fn check_out(&mut self, context: &Context, types: &Between, vars: &Vars, out: &Out)
-        ensures { Notes self.old self.new (out_failures (items_of context.now) (plain_name types.now.from.now) (plain_name types.now.into.now) (map plain_name vars.now.all.now) (plain_out out.now)) }
+        ensures { Kept self.old vars.now → Notes self.old self.new (out_failures (items_of context.now) (plain_name types.now.from.now) (plain_name types.now.into.now) (plain_vars vars.now) (plain_out out.now)) }
     {
         match out {
             Out::Child(name) => {
@@ -109,7 +111,7 @@ impl Checker {
 
     #[cycle(check_out)]
     fn check_outs(&mut self, context: &Context, types: &Between, vars: &Vars, outs: &[Out])
-        ensures { Notes self.old self.new (outs_failures (items_of context.now) (plain_name types.now.from.now) (plain_name types.now.into.now) (map plain_name vars.now.all.now) (plain_outputs outs.now)) }
+        ensures { Kept self.old vars.now → Notes self.old self.new (outs_failures (items_of context.now) (plain_name types.now.from.now) (plain_name types.now.into.now) (plain_vars vars.now) (plain_outputs outs.now)) }
     {
         'outs: for out in outs {
             self.check_out(context, types, vars, out);
@@ -134,11 +136,18 @@ impl Checker {
         self.check_labels(&scope_of(&from), fields_of(&into), labels)
     }
 
-    /// A rule of a transformation between these types.
-    pub(crate) fn check_out_rule(&mut self, context: &Context, types: &Between, rule: &OutRule)
-        ensures { Notes self.old self.new (out_rule_failures (items_of context.now) (plain_name types.now.from.now) (plain_name types.now.into.now) (plain_out_rule rule.now)) }
+    /// The output term of a rule between these types, where it has one.
+    pub(crate) fn check_made(
+        &mut self,
+        context: &Context,
+        types: &Between,
+        vars: &Vars,
+        out: Option<&Out>,
+    )
+        ensures { Kept self.old vars.now → Notes self.old self.new (made_failures (items_of context.now) (plain_name types.now.from.now) (plain_name types.now.into.now) (plain_vars vars.now) (option_map (λ o. plain_out o.now) out.entry)) }
     {
-        let vars = self.check_rule(context, types.from, &rule.rule);
-        self.check_out(context, types, &vars, &rule.out)
+        if let Some(out) = out {
+            self.check_out(context, types, vars, out);
+        }
     }
 }

@@ -4,17 +4,16 @@
 ghost use Rattle.std.specs.Prelude.{◌≡◌, [], Some, None, map, is_some};
 ghost use Rattle.std.specs.List.{flat_map};
 ghost use Rattle.std.specs.Option.{option_map};
-ghost use Rattle.fast_fault.specs.declared.code.Code.TheVariants as code;
 ghost use Rattle.model_names.specs.Declared.{find_type};
-ghost use Rattle.fast_syntax.specs.View.{plain_name};
-ghost use Rattle.fast_syntax.specs.Plain.{plain_guard, plain_rule};
-ghost use Rattle.model_checks.specs.Types.{repeated};
-ghost use Rattle.model_checks.specs.Rules.{differ, constructor_failures, label_count_failures, scope_of, variable_failures, guard_failures, type_name_failures, demand_failures, rule_failures};
-ghost use Rattle.program_check.specs.Notes.{HasMemory, Notes};
+ghost use Rattle.fast_syntax.specs.View.{plain_name, plain_demand};
+ghost use Rattle.fast_syntax.specs.Plain.{plain_guard, plain_rule, plain_out};
+ghost use Rattle.model_checks.specs.Rules.{differ, constructor_failures, label_count_failures, scope_of, variable_failures, guard_failures, type_name_failures, demand_failures};
+ghost use Rattle.program_check.specs.Notes.{Notes};
 ghost use Rattle.program_check.specs.Typed.{plain_option, type_name};
 ghost use Rattle.program_check.specs.Contexts.{items_of};
 ghost use Rattle.program_check.specs.Standings.{plain_kind};
 ghost use Rattle.program_check.specs.Heads.{ruled_failures};
+ghost use Rattle.program_check.specs.Variables.{plain_vars, Kept, whole_rule_failures};
 ghost use Rattle.program_check.specs.Known.{plain_scope};
 
 use crate::checker::Checker;
@@ -22,16 +21,15 @@ use crate::context::Context;
 use crate::declared_type::{DeclaredType, ctor_named};
 use crate::expressions::{Kind, Standing, is_other_kind, standing_of};
 use crate::labels::{Scope, either};
-use crate::names::Names;
 use crate::types::is_rank;
 use crate::vars::Vars;
 use fast_fault::{Code, Text};
 use fast_syntax::expressions::Expr;
-use fast_syntax::items::Rule;
+use fast_syntax::items::{Out, Rule};
 use fast_syntax::{Demand, Name};
 use fast_tree::Sort;
 
-/// The types of the inputs and of the outputs of a transformation.
+/// The types of the inputs and of the outputs of a transformation. Those of a language are the type of its trees.
 #[derive(Clone, Copy)]
 pub(crate) struct Between<'p> {
     pub(crate) from: &'p Name,
@@ -95,7 +93,7 @@ impl Checker {
 
     /// One of the child variables.
     pub(crate) fn check_variable(&mut self, vars: &Vars, name: &Name)
-        ensures { Notes self.old self.new (variable_failures (map plain_name vars.now.all.now) (plain_name name.now)) }
+        ensures { Kept self.old vars.now → Notes self.old self.new (variable_failures (plain_vars vars.now) (plain_name name.now)) }
     {
         let known = vars.names.place(&name.text).is_some();
         self.note_if(!known, Code::UnknownName, name.place);
@@ -129,54 +127,38 @@ impl Checker {
     }
 
     /// In a rule for trees of this type a demanded language is a `lang` of trees of the type.
-    fn check_given(&mut self, context: &Context, of: &Name, vars: &Vars, rule: &Rule)
-        ensures { Notes self.old self.new (flat_map (demand_failures (items_of context.now) (plain_name of.now) (map plain_name vars.now.all.now)) (plain_rule rule.now).given) }
+    fn check_given(&mut self, context: &Context, of: &Name, vars: &Vars, given: &[Demand])
+        ensures { Kept self.old vars.now → Notes self.old self.new (flat_map (demand_failures (items_of context.now) (plain_name of.now) (plain_vars vars.now)) (map plain_demand given.now)) }
     {
         let wanted = Standing {
             kind: Some(Kind::Language),
             input: context.type_name(&of.text),
             output: None,
         };
-        'given: for demand in &rule.given {
+        'given: for demand in given {
             self.check_ruled(context, &wanted, &demand.language);
             self.check_variable(vars, &demand.child);
         }
     }
 
-    /// The variables of a rule are different.
-    fn check_vars<'r>(&mut self, rule: &'r Rule) -> Vars<'r>
-        ensures noted { Notes self.old self.new (repeated code.DuplicateVariable (plain_rule rule.now).vars) }
-        ensures same { HasMemory self.new → map plain_name result.all.now ≡ (plain_rule rule.now).vars }
-    {
-        let names = self.check_repeated(Code::DuplicateVariable, &rule.vars);
-        if self.ran_out {
-            return Vars {
-                all: &[],
-                names: Names::new(self.alloc),
-            };
-        }
-        Vars {
-            all: &rule.vars,
-            names,
-        }
-    }
-
-    /// A rule for trees of a type. Its variables come back.
-    pub(crate) fn check_rule<'r>(
+    /// A rule for trees of a type. One of a transformation between the types has an output term.
+    pub(crate) fn check_rule(
         &mut self,
         context: &Context,
-        of: &Name,
-        rule: &'r Rule,
-    ) -> Vars<'r>
-        ensures noted { Notes self.old self.new (rule_failures (items_of context.now) (plain_name of.now) (plain_rule rule.now)) }
-        ensures same { HasMemory self.new → map plain_name result.all.now ≡ (plain_rule rule.now).vars }
+        types: &Between,
+        rule: &Rule,
+        out: Option<&Out>,
+    )
+        ensures { Notes self.old self.new (whole_rule_failures (items_of context.now) (plain_name types.now.from.now) (plain_name types.now.into.now) (plain_rule rule.now) (option_map (λ o. plain_out o.now) out.entry)) }
     {
-        let item = context.find_type(&of.text);
-        let scope = scope_of(&item);
-        self.check_constructor(&item, &rule.ctor, rule.vars.len());
-        let vars = self.check_vars(rule);
-        self.check_guard(&scope, &rule.guard);
-        self.check_given(context, of, &vars, rule);
-        vars
+        let from = context.find_type(&types.from.text);
+        self.check_constructor(&from, &rule.ctor, rule.vars.len());
+        let vars = Vars {
+            all: &rule.vars,
+            names: self.check_repeated(Code::DuplicateVariable, &rule.vars),
+        };
+        self.check_guard(&scope_of(&from), &rule.guard);
+        self.check_given(context, types.from, &vars, &rule.given);
+        self.check_made(context, types, &vars, out);
     }
 }

@@ -8,8 +8,8 @@ use Rattle.program_check.proofs.ByHead.{transformation_by_head}
 use Rattle.program_check.proofs.checker.Checker.check_call.Goals as goal
 
 pub returns : goal.returns
-returns c =
+returns c kept =
     let items = items_of c.args.context.now in
     let types = c.args.types.now in
     let name = plain_name c.args.name.now in
-    and_next (as_same (ap₂ (λ n m. ruled_failures items (Some transformation) n m name) c.type_name.ensures c.type_name-2.ensures ∙ transformation_by_head items (plain_name types.from.now) (plain_name types.into.now) name) c.check_ruled.ensures) c.check_variable.ensures
+    and_next (as_same (ap₂ (λ n m. ruled_failures items (Some transformation) n m name) c.type_name.ensures c.type_name-2.ensures ∙ transformation_by_head items (plain_name types.from.now) (plain_name types.into.now) name) c.check_ruled.ensures) (c.check_variable.ensures (λ m. kept (c.check_ruled.ensures m).had))

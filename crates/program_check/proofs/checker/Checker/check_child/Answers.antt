@@ -6,4 +6,4 @@ use Rattle.fast_fault.specs.declared.code.Code.TheVariants.{WrongType}
 use Rattle.program_check.proofs.checker.Checker.check_child.Goals as goal
 
 pub returns : goal.returns
-returns c = and_next c.check_variable.ensures (as_same (ap (λ b. fails_if b WrongType c.args.name.now.place) (c.differ-differ.ensures ∙ ap₂ differ c.type_name-from.ensures c.type_name.ensures)) c.note_if.ensures)
+returns c kept = and_next (c.check_variable.ensures kept) (as_same (ap (λ b. fails_if b WrongType c.args.name.now.place) (c.differ-differ.ensures ∙ ap₂ differ c.type_name-from.ensures c.type_name.ensures)) c.note_if.ensures)

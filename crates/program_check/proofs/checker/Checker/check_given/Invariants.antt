@@ -4,9 +4,10 @@ use Rattle.fast_syntax.specs.View.{plain_name, plain_demand}
 use Rattle.model_checks.specs.Rules.{demand_failures}
 use Rattle.program_check.specs.Contexts.{items_of}
 use Rattle.program_check.specs.Notes.{Left}
+use Rattle.program_check.specs.Variables.{plain_vars, Kept}
 use Rattle.program_check.proofs.checker.Checker.check_given.Given as goal
 
 abbrev pub invariant-given : goal.invariant-given
 invariant-given l =
-    let each = demand_failures (items_of l.context) (plain_name l.of) (map plain_name l.vars.all.now) in
-    Left l.initial.self l.self (flat_map each (map plain_demand l.rule.given.items)) (flat_map each (map plain_demand (drop l.demand-index l.rule.given.items)))
+    let each = demand_failures (items_of l.context) (plain_name l.of) (plain_vars l.vars) in
+    Kept l.initial.self l.vars → Left l.initial.self l.self (flat_map each (map plain_demand l.given)) (flat_map each (map plain_demand (drop l.demand-index l.given)))

@@ -10,7 +10,7 @@ use Rattle.program_check.proofs.checker.Checker.check_out_rules.Goals as goal
 
 pub rules-preserved : goal.rules-preserved
 rules-preserved c h =
-    let one = c.check_out_rule.ensures h in
+    let one = c.check_rule.ensures h in
     let each = out_rule_failures (items_of c.args.context.now) (plain_name c.args.types.now.from.now) (plain_name c.args.types.now.into.now) in
     more _ one (one_of each plain_out_rule c.args.rules.now c.rules.rule-index c.rule-item.result c.rules-test.true c.rule-item.is) (c.rules.invariant one.had)
 

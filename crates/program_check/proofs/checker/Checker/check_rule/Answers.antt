@@ -1,22 +1,34 @@
-use Rattle.std.proofs.Common.{◌≡◌, ◌∙◌, sym, map, length, arith}
+use Rattle.std.proofs.Common.{◌≡◌, ◌∙◌, sym, ap, map, length, arith}
+use Rattle.std.specs.Option.{option_map}
 use Rattle.std.proofs.lemmas.List.{length-map}
-use Rattle.fast_syntax.specs.View.{plain_name}
-use Rattle.fast_syntax.specs.Plain.{plain_rule}
+use Rattle.fast_fault.specs.declared.code.Code.TheVariants.{DuplicateVariable}
+use Rattle.fast_syntax.specs.View.{plain_name, plain_demand}
+use Rattle.fast_syntax.specs.Plain.{plain_rule, plain_out}
+use Rattle.model_checks.specs.Types.{is_among, repeated}
 use Rattle.program_check.specs.Contexts.{items_of}
 use Rattle.program_check.specs.Known.{plain_scope}
 use Rattle.program_check.specs.Typed.{plain_option}
+use Rattle.program_check.specs.declared.vars.Vars.{Vars}
+use Rattle.program_check.specs.Variables.{Kept}
+use Rattle.program_check.proofs.Noting.{same}
 use Rattle.program_check.proofs.Searching.{rule_noted}
 use Rattle.program_check.proofs.checker.Checker.check_rule.Goals as goal
 
-pub returns-clause-noted : goal.returns-clause-noted
-returns-clause-noted c h =
-    let four = c.check_given.ensures h in
+pub returns : goal.returns
+returns c h =
+    let rule = c.args.rule.now in
+    let vars_are = c.deref.ensures.value ∙ sym c.deref-2.ensures.value in
+    let vars : Vars = record { all = c.deref.result; names = c.check_repeated.result } in
+    let kept : Kept c.check_repeated.new.self vars = λ m text. c.check_repeated.ensures.names m text ∙ ap (λ xs. is_among (map plain_name xs) text) (sym vars_are) in
+    let kept_given : Kept c.check_guard.new.self vars = λ m. kept (c.check_guard.ensures m).had in
+    let kept_made : Kept c.check_given.new.self vars = λ m. kept_given (c.check_given.ensures kept_given m).had in
+    let five = c.check_made.ensures kept_made h in
+    let four = c.check_given.ensures kept_given five.had in
     let three = c.check_guard.ensures four.had in
-    let two = c.check_vars-vars.ensures.noted three.had in
-    let held = c.args.rule.now.vars.ok in
-    let many : c.len.result ≡ length c.args.rule.now.vars.items = omega arith in
-    rule_noted (items_of c.args.context.now) (plain_name c.args.of.now) (plain_rule c.args.rule.now) (plain_option c.find_type-item.result) (plain_scope c.scope_of-scope.result) (map plain_name c.check_vars-vars.result.all.now) c.len.result _ _ _ _ _
-    c.find_type-item.ensures c.scope_of-scope.ensures (c.check_vars-vars.ensures.same three.had) (many ∙ sym (length-map c.args.rule.now.vars.items plain_name)) (c.check_constructor.ensures two.had) two three four
-
-pub returns-clause-same : goal.returns-clause-same
-returns-clause-same c h = c.check_vars-vars.ensures.same (c.check_guard.ensures (c.check_given.ensures h).had).had
+    let two = c.check_repeated.ensures.noted three.had in
+    let held = rule.vars.ok in
+    let many : c.len.result ≡ length rule.vars.items = omega arith in
+    rule_noted (items_of c.args.context.now) (plain_name c.args.types.now.from.now) (plain_name c.args.types.now.into.now) (plain_rule rule) (option_map (λ o. plain_out o.now) c.args.out)
+    (plain_option c.find_type-from.result) (plain_scope c.scope_of.result) (map plain_name c.deref.result.now) (map plain_demand c.deref-3.result.now) c.len.result _ _ _ _ _ _
+    c.find_type-from.ensures c.scope_of.ensures (ap (map plain_name) c.deref.ensures.value) (ap (map plain_demand) c.deref-3.ensures.value) (many ∙ sym (length-map rule.vars.items plain_name))
+    (c.check_constructor.ensures two.had) (same (ap (λ xs. repeated DuplicateVariable (map plain_name xs)) (sym vars_are)) two) three four five

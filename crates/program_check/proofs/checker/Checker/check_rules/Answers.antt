@@ -5,13 +5,13 @@ use Rattle.fast_syntax.specs.View.{plain_name}
 use Rattle.fast_syntax.specs.Plain.{plain_rule}
 use Rattle.model_checks.specs.Rules.{rule_failures}
 use Rattle.program_check.specs.Contexts.{items_of}
-use Rattle.program_check.proofs.Noting.{more, done, one_of}
+use Rattle.program_check.proofs.Noting.{same, ends, more, done, one_of}
 use Rattle.program_check.proofs.checker.Checker.check_rules.Goals as goal
 
 pub rules-preserved : goal.rules-preserved
 rules-preserved c h =
-    let one = c.check_rule.ensures.noted h in
     let each = rule_failures (items_of c.args.context.now) (plain_name c.args.of.now) in
+    let one = same (ends (each (plain_rule c.rule-item.result))) (c.check_rule.ensures h) in
     more _ one (one_of each plain_rule c.args.rules.now c.rules.rule-index c.rule-item.result c.rules-test.true c.rule-item.is) (c.rules.invariant one.had)
 
 pub returns : goal.returns
