@@ -1,5 +1,5 @@
 -- What heads say of names.
-use Rattle.std.proofs.Common.{◌≡◌, ℕ, Bool, true, false, ◌||◌, ◌&&◌, cond, List, [], ◌∷◌, Option, Some, None, refl, sym, ap, ap₂, ◌∙◌, true≢false}
+use Rattle.std.proofs.Common.{◌≡◌, ℕ, Bool, true, false, ◌||◌, ◌&&◌, cond, List, [], ◌∷◌, ◌++◌, map, Option, Some, None, refl, sym, ap, ap₂, ◌∙◌, true≢false}
 use Rattle.std.specs.Prelude.{is_some, not, IsSome}
 use Rattle.std.specs.Borrow.{Bor}
 use Rattle.std.specs.Option.{option_map, option_map_or, option_and_then, option_copied}
@@ -8,17 +8,21 @@ use Rattle.fast_fault.specs.declared.refusal.Refusal.{Refusal}
 use Rattle.model_program.specs.Syntax.{Name}
 use Rattle.model_grammar.specs.Syntax.{named, Body, sorts, tree, lang, trans, def, assertion, Item}
 use Rattle.model_names.specs.Declared.{same_text, own_name, declares, find_item}
-use Rattle.model_names.specs.Kinds.{Kind, language, transformation, own_kind, own_type, own_output, declared_type}
+use Rattle.model_names.specs.Kinds.{Kind, language, transformation, a_tree, defined_kind, own_kind, own_type, own_output, declared_type}
 use Rattle.model_checks.specs.Failures.{failure, fails_if}
-use Rattle.model_checks.specs.Rules.{differ, own_lang, own_trans, language_failures, transformation_failures}
-use Rattle.model_checks.specs.Expressions.{is_other_kind, is_known_later, name_failures}
+use Rattle.model_checks.specs.Rules.{differ, own_lang, own_trans, language_failures, transformation_failures, rule_limit, type_name_failures, rule_failures, out_rule_failures}
+use Rattle.model_checks.specs.Programs.{name_again, into_failures, needs_output, body_failures}
+use Rattle.std.specs.List.{flat_map}
+use Rattle.std.proofs.lemmas.List.{append_assoc}
+use Rattle.program_check.proofs.Noting.{ends}
+use Rattle.model_checks.specs.Expressions.{is_other_kind, is_known_later, name_failures, whole_failures}
 use Rattle.program_check.specs.declared.expressions.Standing.{Standing}
 use Rattle.fast_syntax.specs.declared.Name as named
 use Rattle.fast_syntax.specs.View.{plain_name}
 use Rattle.fast_syntax.specs.Plain.{plain_into}
 use Rattle.program_check.specs.Typed.{type_name}
 use Rattle.program_check.specs.Standings.{plain_kind, IsStanding}
-use Rattle.program_check.specs.Heads.{PlainHead, head_of, head_named, not_ruled, ruled_failures}
+use Rattle.program_check.specs.Heads.{PlainHead, head_of, head_named, not_ruled, ruled_failures, head_failures, content_failures, headless_failures}
 
 -- what is lent of something that may be there
 pub lent : {A B : Type 0} (f : A → B) (r : Option (Bor A)) (o : Option A) → option_copied r ≡ o → option_map (λ x. f x.now) r ≡ option_map f o
@@ -178,3 +182,44 @@ module _ (items before : List Item) (name : Name) where
 
   pub some_named : (h : PlainHead) (b : Bool) → head_named items name.text ≡ Some h → b ≡ (h.has_rules || is_some (find_item before name.text)) → fails_if (not b) UsedTooEarly name.place ≡ name_failures items before name
   some_named h b is tells = ap (λ b. fails_if (not b) UsedTooEarly name.place) tells ∙ ap (λ h. option_map_or (λ (h : PlainHead). fails_if (not (h.has_rules || is_some (find_item before name.text))) UsedTooEarly name.place) h (failure UnknownName name.place)) (sym is) ∙ name_by_head items before name
+
+-- an item, by its head and what stands behind it
+pub item_by_head : (items before : List Item) (b : Body) → option_map_or (λ h. head_failures items before h ++ content_failures items before h b) (head_of b) (headless_failures items before b) ≡ body_failures items before b
+item_by_head items before (sorts t) = refl
+item_by_head items before (tree t) =
+    ap (λ xs. (name_again items before t.name ++ xs) ++ (whole ++ [])) (ends type) ∙ ap (λ xs. (name_again items before t.name ++ type) ++ xs) (ends whole) ∙ append_assoc (name_again items before t.name) type whole
+  where
+    type : List Refusal
+    type = type_name_failures items t.of
+
+    whole : List Refusal
+    whole = whole_failures items before (declared_type items t.of) a_tree t.value
+item_by_head items before (lang l) =
+    ap (λ xs. (name_again items before l.name ++ xs) ++ rules) (ends type) ∙ append_assoc (name_again items before l.name) type rules
+  where
+    type : List Refusal
+    type = type_name_failures items l.of
+
+    rules : List Refusal
+    rules = rule_limit l.rules ++ flat_map (rule_failures items l.of) l.rules
+item_by_head items before (trans t) = append_assoc (name_again items before t.name) (from ++ into) rules ∙ ap (λ xs. name_again items before t.name ++ xs) (append_assoc from into rules)
+  where
+    from : List Refusal
+    from = type_name_failures items t.from
+
+    into : List Refusal
+    into = type_name_failures items t.into
+
+    rules : List Refusal
+    rules = rule_limit (map (λ r. r.rule) t.rules) ++ flat_map (out_rule_failures items t.from t.into) t.rules
+item_by_head items before (def d) = append_assoc (name_again items before d.name) (from ++ into) value ∙ ap (λ xs. name_again items before d.name ++ xs) (append_assoc from into value)
+  where
+    from : List Refusal
+    from = type_name_failures items d.from
+
+    into : List Refusal
+    into = into_failures items before d.into
+
+    value : List Refusal
+    value = whole_failures items before (declared_type items d.from) (defined_kind d.into) d.value ++ needs_output items before d.into d.value
+item_by_head items before (assertion a) = refl

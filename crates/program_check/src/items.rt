@@ -4,22 +4,24 @@ ghost use Rattle.std.specs.Prelude.{◌≡◌, ◌++◌, Some, None, map};
 ghost use Rattle.std.specs.List.{flat_map};
 ghost use Rattle.std.specs.Option.{option_map};
 ghost use Rattle.fast_syntax.specs.View.{plain_name, plain_type};
-ghost use Rattle.fast_syntax.specs.Plain.{plain_x, plain_rule, plain_out_rule, plain_tree, plain_lang, plain_trans, plain_into, plain_def, plain_claim, plain_body};
+ghost use Rattle.fast_syntax.specs.Plain.{plain_x, plain_rule, plain_out_rule, plain_claim, plain_body, plain_item};
 ghost use Rattle.model_checks.specs.Rules.{rule_limit, rule_failures, out_rule_failures};
-ghost use Rattle.model_checks.specs.Programs.{is_tree, type_again, name_again, tree_failures, lang_failures, trans_failures, into_failures, needs_output, def_failures, claim_failures, body_failures};
+ghost use Rattle.model_checks.specs.Programs.{is_tree, type_again, claim_failures, body_failures};
 ghost use Rattle.program_check.specs.Notes.{HasMemory, Notes};
 ghost use Rattle.program_check.specs.Contexts.{items_of, before_of};
 ghost use Rattle.program_check.specs.Standings.{plain_kind, IsStanding, beside_failures};
+ghost use Rattle.program_check.specs.Heads.{plain_head, head_failures, value_failures, content_failures, headless_failures};
 ghost use Rattle.model_grammar.specs.Syntax as plain;
 ghost use Rattle.model_checks.specs.Types.{type_failures};
 
 use crate::checker::Checker;
 use crate::context::Context;
-use crate::expressions::{Kind, Standing, declared, defined_kind, only_as, place_of};
+use crate::expressions::{Kind, Standing, only_as, place_of, standing_of};
+use crate::heads::{Head, head_of};
 use crate::limits::MOST_RULES;
 use crate::rules::{Between, differ};
 use fast_fault::Code;
-use fast_syntax::items::{Body, Claim, DefItem, LangItem, OutRule, Rule, TransItem, TreeItem, X};
+use fast_syntax::items::{Body, Claim, Item, OutRule, Rule, X};
 use fast_syntax::{Name, TypeItem};
 
 fn is_tree(standing: &Standing) -> bool
@@ -33,21 +35,26 @@ fn is_tree(standing: &Standing) -> bool
 }
 
 impl Checker {
-    /// The name of a language, transformation, definition or tree wasn't declared before.
-    fn check_new_name(&mut self, context: &Context, name: &Name)
-        ensures { Notes self.old self.new (name_again (items_of context.now) (before_of context.now) (plain_name name.now)) }
+    /// What an item declares wasn't declared before, and its types are declared.
+    fn check_head(&mut self, context: &Context, head: &Head)
+        ensures { Notes self.old self.new (head_failures (items_of context.now) (before_of context.now) (plain_head head.now)) }
     {
-        let again = context.has_item_before(&name.text);
-        self.note_if(again, Code::DuplicateName, name.place);
+        let again = context.has_item_before(&head.name.text);
+        self.note_if(again, Code::DuplicateName, head.name.place);
+        self.check_type_name(context, head.input);
+        if let Some(output) = head.output {
+            self.check_type_name(context, output);
+        }
     }
 
-    fn check_tree(&mut self, context: &Context, item: &TreeItem)
-        ensures { Notes self.old self.new (tree_failures (items_of context.now) (before_of context.now) (plain_tree item.now)) }
+    /// The expression of a definition or a tree is of the kind and of the types that its head says.
+    fn check_value(&mut self, context: &Context, head: &Head, x: &X)
+        ensures { Notes self.old self.new (value_failures (items_of context.now) (before_of context.now) (plain_head head.now) (plain_x x.now)) }
     {
-        let of = context.type_name(&item.of.text);
-        self.check_new_name(context, &item.name);
-        self.check_type_name(context, &item.of);
-        self.check_as(context, 0, of, Kind::Tree, &item.value);
+        let wanted = standing_of(context, head);
+        let found = self.check_as(context, 0, wanted.input, head.kind, x);
+        let output = only_as(Kind::Transformation, found.kind, found.output);
+        self.note_if(differ(wanted.output, output), Code::WrongType, place_of(x));
     }
 
     fn check_rule_limit(&mut self, rules: &[Rule])
@@ -67,15 +74,6 @@ impl Checker {
         }
     }
 
-    fn check_lang(&mut self, context: &Context, item: &LangItem)
-        ensures { Notes self.old self.new (lang_failures (items_of context.now) (before_of context.now) (plain_lang item.now)) }
-    {
-        self.check_new_name(context, &item.name);
-        self.check_type_name(context, &item.of);
-        self.check_rule_limit(&item.rules);
-        self.check_rules(context, &item.of, &item.rules)
-    }
-
     fn check_out_rule_limit(&mut self, rules: &[OutRule])
         ensures { Notes self.old self.new (rule_limit (map (λ r. plain_rule r.rule) rules.now)) }
     {
@@ -90,51 +88,6 @@ impl Checker {
         'rules: for rule in rules {
             self.check_rule(context, types, &rule.rule, Some(&rule.out));
         }
-    }
-
-    fn check_trans(&mut self, context: &Context, item: &TransItem)
-        ensures { Notes self.old self.new (trans_failures (items_of context.now) (before_of context.now) (plain_trans item.now)) }
-    {
-        let types = Between {
-            from: &item.from,
-            into: &item.into,
-        };
-        self.check_new_name(context, &item.name);
-        self.check_type_name(context, &item.from);
-        self.check_type_name(context, &item.into);
-        self.check_out_rule_limit(&item.rules);
-        self.check_out_rules(context, &types, &item.rules)
-    }
-
-    /// The type of the outputs, where there is one.
-    fn check_into(&mut self, context: &Context, into: &Option<Name>)
-        ensures { Notes self.old self.new (into_failures (items_of context.now) (before_of context.now) (plain_into into.now)) }
-    {
-        if let Some(into) = into {
-            self.check_type_name(context, into);
-        }
-    }
-
-    /// The outputs are of the type that a definition says.
-    fn check_output(&mut self, context: &Context, into: &Option<Name>, x: &X, standing: &Standing)
-        requires { HasMemory self.old → IsStanding (items_of context.now) (plain_x x.now) standing.now }
-        ensures { Notes self.old self.new (needs_output (items_of context.now) (before_of context.now) (plain_into into.now) (plain_x x.now)) }
-    {
-        let wanted = declared(context, into.as_ref());
-        let found = only_as(Kind::Transformation, standing.kind, standing.output);
-        self.note_if(differ(wanted, found), Code::WrongType, place_of(x));
-    }
-
-    fn check_def(&mut self, context: &Context, item: &DefItem)
-        ensures { Notes self.old self.new (def_failures (items_of context.now) (before_of context.now) (plain_def item.now)) }
-    {
-        let from = context.type_name(&item.from.text);
-        self.check_new_name(context, &item.name);
-        self.check_type_name(context, &item.from);
-        self.check_into(context, &item.into);
-        let kind = defined_kind(&item.into);
-        let standing = self.check_as(context, 0, from, kind, &item.value);
-        self.check_output(context, &item.into, &item.value, &standing);
     }
 
     /// A language, and what is to be of this kind and of the type of its trees. What that stands for comes back.
@@ -193,17 +146,50 @@ impl Checker {
         self.check_type(item)
     }
 
-    /// Notes what fails in an item.
-    pub(crate) fn check_body(&mut self, context: &Context, body: &Body)
-        ensures { Notes self.old self.new (body_failures (items_of context.now) (before_of context.now) (plain_body body.now)) }
+    /// What stands behind a head.
+    fn check_content(&mut self, context: &Context, head: &Head, body: &Body)
+        ensures { Notes self.old self.new (content_failures (items_of context.now) (before_of context.now) (plain_head head.now) (plain_body body.now)) }
+    {
+        match body {
+            Body::Sorts(_) | Body::Assert(_) => {}
+            Body::Tree(item) => self.check_value(context, head, &item.value),
+            Body::Def(item) => self.check_value(context, head, &item.value),
+            Body::Lang(item) => {
+                self.check_rule_limit(&item.rules);
+                self.check_rules(context, &item.of, &item.rules)
+            }
+            Body::Trans(item) => {
+                let types = Between {
+                    from: &item.from,
+                    into: &item.into,
+                };
+                self.check_out_rule_limit(&item.rules);
+                self.check_out_rules(context, &types, &item.rules)
+            }
+        }
+    }
+
+    /// An item without a head: a type or a claim.
+    fn check_headless(&mut self, context: &Context, body: &Body)
+        ensures { Notes self.old self.new (headless_failures (items_of context.now) (before_of context.now) (plain_body body.now)) }
     {
         match body {
             Body::Sorts(item) => self.check_sorts(context, item),
-            Body::Tree(item) => self.check_tree(context, item),
-            Body::Lang(item) => self.check_lang(context, item),
-            Body::Trans(item) => self.check_trans(context, item),
-            Body::Def(item) => self.check_def(context, item),
             Body::Assert(item) => self.check_claim(context, &item.claim),
+            Body::Tree(_) | Body::Lang(_) | Body::Trans(_) | Body::Def(_) => {}
+        }
+    }
+
+    /// Notes what fails in an item.
+    pub(crate) fn check_item(&mut self, context: &Context, item: &Item)
+        ensures { Notes self.old self.new (body_failures (items_of context.now) (before_of context.now) (plain_item item.now).body) }
+    {
+        match head_of(item) {
+            Some(head) => {
+                self.check_head(context, &head);
+                self.check_content(context, &head, &item.body)
+            }
+            None => self.check_headless(context, &item.body),
         }
     }
 }

@@ -83,7 +83,7 @@ fn find_refusal(
             declared,
             before,
         };
-        checker.check_body(&context, &items[before].body);
+        checker.check_item(&context, &items[before]);
     }
     if checker.ran_out {
         return Err(Memory);

@@ -17,7 +17,7 @@ use Rattle.model_checks.specs.Labels.{label_failures, operands_failures, steps_f
 use Rattle.fast_tree.specs.Signatures.{plain_sort}
 use Rattle.program_check.specs.Known.{plain_scope, plain_added, next_form, IsKnown}
 use Rattle.program_check.specs.Notes.{HasMemory, Notes}
-use Rattle.program_check.proofs.Noting.{next, same, and_none, left_by, if_made}
+use Rattle.program_check.proofs.Noting.{next, same, nothing, and_none, left_by, if_made}
 use Rattle.program_check.proofs.Chains.{sorted_more, sorted_done, has_more, has_done, added_more, added_done, steps_more, steps_done, form_more, form_done}
 use Rattle.fast_fault.specs.declared.code.Code.TheVariants.{WrongSort}
 use Rattle.model_checks.specs.Failures.{fails_if}
@@ -185,6 +185,9 @@ check_label-returns-in-Field-clause-known t c h = subst (λ (n : Node). IsKnown 
 
 pub check_label-returns-in-Str-clause-noted : goal.check_label-returns-in-Str-clause-noted
 check_label-returns-in-Str-clause-noted t c h = same (ap (λ n. label_failures (plain_scope c.args.scope.now) (plain_node n c.args.e.now.place)) (sym c.in-Str.is)) (c.check_text.ensures.noted h)
+
+pub check_label-returns-in-Truth-clause-noted : goal.check_label-returns-in-Truth-clause-noted
+check_label-returns-in-Truth-clause-noted t c h = same (ap (λ n. label_failures (plain_scope c.args.scope.now) (plain_node n c.args.e.now.place)) (sym c.in-Truth.is)) (nothing c.args.self.now h)
 
 pub check_label-returns-in-Compare-clause-noted : goal.check_label-returns-in-Compare-clause-noted
 check_label-returns-in-Compare-clause-noted t c h =
