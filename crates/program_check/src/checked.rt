@@ -9,7 +9,6 @@ ghost use Rattle.model_meaning.specs.Types.{signature_of};
 ghost use Rattle.program_check.specs.Signed.{signature_in};
 ghost use Rattle.program_check.specs.Tells.{kind_view, defined_as, stands_for};
 
-use crate::context::item_at;
 use crate::programs::Checked;
 use fast_fault::Text;
 use fast_syntax::items::{Body, DefItem, Item, Program};
@@ -47,7 +46,10 @@ impl Checked {
         ensures { option_map (λ s. plain_signature s.now) result ≡ option_map signature_of (find_type (plain_program self.now.program) name.now) }
     {
         match self.declared.types.place(name) {
-            Some(place) => signature_at(&self.signatures, place),
+            Some(place) => match self.signatures.get(place) {
+                Some(signature) => signature.as_ref(),
+                None => None,
+            },
             None => None,
         }
     }
@@ -57,7 +59,7 @@ impl Checked {
         ensures { option_map (λ item. plain_item item.now) result ≡ find_item (plain_program self.now.program) name.now }
     {
         match self.declared.names.place(name) {
-            Some(place) => item_at(&self.program.items, place),
+            Some(place) => self.program.items.get(place),
             None => None,
         }
     }
@@ -81,24 +83,5 @@ fn defined(own: &DefItem) -> Kind3<'_>
     match &own.into {
         Some(into) => Kind3::Transformation(&own.from.text, &into.text),
         None => Kind3::Language(&own.from.text),
-    }
-}
-
-fn signature_at(signatures: &[Option<Signature>], place: usize) -> Option<&Signature>
-    ensures { option_map (λ s. plain_signature s.now) result ≡ signature_in (map (option_map plain_signature) signatures.now) place }
-{
-    if place < signatures.len() {
-        as_lent(&signatures[place])
-    } else {
-        None
-    }
-}
-
-fn as_lent(signature: &Option<Signature>) -> Option<&Signature>
-    ensures { option_map (λ s. plain_signature s.now) result ≡ option_map plain_signature signature.now }
-{
-    match signature {
-        Some(signature) => Some(signature),
-        None => None,
     }
 }

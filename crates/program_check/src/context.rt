@@ -65,8 +65,8 @@ impl<'p> Context<'p> {
     fn type_at(&self, place: usize) -> Option<DeclaredType<'p>>
         ensures { plain_option result ≡ type_there (items_of self.now) (Some place) }
     {
-        match names_at(&self.declared.ctors, place) {
-            Some(ctors) => match item_at(self.items, place) {
+        match self.declared.ctors.get(place) {
+            Some(ctors) => match self.items.get(place) {
                 Some(item) => as_type(item, ctors),
                 None => None,
             },
@@ -108,26 +108,6 @@ fn is_below(place: Option<usize>, before: usize) -> bool
     match place {
         Some(place) => place < before,
         None => false,
-    }
-}
-
-pub(crate) fn item_at(items: &[Item], place: usize) -> Option<&Item>
-    ensures { option_map (λ item. plain_item item.now) result ≡ slice_get (map plain_item items.now) place }
-{
-    if place < items.len() {
-        Some(&items[place])
-    } else {
-        None
-    }
-}
-
-fn names_at(all: &[Names], place: usize) -> Option<&Names>
-    ensures { option_map (λ names. place_in names.now) result ≡ slice_get (map place_in all.now) place }
-{
-    if place < all.len() {
-        Some(&all[place])
-    } else {
-        None
     }
 }
 

@@ -12,7 +12,7 @@ ghost use Rattle.program_check.specs.Stops.{IsStop};
 ghost use Rattle.program_check.specs.Signed.{own_signature};
 
 use crate::checker::Checker;
-use crate::context::{Context, item_at};
+use crate::context::Context;
 use crate::declarations::Declarations;
 use crate::limits::MOST_ITEMS;
 use crate::signatures::signatures_of;
@@ -54,7 +54,7 @@ impl From<Memory> for CheckStop {
 fn over_limit(items: &[Item]) -> Option<Refusal>
     ensures { result ≡ first_among None (item_limit (map plain_item items.now)) }
 {
-    match item_at(items, MOST_ITEMS) {
+    match items.get(MOST_ITEMS) {
         Some(item) => Some(Refusal {
             code: Code::TooMany,
             place: item.place,

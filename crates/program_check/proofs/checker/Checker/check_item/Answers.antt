@@ -1,4 +1,4 @@
-use Rattle.std.proofs.Common.{Some, None, sym, ap, ◌∙◌, ◌++◌}
+use Rattle.std.proofs.Common.{sym, ap, ◌∙◌, ◌++◌}
 use Rattle.std.specs.Option.{option_map, option_map_or}
 use Rattle.fast_syntax.specs.Plain.{plain_item}
 use Rattle.program_check.specs.Contexts.{items_of, before_of}

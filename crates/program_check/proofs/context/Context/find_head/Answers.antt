@@ -1,4 +1,4 @@
-use Rattle.std.proofs.Common.{◌∙◌, sym, ap, None}
+use Rattle.std.proofs.Common.{◌∙◌, sym, ap}
 use Rattle.std.specs.Option.{option_map, option_and_then}
 use Rattle.fast_syntax.specs.Plain.{plain_item}
 use Rattle.model_grammar.specs.Syntax as plain
