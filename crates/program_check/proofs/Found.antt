@@ -152,9 +152,3 @@ signature_found name items place n is some =
 
 pub signature_missing : (name : List ℕ) (items : List Item) (place : Option ℕ) → place ≡ place_by (declares_type name) items → place ≡ None → None ≡ option_map signature_of (find_type items name)
 signature_missing name items place is none = ap (option_map signature_of) (type_missing name items place is none)
-
-pub lent_at : {A B : Type 0} (f : A → B) (xs : List (Option A)) (i : ℕ) (x : Option A) → i < length xs → x ≡ get_or xs i x → option_map f x ≡ option_and_then (λ s. s) (slice_get (map (option_map f) xs) i)
-lent_at f xs i x low is = ap (option_and_then (λ s. s)) (there_by (option_map f) xs i x low is)
-
-pub lent_past : {A B : Type 0} (f : A → B) (xs : List (Option A)) (i : ℕ) → length xs ≤ i → None ≡ option_and_then (λ s. s) (slice_get (map (option_map f) xs) i)
-lent_past f xs i end = ap (option_and_then (λ s. s)) (past_by (option_map f) xs i end)

@@ -1,5 +1,5 @@
 use Rattle.std.proofs.Common.{sym, ◌∙◌}
-use Rattle.program_check.proofs.FieldLookup.{at_start, is_found}
+use Rattle.program_check.proofs.FieldLookup.{at_start, goes_on, is_found, is_nowhere}
 use Rattle.program_check.proofs.labels.find_field.Goals as goal
 
 pub fields-init : goal.fields-init
@@ -7,3 +7,9 @@ fields-init c = at_start c.args.fields.now c.args.name.now
 
 pub returns-then-eq-clause-found : goal.returns-then-eq-clause-found
 returns-then-eq-clause-found c = is_found c.args.fields.now c.args.name.now c.fields.number c.index-fields-number.result c.fields-test.true c.index-fields-number.is (sym c.eq.ensures ∙ c.if-eq.true) c.fields.invariant
+
+pub fields-preserved : goal.fields-preserved
+fields-preserved c = goes_on c.args.fields.now c.args.name.now c.fields.number c.index-fields-number.result c.fields-test.true c.index-fields-number.is (sym c.eq.ensures ∙ c.if-eq.false) c.fields.invariant
+
+pub returns-clause-found : goal.returns-clause-found
+returns-clause-found c = is_nowhere c.args.fields.now c.args.name.now c.fields.number c.fields-test.false c.fields.invariant
