@@ -1,12 +1,11 @@
 //! What a checked program tells of its names.
 
-ghost use Rattle.std.specs.Prelude.{◌≡◌, Some, None, map};
+ghost use Rattle.std.specs.Prelude.{◌≡◌, Some, None};
 ghost use Rattle.std.specs.Option.{option_map, option_and_then};
 ghost use Rattle.model_names.specs.Declared.{find_type, find_item};
 ghost use Rattle.fast_syntax.specs.Plain.{plain_item, plain_def, plain_program};
 ghost use Rattle.fast_tree.specs.Signatures.{plain_signature};
 ghost use Rattle.model_meaning.specs.Types.{signature_of};
-ghost use Rattle.program_check.specs.Signed.{signature_in};
 ghost use Rattle.program_check.specs.Tells.{kind_view, defined_as, stands_for};
 
 use crate::programs::Checked;

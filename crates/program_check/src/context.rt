@@ -2,7 +2,7 @@
 //!
 //! What a name stands for is found in constant time, and so is whether it stands before the item.
 
-ghost use Rattle.std.specs.Prelude.{◌≡◌, Some, None, map, is_some, slice_get};
+ghost use Rattle.std.specs.Prelude.{◌≡◌, Some, None, map, is_some};
 ghost use Rattle.std.specs.Option.{option_map, option_and_then};
 ghost use Rattle.std.proofs.Props.{props};
 ghost use Rattle.model_names.specs.Declared.{find_type, find_item};

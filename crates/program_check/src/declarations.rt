@@ -6,7 +6,7 @@ ghost use Rattle.model_names.specs.Declared.{declares};
 ghost use Rattle.fast_syntax.specs.View.{plain_ctor, plain_type};
 ghost use Rattle.fast_syntax.specs.Plain.{plain_item};
 ghost use Rattle.program_check.specs.Naming.{place_in, Grows};
-ghost use Rattle.program_check.specs.Numbered.{declares_type, own_type_item, ctor_place, own_ctors, HasCtors, AreNumbered, Declares};
+ghost use Rattle.program_check.specs.Numbered.{declares_type, own_type_item, own_ctors, HasCtors, AreNumbered, Declares};
 
 use crate::heads::head_of;
 use crate::names::Names;

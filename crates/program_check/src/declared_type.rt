@@ -1,7 +1,6 @@
 //! A type that is declared, with the numbers of its constructors: one is found by its name in constant time.
 
-ghost use Rattle.std.specs.Prelude.{◌≡◌, Some, None, MatchOption, map, slice_get};
-ghost use Rattle.std.specs.Option.{option_map};
+ghost use Rattle.std.specs.Prelude.{◌≡◌, Some, None, MatchOption, map};
 ghost use Rattle.std.proofs.Props.{props};
 ghost use Rattle.fast_syntax.specs.View.{plain_ctor};
 ghost use Rattle.model_checks.specs.Types.{find_ctor, is_leaf, has_leaf};

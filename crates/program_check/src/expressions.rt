@@ -1,22 +1,20 @@
 //! What may fail in an expression of a language, a transformation or a tree, and what one stands for.
 
-ghost use Rattle.std.specs.Prelude.{◌≡◌, ◌<◌, ◌≤◌, ◌+◌, ◌&&◌, not, [], Some, None, map, is_some};
+ghost use Rattle.std.specs.Prelude.{◌≡◌, ◌<◌, ◌≤◌, ◌+◌, [], Some, None, map};
 ghost use Rattle.std.specs.Option.{option_map, option_and_then};
 ghost use Rattle.model_tree.specs.Limits.{most_around};
 ghost use Rattle.fast_fault.specs.declared.code.Code.TheVariants as code;
 ghost use Rattle.model_grammar.specs.Syntax as plain;
-ghost use Rattle.model_names.specs.Declared.{find_type, find_item};
-ghost use Rattle.model_checks.specs.Failures.{fails_if};
+ghost use Rattle.model_names.specs.Declared.{find_type};
 ghost use Rattle.model_names.specs.Kinds.{taken_by_one, given_by_one, taken_first, taken_second, given_by_two, declared_type, defined_kind};
 ghost use Rattle.fast_syntax.specs.View.{plain_name};
 ghost use Rattle.fast_syntax.specs.Plain.{plain_expr, plain_x, plain_into};
 ghost use Rattle.fast_syntax.specs.Slices.{plain_children};
 ghost use Rattle.model_checks.specs.Expressions.{place_of_x, is_other_kind, expected_as, nesting_failures, name_failures, x_failures, xs_failures};
-ghost use Rattle.program_check.specs.Notes.{HasMemory, Notes, Left};
+ghost use Rattle.program_check.specs.Notes.{HasMemory, Notes};
 ghost use Rattle.program_check.specs.Typed.{type_name};
 ghost use Rattle.program_check.specs.Heads.{plain_head};
 ghost use Rattle.program_check.specs.Contexts.{items_of, before_of};
-ghost use Rattle.program_check.specs.Waiting.{plain_waiting, weight, weights};
 ghost use Rattle.program_check.specs.Standings.{plain_kind, IsStanding, only_as, as_failures, input_of_two, output_of_two, second_wanted, be_failures, kind_taken, kind_given, kind_given_by_two, standing_of_one, standing_of_two, literal_failures};
 
 use crate::checker::Checker;
@@ -363,7 +361,7 @@ impl Checker {
         standing
     }
 
-    /// The children of a literal of this type, and those of the literals in it.
+    /// The children of a literal of this type. Where one is a literal, its own children wait.
     #[cycle(check_x)]
     fn check_children<'p>(
         &mut self,
@@ -376,29 +374,13 @@ impl Checker {
     {
         let mut waiting = Waiting::new(self.alloc, children);
         'children: while let Some(child) = waiting.next() {
-            self.check_next_child(context, around, expected, child, &mut waiting);
+            if let X::Literal(name, labels, inside) = child {
+                self.check_literal(context, expected, name, labels, inside.len());
+                let added = waiting.add(inside);
+                self.note_want(added);
+            } else {
+                self.check_as(context, around, expected, Kind::Tree, child);
+            }
         }
-    }
-
-    /// A child of a literal of this type. Where it is a literal, its own children wait.
-    #[cycle(check_x)]
-    fn check_next_child<'p, 'x>(
-        &mut self,
-        context: &Context<'p>,
-        around: usize,
-        expected: Option<&'p Text>,
-        child: &'x X,
-        waiting: &mut Waiting<'x>,
-    )
-        ensures noted { Left self.old self.new (xs_failures (items_of context.now) (before_of context.now) around (type_name expected.entry) (plain.and_x (plain_x child.now) (plain_waiting waiting.old))) (xs_failures (items_of context.now) (before_of context.now) around (type_name expected.entry) (plain_waiting waiting.new)) }
-        ensures less { weights (plain_waiting waiting.new) < weight (plain_x child.now) + weights (plain_waiting waiting.old) }
-    {
-        let X::Literal(name, labels, children) = child else {
-            self.check_as(context, around, expected, Kind::Tree, child);
-            return;
-        };
-        self.check_literal(context, expected, name, labels, children.len());
-        let added = waiting.add(children);
-        self.note_want(added);
     }
 }

@@ -1,7 +1,7 @@
 //! What may fail in a rule of a language or a transformation, its output term aside: its constructor, its variables, its
 //! guard and its demands.
 
-ghost use Rattle.std.specs.Prelude.{◌≡◌, [], Some, None, map, is_some};
+ghost use Rattle.std.specs.Prelude.{◌≡◌, Some, None, map, is_some};
 ghost use Rattle.std.specs.List.{flat_map};
 ghost use Rattle.std.specs.Option.{option_map};
 ghost use Rattle.model_names.specs.Declared.{find_type};

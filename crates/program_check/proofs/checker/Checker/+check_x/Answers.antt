@@ -1,4 +1,4 @@
-use Rattle.std.proofs.Common.{◌≡◌, ◌∙◌, ◌+◌, suc, ◌++◌, refl, sym, ap, ap₂, map, subst, length, arith}
+use Rattle.std.proofs.Common.{◌≡◌, ◌∙◌, ◌+◌, ◌<◌, suc, ◌++◌, refl, sym, ap, ap₂, map, subst, length, arith}
 use Rattle.fast_syntax.specs.View.{plain_name}
 use Rattle.fast_syntax.specs.Plain.{plain_x, plain_expr}
 use Rattle.fast_syntax.specs.Slices.{plain_children}
@@ -99,37 +99,6 @@ check_x-check_children-requires t c =
     let inside = ap (λ l. weights (plain_children l)) c.deref-in-Literal-2.ensures.value in
     omega (arith, is, inside, c.decreases)
 
-pub check_next_child-returns-clause-noted : goal.check_next_child-returns-clause-noted
-check_next_child-returns-clause-noted t c h =
-    let none = c.note_want.ensures.noted h in
-    let more = was_done _ _ c.add-added.result (c.note_want.ensures.done h) c.add-added.ensures in
-    let items = items_of c.args.context.now in
-    let before = before_of c.args.context.now in
-    let e = type_name c.args.expected in
-    let name = plain_name c.in-Literal.name in
-    let t = type_called items before e in
-    let xs = c.in-Literal.children.items in
-    let old = those_of c.args.waiting.now in
-    let one = and_none (same (ap₂ (λ ls n. literal_failures t name (map plain_expr ls) n) c.deref.ensures.value (c.len.ensures ∙ sym c.deref-2.ensures.len ∙ ap length c.deref-2.ensures.value)) (c.check_literal.ensures none.had)) none in
-    literal_child items before c.args.around (length xs) e t (plain_x c.args.child.now) name (map plain_expr c.in-Literal.labels.items) xs old (those_of c.add-added.new.self) _ _
-    refl (xs_counted xs) (ap plain_x c.in-Literal.is ∙ plain_literal c.in-Literal.name c.in-Literal.labels c.in-Literal.children) (more ∙ ap (λ l. l ++ old) c.deref-2.ensures.value) one
-
-pub check_next_child-returns-clause-less : goal.check_next_child-returns-clause-less
-check_next_child-returns-clause-less t c =
-    let xs = c.in-Literal.children.items in
-    let old = those_of c.args.waiting.now in
-    let is : weight (plain_x c.args.child.now) ≡ suc (suc (suc (suc (weights (plain_children xs))))) = ap weight (ap plain_x c.in-Literal.is ∙ plain_literal c.in-Literal.name c.in-Literal.labels c.in-Literal.children) in
-    either_way c.add-added.result
-    (λ more. let now = ap (λ l. weights (plain_children l)) (more ∙ ap (λ l. l ++ old) c.deref-2.ensures.value) ∙ weights-append xs old in omega (arith, is, now))
-    (λ same. let now = ap (λ l. weights (plain_children l)) same in omega (arith, is, now)) c.add-added.ensures
-
-pub check_next_child-returns-in_default-clause-noted : goal.check_next_child-returns-in_default-clause-noted
-check_next_child-returns-in_default-clause-noted t c h =
-    other_child (items_of c.args.context.now) (before_of c.args.context.now) c.args.around (type_name c.args.expected) (plain_x c.args.child.now) (plain_waiting c.args.waiting.now) _ _ (c.check_as.ensures.noted h)
-
-pub check_next_child-returns-in_default-clause-less : goal.check_next_child-returns-in_default-clause-less
-check_next_child-returns-in_default-clause-less t c = let some = some_weight (plain_x c.args.child.now) in omega (arith, some)
-
 pub check_x-check_as-operand-requires : goal.check_x-check_as-operand-requires
 check_x-check_as-operand-requires t c =
     let is : weight (plain_x c.args.x.now) ≡ suc (suc (weight (plain_x c.in-One.inside.value))) = ap weight (ap plain_x c.in-One.is) in
@@ -151,14 +120,6 @@ check_x-check_as-right-requires t c =
 pub check_as-check_x-standing-requires : goal.check_as-check_x-standing-requires
 check_as-check_x-standing-requires t c = omega (arith, c.decreases)
 
-pub check_next_child-check_as-requires : goal.check_next_child-check_as-requires
-check_next_child-check_as-requires t c = omega (arith, c.decreases)
-
-pub check_children-check_next_child-requires : goal.check_children-check_next_child-requires
-check_children-check_next_child-requires t c =
-    let row = ap (λ l. weights (plain_children l)) c.in-Some.ensures in
-    omega (arith, row, c.children.invariant.few, c.decreases)
-
 pub check_x-returns-in-Named-clause-noted : goal.check_x-returns-in-Named-clause-noted
 check_x-returns-in-Named-clause-noted t c h = same (ap (x_failures (items_of c.args.context.now) (before_of c.args.context.now) c.args.around (type_name c.args.expected)) (sym (ap plain_x c.in-Named.is))) (c.check_word.ensures.noted h)
 
@@ -171,17 +132,69 @@ check_x-returns-in-Literal-clause-standing t c h =
     let is = ap plain_x c.in-Literal.is ∙ plain_literal c.in-Literal.name c.in-Literal.labels c.in-Literal.children in
     record { kind = sym (ap (kind_of items) is); input = sym (ap (type_of items) is); output = sym (ap (output_of items) is) }
 
-pub check_children-children-preserved : goal.check_children-children-preserved
-check_children-children-preserved t c =
-    let each = xs_failures (items_of c.args.context.now) (before_of c.args.context.now) c.args.around (type_name c.args.expected) in
-    let row = ap (λ l. weights (plain_children l)) c.in-Some.ensures in
-    let one = c.check_next_child.ensures.noted in
-    record {
-      noted = λ h. left_then (ap (λ l. each (plain_children l)) c.in-Some.ensures) (one h) (c.children.invariant.noted (one h).had);
-      few = omega (arith, row, c.check_next_child.ensures.less, c.children.invariant.few);
-    }
-
 pub check_children-returns : goal.check_children-returns
 check_children-returns t c h =
     let each = xs_failures (items_of c.args.context.now) (before_of c.args.context.now) c.args.around (type_name c.args.expected) in
     done (ap (λ l. each (plain_children l)) c.in_default.ensures) (c.children.invariant.noted h)
+
+pub check_children-children-smaller-in-Literal : goal.check_children-children-smaller-in-Literal
+check_children-children-smaller-in-Literal t c =
+    let xs = c.in-Literal.inside.items in
+    let old = those_of c.next.new.self in
+    let is : weight (plain_x c.in-Some.child.now) ≡ suc (suc (suc (suc (weights (plain_children xs))))) = ap weight (ap plain_x c.in-Literal.is ∙ plain_literal c.in-Literal.name c.in-Literal.labels c.in-Literal.inside) in
+    let row = ap (λ l. weights (plain_children l)) c.in-Some.ensures in
+    let less : weights (plain_waiting c.add-added.new.self) < weights (plain_waiting c.children.waiting) = either_way c.add-added.result
+    (λ more. let now = ap (λ l. weights (plain_children l)) (more ∙ ap (λ l. l ++ old) c.deref-in-Literal.ensures.value) ∙ weights-append xs old in omega (arith, is, row, now))
+    (λ same. let now = ap (λ l. weights (plain_children l)) same in omega (arith, is, row, now)) c.add-added.ensures in
+    less
+
+pub check_children-children-preserved-in-Literal : goal.check_children-children-preserved-in-Literal
+check_children-children-preserved-in-Literal t c =
+    let items = items_of c.args.context.now in
+    let before = before_of c.args.context.now in
+    let e = type_name c.args.expected in
+    let each = xs_failures items before c.args.around e in
+    let name = plain_name c.in-Literal.name in
+    let type = type_called items before e in
+    let xs = c.in-Literal.inside.items in
+    let old = those_of c.next.new.self in
+    let whole = ap plain_x c.in-Literal.is ∙ plain_literal c.in-Literal.name c.in-Literal.labels c.in-Literal.inside in
+    let is : weight (plain_x c.in-Some.child.now) ≡ suc (suc (suc (suc (weights (plain_children xs))))) = ap weight whole in
+    let row = ap (λ l. weights (plain_children l)) c.in-Some.ensures in
+    record {
+      noted = λ h.
+          let none = c.note_want.ensures.noted h in
+          let more = was_done _ _ c.add-added.result (c.note_want.ensures.done h) c.add-added.ensures in
+          let one = and_none (same (ap₂ (λ ls n. literal_failures type name (map plain_expr ls) n) c.deref.ensures.value (c.len.ensures ∙ sym c.deref-in-Literal.ensures.len ∙ ap length c.deref-in-Literal.ensures.value)) (c.check_literal.ensures none.had)) none in
+          left_then (ap (λ l. each (plain_children l)) c.in-Some.ensures)
+          (literal_child items before c.args.around (length xs) e type (plain_x c.in-Some.child.now) name (map plain_expr c.in-Literal.labels.items) xs old (those_of c.add-added.new.self) _ _
+          refl (xs_counted xs) whole (more ∙ ap (λ l. l ++ old) c.deref-in-Literal.ensures.value) one) (c.children.invariant.noted one.had);
+      few = either_way c.add-added.result
+          (λ more. let now = ap (λ l. weights (plain_children l)) (more ∙ ap (λ l. l ++ old) c.deref-in-Literal.ensures.value) ∙ weights-append xs old in omega (arith, is, row, now, c.children.invariant.few))
+          (λ same. let now = ap (λ l. weights (plain_children l)) same in omega (arith, is, row, now, c.children.invariant.few)) c.add-added.ensures;
+    }
+
+pub check_children-check_as-requires : goal.check_children-check_as-requires
+check_children-check_as-requires t c =
+    let row = ap (λ l. weights (plain_children l)) c.in-Some.ensures in
+    omega (arith, row, c.children.invariant.few, c.decreases)
+
+pub check_children-children-smaller : goal.check_children-children-smaller
+check_children-children-smaller t c =
+    let row = ap (λ l. weights (plain_children l)) c.in-Some.ensures in
+    let some = some_weight (plain_x c.in-Some.child.now) in
+    omega (arith, row, some)
+
+pub check_children-children-preserved : goal.check_children-children-preserved
+check_children-children-preserved t c =
+    let items = items_of c.args.context.now in
+    let before = before_of c.args.context.now in
+    let e = type_name c.args.expected in
+    let each = xs_failures items before c.args.around e in
+    let row = ap (λ l. weights (plain_children l)) c.in-Some.ensures in
+    record {
+      noted = λ h.
+          let one = c.check_as.ensures.noted h in
+          left_then (ap (λ l. each (plain_children l)) c.in-Some.ensures) (other_child items before c.args.around e (plain_x c.in-Some.child.now) (plain_waiting c.next.new.self) _ _ one) (c.children.invariant.noted one.had);
+      few = omega (arith, row, c.children.invariant.few);
+    }

@@ -14,11 +14,8 @@ decreases-check_x l = weight (plain_x l.x.now)
 abbrev pub decreases-check_as : goal.decreases-check_as
 decreases-check_as l = 1 + weight (plain_x l.x.now)
 
-abbrev pub decreases-check_next_child : goal.decreases-check_next_child
-decreases-check_next_child l = 2 + weight (plain_x l.child.now)
-
 abbrev pub decreases-check_children : goal.decreases-check_children
-decreases-check_children l = 3 + weights (plain_children l.children.now)
+decreases-check_children l = 2 + weights (plain_children l.children.now)
 
 abbrev pub invariant-check_children-children : goal.invariant-check_children-children
 invariant-check_children-children l =
