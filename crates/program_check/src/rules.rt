@@ -1,5 +1,5 @@
-//! What may fail in a rule of a language or a transformation, its output term aside: its constructor, its variables, its
-//! guard and its demands.
+//! What may fail in a rule of a language or a transformation: its constructor, its variables, its guard and its demands. Its
+//! output term is handed on.
 
 ghost use Rattle.std.specs.Prelude.{◌≡◌, Some, None, map, is_some};
 ghost use Rattle.std.specs.List.{flat_map};
