@@ -1,5 +1,5 @@
 -- Trees over children that are opened.
-use Rattle.std.proofs.Common.{ℕ, Vec, ◌≡◌, ◌<◌, ◌≤◌, ◌-◌, ◌↔◌, ◌&&◌, not, Bool, true, List, [], length, map, get_or, All, Contains, refl, sym, ap, ap₂, subst, ◌∙◌, arith}
+use Rattle.std.proofs.Common.{ℕ, zero, suc, ◌∷◌, Vec, ◌≡◌, ◌<◌, ◌≤◌, ◌-◌, ◌↔◌, ◌&&◌, not, Bool, true, List, [], length, map, get_or, All, Contains, refl, sym, ap, ap₂, subst, ◌∙◌, arith}
 use Rattle.std.proofs.lemmas.List.{length-map}
 use Rattle.std.proofs.lemmas.List.Elements.{All-contains}
 use Rattle.model_tree.specs.Label.{Label}
@@ -30,6 +30,12 @@ use Rattle.sta_classes.proofs.Applying.{row_is_step, same_step, told_apart, same
 use Rattle.sta_classes.proofs.Meet.{both_maps}
 use Rattle.sta_classes.proofs.Listed.{cost_above}
 use Rattle.sta_classes.proofs.Firsts.{listed_low}
+
+-- a constructor that has a place is there
+pub has_place : (ranks : List ℕ) (c j : ℕ) → j < get_or ranks c 0 → c < length ranks
+has_place [] c j low = absurd (omega (arith, low))
+has_place (r ∷ ranks) zero j low = omega arith
+has_place (r ∷ ranks) (suc c) j low = let h : c < length ranks = has_place ranks c j low in omega (arith, h)
 
 pub all_by_place : (P : ℕ → Type 0) (ks : List ℕ) → ((j : ℕ) → j < length ks → P (get_or ks j 0)) → All P ks
 all_by_place P ks h i d low = subst P (same_default ks i 0 d low) (h i low)

@@ -13,9 +13,11 @@ use Rattle.sta_classes.specs.Lists.{IsListWith}
 use Rattle.sta_classes.specs.Pending.{AreKept, IsBetter, IsTaken, IsDone}
 use Rattle.sta_classes.specs.Searched.{firsts_of, listed_at, ArePlaces, AreKinds, NextPlaces, IsSound, IsOpened, AreOpened, AreSplit, HasOfferedAt, IsUnderway, GoesOn}
 use Rattle.sta_classes.specs.declared.class.Class.{Class}
+use Rattle.sta_classes.specs.declared.known.Known.{Known}
 use Rattle.sta_classes.specs.declared.place.Place.{Place}
 use Rattle.sta_classes.specs.declared.pending.Pending.{Pending}
 use Rattle.sta_classes.specs.declared.rules.Rules.{Rules}
+use Rattle.sta_classes.specs.declared.search.Offers.{Offers}
 use Rattle.sta_classes.specs.declared.splits.Splits.{Splits}
 use Rattle.sta_classes.proofs.Firsts.{listed_low, cheapest, kinds_more, all_opened, first_place}
 use Rattle.sta_classes.proofs.Listed.{map_at}
@@ -127,45 +129,45 @@ module _ {A V W G H : Type 0} {label_of : V → Label} {holds : A → Label → 
       let (j, j_low, is, none) = first_place ks (length classes - 1) at in
       h c low j (omega (arith, j_low, wide)) ks (list_with (firsts_of (get_or (lists_of places) c [])) (get_or ranks c 0) (length classes - 1) j ks wide listed is none)
 
-module _ {A V W G : Type 0} {label_of : V → Label} {holds : A → Label → Bool} (M : Meaning label_of holds W) (ranks : List ℕ) (rules : List (Vec (StaRule A) G)) (own : List (Rules A)) (most : ℕ) (found : List (Class V)) where
+module _ {A V W G : Type 0} {label_of : V → Label} {holds : A → Label → Bool} (M : Meaning label_of holds W) (ranks : List ℕ) (rules : List (Vec (StaRule A) G)) (own : List (Rules A)) (most : ℕ) (known : Known V) where
   -- a search goes on where nothing was done
-  pub begun : {old : Pending V} {split : List (Splits V)} → IsUnderway M ranks rules own most found old split → (P : Pending V → Type 0) → P old → GoesOn M ranks rules own most found old old split P
+  pub begun : {old : Offers V} → IsUnderway M ranks rules own most known old → (P : Pending V → Type 0) → P old.pending → GoesOn M ranks rules own most known old old P
   begun under P h = record { under = under; better = λ q n m. m; offered = h }
 
   -- it goes on in two steps
-  pub goes_further : {first old new : Pending V} {split split' : List (Splits V)} {P Q : Pending V → Type 0} → GoesOn M ranks rules own most found first old split P → GoesOn M ranks rules own most found old new split' Q → (R : Pending V → Type 0)
-      → ((s s' : Pending V) → Sound M ranks rules found s → IsBetter s s' → P s → Q s' → R s') → GoesOn M ranks rules own most found first new split' R
+  pub goes_further : {first old new : Offers V} {P Q : Pending V → Type 0} → GoesOn M ranks rules own most known first old P → GoesOn M ranks rules own most known old new Q → (R : Pending V → Type 0)
+      → ((s s' : Pending V) → Sound M ranks rules known.classes.items s → IsBetter s s' → P s → Q s' → R s') → GoesOn M ranks rules own most known first new R
   goes_further before after R more = record {
     under = after.under;
     better = λ q n m. after.better q n (before.better q n m);
     offered = more _ _ before.under.sound after.better before.offered after.offered;
   }
 
-  -- and so it does under other names
-  pub goes_as : (first : Pending V) {new new' : Pending V} {split split' : List (Splits V)} → new' ≡ new → split' ≡ split → (P : Pending V → Type 0) → GoesOn M ranks rules own most found first new split P → GoesOn M ranks rules own most found first new' split' P
-  goes_as first {new} {new'} {split} {split'} same same_split P goes = subst (λ z. GoesOn M ranks rules own most found first z split' P) (sym same) (subst (λ z. GoesOn M ranks rules own most found first new z P) (sym same_split) goes)
+  -- and so it does under another name
+  pub goes_as : (first : Offers V) {new new' : Offers V} → new' ≡ new → (P : Pending V → Type 0) → GoesOn M ranks rules own most known first new P → GoesOn M ranks rules own most known first new' P
+  goes_as first same P goes = subst (λ z. GoesOn M ranks rules own most known first z P) (sym same) goes
 
-  module _ {H : Type 0} (places : List (Vec Place H)) (first : Pending V) where
+  module _ (first : Offers V) where
     -- the lists of constructors before this one are offered, and those of its own with the last class at places before this one
     abbrev pub OffersTo : ℕ → ℕ → Pending V → Type 0
-    OffersTo c n s = Before M ranks rules found places c s × Below M ranks rules found places c n s
+    OffersTo c n s = Before M ranks rules known.classes.items known.places.items c s × Below M ranks rules known.classes.items known.places.items c n s
 
-    pub offers_first : (s : Pending V) (split : List (Splits V)) (c : ℕ) → GoesOn M ranks rules own most found first s split (Before M ranks rules found places c) → GoesOn M ranks rules own most found first s split (OffersTo c 0)
-    offers_first s split c goes = record { under = goes.under; better = goes.better; offered = (goes.offered, λ j low. absurd (omega (arith, low))) }
+    pub offers_first : (s : Offers V) (c : ℕ) → GoesOn M ranks rules own most known first s (Before M ranks rules known.classes.items known.places.items c) → GoesOn M ranks rules own most known first s (OffersTo c 0)
+    offers_first s c goes = record { under = goes.under; better = goes.better; offered = (goes.offered, λ j low. absurd (omega (arith, low))) }
 
-    pub offers_more : (old new : Pending V) (split split' : List (Splits V)) (c n : ℕ) → GoesOn M ranks rules own most found first old split (OffersTo c n) → GoesOn M ranks rules own most found old new split' (HasOfferedAt M ranks rules found places c n)
-        → GoesOn M ranks rules own most found first new split' (OffersTo c (n + 1))
-    offers_more old new split split' c n before after = record {
+    pub offers_more : (old new : Offers V) (c n : ℕ) → GoesOn M ranks rules own most known first old (OffersTo c n) → GoesOn M ranks rules own most known old new (HasOfferedAt M ranks rules known.classes.items known.places.items c n)
+        → GoesOn M ranks rules own most known first new (OffersTo c (n + 1))
+    offers_more old new c n before after = record {
       under = after.under;
       better = λ q m met. after.better q m (before.better q m met);
       offered = (
-        before_later M ranks rules found places old new before.under.sound after.better c before.offered.0,
-        last_more M ranks rules found places old new before.under.sound after.better c n before.offered.1 after.offered,
+        before_later M ranks rules known.classes.items known.places.items old.pending new.pending before.under.sound after.better c before.offered.0,
+        last_more M ranks rules known.classes.items known.places.items old.pending new.pending before.under.sound after.better c n before.offered.1 after.offered,
       );
     }
 
-    pub offers_last : (s : Pending V) (split : List (Splits V)) (c n : ℕ) → get_or ranks c 0 ≤ n → GoesOn M ranks rules own most found first s split (OffersTo c n) → GoesOn M ranks rules own most found first s split (Before M ranks rules found places (c + 1))
-    offers_last s split c n all goes = record { under = goes.under; better = goes.better; offered = new_more M ranks rules found places s c goes.offered.0 (λ j low. goes.offered.1 j (omega (arith, low, all)) low) }
+    pub offers_last : (s : Offers V) (c n : ℕ) → get_or ranks c 0 ≤ n → GoesOn M ranks rules own most known first s (OffersTo c n) → GoesOn M ranks rules own most known first s (Before M ranks rules known.classes.items known.places.items (c + 1))
+    offers_last s c n all goes = record { under = goes.under; better = goes.better; offered = new_more M ranks rules known.classes.items known.places.items s.pending c goes.offered.0 (λ j low. goes.offered.1 j (omega (arith, low, all)) low) }
 
 -- a class that was taken, under another name
 pub taken_as : {V : Type 0} (old mid : Pending V) (c d : Class V) → d ≡ c → IsTaken old mid c → IsTaken old mid d

@@ -13,7 +13,7 @@ use Rattle.sta_classes.specs.Guards.{GuardsFit}
 use Rattle.sta_classes.specs.Rules.{plain_rules, meaning_of}
 use Rattle.sta_classes.specs.Splits.{AreMet, AreTold, AreAllTold}
 use Rattle.sta_classes.specs.Lists.{IsListWith}
-use Rattle.sta_classes.specs.Meant.{AreFound, AreAllFound}
+use Rattle.sta_classes.specs.Meant.{AreFound, AreAllFound, StopsClasses}
 use Rattle.sta_classes.specs.Rows.{found_of, founds, class_rows, class_rows_at, lists_of}
 use Rattle.sta_classes.specs.Places.{AreAsked, IsNumbered, IsNext}
 use Rattle.sta_classes.specs.Pending.{IsPending, IsSettled, IsMet, IsBetter, AreKept, count_none}
@@ -23,8 +23,11 @@ use Rattle.sta_classes.specs.declared.known.Known.{Known}
 use Rattle.sta_classes.specs.declared.place.Place.{Place}
 use Rattle.sta_classes.specs.declared.pending.Pending.{Pending}
 use Rattle.sta_classes.specs.declared.rules.Rules.{Rules}
+use Rattle.sta_classes.specs.declared.search.Course.{Course}
+use Rattle.sta_classes.specs.declared.search.Offers.{Offers}
 use Rattle.sta_classes.specs.declared.splits.Splits.{Splits}
 use Rattle.sta_classes.specs.declared.splits.Told.{Told}
+use Rattle.sta_classes.specs.declared.stop.ClassStop.{ClassStop}
 
 -- the guards fit, and the rules of each constructor are there
 pub record IsReady {A G : Type 0} (eq : A → A → Bool) (fits : A → Type 0) (ranks : List ℕ) (rules : List (Vec (StaRule A) G)) (own : List (Rules A)) : Type 0 where
@@ -87,11 +90,12 @@ module _ {V : Type 0} (ranks : List ℕ) (has keeps : Label → Type 0) (rules :
   abbrev pub AreOpened : {H : Type 0} → List (Class V) → List (Vec Place H) → Pending V → (ℕ → List ℕ → Type 0) → Type 0
   AreOpened found places s W = (c : ℕ) → c < length ranks → (ks : List ℕ) → length ks ≡ get_or ranks c 0 → ((j : ℕ) → j < length ks → Contains (listed_at places c j) (get_or ks j 0)) → W c ks → IsOpened found s c ks
 
--- a constructor, and children for each of its places among the classes
-pub record IsOver {V : Type 0} (ranks : List ℕ) (found : List (Class V)) (c : ℕ) (ks : List ℕ) : Type 0 where
+-- a constructor, and children for each of its places among the classes, so that no class has more nodes than the tree over them
+pub record IsOver {V : Type 0} (label : V → Label) (ranks : List ℕ) (found : List (Class V)) (c : ℕ) (ks : List ℕ) : Type 0 where
   pub low : c < length ranks
   pub wide : length ks ≡ get_or ranks c 0
   pub children : All (λ k. k < length found) ks
+  pub above : (k : ℕ) → k < length found → get_or (counts_of (founds label found)) k 0 ≤ cost CAP (nodes_at (founds label found) ks)
 
 module _ {A V W : Type 0} {label_of : V → Label} {holds : A → Label → Bool} (M : Meaning label_of holds W) where
   -- these are the rules whose demands the children meet, and labels that tell the guards of these apart are known under this
@@ -114,30 +118,29 @@ module _ {A V W G : Type 0} {label_of : V → Label} {holds : A → Label → Bo
   HasAllOffered found places W s = AreOpened ranks M.has M.keeps (meaning_of holds (plain_rules rules)) label_of found places s W
 
   module _ (own : List (Rules A)) (most : ℕ) where
-    -- a search under way: what is found and what is pending is sound, what is known of the rules is right, and there are not
-    -- too many sets
-    pub record IsUnderway (found : List (Class V)) (pending : Pending V) (split : List (Splits V)) : Type 0 where
-      pub sound : IsSound ranks M.has M.keeps (meaning_of holds (plain_rules rules)) label_of found pending
-      pub splits : AreSplit M ranks own (class_rows found) split
-      pub few : length pending.sets.keys ≤ most
+    -- a search under way: what is found and what is pending is sound, what is known of the kinds and of the rules is right, and
+    -- there are not too many sets
+    pub record IsUnderway (known : Known V) (offers : Offers V) : Type 0 where
+      pub sound : IsSound ranks M.has M.keeps (meaning_of holds (plain_rules rules)) label_of known.classes.items offers.pending
+      pub kinds : AreKinds ranks rules known.classes.items known.places.items
+      pub splits : AreSplit M ranks own (class_rows known.classes.items) offers.splits.items
+      pub few : length offers.pending.sets.keys ≤ most
 
     -- it goes on: nothing that was offered is lost, and this is offered, too
-    pub record GoesOn (found : List (Class V)) (old new : Pending V) (split : List (Splits V)) (Offered : Pending V → Type 0) : Type 0 where
-      pub under : IsUnderway found new split
-      pub better : IsBetter old new
-      pub offered : Offered new
+    pub record GoesOn (known : Known V) (old new : Offers V) (Offered : Pending V → Type 0) : Type 0 where
+      pub under : IsUnderway known new
+      pub better : IsBetter old.pending new.pending
+      pub offered : Offered new.pending
 
     -- a search before its first turn
-    pub record IsBegun (known : Known V) (pending : Pending V) (split : List (Splits V)) : Type 0 where
-      pub none : known.classes.items ≡ []
-      pub kinds : AreKinds ranks rules known.classes.items known.places.items
-      pub under : IsUnderway known.classes.items pending split
+    pub record IsBegun (course : Course V) : Type 0 where
+      pub none : course.known.classes.items ≡ []
+      pub under : IsUnderway course.known course.offers
 
     -- a search between its turns: all trees over lists of kinds are offered
-    pub record IsGoing (known : Known V) (pending : Pending V) (split : List (Splits V)) : Type 0 where
-      pub under : IsUnderway known.classes.items pending split
-      pub kinds : AreKinds ranks rules known.classes.items known.places.items
-      pub offered : HasAllOffered known.classes.items known.places.items (λ c ks. (k : ℕ) → k ≡ k) pending
+    pub record IsGoing (course : Course V) : Type 0 where
+      pub under : IsUnderway course.known course.offers
+      pub offered : HasAllOffered course.known.classes.items course.known.places.items (λ c ks. (k : ℕ) → k ≡ k) course.offers.pending
 
   -- a search that has come to its end: these are all classes, each with a least tree, and they are not too many
   pub record IsWhole (most : ℕ) (known : Known V) : Type 0 where
@@ -145,3 +148,7 @@ module _ {A V W G : Type 0} {label_of : V → Label} {holds : A → Label → Bo
     pub complete : AreAllFound M CAP ranks (plain_rules rules) known.classes.items
     pub kinds : AreKinds ranks rules known.classes.items known.places.items
     pub few : length known.classes.items ≤ most
+
+  -- what stops a search
+  abbrev pub StopsSearch : ℕ → ClassStop W → Type 0
+  StopsSearch most = StopsClasses M (record { ranks = ranks; rules = plain_rules rules }) most

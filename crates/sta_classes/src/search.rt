@@ -3,14 +3,11 @@
 //! Each turn takes a candidate with the fewest nodes. It is a least tree of its class, since each other tree with a new
 //! set is over trees of classes that come later. Then come the candidates over lists of kinds of which one is new.
 
-ghost use Rattle.std.specs.Prelude.{ℕ, ◌≡◌, ◌≤◌, ◌<◌, ◌-◌, ◌++◌, ◌∷◌, [], Bool, List, length, get_or, Contains, IfOk, IfErr, OnOk};
-ghost use Rattle.model_sta.specs.Least.{counts_of, nodes_at, cost};
-ghost use Rattle.sta_classes.specs.Rules.{plain_rules};
-ghost use Rattle.sta_classes.specs.Rows.{founds, class_rows};
-ghost use Rattle.sta_classes.specs.Meant.{StopsClasses};
-ghost use Rattle.sta_classes.specs.Searched.{IsReady, IsOver, AreSplit, AreToldAt, AreKinds, HasOffered, HasOfferedAt, HasAllOffered, IsUnderway, GoesOn, IsBegun, IsWhole};
+ghost use Rattle.std.specs.Prelude.{ℕ, ◌≡◌, ◌<◌, ◌-◌, ◌++◌, ◌∷◌, [], Bool, List, length, get_or, Contains, IfOk, OnOk, MatchResult};
+ghost use Rattle.sta_classes.specs.Rows.{class_rows};
+ghost use Rattle.sta_classes.specs.Searched.{IsReady, IsOver, AreSplit, AreToldAt, HasOffered, HasOfferedAt, HasAllOffered, IsUnderway, GoesOn, IsBegun, IsWhole, StopsSearch};
 
-use crate::class::{CAP, cost_over};
+use crate::class::cost_over;
 use crate::keep::{both, kept};
 use crate::known::Known;
 use crate::lists::lists_with;
@@ -36,12 +33,18 @@ pub struct Search<'a, T: Theory> {
     pub most: u32,
 }
 
+/// What a search has offered, and what it knows of the rules of each constructor.
+#[derive(Drop)]
+pub struct Offers<V> {
+    pub pending: Pending<V>,
+    pub splits: Vec<Splits<V>>,
+}
+
 /// How far a search is.
 #[derive(Drop)]
-struct Course<V> {
-    known: Known<V>,
-    pending: Pending<V>,
-    splits: Vec<Splits<V>>,
+pub struct Course<V> {
+    pub known: Known<V>,
+    pub offers: Offers<V>,
 }
 
 impl<T: Theory> Search<'_, T> {
@@ -53,10 +56,9 @@ impl<T: Theory> Search<'_, T> {
         over: &Over<'_>,
     ) -> Result<(Row, usize), ClassStop<T::Chain>>
         requires ready { IsReady T.Atom.eq (T.atom_fits self.now.theory.now) self.now.ranks.now self.now.rules.now self.now.own.now }
-        requires over { IsOver self.now.ranks.now known.now.classes.items over.now.constructor over.now.children.now }
+        requires over { IsOver T.label_of self.now.ranks.now known.now.classes.items over.now.constructor over.now.children.now }
         requires splits { AreSplit (T.meaning self.now.theory.now) self.now.ranks.now self.now.own.now (class_rows known.now.classes.items) splits.old.items }
-        ensures told { IfOk result (λ r. AreToldAt (T.meaning self.now.theory.now) self.now.ranks.now self.now.own.now known.now.classes.items over.now.constructor over.now.children.now splits.new.items r.0 r.1) }
-        ensures stop { IfErr result (StopsClasses (T.meaning self.now.theory.now) (record { ranks = self.now.ranks.now; rules = plain_rules self.now.rules.now }) self.now.most) }
+        ensures { MatchResult result (λ r. AreToldAt (T.meaning self.now.theory.now) self.now.ranks.now self.now.own.now known.now.classes.items over.now.constructor over.now.children.now splits.new.items r.0 r.1) (StopsSearch (T.meaning self.now.theory.now) self.now.ranks.now self.now.rules.now self.now.most) }
     {
         let own = &self.own[over.constructor as usize];
         let split = &mut splits[over.constructor as usize];
@@ -70,17 +72,14 @@ impl<T: Theory> Search<'_, T> {
     fn open(
         &self,
         known: &Known<T::Value>,
-        pending: &mut Pending<T::Value>,
-        splits: &mut Vec<Splits<T::Value>>,
+        offers: &mut Offers<T::Value>,
         constructor: usize,
         children: &[usize],
     ) -> Result<(), ClassStop<T::Chain>>
         requires ready { IsReady T.Atom.eq (T.atom_fits self.now.theory.now) self.now.ranks.now self.now.rules.now self.now.own.now }
-        requires over { IsOver self.now.ranks.now known.now.classes.items constructor children.now }
-        requires above { (k : ℕ) → k < length known.now.classes.items → get_or (counts_of (founds T.label_of known.now.classes.items)) k 0 ≤ cost CAP (nodes_at (founds T.label_of known.now.classes.items) children.now) }
-        requires under { IsUnderway (T.meaning self.now.theory.now) self.now.ranks.now self.now.rules.now self.now.own.now self.now.most known.now.classes.items pending.old splits.old.items }
-        ensures goes_on { OnOk result (GoesOn (T.meaning self.now.theory.now) self.now.ranks.now self.now.rules.now self.now.own.now self.now.most known.now.classes.items pending.old pending.new splits.new.items (HasOffered (T.meaning self.now.theory.now) self.now.ranks.now self.now.rules.now known.now.classes.items constructor children.now)) }
-        ensures stop { IfErr result (StopsClasses (T.meaning self.now.theory.now) (record { ranks = self.now.ranks.now; rules = plain_rules self.now.rules.now }) self.now.most) }
+        requires over { IsOver T.label_of self.now.ranks.now known.now.classes.items constructor children.now }
+        requires under { IsUnderway (T.meaning self.now.theory.now) self.now.ranks.now self.now.rules.now self.now.own.now self.now.most known.now offers.old }
+        ensures { MatchResult result (λ _. GoesOn (T.meaning self.now.theory.now) self.now.ranks.now self.now.rules.now self.now.own.now self.now.most known.now offers.old offers.new (HasOffered (T.meaning self.now.theory.now) self.now.ranks.now self.now.rules.now known.now.classes.items constructor children.now)) (StopsSearch (T.meaning self.now.theory.now) self.now.ranks.now self.now.rules.now self.now.most) }
     {
         let nodes = cost_over(&known.classes, children);
         let over = Over {
@@ -88,9 +87,10 @@ impl<T: Theory> Search<'_, T> {
             nodes,
             children,
         };
-        let (key, number) = self.told(known, splits, &over)?;
+        let (key, number) = self.told(known, &mut offers.splits, &over)?;
         let own = &self.own[constructor];
-        'labels: for label in &splits[constructor].told[number] {
+        let pending = &mut offers.pending;
+        'labels: for label in &offers.splits[constructor].told[number] {
             let row = own.set(self.alloc, self.rules.len(), &key, &label.holds)?;
             pending.offer(self.theory, self.alloc, row, &over, &label.value)?;
         }
@@ -104,18 +104,16 @@ impl<T: Theory> Search<'_, T> {
     fn open_leaves(
         &self,
         known: &Known<T::Value>,
-        pending: &mut Pending<T::Value>,
-        splits: &mut Vec<Splits<T::Value>>,
+        offers: &mut Offers<T::Value>,
     ) -> Result<(), ClassStop<T::Chain>>
         requires ready { IsReady T.Atom.eq (T.atom_fits self.now.theory.now) self.now.ranks.now self.now.rules.now self.now.own.now }
         requires none { known.now.classes.items ≡ [] }
-        requires under { IsUnderway (T.meaning self.now.theory.now) self.now.ranks.now self.now.rules.now self.now.own.now self.now.most known.now.classes.items pending.old splits.old.items }
-        ensures goes_on { OnOk result (GoesOn (T.meaning self.now.theory.now) self.now.ranks.now self.now.rules.now self.now.own.now self.now.most known.now.classes.items pending.old pending.new splits.new.items (λ s. (c : ℕ) → c < length self.now.ranks.now → get_or self.now.ranks.now c 0 ≡ 0 → HasOffered (T.meaning self.now.theory.now) self.now.ranks.now self.now.rules.now known.now.classes.items c [] s)) }
-        ensures stop { IfErr result (StopsClasses (T.meaning self.now.theory.now) (record { ranks = self.now.ranks.now; rules = plain_rules self.now.rules.now }) self.now.most) }
+        requires under { IsUnderway (T.meaning self.now.theory.now) self.now.ranks.now self.now.rules.now self.now.own.now self.now.most known.now offers.old }
+        ensures { MatchResult result (λ _. GoesOn (T.meaning self.now.theory.now) self.now.ranks.now self.now.rules.now self.now.own.now self.now.most known.now offers.old offers.new (λ s. (c : ℕ) → c < length self.now.ranks.now → get_or self.now.ranks.now c 0 ≡ 0 → HasOffered (T.meaning self.now.theory.now) self.now.ranks.now self.now.rules.now known.now.classes.items c [] s)) (StopsSearch (T.meaning self.now.theory.now) self.now.ranks.now self.now.rules.now self.now.most) }
     {
         'constructors: for constructor in 0..self.ranks.len() {
             if self.ranks[constructor] == 0 {
-                self.open(known, pending, splits, constructor, &[])?;
+                self.open(known, offers, constructor, &[])?;
             }
         }
         Ok(())
@@ -125,24 +123,20 @@ impl<T: Theory> Search<'_, T> {
     fn open_place(
         &self,
         known: &Known<T::Value>,
-        pending: &mut Pending<T::Value>,
-        splits: &mut Vec<Splits<T::Value>>,
+        offers: &mut Offers<T::Value>,
         constructor: usize,
         place: usize,
     ) -> Result<(), ClassStop<T::Chain>>
         requires ready { IsReady T.Atom.eq (T.atom_fits self.now.theory.now) self.now.ranks.now self.now.rules.now self.now.own.now }
-        requires kinds { AreKinds self.now.ranks.now self.now.rules.now known.now.classes.items known.now.places.items }
         requires some { 0 < length known.now.classes.items }
-        requires low { constructor < length self.now.ranks.now }
         requires place { place < get_or self.now.ranks.now constructor 0 }
-        requires under { IsUnderway (T.meaning self.now.theory.now) self.now.ranks.now self.now.rules.now self.now.own.now self.now.most known.now.classes.items pending.old splits.old.items }
-        ensures goes_on { OnOk result (GoesOn (T.meaning self.now.theory.now) self.now.ranks.now self.now.rules.now self.now.own.now self.now.most known.now.classes.items pending.old pending.new splits.new.items (HasOfferedAt (T.meaning self.now.theory.now) self.now.ranks.now self.now.rules.now known.now.classes.items known.now.places.items constructor place)) }
-        ensures stop { IfErr result (StopsClasses (T.meaning self.now.theory.now) (record { ranks = self.now.ranks.now; rules = plain_rules self.now.rules.now }) self.now.most) }
+        requires under { IsUnderway (T.meaning self.now.theory.now) self.now.ranks.now self.now.rules.now self.now.own.now self.now.most known.now offers.old }
+        ensures { MatchResult result (λ _. GoesOn (T.meaning self.now.theory.now) self.now.ranks.now self.now.rules.now self.now.own.now self.now.most known.now offers.old offers.new (HasOfferedAt (T.meaning self.now.theory.now) self.now.ranks.now self.now.rules.now known.now.classes.items known.now.places.items constructor place)) (StopsSearch (T.meaning self.now.theory.now) self.now.ranks.now self.now.rules.now self.now.most) }
     {
         let last = known.classes.len() - 1;
         let lists = lists_with(self.alloc, &known.places[constructor], place, last)?;
         'lists: for children in &lists {
-            self.open(known, pending, splits, constructor, children)?;
+            self.open(known, offers, constructor, children)?;
         }
         Ok(())
     }
@@ -151,21 +145,18 @@ impl<T: Theory> Search<'_, T> {
     fn open_new(
         &self,
         known: &Known<T::Value>,
-        pending: &mut Pending<T::Value>,
-        splits: &mut Vec<Splits<T::Value>>,
+        offers: &mut Offers<T::Value>,
     ) -> Result<(), ClassStop<T::Chain>>
         requires ready { IsReady T.Atom.eq (T.atom_fits self.now.theory.now) self.now.ranks.now self.now.rules.now self.now.own.now }
-        requires kinds { AreKinds self.now.ranks.now self.now.rules.now known.now.classes.items known.now.places.items }
         requires some { 0 < length known.now.classes.items }
-        requires under { IsUnderway (T.meaning self.now.theory.now) self.now.ranks.now self.now.rules.now self.now.own.now self.now.most known.now.classes.items pending.old splits.old.items }
-        ensures goes_on { OnOk result (GoesOn (T.meaning self.now.theory.now) self.now.ranks.now self.now.rules.now self.now.own.now self.now.most known.now.classes.items pending.old pending.new splits.new.items (HasAllOffered (T.meaning self.now.theory.now) self.now.ranks.now self.now.rules.now known.now.classes.items known.now.places.items (λ c ks. Contains ks (length known.now.classes.items - 1)))) }
-        ensures stop { IfErr result (StopsClasses (T.meaning self.now.theory.now) (record { ranks = self.now.ranks.now; rules = plain_rules self.now.rules.now }) self.now.most) }
+        requires under { IsUnderway (T.meaning self.now.theory.now) self.now.ranks.now self.now.rules.now self.now.own.now self.now.most known.now offers.old }
+        ensures { MatchResult result (λ _. GoesOn (T.meaning self.now.theory.now) self.now.ranks.now self.now.rules.now self.now.own.now self.now.most known.now offers.old offers.new (HasAllOffered (T.meaning self.now.theory.now) self.now.ranks.now self.now.rules.now known.now.classes.items known.now.places.items (λ c ks. Contains ks (length known.now.classes.items - 1)))) (StopsSearch (T.meaning self.now.theory.now) self.now.ranks.now self.now.rules.now self.now.most) }
     {
         let last = known.classes.len() - 1;
         'constructors: for constructor in 0..self.ranks.len() {
             'places: for place in 0..known.places[constructor].len() {
                 if known.places[constructor][place].begins(last) {
-                    self.open_place(known, pending, splits, constructor, place)?;
+                    self.open_place(known, offers, constructor, place)?;
                 }
             }
         }
@@ -189,7 +180,7 @@ impl<T: Theory> Search<'_, T> {
     /// No class is found yet, no tree is offered, and nothing is known of the rules of each constructor.
     fn begin(&self) -> Result<Course<T::Value>, Memory>
         requires ready { IsReady T.Atom.eq (T.atom_fits self.now.theory.now) self.now.ranks.now self.now.rules.now self.now.own.now }
-        ensures { IfOk result (λ course. IsBegun (T.meaning self.now.theory.now) self.now.ranks.now self.now.rules.now self.now.own.now self.now.most course.known course.pending course.splits.items) }
+        ensures { IfOk result (λ course. IsBegun (T.meaning self.now.theory.now) self.now.ranks.now self.now.rules.now self.now.own.now self.now.most course) }
     {
         let mut splits = Vec::new(self.alloc);
         'constructors: for _ in 0..self.ranks.len() {
@@ -197,26 +188,22 @@ impl<T: Theory> Search<'_, T> {
         }
         let known = Known::new(self.alloc, self.ranks, self.rules)?;
         let pending = Pending::new(self.alloc);
-        Ok(Course {
-            known,
-            pending,
-            splits,
-        })
+        let offers = Offers { pending, splits };
+        Ok(Course { known, offers })
     }
 
     /// Offers the trees of no children, and takes turns until no candidate is left. A turn makes the candidate that it takes
     /// one more class, and offers the trees over it.
     fn go_on(&self, course: &mut Course<T::Value>) -> Result<(), ClassStop<T::Chain>>
         requires ready { IsReady T.Atom.eq (T.atom_fits self.now.theory.now) self.now.ranks.now self.now.rules.now self.now.own.now }
-        requires begun { IsBegun (T.meaning self.now.theory.now) self.now.ranks.now self.now.rules.now self.now.own.now self.now.most course.old.known course.old.pending course.old.splits.items }
-        ensures whole { OnOk result (IsWhole (T.meaning self.now.theory.now) self.now.ranks.now self.now.rules.now self.now.most course.new.known) }
-        ensures stop { IfErr result (StopsClasses (T.meaning self.now.theory.now) (record { ranks = self.now.ranks.now; rules = plain_rules self.now.rules.now }) self.now.most) }
+        requires begun { IsBegun (T.meaning self.now.theory.now) self.now.ranks.now self.now.rules.now self.now.own.now self.now.most course.old }
+        ensures { MatchResult result (λ _. IsWhole (T.meaning self.now.theory.now) self.now.ranks.now self.now.rules.now self.now.most course.new.known) (StopsSearch (T.meaning self.now.theory.now) self.now.ranks.now self.now.rules.now self.now.most) }
     {
-        self.open_leaves(&course.known, &mut course.pending, &mut course.splits)?;
-        'turns: while let Some(class) = course.pending.take() {
-            let told = self.add_to_splits(&mut course.splits, &class.row);
+        self.open_leaves(&course.known, &mut course.offers)?;
+        'turns: while let Some(class) = course.offers.pending.take() {
+            let told = self.add_to_splits(&mut course.offers.splits, &class.row);
             course.known.add(self.alloc, kept(class, (), told)?)?;
-            self.open_new(&course.known, &mut course.pending, &mut course.splits)?;
+            self.open_new(&course.known, &mut course.offers)?;
         }
         Ok(())
     }
@@ -224,11 +211,10 @@ impl<T: Theory> Search<'_, T> {
     /// All classes, where there are not more than `most`.
     pub fn run(&self) -> Result<Known<T::Value>, ClassStop<T::Chain>>
         requires ready { IsReady T.Atom.eq (T.atom_fits self.now.theory.now) self.now.ranks.now self.now.rules.now self.now.own.now }
-        ensures whole { IfOk result (IsWhole (T.meaning self.now.theory.now) self.now.ranks.now self.now.rules.now self.now.most) }
-        ensures stop { IfErr result (StopsClasses (T.meaning self.now.theory.now) (record { ranks = self.now.ranks.now; rules = plain_rules self.now.rules.now }) self.now.most) }
+        ensures { MatchResult result (IsWhole (T.meaning self.now.theory.now) self.now.ranks.now self.now.rules.now self.now.most) (StopsSearch (T.meaning self.now.theory.now) self.now.ranks.now self.now.rules.now self.now.most) }
     {
         let mut course = self.begin()?;
         let ended = self.go_on(&mut course);
-        kept(course.known, (course.pending, course.splits), ended)
+        kept(course.known, course.offers, ended)
     }
 }

@@ -1,6 +1,6 @@
 //! The rules of a constructor that children let fire, and labels that tell the guards of such rules apart.
 
-ghost use Rattle.std.specs.Prelude.{Vec, ◌≡◌, ◌<◌, ◌++◌, ◌∷◌, [], Bool, List, true, All, length, map, get_or, IfOk, IfErr, OnOk};
+ghost use Rattle.std.specs.Prelude.{Vec, ◌≡◌, ◌<◌, ◌++◌, ◌∷◌, [], Bool, List, true, All, length, map, get_or, IfOk, OnOk, MatchResult};
 ghost use Rattle.std.specs.Global.{Global};
 ghost use Rattle.model_sta.specs.Sets.{rows_meet};
 ghost use Rattle.model_tree.specs.Formula.{EveryAtom};
@@ -72,8 +72,7 @@ fn tell<T: Theory>(
     told: &mut Vec<Vec<Told<T::Value>>>,
 ) -> Result<(), ClassStop<T::Chain>>
     requires fit { All (λ x. EveryAtom (T.atom_fits theory.now) (plain_rule x.rule.now).guard) list.now }
-    ensures told { OnOk result ((labels : Vec (Told T.Value) Global) × AreTold (T.meaning theory.now) list.now numbers.now labels.items × (told.new.items ≡ told.old.items ++ labels ∷ [])) }
-    ensures stop { IfErr result (ClassStopsFor (T.meaning theory.now) ⊥ (guards_in list.now)) }
+    ensures { MatchResult result (λ _. (labels : Vec (Told T.Value) Global) × AreTold (T.meaning theory.now) list.now numbers.now labels.items × (told.new.items ≡ told.old.items ++ labels ∷ [])) (ClassStopsFor (T.meaning theory.now) ⊥ (guards_in list.now)) }
 {
     let rows = split(theory, alloc, &guards_of(alloc, list, numbers)?, u32::MAX);
     match rows {
@@ -141,8 +140,7 @@ impl<V: Drop> Splits<V> {
         requires fit { AreFit T.Atom.eq (T.atom_fits theory.now) own.now }
         requires many { length key.now ≡ length own.now.guarded }
         requires told { AreAllTold (T.meaning theory.now) own.now.list.items self.old }
-        ensures number { IfOk result (IsUnder (T.meaning theory.now) own.now.list.items (both own.now.guarded key.now) self.old self.new) }
-        ensures stop { IfErr result (ClassStopsFor (T.meaning theory.now) ⊥ (guards_in own.now.list.items)) }
+        ensures { MatchResult result (IsUnder (T.meaning theory.now) own.now.list.items (both own.now.guarded key.now) self.old self.new) (ClassStopsFor (T.meaning theory.now) ⊥ (guards_in own.now.list.items)) }
     {
         let open = own.open_guards(alloc, key)?;
         let (number, new) = self.sets.insert_full(open)?;

@@ -28,18 +28,18 @@ run-requires g c = record {
 
 pub invariant_of-result : goal.invariant_of-result
 invariant_of-result g c = (
-  omega (arith, c.in_ok-known.ensures.whole.few, c.ranges.most.fits),
-  subst (λ r. AreShaped r (length c.in_ok-known.known.classes.items) c.in_ok-known.known.places.items) c.ranks-ranks.ensures (shaped g.T.Theory.atom_holds c.ranks-ranks.result.now c.rules-rules.result.now c.in_ok-known.known.classes.items c.in_ok-known.known.places.items c.in_ok-known.ensures.whole.kinds),
+  omega (arith, c.in_ok-known.ensures.few, c.ranges.most.fits),
+  subst (λ r. AreShaped r (length c.in_ok-known.known.classes.items) c.in_ok-known.known.places.items) c.ranks-ranks.ensures (shaped g.T.Theory.atom_holds c.ranks-ranks.result.now c.rules-rules.result.now c.in_ok-known.known.classes.items c.in_ok-known.known.places.items c.in_ok-known.ensures.kinds),
 )
 
 pub returns : goal.returns
 returns g c = record {
   table = table_is g.T.Theory.label_of CAP (g.T.Theory.meaning c.args.theory.now).has (g.T.Theory.meaning c.args.theory.now).keeps c.in_ok-known.known.classes.items c.ranks-ranks.result.now c.args.sta.now.ranks
-      (meaning_of g.T.Theory.atom_holds (plain_rules c.rules-rules.result.now)) (automaton_of g.T.Theory.atom_holds c.args.sta.now) c.ranks-ranks.ensures (ap (meaning_of g.T.Theory.atom_holds) c.rules-rules.ensures.rules) c.in_ok-known.ensures.whole.classes c.in_ok-known.ensures.whole.complete;
-  few = omega (arith, length-map c.in_ok-known.known.classes.items plain_class, c.in_ok-known.ensures.whole.few);
+      (meaning_of g.T.Theory.atom_holds (plain_rules c.rules-rules.result.now)) (automaton_of g.T.Theory.atom_holds c.args.sta.now) c.ranks-ranks.ensures (ap (meaning_of g.T.Theory.atom_holds) c.rules-rules.ensures.rules) c.in_ok-known.ensures.classes c.in_ok-known.ensures.complete;
+  few = omega (arith, length-map c.in_ok-known.known.classes.items plain_class, c.in_ok-known.ensures.few);
   built = built_is g.T.Theory.label_of CAP (g.T.Theory.meaning c.args.theory.now).has (g.T.Theory.meaning c.args.theory.now).keeps c.in_ok-known.known.classes.items c.ranks-ranks.result.now c.args.sta.now.ranks
-      (meaning_of g.T.Theory.atom_holds (plain_rules c.rules-rules.result.now)) (automaton_of g.T.Theory.atom_holds c.args.sta.now) c.ranks-ranks.ensures (ap (meaning_of g.T.Theory.atom_holds) c.rules-rules.ensures.rules) c.in_ok-known.ensures.whole.classes;
-  kinds = has_kinds g.T.Theory.atom_holds c.ranks-ranks.result.now c.rules-rules.result.now c.in_ok-known.known.classes.items c.in_ok-known.known.places.items c.in_ok-known.ensures.whole.kinds c.args.sta.now c.ranks-ranks.ensures c.rules-rules.ensures.rules;
+      (meaning_of g.T.Theory.atom_holds (plain_rules c.rules-rules.result.now)) (automaton_of g.T.Theory.atom_holds c.args.sta.now) c.ranks-ranks.ensures (ap (meaning_of g.T.Theory.atom_holds) c.rules-rules.ensures.rules) c.in_ok-known.ensures.classes;
+  kinds = has_kinds g.T.Theory.atom_holds c.ranks-ranks.result.now c.rules-rules.result.now c.in_ok-known.known.classes.items c.in_ok-known.known.places.items c.in_ok-known.ensures.kinds c.args.sta.now c.ranks-ranks.ensures c.rules-rules.ensures.rules;
   machine = refl;
   stop = tt;
 }
@@ -52,7 +52,7 @@ returns-in_err-known g c = record {
   kinds = IfOk-from_err c.from_residual-in_err-known.result _ c.from_residual-in_err-known.ensures.0;
   machine = IfOk-from_err c.from_residual-in_err-known.result _ c.from_residual-in_err-known.ensures.0;
   stop = let machine : (record { ranks = c.ranks-ranks.result.now; rules = plain_rules c.rules-rules.result.now }) ≡ c.args.sta.now = λ i. record { ranks = c.ranks-ranks.ensures i; rules = c.rules-rules.ensures.rules i } in
-      passed c.from_residual-in_err-known.result _ c.in_err-known.field-0.0 c.from_residual-in_err-known.ensures.1 (subst (λ (m : Machine g.row.T-Atom.Denot). StopsClasses (g.T.Theory.meaning c.args.theory.now) m c.args.most c.in_err-known.field-0.0) machine c.in_err-known.ensures.stop);
+      passed c.from_residual-in_err-known.result _ c.in_err-known.field-0.0 c.from_residual-in_err-known.ensures.1 (subst (λ (m : Machine g.row.T-Atom.Denot). StopsClasses (g.T.Theory.meaning c.args.theory.now) m c.args.most c.in_err-known.field-0.0) machine c.in_err-known.ensures);
 }
 
 pub returns-in_err-own : goal.returns-in_err-own

@@ -11,8 +11,8 @@ use Rattle.sta_classes.proofs.search.Search.begin.Goals as goal
 pub returns : goal.returns
 returns g c = record {
   none = c.in_ok-known.ensures.none;
-  kinds = c.in_ok-known.ensures.kinds;
   under = record {
+    kinds = c.in_ok-known.ensures.kinds;
     sound = subst (λ z. IsSound c.args.self.now.ranks.now (g.T.Theory.meaning c.args.self.now.theory.now).has (g.T.Theory.meaning c.args.self.now.theory.now).keeps (meaning_of g.T.Theory.atom_holds (plain_rules c.args.self.now.rules.now)) g.T.Theory.label_of z c.new-pending.result) (sym c.in_ok-known.ensures.none) (sound_first c.args.self.now.ranks.now (g.T.Theory.meaning c.args.self.now.theory.now).has (g.T.Theory.meaning c.args.self.now.theory.now).keeps (meaning_of g.T.Theory.atom_holds (plain_rules c.args.self.now.rules.now)) g.T.Theory.label_of c.new-pending.result c.new-pending.ensures.kept c.new-pending.ensures.none);
     splits = subst (λ z. AreSplit (g.T.Theory.meaning c.args.self.now.theory.now) c.args.self.now.ranks.now c.args.self.now.own.now (class_rows z) c.constructors.splits.items) (sym c.in_ok-known.ensures.none) (split_none (g.T.Theory.meaning c.args.self.now.theory.now) c.args.self.now.ranks.now c.args.self.now.own.now c.constructors.splits.items (omega (arith, c.constructors.invariant.many, c.constructors.auto.counter-end, c.constructors-test.false)) c.constructors.invariant.none);
     few = omega (arith, c.new-pending.ensures.kept.many, ap length c.new-pending.ensures.none);

@@ -1,11 +1,10 @@
 use Rattle.std.proofs.Common.{◌<◌, ◌≤◌, All, length, get_or, sym, subst, arith, ℕ, ◌≡◌, ◌∙◌, ◌↔◌, true, inl, inr, Contains, ap}
-use Rattle.std.proofs.lemmas.Result.{IfOk-from_err}
 use Rattle.model_sta.specs.Least.{counts_of, rows_at}
 use Rattle.sta_classes.specs.Rules.{plain_rules, meaning_of}
 use Rattle.sta_classes.specs.Rows.{founds, class_rows_at}
 use Rattle.sta_classes.specs.Searched.{IsTold}
 use Rattle.sta_classes.proofs.Applying.{element, states_low}
-use Rattle.sta_classes.proofs.Keeping.{passed}
+use Rattle.sta_classes.proofs.Keeping.{stopped}
 use Rattle.sta_classes.proofs.Opens.{counts_as, row_made, made_over, opened_by}
 use Rattle.sta_classes.proofs.Rows.{list_at}
 use Rattle.sta_classes.proofs.Turns.{more_sets, sound_offered}
@@ -28,9 +27,9 @@ pub set-requires : goal.set-requires
 set-requires g c = record {
   low = let is : IsRules g.T.Atom.PartialEq.eq c.args.self.now.rules.now c.args.constructor c.index-self-constructor.result = c.requires.ready.own_are c.args.constructor c.index-self-constructor.result (omega (arith, c.requires.over.low, c.requires.ready.many)) (sym c.index-self-constructor.is) in
       subst (λ R. All (λ x. x.state < length c.args.self.now.rules.now) R.list.items) c.index-self-constructor.is (states_low c.args.self.now.rules.now c.args.constructor c.index-self-constructor.result.list.items is.owned);
-  met = ap length ((let found = c.in_ok-key.ensures.told.told c.index-self-constructor.result c.index.result.now (sym c.index-self-constructor.is) (sym c.index.ensures) in
+  met = ap length ((let found = c.in_ok-key.ensures.told c.index-self-constructor.result c.index.result.now (sym c.index-self-constructor.is) (sym c.index.ensures) in
       subst (IsTold (g.T.Theory.meaning c.args.self.now.theory.now) c.index-self-constructor.result (class_rows_at c.args.known.now.classes.items c.args.children.now) c.in_ok-key.key) (sym (list_at c.index.result.now.told.items c.in_ok-key.number c.index-2.result.now c.deref-label-items.result.now found.0 c.index-2.ensures c.deref-label-items.ensures.value)) found.1)).0 ∙ length-map c.index-self-constructor.result.list.items _ ∙ ap (λ R. length R.list.items) c.index-self-constructor.is;
-  held = let (key_is, are) = (let found = c.in_ok-key.ensures.told.told c.index-self-constructor.result c.index.result.now (sym c.index-self-constructor.is) (sym c.index.ensures) in
+  held = let (key_is, are) = (let found = c.in_ok-key.ensures.told c.index-self-constructor.result c.index.result.now (sym c.index-self-constructor.is) (sym c.index.ensures) in
       subst (IsTold (g.T.Theory.meaning c.args.self.now.theory.now) c.index-self-constructor.result (class_rows_at c.args.known.now.classes.items c.args.children.now) c.in_ok-key.key) (sym (list_at c.index.result.now.told.items c.in_ok-key.number c.index-2.result.now c.deref-label-items.result.now found.0 c.index-2.ensures c.deref-label-items.ensures.value)) found.1) in
       ap (λ t. length t.holds) c.label-item.is ∙ ap length (are.held c.labels.label-index c.label-item.result c.labels-test.true) ∙ length-map c.index-self-constructor.result.list.items _ ∙ sym (ap length key_is ∙ length-map c.index-self-constructor.result.list.items _);
 }
@@ -38,7 +37,7 @@ set-requires g c = record {
 pub labels-preserved : goal.labels-preserved
 labels-preserved g c =
     let is : IsRules g.T.Atom.PartialEq.eq c.args.self.now.rules.now c.args.constructor c.index-self-constructor.result = c.requires.ready.own_are c.args.constructor c.index-self-constructor.result (omega (arith, c.requires.over.low, c.requires.ready.many)) (sym c.index-self-constructor.is) in
-    let are = (let found = c.in_ok-key.ensures.told.told c.index-self-constructor.result c.index.result.now (sym c.index-self-constructor.is) (sym c.index.ensures) in
+    let are = (let found = c.in_ok-key.ensures.told c.index-self-constructor.result c.index.result.now (sym c.index-self-constructor.is) (sym c.index.ensures) in
     subst (IsTold (g.T.Theory.meaning c.args.self.now.theory.now) c.index-self-constructor.result (class_rows_at c.args.known.now.classes.items c.args.children.now) c.in_ok-key.key) (sym (list_at c.index.result.now.told.items c.in_ok-key.number c.index-2.result.now c.deref-label-items.result.now found.0 c.index-2.ensures c.deref-label-items.ensures.value)) found.1) in
     let there : Contains c.deref-label-items.result.now c.label-item.result = (c.labels.label-index, c.labels-test.true, sym c.label-item.is) in
     let fired : (s : ℕ) → has c.in_ok-row.row s ≡ true ↔ IsFired c.index-self-constructor.result.list.items (both c.in_ok-key.key c.label-item.result.holds) s =
@@ -46,7 +45,7 @@ labels-preserved g c =
     let row_is = row_made (g.T.Theory.meaning c.args.self.now.theory.now) c.args.self.now.ranks.now c.args.self.now.rules.now c.args.known.now.classes.items c.args.constructor c.index-self-constructor.result is c.args.children.now c.in_ok-key.key c.deref-label-items.result.now are c.label-item.result there c.in_ok-row.row c.in_ok-row.ensures.many fired in
     let made = made_over (g.T.Theory.meaning c.args.self.now.theory.now) c.args.self.now.ranks.now c.args.self.now.rules.now c.args.known.now.classes.items c.args.constructor c.index-self-constructor.result is c.args.children.now c.in_ok-key.key c.deref-label-items.result.now are c.cost_over-nodes.result c.label-item.result c.in_ok-row.row c.requires.over.low c.requires.over.wide c.requires.over.children there row_is (counts_as g.T.Theory.label_of c.args.known.now.classes.items c.deref.result.now c.args.children.now c.cost_over-nodes.result c.deref.ensures.value c.cost_over-nodes.ensures) in
     record {
-      sound = sound_offered c.args.self.now.ranks.now (g.T.Theory.meaning c.args.self.now.theory.now).has (g.T.Theory.meaning c.args.self.now.theory.now).keeps (meaning_of g.T.Theory.atom_holds (plain_rules c.args.self.now.rules.now)) g.T.Theory.label_of c.args.known.now.classes.items c.labels.pending c.offer.new.self c.labels.invariant.sound (record { row = c.in_ok-row.row; nodes = c.cost_over-nodes.result; constructor = c.args.constructor; label = g.T.Theory.label_of c.label-item.result.value; children = c.args.children.now }) c.in_ok-offer.ensures.0 c.in_ok-offer.ensures.1 made (λ k low. subst (λ n. get_or (counts_of (founds g.T.Theory.label_of c.args.known.now.classes.items)) k 0 ≤ n) (sym (counts_as g.T.Theory.label_of c.args.known.now.classes.items c.deref.result.now c.args.children.now c.cost_over-nodes.result c.deref.ensures.value c.cost_over-nodes.ensures)) (c.requires.above k low));
+      sound = sound_offered c.args.self.now.ranks.now (g.T.Theory.meaning c.args.self.now.theory.now).has (g.T.Theory.meaning c.args.self.now.theory.now).keeps (meaning_of g.T.Theory.atom_holds (plain_rules c.args.self.now.rules.now)) g.T.Theory.label_of c.args.known.now.classes.items c.labels.pending c.offer.new.self c.labels.invariant.sound (record { row = c.in_ok-row.row; nodes = c.cost_over-nodes.result; constructor = c.args.constructor; label = g.T.Theory.label_of c.label-item.result.value; children = c.args.children.now }) c.in_ok-offer.ensures.0 c.in_ok-offer.ensures.1 made (λ k low. subst (λ n. get_or (counts_of (founds g.T.Theory.label_of c.args.known.now.classes.items)) k 0 ≤ n) (sym (counts_as g.T.Theory.label_of c.args.known.now.classes.items c.deref.result.now c.args.children.now c.cost_over-nodes.result c.deref.ensures.value c.cost_over-nodes.ensures)) (c.requires.over.above k low));
       better = λ q n m. c.in_ok-offer.ensures.1.better q n (c.labels.invariant.better q n m);
       met = λ i r low inside at. elim (cases_lt i c.labels.label-index) [
         | inl below ↦ c.in_ok-offer.ensures.1.better _ _ (c.labels.invariant.met i r below inside at)
@@ -69,46 +68,31 @@ bounds-self-constructor g c = omega (arith, c.requires.over.low, c.requires.read
 
 pub returns : goal.returns
 returns g c = record {
-  goes_on = record {
-    under = record { sound = c.labels.invariant.sound; splits = c.in_ok-key.ensures.told.splits; few = omega (arith, c.if-len-self.false, c.len.ensures.len) };
-    better = c.labels.invariant.better;
-    offered =
-        let is : IsRules g.T.Atom.PartialEq.eq c.args.self.now.rules.now c.args.constructor c.index-self-constructor.result = c.requires.ready.own_are c.args.constructor c.index-self-constructor.result (omega (arith, c.requires.over.low, c.requires.ready.many)) (sym c.index-self-constructor.is) in
-        opened_by (g.T.Theory.meaning c.args.self.now.theory.now) c.args.self.now.ranks.now c.args.self.now.rules.now c.args.known.now.classes.items c.args.constructor c.index-self-constructor.result is c.args.children.now c.in_ok-key.key c.deref-label-items.result.now ((let found = c.in_ok-key.ensures.told.told c.index-self-constructor.result c.index.result.now (sym c.index-self-constructor.is) (sym c.index.ensures) in
-        subst (IsTold (g.T.Theory.meaning c.args.self.now.theory.now) c.index-self-constructor.result (class_rows_at c.args.known.now.classes.items c.args.children.now) c.in_ok-key.key) (sym (list_at c.index.result.now.told.items c.in_ok-key.number c.index-2.result.now c.deref-label-items.result.now found.0 c.index-2.ensures c.deref-label-items.ensures.value)) found.1)) c.labels.pending c.cost_over-nodes.result (counts_as g.T.Theory.label_of c.args.known.now.classes.items c.deref.result.now c.args.children.now c.cost_over-nodes.result c.deref.ensures.value c.cost_over-nodes.ensures)
-        (λ i t low at. c.labels.invariant.met i t (omega (arith, low, c.labels-test.false)) low at);
-  };
-  stop = tt;
+  under = record { sound = c.labels.invariant.sound; kinds = c.requires.under.kinds; splits = c.in_ok-key.ensures.splits; few = omega (arith, c.if-len-self.false, c.len.ensures.len) };
+  better = c.labels.invariant.better;
+  offered =
+      let is : IsRules g.T.Atom.PartialEq.eq c.args.self.now.rules.now c.args.constructor c.index-self-constructor.result = c.requires.ready.own_are c.args.constructor c.index-self-constructor.result (omega (arith, c.requires.over.low, c.requires.ready.many)) (sym c.index-self-constructor.is) in
+      opened_by (g.T.Theory.meaning c.args.self.now.theory.now) c.args.self.now.ranks.now c.args.self.now.rules.now c.args.known.now.classes.items c.args.constructor c.index-self-constructor.result is c.args.children.now c.in_ok-key.key c.deref-label-items.result.now ((let found = c.in_ok-key.ensures.told c.index-self-constructor.result c.index.result.now (sym c.index-self-constructor.is) (sym c.index.ensures) in
+      subst (IsTold (g.T.Theory.meaning c.args.self.now.theory.now) c.index-self-constructor.result (class_rows_at c.args.known.now.classes.items c.args.children.now) c.in_ok-key.key) (sym (list_at c.index.result.now.told.items c.in_ok-key.number c.index-2.result.now c.deref-label-items.result.now found.0 c.index-2.ensures c.deref-label-items.ensures.value)) found.1)) c.labels.pending c.cost_over-nodes.result (counts_as g.T.Theory.label_of c.args.known.now.classes.items c.deref.result.now c.args.children.now c.cost_over-nodes.result c.deref.ensures.value c.cost_over-nodes.ensures)
+      (λ i t low at. c.labels.invariant.met i t (omega (arith, low, c.labels-test.false)) low at);
 }
 
 pub returns-then-len-self : goal.returns-then-len-self
-returns-then-len-self g c = record {
-  goes_on = tt;
-  stop = more_sets c.args.self.now.ranks.now (g.T.Theory.meaning c.args.self.now.theory.now).has (g.T.Theory.meaning c.args.self.now.theory.now).keeps (meaning_of g.T.Theory.atom_holds (plain_rules c.args.self.now.rules.now)) g.T.Theory.label_of c.args.known.now.classes.items c.labels.pending c.labels.pending c.labels.invariant.sound c.args.self.now.most (omega (arith, c.if-len-self.true, c.len.ensures.len));
-}
+returns-then-len-self g c = more_sets c.args.self.now.ranks.now (g.T.Theory.meaning c.args.self.now.theory.now).has (g.T.Theory.meaning c.args.self.now.theory.now).keeps (meaning_of g.T.Theory.atom_holds (plain_rules c.args.self.now.rules.now)) g.T.Theory.label_of c.args.known.now.classes.items c.labels.pending c.labels.pending c.labels.invariant.sound c.args.self.now.most (omega (arith, c.if-len-self.true, c.len.ensures.len))
 
 pub returns-in_err-key : goal.returns-in_err-key
-returns-in_err-key g c = record {
-  goes_on = IfOk-from_err c.from_residual.result _ c.from_residual.ensures.0;
-  stop = passed c.from_residual.result _ c.in_err-key.field-0.0 c.from_residual.ensures.1 c.in_err-key.ensures.stop;
-}
+returns-in_err-key g c = stopped c.from_residual.result _ _ c.in_err-key.field-0.0 c.from_residual.ensures.1 c.in_err-key.ensures
 
 pub returns-in_err-row : goal.returns-in_err-row
-returns-in_err-row g c = record {
-  goes_on = IfOk-from_err c.from_residual-in_err-row.result _ c.from_residual-in_err-row.ensures.0;
-  stop = passed c.from_residual-in_err-row.result _ _ c.from_residual-in_err-row.ensures.1 tt;
-}
+returns-in_err-row g c = stopped c.from_residual-in_err-row.result _ _ _ c.from_residual-in_err-row.ensures.1 tt
 
 pub returns-in_err-offer : goal.returns-in_err-offer
-returns-in_err-offer g c = record {
-  goes_on = IfOk-from_err c.from_residual-in_err-offer.result _ c.from_residual-in_err-offer.ensures.0;
-  stop = passed c.from_residual-in_err-offer.result _ _ c.from_residual-in_err-offer.ensures.1 tt;
-}
+returns-in_err-offer g c = stopped c.from_residual-in_err-offer.result _ _ _ c.from_residual-in_err-offer.ensures.1 tt
 
 pub index-requires : goal.index-requires
-index-requires g c = omega (arith, c.requires.over.low, c.in_ok-key.ensures.told.splits.many, c.told.new.splits.ok.0)
+index-requires g c = omega (arith, c.requires.over.low, c.in_ok-key.ensures.splits.many, c.told.new.splits.ok.0)
 
 pub index-requires-2 : goal.index-requires-2
 index-requires-2 g c =
     let (own, at) = element c.args.self.now.own.now c.args.constructor (omega (arith, c.requires.over.low, c.requires.ready.many)) in
-    omega (arith, (c.in_ok-key.ensures.told.told own c.index.result.now at (sym c.index.ensures)).0, c.index.result.now.told.ok)
+    omega (arith, (c.in_ok-key.ensures.told own c.index.result.now at (sym c.index.ensures)).0, c.index.result.now.told.ok)

@@ -2,7 +2,6 @@ use Rattle.sta_classes.specs.Stop.{ClassStopsFor}
 use Rattle.sta_classes.specs.Applying.{guards_in}
 use Rattle.sta_core.specs.Machine.{plain_rule}
 use Rattle.model_tree.specs.Formula.{EveryAtom}
-use Rattle.std.proofs.lemmas.Result.{IfOk-from_err}
 use Rattle.std.proofs.Common.{◌≡◌, ◌<◌, ◌∙◌, [], length, get_or, ap, sym, subst, refl, All}
 use Rattle.std.proofs.lemmas.Option.{slice_get_within}
 use Rattle.model_sta.proofs.Reached.{same_default}
@@ -13,12 +12,12 @@ use Rattle.sta_classes.proofs.Keys.{all_told_more, all_told_same, told_numbered}
 use Rattle.sta_classes.proofs.Meet.{both_length}
 use Rattle.sta_classes.proofs.Offered.{row_at, is_new, was_there}
 use Rattle.sta_classes.proofs.SameGuards.{told_likes, likes_low}
-use Rattle.sta_classes.proofs.Keeping.{passed}
+use Rattle.sta_classes.proofs.Keeping.{stopped}
 use Rattle.sta_classes.proofs.splits.Splits.number.Goals as goal
 use Rattle.sta_classes.proofs.splits.Splits.number.Goals.{then-new+in_ok-tell, else-new}
 
-pub returns-clause-number : goal.returns-clause-number
-returns-clause-number g c =
+pub returns : goal.returns
+returns g c =
     let told : AreAllTold (g.T.Theory.meaning c.args.theory.now) c.args.own.now.list.items c.if-new.self =
     elim c.if-new.branch [
       | then-new+in_ok-tell w ↦
@@ -26,7 +25,7 @@ returns-clause-number g c =
           w.index-as_slice-number.is ∙ ap (λ k. get_or k c.in_ok-number.number w.index-as_slice-number.result) w.as_slice.ensures.keys
           ∙ same_default c.insert_full.new.self.keys c.in_ok-number.number w.index-as_slice-number.result [] (slice_get_within c.insert_full.new.self.keys c.in_ok-number.number c.in_ok-number.ensures.stored.0 c.in_ok-number.ensures.stored.1)
           ∙ row_at c.args.self.now.sets.keys c.insert_full.new.self.keys c.in_ok-open.open c.in_ok-number.number c.in_ok-number.new c.in_ok-number.ensures.added c.in_ok-number.ensures.keys c.in_ok-number.ensures.stored in
-          let (labels, are, items) = w.in_ok-tell.ensures.told in
+          let (labels, are, items) = w.in_ok-tell.ensures in
           let told : AreTold (g.T.Theory.meaning c.args.theory.now) c.args.own.now.list.items c.in_ok-open.open labels.items =
           subst (λ z. AreTold (g.T.Theory.meaning c.args.theory.now) z c.in_ok-open.open labels.items) w.deref.ensures.value (subst (λ z. AreTold (g.T.Theory.meaning c.args.theory.now) w.deref.result.now z labels.items) at are) in
           subst (AreAllTold (g.T.Theory.meaning c.args.theory.now) c.args.own.now.list.items) (sym w.self-is)
@@ -57,22 +56,13 @@ open_guards-requires g c = record {
 }
 
 pub returns-in_err-open : goal.returns-in_err-open
-returns-in_err-open g c = record {
-  number = IfOk-from_err c.from_residual.result _ c.from_residual.ensures.0;
-  stop = passed c.from_residual.result _ _ c.from_residual.ensures.1 tt;
-}
+returns-in_err-open g c = stopped c.from_residual.result _ _ _ c.from_residual.ensures.1 tt
 
 pub returns-in_err-number : goal.returns-in_err-number
-returns-in_err-number g c = record {
-  number = IfOk-from_err c.from_residual-in_err-number.result _ c.from_residual-in_err-number.ensures.0;
-  stop = passed c.from_residual-in_err-number.result _ _ c.from_residual-in_err-number.ensures.1 tt;
-}
+returns-in_err-number g c = stopped c.from_residual-in_err-number.result _ _ _ c.from_residual-in_err-number.ensures.1 tt
 
 pub returns-in_err-tell : goal.returns-in_err-tell
-returns-in_err-tell g c = record {
-  number = IfOk-from_err c.from_residual-in_err-tell.result _ c.from_residual-in_err-tell.ensures.0;
-  stop = passed c.from_residual-in_err-tell.result _ c.in_err-tell.field-0.0 c.from_residual-in_err-tell.ensures.1 (subst (λ l. ClassStopsFor (g.T.Theory.meaning c.args.theory.now) ⊥ (guards_in l) c.in_err-tell.field-0.0) c.deref.ensures.value c.in_err-tell.ensures.stop);
-}
+returns-in_err-tell g c = stopped c.from_residual-in_err-tell.result _ _ c.in_err-tell.field-0.0 c.from_residual-in_err-tell.ensures.1 (subst (λ l. ClassStopsFor (g.T.Theory.meaning c.args.theory.now) ⊥ (guards_in l) c.in_err-tell.field-0.0) c.deref.ensures.value c.in_err-tell.ensures)
 
 pub tell-requires : goal.tell-requires
 tell-requires g c = record { fit = subst (λ l. All (λ x. EveryAtom (g.T.Theory.atom_fits c.args.theory.now) (plain_rule x.rule.now).guard) l) (sym c.deref.ensures.value) c.requires.fit.fit }
