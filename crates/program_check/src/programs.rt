@@ -1,21 +1,21 @@
 //! Whole programs: one passes where none of the conditions on programs fails.
 
-ghost use Rattle.std.specs.Prelude.{◌≡◌, ◌<◌, OnOk, IfOk, IfErr, Some, None, true, map, []};
+ghost use Rattle.std.specs.Prelude.{◌≡◌, ◌<◌, OnOk, IfOk, IfErr, MatchResult, Some, None, true, map, []};
 ghost use Rattle.std.specs.Option.{option_map};
 ghost use Rattle.std.proofs.Props.{props};
 ghost use Rattle.fast_tree.specs.Signatures.{plain_signature};
-ghost use Rattle.model_checks.specs.Failures.{first_among};
 ghost use Rattle.model_checks.specs.Programs.{item_limit, is_well_formed, refusal_of};
 ghost use Rattle.fast_syntax.specs.Plain.{plain_item, plain_program};
 ghost use Rattle.program_check.specs.Numbered.{AreNumbered};
+ghost use Rattle.program_check.specs.Notes.{Notes};
 ghost use Rattle.program_check.specs.Stops.{IsStop};
-ghost use Rattle.program_check.specs.Signed.{own_signature};
+ghost use Rattle.program_check.specs.Signed.{own_signature, Passes};
 
 use crate::checker::Checker;
 use crate::context::Context;
 use crate::declarations::Declarations;
 use crate::limits::MOST_ITEMS;
-use crate::signatures::signatures_of;
+use crate::signatures::all_made;
 use fast_fault::{Code, Memory, Refusal};
 use fast_syntax::items::{Item, Program};
 use fast_tree::Signature;
@@ -50,16 +50,14 @@ impl From<Memory> for CheckStop {
     }
 }
 
-/// The item that is one too many.
-fn over_limit(items: &[Item]) -> Option<Refusal>
-    ensures { result ≡ first_among None (item_limit (map plain_item items.now)) }
-{
-    match items.get(MOST_ITEMS) {
-        Some(item) => Some(Refusal {
-            code: Code::TooMany,
-            place: item.place,
-        }),
-        None => None,
+impl Checker {
+    /// There are not too many items.
+    fn check_item_limit(&mut self, items: &[Item])
+        ensures { Notes self.old self.new (item_limit (map plain_item items.now)) }
+    {
+        if items.len() > MOST_ITEMS {
+            self.note(Code::TooMany, items[MOST_ITEMS].place);
+        }
     }
 }
 
@@ -73,10 +71,11 @@ fn find_refusal(
     ensures { IfOk result (λ refusal. refusal ≡ refusal_of (map plain_item items.now)) }
 {
     let mut checker = Checker {
-        known: over_limit(items),
+        known: None,
         ran_out: false,
         alloc,
     };
+    checker.check_item_limit(items);
     'items: for before in 0..items.len() {
         let context = Context {
             items,
@@ -98,13 +97,11 @@ fn signed_if_passing(
     declared: &Declarations,
 ) -> Result<Vec<Option<Signature>>, CheckStop>
     requires { AreNumbered (map plain_item items.now) declared.now }
-    ensures well_formed { OnOk result (is_well_formed (map plain_item items.now) ≡ true) }
-    ensures signed { IfOk result (λ made. map (option_map plain_signature) made.items ≡ map own_signature (map plain_item items.now)) }
-    ensures refused { IfErr result (IsStop (refusal_of (map plain_item items.now))) }
+    ensures { MatchResult result (λ made. Passes (map plain_item items.now) declared.now made.items) (IsStop (refusal_of (map plain_item items.now))) }
 {
     match find_refusal(alloc, items, declared)? {
         Some(refusal) => Err(CheckStop::Refused(refusal)),
-        None => Ok(signatures_of(alloc, items)?),
+        None => Ok(all_made(alloc, items)?),
     }
 }
 
@@ -115,10 +112,7 @@ fn number_and_sign(
     declared: &mut Declarations,
 ) -> Result<Vec<Option<Signature>>, CheckStop>
     requires { AreNumbered [] declared.old }
-    ensures well_formed { OnOk result (is_well_formed (map plain_item items.now) ≡ true) }
-    ensures numbered { OnOk result (AreNumbered (map plain_item items.now) declared.new) }
-    ensures signed { IfOk result (λ made. map (option_map plain_signature) made.items ≡ map own_signature (map plain_item items.now)) }
-    ensures refused { IfErr result (IsStop (refusal_of (map plain_item items.now))) }
+    ensures { MatchResult result (λ made. Passes (map plain_item items.now) declared.new made.items) (IsStop (refusal_of (map plain_item items.now))) }
 {
     declared.number(alloc, items)?;
     signed_if_passing(alloc, items, declared)

@@ -1,18 +1,12 @@
 //! The signature of each type of a program: its fields with their sorts, and its constructors with their ranks.
 
-ghost use Rattle.std.specs.Prelude.{◌≡◌, IfOk, Some, true, map};
-ghost use Rattle.std.specs.Option.{option_map};
-ghost use Rattle.fast_tree.specs.Signatures.{plain_sort, plain_field, plain_constructor, plain_signature};
+ghost use Rattle.std.specs.Prelude.{◌≡◌, IfOk, map};
+ghost use Rattle.fast_tree.specs.Signatures.{plain_sort, plain_signature};
 ghost use Rattle.fast_syntax.specs.View as syntax;
 ghost use Rattle.fast_syntax.specs.View.{plain_type};
-ghost use Rattle.fast_syntax.specs.Plain.{plain_item};
 ghost use Rattle.model_names.specs.Sorts.{own_sort};
 ghost use Rattle.model_meaning.specs.Types.{signature_of};
-ghost use Rattle.program_check.specs.Numbered.{own_type_item};
-ghost use Rattle.model_program.specs.Syntax as plain;
-ghost use Rattle.model_checks.specs.Types.{is_rank_in_range};
-ghost use Rattle.model_checks.specs.Programs.{is_well_formed};
-ghost use Rattle.program_check.specs.Signed.{field_of, constructor_of, HaveRanks, own_signature};
+ghost use Rattle.program_check.specs.Signed.{HaveRanks, EachFits};
 
 use crate::declarations::own_type;
 use crate::types::sort_named;
@@ -21,6 +15,114 @@ use fast_syntax::items::Item;
 use fast_syntax::{CtorItem, FieldItem, TypeItem};
 use fast_tree::{CtorOf, FieldOf, Signature, Sort};
 use std::alloc::Global;
+
+/// A part of a program of which a part of a signature is made.
+pub(crate) trait Signed {
+    type Made: Drop;
+
+    // What is made, and what it is to be.
+    ghost Plain: { Type 0 };
+
+    ghost plain: { Self.Made → Plain };
+
+    ghost signed: { Self → Plain };
+
+    // Where it can be made.
+    ghost Fits: { Self → Type 0 };
+
+    fn made(&self, alloc: Global) -> Result<Self::Made, Memory>
+        requires { Fits self.now }
+        ensures { IfOk result (λ made. plain made ≡ signed self.now) };
+}
+
+impl Signed for FieldItem {
+    ghost use Rattle.model_tree.specs.Signature.{PlainField};
+    ghost use Rattle.fast_tree.specs.Signatures.{plain_field};
+    ghost use Rattle.fast_syntax.specs.View as syntax;
+    ghost use Rattle.program_check.specs.Signed.{field_of};
+
+    type Made = FieldOf;
+
+    ghost Plain = { PlainField };
+
+    ghost plain = { plain_field };
+
+    ghost signed = { λ f. field_of (syntax.plain_field f) };
+
+    ghost Fits = { λ f. Unit {0} };
+
+    fn made(&self, alloc: Global) -> Result<FieldOf, Memory> {
+        Ok(FieldOf {
+            name: self.name.text.copy(alloc)?,
+            sort: own_sort(self),
+        })
+    }
+}
+
+impl Signed for CtorItem {
+    ghost use Rattle.std.specs.Prelude.{◌≡◌, true};
+    ghost use Rattle.model_tree.specs.Signature.{PlainConstructor};
+    ghost use Rattle.model_checks.specs.Types.{is_rank_in_range};
+    ghost use Rattle.fast_tree.specs.Signatures.{plain_constructor};
+    ghost use Rattle.fast_syntax.specs.View as syntax;
+    ghost use Rattle.program_check.specs.Signed.{constructor_of};
+
+    type Made = CtorOf;
+
+    ghost Plain = { PlainConstructor };
+
+    ghost plain = { plain_constructor };
+
+    ghost signed = { λ c. constructor_of (syntax.plain_ctor c) };
+
+    ghost Fits = { λ c. is_rank_in_range c.rank ≡ true };
+
+    fn made(&self, alloc: Global) -> Result<CtorOf, Memory> {
+        Ok(CtorOf {
+            name: self.name.text.copy(alloc)?,
+            rank: self.rank as u32,
+        })
+    }
+}
+
+/// An item has a signature where it is a type.
+impl Signed for Item {
+    ghost use Rattle.std.specs.Prelude.{Option};
+    ghost use Rattle.std.specs.Option.{option_map};
+    ghost use Rattle.model_tree.specs.Signature.{PlainSignature};
+    ghost use Rattle.fast_tree.specs.Signatures.{plain_signature};
+    ghost use Rattle.fast_syntax.specs.Plain.{plain_item};
+    ghost use Rattle.program_check.specs.Signed.{own_signature, HasRanks};
+
+    type Made = Option<Signature>;
+
+    ghost Plain = { Option PlainSignature };
+
+    ghost plain = { option_map plain_signature };
+
+    ghost signed = { λ item. own_signature (plain_item item) };
+
+    ghost Fits = { λ item. HasRanks (plain_item item) };
+
+    fn made(&self, alloc: Global) -> Result<Option<Signature>, Memory> {
+        match own_type(self) {
+            Some(own) => Ok(Some(signature_of(alloc, own)?)),
+            None => Ok(None),
+        }
+    }
+}
+
+/// What is made of each of these.
+pub(crate) fn all_made<S: Signed>(alloc: Global, all: &[S]) -> Result<Vec<S::Made>, Memory>
+    requires { EachFits S.Fits all.now }
+    ensures { IfOk result (λ made. map S.plain made.items ≡ map S.signed all.now) }
+{
+    let mut made = Vec::new(alloc);
+    'all: for one in all {
+        made.push(one.made(alloc)?)?;
+    }
+    Ok(made)
+}
 
 /// The sort of a field, in a type whose sorts are known.
 pub(crate) fn own_sort(field: &FieldItem) -> Sort
@@ -32,39 +134,6 @@ pub(crate) fn own_sort(field: &FieldItem) -> Sort
     }
 }
 
-fn constructor_of(alloc: Global, ctor: &CtorItem) -> Result<CtorOf, Memory>
-    requires { is_rank_in_range ctor.now.rank ≡ true }
-    ensures { IfOk result (λ made. plain_constructor made ≡ constructor_of (syntax.plain_ctor ctor.now)) }
-{
-    Ok(CtorOf {
-        name: ctor.name.text.copy(alloc)?,
-        rank: ctor.rank as u32,
-    })
-}
-
-fn fields_of(alloc: Global, fields: &[FieldItem]) -> Result<Vec<FieldOf>, Memory>
-    ensures { IfOk result (λ made. map plain_field made.items ≡ map field_of (map syntax.plain_field fields.now)) }
-{
-    let mut made = Vec::new(alloc);
-    'fields: for field in fields {
-        let name = field.name.text.copy(alloc)?;
-        let sort = own_sort(field);
-        made.push(FieldOf { name, sort })?;
-    }
-    Ok(made)
-}
-
-fn constructors_of(alloc: Global, ctors: &[CtorItem]) -> Result<Vec<CtorOf>, Memory>
-    requires { HaveRanks (map syntax.plain_ctor ctors.now) }
-    ensures { IfOk result (λ made. map plain_constructor made.items ≡ map constructor_of (map syntax.plain_ctor ctors.now)) }
-{
-    let mut made = Vec::new(alloc);
-    'ctors: for ctor in ctors {
-        made.push(constructor_of(alloc, ctor)?)?;
-    }
-    Ok(made)
-}
-
 /// The signature of a type.
 fn signature_of(alloc: Global, item: &TypeItem) -> Result<Signature, Memory>
     requires { HaveRanks (plain_type item.now).ctors }
@@ -72,30 +141,7 @@ fn signature_of(alloc: Global, item: &TypeItem) -> Result<Signature, Memory>
 {
     Ok(Signature {
         name: item.name.text.copy(alloc)?,
-        fields: fields_of(alloc, &item.fields)?,
-        constructors: constructors_of(alloc, &item.ctors)?,
+        fields: all_made(alloc, &item.fields)?,
+        constructors: all_made(alloc, &item.ctors)?,
     })
-}
-
-/// The signature of an item, where it is a type.
-fn own_signature(alloc: Global, item: &Item) -> Result<Option<Signature>, Memory>
-    requires { (t : plain.TypeItem) → own_type_item (plain_item item.now).body ≡ Some t → HaveRanks t.ctors }
-    ensures { IfOk result (λ made. option_map plain_signature made ≡ option_map signature_of (own_type_item (plain_item item.now).body)) }
-{
-    match own_type(item) {
-        Some(own) => Ok(Some(signature_of(alloc, own)?)),
-        None => Ok(None),
-    }
-}
-
-/// The signature of each item that is a type, at the item's place.
-pub(crate) fn signatures_of(alloc: Global, items: &[Item]) -> Result<Vec<Option<Signature>>, Memory>
-    requires { is_well_formed (map plain_item items.now) ≡ true }
-    ensures { IfOk result (λ made. map (option_map plain_signature) made.items ≡ map own_signature (map plain_item items.now)) }
-{
-    let mut made = Vec::new(alloc);
-    'items: for item in items {
-        made.push(own_signature(alloc, item)?)?;
-    }
-    Ok(made)
 }

@@ -1,4 +1,4 @@
-use Rattle.std.proofs.Common.{◌≡◌, ◌+◌, false, drop, refl, sym, ap, ap₂, ◌∙◌, ◌||◌, Some, subst}
+use Rattle.std.proofs.Common.{◌≡◌, ◌+◌, false, drop, refl, sym, ap, ap₂, ◌∙◌, ◌||◌, Some, subst, arith}
 use Rattle.std.proofs.Math.IntN.{pos}
 use Rattle.std.specs.Prelude.{negsuc}
 use Rattle.std.specs.Option.{option_map}
@@ -284,3 +284,12 @@ check_label-returns-in-Prod-clause-known t c h =
     let place = c.args.e.now.place in
     let is = ap (λ xs. plain.chain Product place (plain_prod_parts xs)) c.deref-in-Prod.ensures.value ∙ sym (ap (λ n. plain_node n place) c.in-Prod.is ∙ plain_product_of place c.in-Prod.parts) in
     subst (λ (e : plain.Expr). IsKnown c.args.scope.now e c.check_product.result) is (c.check_product.ensures.known h)
+
+pub check_sorted-check_label-known-requires : goal.check_sorted-check_label-known-requires
+check_sorted-check_label-known-requires t c = (omega (arith, c.decreases), tt)
+
+pub check_not-check_sorted-requires : goal.check_not-check_sorted-requires
+check_not-check_sorted-requires t c = (omega (arith, c.decreases), tt)
+
+pub check_minus-check_sorted-known-requires : goal.check_minus-check_sorted-known-requires
+check_minus-check_sorted-known-requires t c = (omega (arith, c.decreases), tt)
