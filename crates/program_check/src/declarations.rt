@@ -1,11 +1,11 @@
 //! What a program declares: each name is numbered once, and found in constant time from then on.
 
-ghost use Rattle.std.specs.Prelude.{◌≡◌, ℕ, List, [], Some, None, OnOk, map};
+ghost use Rattle.std.specs.Prelude.{◌≡◌, [], Some, None, IfOk, OnOk, map};
 ghost use Rattle.std.specs.Option.{option_map};
 ghost use Rattle.model_names.specs.Declared.{declares};
 ghost use Rattle.fast_syntax.specs.View.{plain_ctor, plain_type};
 ghost use Rattle.fast_syntax.specs.Plain.{plain_item};
-ghost use Rattle.program_check.specs.Naming.{place_in, Grows};
+ghost use Rattle.program_check.specs.Naming.{Grows};
 ghost use Rattle.program_check.specs.Numbered.{declares_type, own_type_item, own_ctors, HasCtors, AreNumbered, Declares};
 
 use crate::heads::head_of;
@@ -62,15 +62,15 @@ fn own_ctors(item: &Item) -> &[CtorItem]
     }
 }
 
-/// Numbers these constructors, where no name has a number so far.
-fn number_ctors(alloc: Global, names: &mut Names, ctors: &[CtorItem]) -> Result<(), Memory>
-    requires { (name : List ℕ) → place_in names.old name ≡ None }
-    ensures { OnOk result (HasCtors (map plain_ctor ctors.now) names.new) }
+/// The numbers of these constructors.
+fn number_ctors(alloc: Global, ctors: &[CtorItem]) -> Result<Names, Memory>
+    ensures { IfOk result (HasCtors (map plain_ctor ctors.now)) }
 {
+    let mut names = Names::new(alloc);
     'ctors: for (place, ctor) in ctors.iter().enumerate() {
         names.add(alloc, &ctor.name.text, place)?;
     }
-    Ok(())
+    Ok(names)
 }
 
 impl Declarations {
@@ -91,9 +91,7 @@ impl Declarations {
     {
         number_type(alloc, &mut self.types, item, place)?;
         number_name(alloc, &mut self.names, item, place)?;
-        let mut ctors = Names::new(alloc);
-        number_ctors(alloc, &mut ctors, own_ctors(item))?;
-        self.ctors.push(ctors)?;
+        self.ctors.push(number_ctors(alloc, own_ctors(item))?)?;
         Ok(())
     }
 

@@ -428,7 +428,6 @@ impl Checker {
     }
 
     /// A step of a product to a remainder.
-    #[tactic(auto, using(crate::proofs::Places::place_is))]
     fn check_remainder(&mut self, before: Factor, e: &Expr) -> Option<Form>
         ensures noted { Notes self.old self.new (divided (plain_expr e.now)) }
         ensures form { HasMemory self.new → result ≡ remainder_of before.form (divisor_of (plain_expr e.now)) }
