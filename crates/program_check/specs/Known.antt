@@ -37,6 +37,11 @@ pub record IsKnown (scope : Scope) (e : Expr) (known : Known) : Type 0 where
   pub has : known.has_field ≡ has_field (plain_scope scope) e
   pub form : known.form ≡ form_in_range (plain_scope scope) e
 
+-- the form that was made
+abbrev pub IsTaken : {E : Type 0} → Result Form E → Option Form → Type 0
+IsTaken made None = ⊥
+IsTaken made (Some f) = made ≡ Ok f
+
 -- the form that was made, and whether none was for a number out of range
 abbrev pub form_made : Result Form FormStop → Option Form
 form_made (Ok f) = Some f

@@ -1,7 +1,7 @@
 //! What may fail in a label expression, and what is known of one: its sort, whether it has the name of a field, and its form
 //! as a sum where it is a whole number.
 
-ghost use Rattle.std.specs.Prelude.{◌≡◌, ◌<◌, ◌||◌, ◌&&◌, IfOk, Ok, MatchOption, IfSome, Some, None, [], ◌≤◌, negsuc, false, cond, map, not, length, get_or, nat_le, encode_utf8_all};
+ghost use Rattle.std.specs.Prelude.{◌≡◌, ◌<◌, ◌||◌, ◌&&◌, MatchOption, IfSome, Some, None, [], ◌≤◌, negsuc, false, cond, map, not, length, get_or, nat_le, encode_utf8_all};
 ghost use Rattle.std.specs.Option.{option_map, option_and_then};
 ghost use Rattle.fast_fault.specs.declared.code.Code.TheVariants as code;
 ghost use Rattle.fast_tree.specs.Signatures.{plain_sort};
@@ -10,7 +10,7 @@ ghost use Rattle.fast_syntax.specs.Plain.{plain_expr};
 ghost use Rattle.fast_syntax.specs.Slices.{plain_operands, plain_sum_parts, plain_prod_parts};
 ghost use Rattle.model_tree.specs.Limits.{longest_text, greatest_divisor};
 ghost use Rattle.model_tree.specs.Signature.{wholes, truths};
-ghost use Rattle.model_form.specs.Sums.{sum_form, product_form, number_form};
+ghost use Rattle.model_form.specs.Sums.{sum_form, product_form};
 ghost use Rattle.model_label.specs.Fields.{same_sort, number_at};
 ghost use Rattle.fast_tree.specs.declared.signature.Sort.TheVariants as Sort;
 ghost use Rattle.model_grammar.specs.Syntax as plain;
@@ -18,23 +18,22 @@ ghost use Rattle.model_grammar.specs.declared.Chain.TheVariants as kind;
 ghost use Rattle.model_checks.specs.Failures.{fails_if};
 ghost use Rattle.model_names.specs.Sorts.{sort_named, own_sort};
 ghost use Rattle.model_checks.specs.Sorts.{find_field, plain_fields, is_other_sort, differ_in_sort};
-ghost use Rattle.model_tree.specs.Range.{is_label_number, IsLabelNumber};
+ghost use Rattle.model_tree.specs.Range.{is_label_number};
 ghost use Rattle.model_checks.specs.Forms.{is_out_of_range, kept, has_field, form_numbered, product_of, remainder_of, divisor_of, with_part};
 ghost use Rattle.model_checks.specs.Labels.{unknown_field, label_failures, operands_failures, sorted_failures, divided};
 ghost use Rattle.program_check.specs.Notes.{HasMemory, Notes};
-ghost use Rattle.program_check.specs.Known.{plain_scope, IsKnown, form_made, is_range, IsMade, AreTruths, plain_added, joined, sort_failures, sides_failures, next_failures, next_form, step_failures, step_form};
+ghost use Rattle.program_check.specs.Known.{plain_scope, IsKnown, form_made, is_range, IsTaken, IsMade, AreTruths, plain_added, joined, sort_failures, sides_failures, next_failures, next_form, step_failures, step_form};
 
 use crate::checker::Checker;
 use crate::limits::{LONGEST_TEXT, MOST_FIELDS};
 use crate::signatures::own_sort;
 use crate::types::sort_named;
-use fast_fault::{Code, Memory, Pos, Text};
+use fast_fault::{Code, Pos, Text};
 use fast_syntax::FieldItem;
 use fast_syntax::expressions::{Expr, Node, ProdPart, SumPart};
 use fast_tree::Sort;
 use lin_form::{Form, FormStop, GREATEST_DIVISOR, MOST_PARTS, Signed};
 use model_grammar::Rel;
-use std::alloc::Global;
 
 /// The fields whose names an expression may have, where they are known.
 #[derive(Clone, Copy)]
@@ -113,40 +112,6 @@ fn number_at(fields: &[FieldItem], name: &Text) -> usize
         }
     }
     number
-}
-
-/// The form of the whole number of this number, where it is one of the first eight.
-fn form_numbered(alloc: Global, number: usize) -> Result<Option<Form>, Memory>
-    ensures { IfOk result (λ form. form ≡ form_numbered number) }
-{
-    if number < MOST_FIELDS {
-        Ok(Some(Form::field(alloc, number as u32)?))
-    } else {
-        Ok(None)
-    }
-}
-
-/// The form of a number.
-fn form_of_number(alloc: Global, number: i128) -> Result<Option<Form>, Memory>
-    requires { IsLabelNumber number }
-    ensures { IfOk result (λ form. form ≡ Some (number_form number)) }
-{
-    Ok(Some(Form::number(alloc, number)?))
-}
-
-/// The form of the field of this name, where it is a whole number and has a form.
-fn form_of_field(
-    alloc: Global,
-    fields: &[FieldItem],
-    name: &Text,
-    sort: Option<Sort>,
-) -> Result<Option<Form>, Memory>
-    ensures { IfOk result (λ form. form ≡ option_and_then (λ s. cond (same_sort s wholes) (form_numbered (number_at (plain_fields (map plain_field fields.now)) wholes name.now)) None) (option_map plain_sort sort)) }
-{
-    match sort {
-        Some(Sort::Int) => form_numbered(alloc, number_at(fields, name)),
-        _ => Ok(None),
-    }
 }
 
 /// The sort of the field at this place.
@@ -235,37 +200,60 @@ fn divisor_of(e: &Expr) -> Option<u32>
     }
 }
 
-/// The remainder of a form by a number.
-fn remainder(
-    alloc: Global,
-    form: Option<Form>,
-    divisor: Option<u32>,
-) -> Result<Option<Form>, Memory>
-    requires { IfSome divisor (λ k. (0 < k) × (k ≤ greatest_divisor)) }
-    ensures { IfOk result (λ made. made ≡ remainder_of form divisor) }
-{
-    let (Some(form), Some(divisor)) = (form, divisor) else {
-        return Ok(None);
-    };
-    match form.into_remainder(alloc, divisor) {
-        Ok(made) => Ok(Some(made)),
-        Err(_stop) => Err(Memory),
-    }
-}
-
 impl Checker {
     /// The form that was made, or none where memory ran out, which is kept in mind.
-    fn take_form(&mut self, made: Result<Option<Form>, Memory>) -> Option<Form>
+    fn take_form<E: Drop>(&mut self, made: Result<Form, E>) -> Option<Form>
         ensures noted { Notes self.old self.new [] }
-        ensures made { HasMemory self.new → made ≡ Ok result }
+        ensures made { HasMemory self.new → IsTaken made result }
     {
         match made {
-            Ok(form) => form,
+            Ok(form) => Some(form),
             Err(_want) => {
                 self.ran_out = true;
                 None
             }
         }
+    }
+
+    /// The form of the whole number of this number, where it is one of the first eight.
+    fn form_numbered(&mut self, number: usize) -> Option<Form>
+        ensures noted { Notes self.old self.new [] }
+        ensures form { HasMemory self.new → result ≡ form_numbered number }
+    {
+        if number >= MOST_FIELDS {
+            return None;
+        }
+        let made = Form::field(self.alloc, number as u32);
+        self.take_form(made)
+    }
+
+    /// The form of the field of this name, where it is a whole number and has a form.
+    fn form_of_field(
+        &mut self,
+        fields: &[FieldItem],
+        name: &Text,
+        sort: Option<Sort>,
+    ) -> Option<Form>
+        ensures noted { Notes self.old self.new [] }
+        ensures form { HasMemory self.new → result ≡ option_and_then (λ s. cond (same_sort s wholes) (form_numbered (number_at (plain_fields (map plain_field fields.now)) wholes name.now)) None) (option_map plain_sort sort) }
+    {
+        match sort {
+            Some(Sort::Int) => self.form_numbered(number_at(fields, name)),
+            _ => None,
+        }
+    }
+
+    /// The remainder of a form by a number.
+    fn remainder(&mut self, form: Option<Form>, divisor: Option<u32>) -> Option<Form>
+        requires { IfSome divisor (λ k. (0 < k) × (k ≤ greatest_divisor)) }
+        ensures noted { Notes self.old self.new [] }
+        ensures form { HasMemory self.new → result ≡ remainder_of form divisor }
+    {
+        let (Some(form), Some(divisor)) = (form, divisor) else {
+            return None;
+        };
+        let made = form.into_remainder(self.alloc, divisor);
+        self.take_form(made)
     }
 
     /// One more part of a sum.
@@ -322,8 +310,7 @@ impl Checker {
             return Known::of_nothing(None);
         };
         let sort = sort_at(fields, place_of_field);
-        let made = form_of_field(self.alloc, fields, name, sort);
-        let form = self.take_form(made);
+        let form = self.form_of_field(fields, name, sort);
         Known {
             sort,
             has_field: true,
@@ -339,7 +326,7 @@ impl Checker {
             self.note(Code::NumberRange, place);
             return Known::of_nothing(Some(Sort::Int));
         }
-        let made = form_of_number(self.alloc, number);
+        let made = Form::number(self.alloc, number);
         Known {
             sort: Some(Sort::Int),
             has_field: false,
@@ -434,8 +421,7 @@ impl Checker {
     {
         let divisor = divisor_of(e);
         self.note_if(divisor.is_none(), Code::BadModulus, e.place);
-        let made = remainder(self.alloc, before.form, divisor);
-        self.take_form(made)
+        self.remainder(before.form, divisor)
     }
 
     /// A step of a product by a factor or to a remainder.
@@ -561,7 +547,7 @@ impl Checker {
         ensures noted { Notes self.old self.new (label_failures (plain_scope scope.now) (plain.chain kind.Product place (plain_prod_parts parts.now))) }
         ensures known { HasMemory self.new → IsKnown scope.now (plain.chain kind.Product place (plain_prod_parts parts.now)) result }
     {
-        let one = form_of_number(self.alloc, 1);
+        let one = Form::number(self.alloc, 1);
         let mut before = Factor {
             has_field: false,
             form: self.take_form(one),

@@ -17,7 +17,8 @@ use Rattle.model_checks.specs.Labels.{label_failures, operands_failures, steps_f
 use Rattle.fast_tree.specs.Signatures.{plain_sort}
 use Rattle.program_check.specs.Known.{plain_scope, plain_added, next_form, IsKnown}
 use Rattle.program_check.specs.Notes.{HasMemory, Notes}
-use Rattle.program_check.proofs.Noting.{next, same, nothing, and_none, left_by, if_made}
+use Rattle.program_check.proofs.Noting.{next, same, nothing, and_none, left_by}
+use Rattle.program_check.proofs.FormsMade.{taken}
 use Rattle.program_check.proofs.Chains.{sorted_more, sorted_done, has_more, has_done, added_more, added_done, steps_more, steps_done, form_more, form_done}
 use Rattle.fast_fault.specs.declared.code.Code.TheVariants.{WrongSort}
 use Rattle.model_checks.specs.Failures.{fails_if}
@@ -125,7 +126,7 @@ pub check_product-parts-init : goal.check_product-parts-init
 check_product-parts-init t c =
     let s = plain_scope c.args.scope.now in
     let all = plain_prod_parts c.args.parts.now in
-    let is : HasMemory c.take_form.new.self → c.take_form.result ≡ Some (number_form (pos 1)) = λ h. if_made _ (c.take_form.ensures.made h) c.form_of_number-one.ensures in
+    let is : HasMemory c.take_form.new.self → c.take_form.result ≡ Some (number_form (pos 1)) = λ h. taken c.number-one.result c.take_form.result _ (c.take_form.ensures.made h) c.number-one.ensures in
     record {
       noted = λ h. left_by _ (ap (λ f. steps_failures s c.args.place false f all) (sym (is h))) (c.take_form.ensures.noted h);
       has = λ h. refl;
