@@ -13,3 +13,4 @@ pub mod EntryFacts
 pub mod ChainFacts
 pub mod Pieces
 pub mod Merging
+pub mod Follows

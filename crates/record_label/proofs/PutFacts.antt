@@ -1,5 +1,5 @@
 -- The steps by which a map's entries are put for fields.
-use Rattle.std.proofs.Common.{◌≡◌, ℕ, zero, suc, ◌+◌, ◌<◌, ◌≤◌, ◌⊎◌, inl, inr, ◌++◌, List, [], ◌∷◌, map, take, length, get_or, slice_index_or, None, Vec, Global, refl, ap, sym, ◌∙◌, subst, arith}
+use Rattle.std.proofs.Common.{◌≡◌, ℕ, zero, suc, ◌+◌, ◌<◌, ◌≤◌, ◌⊎◌, inl, inr, ◌++◌, List, [], ◌∷◌, map, take, length, get_or, slice_index_or, None, Bool, true, false, Result, MatchResult, Vec, Global, refl, ap, sym, ◌∙◌, subst, arith}
 use Rattle.std.proofs.Math.IntN.{ℤ}
 use Rattle.std.proofs.lemmas.List.{take_more, take_all, map-append}
 use Rattle.model_tree.specs.Formula.{Formula, formulas_of, formula, all_of, some_of}
@@ -8,8 +8,12 @@ use Rattle.label_core.specs.Formula.{plain_formula}
 use Rattle.label_core.specs.declared.formula.Formula.{Formula as Written}
 use Rattle.label_core.specs.declared.formula.Formula.TheVariants.{And, Or}
 use Rattle.label_core.proofs.Formulas.{plain_and, plain_or}
+use Rattle.lin_form.specs.declared.stop.FormStop.{FormStop}
+use Rattle.lin_form.specs.Stops.{StopsAt}
 use Rattle.record_label.specs.Rows.{RowAtom}
+use Rattle.record_label.specs.Guards.{joined_of}
 use Rattle.record_label.specs.Maps.{Entry, put_formula, put_formulas, IsOutsideOf, IsOutsideOfSome, SomeOutside}
+use Rattle.record_label.proofs.FormFacts.{passed}
 
 -- ---- one by one
 
@@ -64,33 +68,31 @@ module _ (entries : List Entry) where
 -- ---- formulas that are matched
 
 module _ (entries : List Entry) (f : Written RowAtom) (v : Vec (Written RowAtom) Global) (now : List (Written RowAtom)) (now_is : now ≡ v.items) where
-  abbrev Made : List (Written RowAtom) → Type 0
-  Made made = (map plain_formula made ≡ map (put_formula entries) (map plain_formula now)) × ((n : ℤ) → SomeOutside (IsOutsideOf entries) (map plain_formula now) n → ⊥)
+  abbrev SomePart : ℤ → Type 0
+  SomePart = SomeOutside (IsOutsideOf entries) (map plain_formula now)
+
+  abbrev IsMadeFrom : Bool → Written RowAtom → Type 0
+  IsMadeFrom every result = (plain_formula result ≡ joined_of every (map (put_formula entries) (map plain_formula now))) × ((n : ℤ) → SomePart n → ⊥)
 
   abbrev IsMadeOf : Written RowAtom → Type 0
   IsMadeOf result = (plain_formula result ≡ put_formula entries (plain_formula f)) × ((n : ℤ) → IsOutsideOf entries (plain_formula f) n → ⊥)
 
-  module _ (is : f ≡ And v) where
-    plain_is : plain_formula f ≡ all_of (formulas_of (map plain_formula now))
-    plain_is = ap plain_formula is ∙ plain_and v ∙ ap (λ fs. all_of (formulas_of (map plain_formula fs))) (sym now_is)
+  module _ (r : Result (Written RowAtom) FormStop) where
+    pub put_all : f ≡ And v → MatchResult r (IsMadeFrom true) (StopsAt SomePart) → MatchResult r IsMadeOf (StopsAt (IsOutsideOf entries (plain_formula f)))
+    put_all is = passed r (IsMadeFrom true) IsMadeOf SomePart (IsOutsideOf entries (plain_formula f))
+        (λ result made. (made.0 ∙ ap all_of (sym (put_parts entries (map plain_formula now))) ∙ sym (ap (put_formula entries) plain_is), λ n o. made.1 n (subst (λ P. P) (outside_parts entries (map plain_formula now) n) (subst (λ g. IsOutsideOf entries g n) plain_is o))))
+        (λ n o. subst (λ g. IsOutsideOf entries g n) (sym plain_is) (subst (λ P. P) (sym (outside_parts entries (map plain_formula now) n)) o))
+      where
+        plain_is : plain_formula f ≡ all_of (formulas_of (map plain_formula now))
+        plain_is = ap plain_formula is ∙ plain_and v ∙ ap (λ fs. all_of (formulas_of (map plain_formula fs))) (sym now_is)
 
-    pub outside_all : (n : ℤ) → SomeOutside (IsOutsideOf entries) (map plain_formula now) n → IsOutsideOf entries (plain_formula f) n
-    outside_all n o = subst (λ g. IsOutsideOf entries g n) (sym plain_is) (subst (λ P. P) (sym (outside_parts entries (map plain_formula now) n)) o)
-
-    pub put_all : (made : List (Written RowAtom)) (result : Written RowAtom) → plain_formula result ≡ all_of (formulas_of (map plain_formula made)) → Made made → IsMadeOf result
-    put_all made result whole done =
-        (whole ∙ ap (λ fs. all_of (formulas_of fs)) done.0 ∙ ap all_of (sym (put_parts entries (map plain_formula now))) ∙ sym (ap (put_formula entries) plain_is), λ n o. done.1 n (subst (λ P. P) (outside_parts entries (map plain_formula now) n) (subst (λ g. IsOutsideOf entries g n) plain_is o)))
-
-  module _ (is : f ≡ Or v) where
-    plain_is_or : plain_formula f ≡ some_of (formulas_of (map plain_formula now))
-    plain_is_or = ap plain_formula is ∙ plain_or v ∙ ap (λ fs. some_of (formulas_of (map plain_formula fs))) (sym now_is)
-
-    pub outside_some : (n : ℤ) → SomeOutside (IsOutsideOf entries) (map plain_formula now) n → IsOutsideOf entries (plain_formula f) n
-    outside_some n o = subst (λ g. IsOutsideOf entries g n) (sym plain_is_or) (subst (λ P. P) (sym (outside_parts entries (map plain_formula now) n)) o)
-
-    pub put_some : (made : List (Written RowAtom)) (result : Written RowAtom) → plain_formula result ≡ some_of (formulas_of (map plain_formula made)) → Made made → IsMadeOf result
-    put_some made result whole done =
-        (whole ∙ ap (λ fs. some_of (formulas_of fs)) done.0 ∙ ap some_of (sym (put_parts entries (map plain_formula now))) ∙ sym (ap (put_formula entries) plain_is_or), λ n o. done.1 n (subst (λ P. P) (outside_parts entries (map plain_formula now) n) (subst (λ g. IsOutsideOf entries g n) plain_is_or o)))
+    pub put_some : f ≡ Or v → MatchResult r (IsMadeFrom false) (StopsAt SomePart) → MatchResult r IsMadeOf (StopsAt (IsOutsideOf entries (plain_formula f)))
+    put_some is = passed r (IsMadeFrom false) IsMadeOf SomePart (IsOutsideOf entries (plain_formula f))
+        (λ result made. (made.0 ∙ ap some_of (sym (put_parts entries (map plain_formula now))) ∙ sym (ap (put_formula entries) plain_is), λ n o. made.1 n (subst (λ P. P) (outside_parts entries (map plain_formula now) n) (subst (λ g. IsOutsideOf entries g n) plain_is o))))
+        (λ n o. subst (λ g. IsOutsideOf entries g n) (sym plain_is) (subst (λ P. P) (sym (outside_parts entries (map plain_formula now) n)) o))
+      where
+        plain_is : plain_formula f ≡ some_of (formulas_of (map plain_formula now))
+        plain_is = ap plain_formula is ∙ plain_or v ∙ ap (λ fs. some_of (formulas_of (map plain_formula fs))) (sym now_is)
 
 -- where there is nothing
 pub nothing_at : {X : Type 0} (xs : List X) (k : ℕ) (d : X) → None ≡ slice_get xs k → d ≡ slice_index_or xs k d

@@ -1,5 +1,5 @@
 -- Guards over labels of a type: what the formula of an expression says, and of what it is made.
-use Rattle.std.specs.Prelude.{◌≡◌, Bool, true, false, ◌&&◌, cond, List, [], ◌∷◌, ◌++◌, map, Contains, Option, Some, None}
+use Rattle.std.specs.Prelude.{◌≡◌, Bool, true, false, ◌&&◌, cond, List, [], ◌∷◌, ◌++◌, map, Contains, Option, Some, None, Result, MatchResult}
 use Rattle.model_tree.specs.Label.{Field, row}
 use Rattle.model_tree.specs.Signature.{PlainField, sort_of, wholes, truths, texts}
 use Rattle.model_tree.specs.Formula.{Formula, Formulas, yes, no, atom, negation, all_of, some_of, formula, formulas_of, no_formulas, formula_holds, EveryAtom}
@@ -12,7 +12,9 @@ use Rattle.model_label.specs.Fields.{has_field, number_at}
 use Rattle.model_label.specs.Meaning.{value_of, same_value, is_true}
 use Rattle.model_label.specs.Tests.{is_text}
 use Rattle.model_form.specs.Form.{Form}
-use Rattle.model_guard.specs.Forms.{form_of}
+use Rattle.model_guard.specs.Forms.{form_of, forms_in, HasOutside}
+use Rattle.lin_form.specs.declared.stop.FormStop.{FormStop}
+use Rattle.lin_form.specs.Stops.{StopsAt}
 use Rattle.label_core.specs.Formula.{plain_formula}
 use Rattle.label_core.specs.declared.formula.Formula as code
 use Rattle.label_core.specs.declared.pair.PairAtom.TheVariants.{Left, Right}
@@ -133,10 +135,10 @@ joined_of false fs = some_of (formulas_of fs)
 abbrev pub compared_in : List PlainField → Rel → Expr → Expr → Formula RowAtom → Formula RowAtom → Formula RowAtom
 compared_in fields rel a b f g = cond (is_numeric fields a) (compared_by_forms rel (form_of fields a) (form_of fields b)) (compared_as rel (comparison_of fields a b) f g)
 
--- that, if it takes no formulas of tests, and else nothing
-abbrev pub SaysAlone : List PlainField → Rel → Expr → Expr → Option (code.Formula RowAtom) → Type 0
+-- that, or a stop at a form of the sides, if it takes no formulas of tests, and else nothing
+abbrev pub SaysAlone : List PlainField → Rel → Expr → Expr → Option (Result (code.Formula RowAtom) FormStop) → Type 0
 SaysAlone fields rel a b None = (f g : Formula RowAtom) → compared_in fields rel a b f g ≡ compared_by rel (agreement_of f g)
-SaysAlone fields rel a b (Some made) = (f g : Formula RowAtom) → plain_formula made ≡ compared_in fields rel a b f g
+SaysAlone fields rel a b (Some result) = MatchResult result (λ made. (f g : Formula RowAtom) → plain_formula made ≡ compared_in fields rel a b f g) (StopsAt (HasOutside (forms_in fields a ++ forms_in fields b)))
 
 module _ (fields : List PlainField) where
   abbrev mutual

@@ -9,3 +9,4 @@ pub mod MapLaws
 pub mod Derived
 pub mod Meaning
 pub mod Written
+pub mod Follows

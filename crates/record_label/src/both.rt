@@ -1,11 +1,11 @@
-//! Values that are made side by side.
+//! Values that are made side by side, or one behind the other.
 //!
 //! They are of any type, so that one is dropped whole where the other can't be made.
 
-ghost use Rattle.std.specs.Prelude.{◌≡◌, ◌∷◌, ◌⊎◌, [], IfOk, MatchResult, Ok, Err};
+ghost use Rattle.std.specs.Prelude.{◌≡◌, ◌∷◌, ◌++◌, ◌⊎◌, [], MatchResult, Ok, Err};
+ghost use Rattle.record_label.specs.Follows.{Follows};
 
-use fast_fault::Memory;
-use std::alloc::Global;
+use lin_form::FormStop;
 
 /// Both values, or why the first one that isn't there wasn't made.
 pub(crate) fn both<A: Drop, B: Drop, E: Drop>(
@@ -19,12 +19,9 @@ pub(crate) fn both<A: Drop, B: Drop, E: Drop>(
     Ok((first, second))
 }
 
-/// A list of two.
-pub(crate) fn two<A: Drop>(alloc: Global, first: A, second: A) -> Result<Vec<A>, Memory>
-    ensures { IfOk result (λ two. two.items ≡ first ∷ second ∷ []) }
+/// Puts what was made behind the list, unless there was a stop.
+pub(crate) fn added<A: Drop>(list: &mut Vec<A>, made: Result<A, FormStop>) -> Result<(), FormStop>
+    ensures { Follows made (λ x _. list.new.items ≡ list.old.items ++ x ∷ []) (λ _ _. ⊥) result }
 {
-    let mut two = Vec::new(alloc);
-    two.push(first)?;
-    two.push(second)?;
-    Ok(two)
+    Ok(list.push(made?)?)
 }

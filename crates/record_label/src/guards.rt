@@ -1,6 +1,6 @@
 //! The formula of a label expression.
 
-ghost use Rattle.std.specs.Prelude.{◌≡◌, ◌≤◌, ◌++◌, true, IfOk, MatchResult, Some, None, cond, length, map};
+ghost use Rattle.std.specs.Prelude.{◌≡◌, ◌≤◌, ◌∷◌, ◌++◌, [], true, IfOk, MatchResult, Some, None, cond, length, map};
 ghost use Rattle.model_tree.specs.Limits.{most_fields};
 ghost use Rattle.model_tree.specs.Formula as plain;
 ghost use Rattle.model_label.specs.Tests.{is_text};
@@ -10,10 +10,11 @@ ghost use Rattle.lin_form.specs.Stops.{StopsAt};
 ghost use Rattle.label_core.specs.Formula.{plain_formula};
 ghost use Rattle.fast_tree.specs.Signatures.{plain_signature};
 ghost use Rattle.fast_syntax.specs.Plain.{plain_expr};
+ghost use Rattle.record_label.specs.Follows.{UnlessMemory, Follows, FollowsBoth};
 ghost use Rattle.record_label.specs.Guards.{IsGuardOf, SaysAlone, joined_of, formula_in, pair_of, agreement_of, compared_by, compared_by_forms, comparison_of, is_numeric, side_of};
 ghost use Rattle.record_label.specs.Parts.{AreWithin, unmarked};
 
-use crate::both::{both, two};
+use crate::both::{added, both};
 use crate::forms::form_of;
 use crate::lookups::{has_field, number_of};
 use crate::rows::RowAtom;
@@ -66,16 +67,51 @@ fn comparison(
     Ok(None)
 }
 
+/// The formula's denial, unless there was a stop.
+pub(crate) fn denied(
+    alloc: Global,
+    made: Result<Formula<RowAtom>, FormStop>,
+) -> Result<Formula<RowAtom>, FormStop>
+    ensures { Follows made (λ f denied. plain_formula denied ≡ plain.negation (plain_formula f)) (λ _ _. ⊥) result }
+{
+    Ok(negation(alloc, made?)?)
+}
+
+/// That both formulas hold, or, if not `every`, that one of them does.
+fn joined_two(
+    alloc: Global,
+    every: bool,
+    first: Result<Formula<RowAtom>, FormStop>,
+    second: Result<Formula<RowAtom>, FormStop>,
+) -> Result<Formula<RowAtom>, FormStop>
+    ensures { FollowsBoth first second (λ f g made. plain_formula made ≡ joined_of every (plain_formula f ∷ plain_formula g ∷ [])) result }
+{
+    let mut two = Vec::new(alloc);
+    added(&mut two, first)?;
+    added(&mut two, second)?;
+    Ok(joined(every, two))
+}
+
+/// The same formula again.
+pub(crate) fn copied(
+    alloc: Global,
+    formula: &Formula<RowAtom>,
+) -> Result<Formula<RowAtom>, FormStop>
+    ensures { UnlessMemory result (λ copy. plain_formula copy ≡ plain_formula formula.now) }
+{
+    Ok(formula.copy(alloc)?)
+}
+
 /// Neither holds.
 fn neither(
     alloc: Global,
     first: &Formula<RowAtom>,
     second: &Formula<RowAtom>,
-) -> Result<Formula<RowAtom>, Memory>
-    ensures { IfOk result (λ made. plain_formula made ≡ plain.negation (plain.some_of (pair_of (plain_formula first.now) (plain_formula second.now)))) }
+) -> Result<Formula<RowAtom>, FormStop>
+    ensures { UnlessMemory result (λ made. plain_formula made ≡ plain.negation (plain.some_of (pair_of (plain_formula first.now) (plain_formula second.now)))) }
 {
-    let (first, second) = both(first.copy(alloc), second.copy(alloc))?;
-    negation(alloc, disjunction(two(alloc, first, second)?))
+    let either = joined_two(alloc, false, copied(alloc, first), copied(alloc, second));
+    denied(alloc, either)
 }
 
 /// Both hold, or neither does.
@@ -83,20 +119,24 @@ fn agreement(
     alloc: Global,
     first: Formula<RowAtom>,
     second: Formula<RowAtom>,
-) -> Result<Formula<RowAtom>, Memory>
-    ensures { IfOk result (λ made. plain_formula made ≡ agreement_of (plain_formula first) (plain_formula second)) }
+) -> Result<Formula<RowAtom>, FormStop>
+    ensures { UnlessMemory result (λ made. plain_formula made ≡ agreement_of (plain_formula first) (plain_formula second)) }
 {
     let neither = neither(alloc, &first, &second);
-    let (all, neither) = both(two(alloc, first, second), neither)?;
-    Ok(disjunction(two(alloc, conjunction(all), neither)?))
+    let all = joined_two(alloc, true, Ok(first), Ok(second));
+    joined_two(alloc, false, all, neither)
 }
 
 /// What the comparison asks for, where the formula says that the two sides are the same.
-fn compared(alloc: Global, rel: Rel, formula: Formula<RowAtom>) -> Result<Formula<RowAtom>, Memory>
-    ensures { IfOk result (λ made. plain_formula made ≡ compared_by rel (plain_formula formula)) }
+fn compared(
+    alloc: Global,
+    rel: Rel,
+    formula: Formula<RowAtom>,
+) -> Result<Formula<RowAtom>, FormStop>
+    ensures { UnlessMemory result (λ made. plain_formula made ≡ compared_by rel (plain_formula formula)) }
 {
     match rel {
-        Rel::NotEqual => negation(alloc, formula),
+        Rel::NotEqual => denied(alloc, Ok(formula)),
         _ => Ok(formula),
     }
 }
@@ -118,8 +158,8 @@ fn compared_forms(
     rel: Rel,
     first: Form,
     second: Form,
-) -> Result<Formula<RowAtom>, Memory>
-    ensures { IfOk result (λ made. plain_formula made ≡ compared_by_forms rel first second) }
+) -> Result<Formula<RowAtom>, FormStop>
+    ensures { UnlessMemory result (λ made. plain_formula made ≡ compared_by_forms rel first second) }
 {
     let (left, relation, right) = match rel {
         Rel::Less => (first, Relation::Less, second),
@@ -151,7 +191,7 @@ fn compared_numbers(
         form_of(alloc, left, signature),
         form_of(alloc, right, signature),
     )?;
-    Ok(compared_forms(alloc, rel, first, second)?)
+    compared_forms(alloc, rel, first, second)
 }
 
 /// The formula of a comparison of whole numbers or of texts. That of tests takes their formulas.
@@ -161,20 +201,20 @@ fn compared_sides(
     left: &Expr,
     right: &Expr,
     signature: &Signature,
-) -> Result<Option<Formula<RowAtom>>, FormStop>
+) -> Option<Result<Formula<RowAtom>, FormStop>>
     requires { length signature.now.fields.items ≤ most_fields }
-    ensures { MatchResult result (SaysAlone (plain_signature signature.now).fields rel (plain_expr left.now) (plain_expr right.now)) (λ stop. StopsAt (HasOutside (forms_in (plain_signature signature.now).fields (plain_expr left.now) ++ forms_in (plain_signature signature.now).fields (plain_expr right.now))) stop) }
+    ensures { SaysAlone (plain_signature signature.now).fields rel (plain_expr left.now) (plain_expr right.now) result }
 {
     if is_numeric(left, signature) {
-        let made = compared_numbers(alloc, rel, left, right, signature)?;
-        return Ok(Some(made));
+        return Some(compared_numbers(alloc, rel, left, right, signature));
     }
-    match comparison(alloc, left, right, signature)? {
-        Some(atom) => {
+    match comparison(alloc, left, right, signature) {
+        Ok(Some(atom)) => {
             let atom = PairAtom::Right(PairAtom::Right(atom));
-            Ok(Some(compared(alloc, rel, Formula::Atom(atom))?))
+            Some(compared(alloc, rel, Formula::Atom(atom)))
         }
-        None => Ok(None),
+        Ok(None) => None,
+        Err(_want) => Some(Err(FormStop::Memory)),
     }
 }
 
@@ -182,11 +222,12 @@ fn compared_sides(
 fn compared_tests(
     alloc: Global,
     rel: Rel,
-    first: Formula<RowAtom>,
-    second: Formula<RowAtom>,
-) -> Result<Formula<RowAtom>, Memory>
-    ensures { IfOk result (λ made. plain_formula made ≡ compared_by rel (agreement_of (plain_formula first) (plain_formula second))) }
+    first: Result<Formula<RowAtom>, FormStop>,
+    second: Result<Formula<RowAtom>, FormStop>,
+) -> Result<Formula<RowAtom>, FormStop>
+    ensures { FollowsBoth first second (λ f g made. plain_formula made ≡ compared_by rel (agreement_of (plain_formula f) (plain_formula g))) result }
 {
+    let (first, second) = both(first, second)?;
     compared(alloc, rel, agreement(alloc, first, second)?)
 }
 
@@ -207,18 +248,19 @@ fn formula_of(
             Ok(Formula::Atom(PairAtom::Right(atom)))
         }
         Node::Truth(true) => Ok(Formula::Yes),
-        Node::Not(part) => Ok(negation(alloc, formula_of(alloc, part, signature)?)?),
+        Node::Not(part) => denied(alloc, formula_of(alloc, part, signature)),
         Node::And(parts) => formulas_of(alloc, parts, signature, true),
         Node::Or(parts) => formulas_of(alloc, parts, signature, false),
         Node::Compare(rel, left, right) => {
-            if let Some(made) = compared_sides(alloc, *rel, left, right, signature)? {
-                return Ok(made);
+            match compared_sides(alloc, *rel, left, right, signature) {
+                Some(made) => made,
+                None => compared_tests(
+                    alloc,
+                    *rel,
+                    formula_of(alloc, left, signature),
+                    formula_of(alloc, right, signature),
+                ),
             }
-            let (first, second) = both(
-                formula_of(alloc, left, signature),
-                formula_of(alloc, right, signature),
-            )?;
-            Ok(compared_tests(alloc, *rel, first, second)?)
         }
         _ => Ok(Formula::No),
     }
@@ -237,13 +279,13 @@ fn formulas_of(
 {
     let mut formulas = Vec::new(alloc);
     for part in parts {
-        formulas.push(formula_of(alloc, part, signature)?)?;
+        added(&mut formulas, formula_of(alloc, part, signature))?;
     }
     Ok(joined(every, formulas))
 }
 
 /// Holds where each of the formulas does, or, if not `every`, where one of them does.
-fn joined(every: bool, formulas: Vec<Formula<RowAtom>>) -> Formula<RowAtom>
+pub(crate) fn joined(every: bool, formulas: Vec<Formula<RowAtom>>) -> Formula<RowAtom>
     ensures { plain_formula result ≡ joined_of every (map plain_formula formulas.items) }
 {
     if every {

@@ -4,18 +4,21 @@ ghost use Rattle.std.specs.Prelude.{◌≡◌, IfOk, map, slice_index_or, slice_
 ghost use Rattle.std.specs.Option.{option_map};
 ghost use Rattle.model_tree.specs.Formula as plain;
 ghost use Rattle.label_core.specs.Formula.{plain_formula};
+ghost use Rattle.record_label.specs.Follows.{UnlessMemory};
+ghost use Rattle.record_label.specs.Guards.{joined_of};
 ghost use Rattle.record_label.specs.Maps.{forms_of, formulas_in, sides_in, are_one, put_compare, put_side, put_atom, put_formula, put_entry, IsOutsideCompared, IsOutsidePut, IsOutsideOf, IsOutsideEntry, SomeOutside};
 ghost use Rattle.record_label.specs.PlainMaps.{plain_entry, Gives};
 ghost use Rattle.record_label.specs.Written.{plain_written};
 ghost use Rattle.label_core.specs.declared.pair.PairAtom.{PairAtom};
 
-use crate::both::both;
+use crate::both::{added, both};
 use crate::copies::copy_written;
+use crate::guards::{copied, denied, joined};
 use crate::maps::{RowEntry, RowMap};
 use crate::rows::RowAtom;
 use fast_fault::{Memory, Text};
 use flat_label::{TextAtom, TextSide};
-use label_core::{DEEPEST, Formula, PairAtom, conjunction, disjunction, negation};
+use label_core::{DEEPEST, Formula, PairAtom};
 use lin_form::{Form, FormStop};
 use lin_solve::Compare;
 use std::alloc::Global;
@@ -66,11 +69,11 @@ fn side_at(entries: &[RowEntry], number: u32) -> Option<&TextSide>
 }
 
 /// The formula that is put for the truth value with this number. One that there is not is false.
-fn put_truth(alloc: Global, number: u32, entries: &[RowEntry]) -> Result<Formula<RowAtom>, Memory>
-    ensures { IfOk result (λ made. plain_formula made ≡ slice_index_or (formulas_in (map plain_entry entries.now)) number plain.no) }
+fn put_truth(alloc: Global, number: u32, entries: &[RowEntry]) -> Result<Formula<RowAtom>, FormStop>
+    ensures { UnlessMemory result (λ made. plain_formula made ≡ slice_index_or (formulas_in (map plain_entry entries.now)) number plain.no) }
 {
     match formula_at(entries, number) {
-        Some(formula) => formula.copy(alloc),
+        Some(formula) => copied(alloc, formula),
         None => Ok(Formula::No),
     }
 }
@@ -119,8 +122,8 @@ fn put_texts(
     alloc: Global,
     atom: &TextAtom,
     entries: &[RowEntry],
-) -> Result<Formula<RowAtom>, Memory>
-    ensures { IfOk result (λ made. plain_formula made ≡ are_one (put_side (map plain_entry entries.now) atom.now.left) (put_side (map plain_entry entries.now) atom.now.right)) }
+) -> Result<Formula<RowAtom>, FormStop>
+    ensures { UnlessMemory result (λ made. plain_formula made ≡ are_one (put_side (map plain_entry entries.now) atom.now.left) (put_side (map plain_entry entries.now) atom.now.right)) }
 {
     let (left, right) = both(
         put_side(alloc, &atom.left, entries),
@@ -130,18 +133,23 @@ fn put_texts(
 }
 
 /// A comparison with the forms put for its fields.
-fn put_compare(alloc: Global, compare: &Compare, forms: &[Form]) -> Result<Compare, FormStop>
-    ensures { Gives (λ made. made) (put_compare forms.now compare.now) (IsOutsideCompared forms.now compare.now) result }
+fn put_compare(
+    alloc: Global,
+    compare: &Compare,
+    forms: &[Form],
+) -> Result<Formula<RowAtom>, FormStop>
+    ensures { Gives plain_formula (plain.atom (PairAtom.Left (put_compare forms.now compare.now))) (IsOutsideCompared forms.now compare.now) result }
 {
     let (left, right) = both(
         compare.left.subst(alloc, forms),
         compare.right.subst(alloc, forms),
     )?;
-    Ok(Compare {
+    let made = Compare {
         left,
         relation: compare.relation,
         right,
-    })
+    };
+    Ok(Formula::Atom(PairAtom::Left(made)))
 }
 
 /// What an atom says with the entries put for the fields, whose forms are given.
@@ -155,12 +163,9 @@ pub fn put_atom(
     ensures { Gives plain_formula (put_atom (map plain_entry entries.now) atom.now) (IsOutsidePut (map plain_entry entries.now) atom.now) result }
 {
     match atom {
-        PairAtom::Left(compare) => {
-            let made = put_compare(alloc, compare, forms)?;
-            Ok(Formula::Atom(PairAtom::Left(made)))
-        }
-        PairAtom::Right(PairAtom::Left(truth)) => Ok(put_truth(alloc, truth.field, entries)?),
-        PairAtom::Right(PairAtom::Right(texts)) => Ok(put_texts(alloc, texts, entries)?),
+        PairAtom::Left(compare) => put_compare(alloc, compare, forms),
+        PairAtom::Right(PairAtom::Left(truth)) => put_truth(alloc, truth.field, entries),
+        PairAtom::Right(PairAtom::Right(texts)) => put_texts(alloc, texts, entries),
     }
 }
 
@@ -184,34 +189,31 @@ fn put_formula(
         Formula::No => Ok(Formula::No),
         Formula::Atom(atom) => put_atom(alloc, atom, entries, forms),
         Formula::Not(inner) => {
-            Ok(negation(alloc, put_formula(alloc, inner, entries, forms, most - 1)?)?)
+            denied(alloc, put_formula(alloc, inner, entries, forms, most - 1))
         }
-        Formula::And(parts) => {
-            Ok(conjunction(put_formulas(alloc, parts, entries, forms, most - 1)?))
-        }
-        Formula::Or(parts) => {
-            Ok(disjunction(put_formulas(alloc, parts, entries, forms, most - 1)?))
-        }
+        Formula::And(parts) => put_each(alloc, parts, entries, forms, true, most - 1),
+        Formula::Or(parts) => put_each(alloc, parts, entries, forms, false, most - 1),
     }
 }
 
-/// What formulas say with the entries put for the fields, if they nest no deeper.
+/// The same for formulas of which all hold, or, if not `every`, one of them, if they nest no deeper.
 #[cycle(puts)]
-fn put_formulas(
+fn put_each(
     alloc: Global,
     parts: &[Formula<RowAtom>],
     entries: &[RowEntry],
     forms: &[Form],
+    every: bool,
     most: usize,
-) -> Result<Vec<Formula<RowAtom>>, FormStop>
+) -> Result<Formula<RowAtom>, FormStop>
     requires { forms.now ≡ forms_of (map plain_entry entries.now) }
-    ensures { Gives (λ made. map plain_formula made.items) (map (put_formula (map plain_entry entries.now)) (map plain_formula parts.now)) (SomeOutside (IsOutsideOf (map plain_entry entries.now)) (map plain_formula parts.now)) result }
+    ensures { Gives plain_formula (joined_of every (map (put_formula (map plain_entry entries.now)) (map plain_formula parts.now))) (SomeOutside (IsOutsideOf (map plain_entry entries.now)) (map plain_formula parts.now)) result }
 {
     let mut made = Vec::new(alloc);
     for part in parts {
-        made.push(put_formula(alloc, part, entries, forms, most)?)?;
+        added(&mut made, put_formula(alloc, part, entries, forms, most))?;
     }
-    Ok(made)
+    Ok(joined(every, made))
 }
 
 /// An entry with the entries put for the fields.
@@ -225,10 +227,9 @@ fn put_entry(
     ensures { Gives plain_entry (put_entry (map plain_entry entries.now) (plain_entry entry.now)) (IsOutsideEntry (map plain_entry entries.now) (plain_entry entry.now)) result }
 {
     match entry {
-        RowEntry::Number(form) => Ok(RowEntry::Number(form.subst(alloc, forms)?)),
+        RowEntry::Number(form) => form.subst(alloc, forms).map(RowEntry::Number),
         RowEntry::Truth(formula) => {
-            let made = put_formula(alloc, formula, entries, forms, DEEPEST)?;
-            Ok(RowEntry::Truth(made))
+            put_formula(alloc, formula, entries, forms, DEEPEST).map(RowEntry::Truth)
         }
         RowEntry::Text(side) => Ok(RowEntry::Text(put_side(alloc, side, entries)?)),
     }
@@ -245,7 +246,7 @@ fn put_entries(
     let forms = forms_of(alloc, first)?;
     let mut made = Vec::new(alloc);
     for entry in entries {
-        made.push(put_entry(alloc, entry, first, &forms)?)?;
+        added(&mut made, put_entry(alloc, entry, first, &forms))?;
     }
     Ok(made)
 }
