@@ -1,6 +1,6 @@
 -- A copy of a map is equal to it.
-use Rattle.std.proofs.Common.{◌≡◌, ◌&&◌, ℕ, ◌≤◌, List, [], ◌∷◌, map, take, length, Bool, true, refl, ap, ◌∙◌, subst, Result, Ok, Err, IfOk}
-use Rattle.std.proofs.lemmas.List.{take_all}
+use Rattle.std.proofs.Common.{◌≡◌, ◌&&◌, ℕ, ◌+◌, ◌<◌, ◌≤◌, ◌++◌, get_or, sym, List, [], ◌∷◌, map, take, length, Bool, true, refl, ap, ◌∙◌, subst, Result, Ok, Err, IfOk}
+use Rattle.std.proofs.lemmas.List.{take_all, take_more}
 use Rattle.std.specs.Cmp.Lexicographic.{pointwise}
 use Rattle.label_core.specs.Formula.{plain_formula}
 use Rattle.label_core.specs.declared.formula.Formula.{Formula}
@@ -61,3 +61,11 @@ if_both (Err e) P R Q f h k = h
 -- what is made of things one by one, once it is made of all
 pub all_made : {X Y A : Type 0} (f : X → A) (g : Y → A) (xs : List X) (made : List Y) (i : ℕ) → map g made ≡ map f (take i xs) → length xs ≤ i → map g made ≡ map f xs
 all_made f g xs made i before low = before ∙ ap (map f) (take_all i xs low)
+
+-- of one that was made
+pub given_made : {A E : Type 0} (r : Result A E) (P : A → Type 0) (x : A) → r ≡ Ok x → IfOk r P → P x
+given_made r P x is h = subst (λ s. IfOk s P) is h
+
+-- one more that is the same
+pub same_more : {A : Type 0} (xs : List A) (i : ℕ) (x : A) → i < length xs → x ≡ get_or xs i x → (made now : List A) (y : A) → now ≡ made ++ y ∷ [] → made ≡ take i xs → y ≡ x → now ≡ take (i + 1) xs
+same_more xs i x low is made now y pushed before same = pushed ∙ (λ j. before j ++ (same ∙ is) j ∷ []) ∙ sym (take_more xs i x low)

@@ -14,3 +14,4 @@ pub mod ChainFacts
 pub mod Pieces
 pub mod Merging
 pub mod Follows
+pub mod Looking

@@ -9,9 +9,18 @@ use Rattle.std.proofs.lemmas.List.{length-map}
 use Rattle.std.proofs.lemmas.List.Elements.{All-nil, All-cons, All-head, All-tail}
 use Rattle.model_tree.specs.Limits.{most_fields}
 use Rattle.model_tree.specs.Label.{Field, whole, truth, text, Label, row, pair}
-use Rattle.model_tree.specs.Signature.{Sort, wholes, truths, texts, sort_of, have_sorts, HasSorts}
+use Rattle.model_tree.specs.Signature.{Sort, wholes, truths, texts, PlainField, sort_of, have_sorts, HasSorts}
 use Rattle.fast_tree.specs.declared.signature.Sort.{Sort as Coded}
-use Rattle.fast_tree.specs.Signatures.{plain_sort}
+use Rattle.fast_tree.specs.declared.signature.FieldOf.{FieldOf}
+use Rattle.fast_tree.specs.Signatures.{plain_sort, plain_field}
+use Rattle.fast_tree.specs.Entries.{field_of, label_meaning}
+use Rattle.fast_tree.specs.declared.label.Value.{Value}
+use Rattle.fast_tree.specs.declared.label.Value.TheVariants as values
+use Rattle.fast_tree.specs.declared.label.Label.{Label as Coded'}
+use Rattle.label_core.specs.Verdict.{DecidesAll}
+use Rattle.label_core.specs.declared.theory.Verdict.{Verdict}
+use Rattle.label_core.specs.declared.theory.Verdict.TheVariants.{Sat, Unsat, Wide}
+use Rattle.record_label.specs.Meaning.{row_meaning}
 use Rattle.model_tree.proofs.Sorts.{own_sorts, have_these_sorts}
 use Rattle.model_label.specs.Fields.{same_sort}
 use Rattle.model_tree.specs.Kept.{is_kept_field}
@@ -40,7 +49,7 @@ use Rattle.lin_solve.specs.Shown.{AllKept}
 use Rattle.lin_solve.specs.Wholes.{wholes_label, compare_at, IsWholes, KeepsWholes, CompareFits}
 use Rattle.lin_solve.specs.Equal.{wholes_back, one_label}
 use Rattle.lin_solve.proofs.Labels.{agree}
-use Rattle.record_label.specs.Rows.{truths_in, texts_in, parts_of, RowAtom, flat_holds, row_holds, count_of, FlatFits, HasSides, IsOfNumbers, KeepsSorts, merged}
+use Rattle.record_label.specs.Rows.{truths_in, texts_in, parts_of, RowAtom, flat_holds, row_holds, count_of, FlatFits, HasSides, IsOfNumbers, KeepsSorts, merged, AreAsMany, IsFound}
 
 -- ---- what is kept
 
@@ -59,6 +68,11 @@ numbers_fit (truth b ∷ fields) h = numbers_fit fields h
 numbers_fit (text t ∷ fields) h = numbers_fit fields h
 
 -- ---- there are as many numbers, truth values and texts as their sorts
+
+pub no_truth : (v : Value) (rest : List Value) → ((b : Bool) → v ≡ values.Bool b → ⊥) → truths_in (map field_of (v ∷ rest)) ≡ truths_in (map field_of rest)
+no_truth (values.Int n) rest other = refl
+no_truth (values.Bool b) rest other = absurd (other b refl)
+no_truth (values.Text t) rest other = refl
 
 pub count_of_wholes : (fields : List Field) → length (wholes_in fields) ≡ count_of wholes (map sort_of fields)
 count_of_wholes [] = refl
@@ -93,6 +107,11 @@ count_few sort (s ∷ sorts) = by (same_sort s sort) (count_few sort sorts)
     by : (b : Bool) → count_of sort sorts ≤ length sorts → cond b (suc (count_of sort sorts)) (count_of sort sorts) ≤ suc (length sorts)
     by true h = omega (arith, h)
     by false h = omega (arith, h)
+
+-- the sorts of fields, as they are seen
+pub seen_sorts : (fields : List FieldOf) → map (λ (f : FieldOf). plain_sort f.sort) fields ≡ map (λ (f : PlainField). f.sort) (map plain_field fields)
+seen_sorts [] = refl
+seen_sorts (f ∷ fields) = ap (λ sorts. plain_sort f.sort ∷ sorts) (seen_sorts fields)
 
 -- there are no more whole numbers than fields
 pub few_wholes : (fields : List Coded) (sorts : List Sort) → length fields ≤ most_fields → map plain_sort fields ≡ sorts → count_of wholes sorts ≤ most_fields
@@ -190,14 +209,25 @@ module _ (sorts : List Sort) (lits : List (Lit RowAtom)) where
   abbrev Satisfies : Label → Type 0
   Satisfies = SatisfiesAll (pair_holds compare_at flat_holds) lits
 
-  -- the label made of the parts that satisfy all does so too
-  pub merged_satisfies : (ns : List ℤ) (bs : List Bool) (ts : List (List ℕ)) (l : Label) → l ≡ row (merged sorts ns bs ts) → KeepsThree sorts (three ns bs ts) → Satisfies (three ns bs ts) → KeepsSorts sorts l × SatisfiesAll row_holds lits l
-  merged_satisfies ns bs ts l made ((ms, many, kept, is), rest) all =
-      let same : ns ≡ ms = one_label ns ms is in
-      let many' = bools.length_of_label (count_of truths sorts) bs rest.0 in
-      let many'' = texts_of.length_of_label (count_of texts sorts) ts rest.1 in
-      subst (λ m. KeepsSorts sorts m × SatisfiesAll row_holds lits m) (sym made)
-      ((merged_have sorts ns bs ts, merged_kept sorts ns bs ts (subst AllKept (sym same) kept)), subst Satisfies (merged_parts sorts ns bs ts (ap length same ∙ many) many' many'') all)
+  -- there are as many values as the sorts ask for, and the label made of those that satisfy all does so too
+  module _ (ns : List ℤ) (bs : List Bool) (ts : List (List ℕ)) where
+    pub as_many : KeepsThree sorts (three ns bs ts) → AreAsMany sorts ns bs ts
+    as_many ((ms, many, kept, is), rest) = record {
+      numbers = ap length (one_label ns ms is) ∙ many;
+      truths = bools.length_of_label (count_of truths sorts) bs rest.0;
+      texts = texts_of.length_of_label (count_of texts sorts) ts rest.1;
+    }
+
+    all_kept : KeepsThree sorts (three ns bs ts) → AllKept ns
+    all_kept ((ms, many, kept, is), rest) = subst AllKept (sym (one_label ns ms is)) kept
+
+    pub merged_satisfies : KeepsThree sorts (three ns bs ts) → Satisfies (three ns bs ts) → (v : Verdict Coded' Chain) → IsFound (λ l. label_meaning l ≡ row (merged sorts ns bs ts)) v → DecidesAll (row_meaning sorts) lits v
+    merged_satisfies keeps all (Sat l) made =
+        let many = as_many keeps in
+        subst (λ m. KeepsSorts sorts m × SatisfiesAll row_holds lits m) (sym made)
+        ((merged_have sorts ns bs ts, merged_kept sorts ns bs ts (all_kept keeps)), subst Satisfies (merged_parts sorts ns bs ts many.numbers many.truths many.texts) all)
+    merged_satisfies keeps all Unsat made = absurd made
+    merged_satisfies keeps all (Wide c) made = absurd made
 
   -- where no parts satisfy all, no label does
   pub none_satisfies : ((m : Label) → HasThree sorts m → ¬ (Satisfies m)) → (l : Label) → HasSorts sorts l → ¬ (SatisfiesAll row_holds lits l)

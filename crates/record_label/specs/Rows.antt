@@ -1,9 +1,12 @@
 -- Labels of fields of several sorts, and their parts of one sort. Fields are numbered within their sort, in the order of the type.
-use Rattle.std.specs.Prelude.{◌≡◌, ◌<◌, ℕ, suc, ℤ, pos, Bool, true, false, cond, List, [], ◌∷◌}
+use Rattle.std.specs.Prelude.{◌≡◌, ◌<◌, ℕ, suc, ℤ, pos, Bool, true, false, cond, List, [], ◌∷◌, length}
 use Rattle.model_tree.specs.Label.{Field, whole, truth, text, Label, row, pair}
 use Rattle.model_tree.specs.Signature.{Sort, wholes, truths, texts, HasSorts}
 use Rattle.model_tree.specs.Kept.{is_kept_label}
 use Rattle.model_label.specs.Fields.{same_sort}
+use Rattle.fast_tree.specs.declared.label.Label.{Label as Coded}
+use Rattle.label_core.specs.declared.theory.Verdict.{Verdict}
+use Rattle.label_core.specs.declared.theory.Verdict.TheVariants.{Sat, Unsat, Wide}
 use Rattle.label_core.specs.declared.pair.PairAtom.{PairAtom}
 use Rattle.label_core.specs.Pair.{pair_holds, OfAtom}
 use Rattle.flat_label.specs.declared.bools.BoolAtom.{BoolAtom}
@@ -84,3 +87,15 @@ merged (truths ∷ sorts) ns [] ts = truth false ∷ merged sorts ns [] ts
 merged (truths ∷ sorts) ns (b ∷ bs) ts = truth b ∷ merged sorts ns bs ts
 merged (texts ∷ sorts) ns bs [] = text [] ∷ merged sorts ns bs []
 merged (texts ∷ sorts) ns bs (t ∷ ts) = text t ∷ merged sorts ns bs ts
+
+-- as many of each as the sorts ask for
+pub record AreAsMany (sorts : List Sort) (ns : List ℤ) (bs : List Bool) (ts : List (List ℕ)) : Type 0 where
+  pub numbers : length ns ≡ count_of wholes sorts
+  pub truths : length bs ≡ count_of truths sorts
+  pub texts : length ts ≡ count_of texts sorts
+
+-- a label of which this is so
+abbrev pub IsFound : (Coded → Type 0) → Verdict Coded Chain → Type 0
+IsFound is (Sat l) = is l
+IsFound is Unsat = ⊥
+IsFound is (Wide c) = ⊥

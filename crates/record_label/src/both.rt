@@ -2,9 +2,10 @@
 //!
 //! They are of any type, so that one is dropped whole where the other can't be made.
 
-ghost use Rattle.std.specs.Prelude.{◌≡◌, ◌∷◌, ◌++◌, ◌⊎◌, [], MatchResult, Ok, Err};
+ghost use Rattle.std.specs.Prelude.{◌≡◌, ◌∷◌, ◌++◌, ◌⊎◌, [], MatchResult, OnOk, Ok, Err};
 ghost use Rattle.record_label.specs.Follows.{Follows};
 
+use fast_fault::Memory;
 use lin_form::FormStop;
 
 /// Both values, or why the first one that isn't there wasn't made.
@@ -22,6 +23,13 @@ pub(crate) fn both<A: Drop, B: Drop, E: Drop>(
 /// Puts what was made behind the list, unless there was a stop.
 pub(crate) fn added<A: Drop>(list: &mut Vec<A>, made: Result<A, FormStop>) -> Result<(), FormStop>
     ensures { Follows made (λ x _. list.new.items ≡ list.old.items ++ x ∷ []) (λ _ _. ⊥) result }
+{
+    Ok(list.push(made?)?)
+}
+
+/// The same where memory alone stops.
+pub(crate) fn pushed<A: Drop>(list: &mut Vec<A>, made: Result<A, Memory>) -> Result<(), Memory>
+    ensures { OnOk result ((x : A) × (made ≡ Ok x) × (list.new.items ≡ list.old.items ++ x ∷ [])) }
 {
     Ok(list.push(made?)?)
 }

@@ -4,6 +4,7 @@ ghost use Rattle.std.specs.Prelude.{◌≡◌, IfOk, map};
 ghost use Rattle.record_label.specs.PlainMaps.{plain_entry};
 ghost use Rattle.record_label.specs.Written.{plain_written};
 
+use crate::both::{both, pushed};
 use crate::maps::{RowEntry, RowMap};
 use crate::written::Written;
 use fast_fault::Memory;
@@ -14,10 +15,21 @@ fn copy_entry(alloc: Global, entry: &RowEntry) -> Result<RowEntry, Memory>
     ensures { IfOk result (λ copy. plain_entry copy ≡ plain_entry entry.now) }
 {
     match entry {
-        RowEntry::Number(form) => Ok(RowEntry::Number(form.copy(alloc)?)),
-        RowEntry::Truth(formula) => Ok(RowEntry::Truth(formula.copy(alloc)?)),
-        RowEntry::Text(side) => Ok(RowEntry::Text(side.copy(alloc)?)),
+        RowEntry::Number(form) => form.copy(alloc).map(RowEntry::Number),
+        RowEntry::Truth(formula) => formula.copy(alloc).map(RowEntry::Truth),
+        RowEntry::Text(side) => side.copy(alloc).map(RowEntry::Text),
     }
+}
+
+/// The same entries.
+fn copy_entries(alloc: Global, entries: &[RowEntry]) -> Result<Vec<RowEntry>, Memory>
+    ensures { IfOk result (λ copies. map plain_entry copies.items ≡ map plain_entry entries.now) }
+{
+    let mut copies = Vec::new(alloc);
+    for entry in entries {
+        pushed(&mut copies, copy_entry(alloc, entry))?;
+    }
+    Ok(copies)
 }
 
 /// The same pieces.
@@ -26,7 +38,7 @@ pub(crate) fn copy_written(alloc: Global, written: &[Written]) -> Result<Vec<Wri
 {
     let mut copies = Vec::new(alloc);
     for one in written {
-        copies.push(one.copy(alloc)?)?;
+        pushed(&mut copies, one.copy(alloc))?;
     }
     Ok(copies)
 }
@@ -37,11 +49,10 @@ impl RowMap {
         ensures entries { IfOk result (λ copy. map plain_entry copy.entries.items ≡ map plain_entry self.now.entries.items) }
         ensures written { IfOk result (λ copy. map plain_written copy.written.items ≡ map plain_written self.now.written.items) }
     {
-        let mut entries = Vec::new(alloc);
-        for entry in &self.entries {
-            entries.push(copy_entry(alloc, entry)?)?;
-        }
-        let written = copy_written(alloc, &self.written)?;
+        let (entries, written) = both(
+            copy_entries(alloc, &self.entries),
+            copy_written(alloc, &self.written),
+        )?;
         Ok(RowMap { entries, written })
     }
 }

@@ -11,6 +11,7 @@ ghost use Rattle.record_label.specs.Parts.{AreWithin};
 ghost use Rattle.record_label.specs.PlainMaps.{plain_entry};
 ghost use Rattle.record_label.specs.Written.{plain_written, written_for, written_for_each};
 
+use crate::both::pushed;
 use crate::forms::form_of;
 use crate::guards::{guard_of, side};
 use crate::rows::RowAtom;
@@ -86,7 +87,8 @@ fn kept_of_each(alloc: Global, labels: &[Expr], into: &Signature) -> Result<Vec<
 {
     let mut written = Vec::new(alloc);
     for i in 0..labels.len() {
-        written.push(kept_of(alloc, &labels[i], into.fields[i].sort)?)?;
+        let kept = kept_of(alloc, &labels[i], into.fields[i].sort);
+        pushed(&mut written, kept)?;
     }
     Ok(written)
 }
@@ -106,7 +108,8 @@ pub fn map_of(
 {
     let mut entries = Vec::new(alloc);
     for i in 0..labels.len() {
-        entries.push(entry_of(alloc, &labels[i], into.fields[i].sort, from)?)?;
+        let entry = entry_of(alloc, &labels[i], into.fields[i].sort, from);
+        pushed(&mut entries, entry)?;
     }
     let written = kept_of_each(alloc, labels, into)?;
     Ok(RowMap { entries, written })

@@ -3,10 +3,9 @@
 ghost use Rattle.std.specs.Prelude.{◌≡◌, ◌≤◌, IfOk, length, map};
 ghost use Rattle.model_tree.specs.Limits.{most_fields};
 ghost use Rattle.model_tree.specs.Label.{row};
-ghost use Rattle.model_tree.specs.Signature as model;
 ghost use Rattle.fast_tree.specs.Entries.{label_meaning};
 ghost use Rattle.fast_tree.specs.Signatures.{plain_sort};
-ghost use Rattle.record_label.specs.Rows.{count_of, merged};
+ghost use Rattle.record_label.specs.Rows.{count_of, merged, AreAsMany};
 
 use fast_fault::{LabelInt, Memory, Text};
 use fast_tree::{Label, Sort, Value};
@@ -35,9 +34,7 @@ pub fn merge(
     mut truths: Vec<bool>,
     mut texts: Vec<Text>,
 ) -> Result<Label, Memory>
-    requires numbers { length numbers.items ≡ count_of model.wholes (map plain_sort sorts.now) }
-    requires truths { length truths.items ≡ count_of model.truths (map plain_sort sorts.now) }
-    requires texts { length texts.items ≡ count_of model.texts (map plain_sort sorts.now) }
+    requires { AreAsMany (map plain_sort sorts.now) numbers.items truths.items texts.items }
     ensures { IfOk result (λ label. label_meaning label ≡ row (merged (map plain_sort sorts.now) numbers.items truths.items texts.items)) }
 {
     let mut values = Vec::new(alloc);

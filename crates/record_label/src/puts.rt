@@ -11,7 +11,7 @@ ghost use Rattle.record_label.specs.PlainMaps.{plain_entry, Gives};
 ghost use Rattle.record_label.specs.Written.{plain_written};
 ghost use Rattle.label_core.specs.declared.pair.PairAtom.{PairAtom};
 
-use crate::both::{added, both};
+use crate::both::{added, both, pushed};
 use crate::copies::copy_written;
 use crate::guards::{copied, denied, joined};
 use crate::maps::{RowEntry, RowMap};
@@ -30,7 +30,7 @@ pub fn forms_of(alloc: Global, entries: &[RowEntry]) -> Result<Vec<Form>, Memory
     let mut forms = Vec::new(alloc);
     for entry in entries {
         if let RowEntry::Number(form) = entry {
-            forms.push(form.copy(alloc)?)?;
+            pushed(&mut forms, form.copy(alloc))?;
         }
     }
     Ok(forms)

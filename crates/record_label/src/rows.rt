@@ -4,22 +4,22 @@ ghost use Rattle.std.specs.Prelude.{◌≡◌, ◌<◌, ◌≤◌, ◌↔◌, �
 ghost use Rattle.model_tree.specs.Limits.{most_fields};
 ghost use Rattle.model_tree.specs.Signature.{wholes, truths, texts};
 ghost use Rattle.model_tree.specs.Signature as model;
-ghost use Rattle.fast_tree.specs.Signatures.{plain_signature};
-ghost use Rattle.model_tree.specs.Label.{pair};
-ghost use Rattle.fast_tree.specs.Entries.{entries_of, field_of};
+ghost use Rattle.fast_tree.specs.Signatures.{plain_signature, plain_sort};
+ghost use Rattle.model_tree.specs.Label.{pair, row};
+ghost use Rattle.fast_tree.specs.Entries.{entries_of, field_of, label_meaning};
 ghost use Rattle.model_guard.specs.Forms.{wholes_in};
 ghost use Rattle.flat_label.specs.Bools.{bools_label};
 ghost use Rattle.flat_label.specs.Texts.{SideFits, texts_label};
 ghost use Rattle.label_core.specs.declared.pair.PairChain.{PairChain};
-ghost use Rattle.record_label.specs.Rows.{count_of, truths_in, texts_in, flat_holds, FlatFits, RowFits, HasSides, IsOfNumbers};
+ghost use Rattle.record_label.specs.Rows.{count_of, truths_in, texts_in, flat_holds, FlatFits, RowFits, HasSides, IsOfNumbers, AreAsMany, IsFound, merged};
 
 use crate::fits::compare_fits;
 use crate::merges::{count, merge};
 use crate::reads::{side_text, truth_at, wholes};
-use fast_fault::{LabelInt, Memory};
-use fast_tree::{Label, Signature, Sort, Value};
+use fast_fault::{LabelInt, Memory, Text};
+use fast_tree::{FieldOf, Label, Signature, Sort, Value};
 use flat_label::{BoolAtom, Bools, Never, TextAtom, TextSide, Texts};
-use label_core::{Lit, Pair, PairAtom, PairChain, Theory, Verdict};
+use label_core::{Lit, Pair, PairAtom, PairChain, PairValue, Theory, Verdict};
 use lin_solve::{Chain, Compare, Ints, Memo};
 use std::alloc::Global;
 use std::marker::Model;
@@ -27,6 +27,9 @@ use std::marker::Model;
 /// A comparison of two forms, that a field is true, or that two texts are one. Fields are numbered from 0 within their
 /// sort, in the order of the type.
 pub type RowAtom = PairAtom<Compare, PairAtom<BoolAtom, TextAtom>>;
+
+/// The whole numbers, truth values and texts of a label.
+type Values = PairValue<Vec<LabelInt>, PairValue<Vec<bool>, Vec<Text>>>;
 
 /// The labels of a type of trees: the sorts of its fields, eight at most. Beside them what was found of their whole numbers so
 /// far, which no clause speaks of: it answers later questions sooner, and not otherwise than they may be answered.
@@ -92,18 +95,35 @@ fn chain_of_numbers(chain: PairChain<Chain, PairChain<Never, Never>>) -> Chain
     }
 }
 
+/// The sorts of the fields.
+fn sorts_of(alloc: Global, fields: &[FieldOf]) -> Result<Vec<Sort>, Memory>
+    ensures { IfOk result (λ sorts. map plain_sort sorts.items ≡ map (λ f. plain_sort f.sort) fields.now) }
+{
+    let mut sorts = Vec::new(alloc);
+    for field in fields {
+        sorts.push(field.sort)?;
+    }
+    Ok(sorts)
+}
+
+/// The label of fields of these sorts that has these values.
+fn found(alloc: Global, sorts: &[Sort], value: Values) -> Result<Verdict<Label, Chain>, Memory>
+    requires { AreAsMany (map plain_sort sorts.now) value.left.items value.right.left.items value.right.right.items }
+    ensures { IfOk result (IsFound (λ l. label_meaning l ≡ row (merged (map plain_sort sorts.now) value.left.items value.right.left.items value.right.right.items))) }
+{
+    let flat = value.right;
+    let label = merge(alloc, sorts, value.left, flat.left, flat.right)?;
+    Ok(Verdict::Sat(label))
+}
+
 impl RowLabels {
     /// The labels of a type of at most eight fields.
     pub fn new(alloc: Global, input: &Signature) -> Result<RowLabels, Memory>
         requires { length input.now.fields.items ≤ most_fields }
         ensures { IfOk result (λ theory. theory ≡ model.sorts_of (plain_signature input.now)) }
     {
-        let mut sorts = Vec::new(alloc);
-        for field in &input.fields {
-            sorts.push(field.sort)?;
-        }
         Ok(RowLabels {
-            sorts,
+            sorts: sorts_of(alloc, &input.fields)?,
             memo: Memo::new(alloc),
         })
     }
@@ -206,11 +226,7 @@ impl Theory for RowLabels {
         literals: &[Lit<RowAtom>],
     ) -> Result<Verdict<Label, Chain>, Memory> {
         match self.parts().decide(alloc, literals)? {
-            Verdict::Sat(value) => {
-                let flat = value.right;
-                let label = merge(alloc, &self.sorts, value.left, flat.left, flat.right)?;
-                Ok(Verdict::Sat(label))
-            }
+            Verdict::Sat(value) => found(alloc, &self.sorts, value),
             Verdict::Unsat => Ok(Verdict::Unsat),
             Verdict::Wide(chain) => Ok(Verdict::Wide(chain_of_numbers(chain))),
         }

@@ -1,11 +1,12 @@
 //! Label expressions as they are written, places aside.
 
-ghost use Rattle.std.specs.Prelude.{◌≡◌, ◌++◌, [], IfOk, OnOk, map};
+ghost use Rattle.std.specs.Prelude.{◌≡◌, ◌∷◌, ◌++◌, [], IfOk, OnOk, map};
 ghost use Rattle.fast_syntax.specs.Plain.{plain_expr};
 ghost use Rattle.fast_syntax.specs.Slices.{plain_sum_parts, plain_prod_parts};
 ghost use Rattle.record_label.specs.Parts.{unmarked};
 ghost use Rattle.record_label.specs.Written.{first_mark, marks_of, marks_of_parts, WrittenAlike};
 
+use crate::both::pushed;
 use fast_fault::{Memory, Text};
 use fast_syntax::expressions::{Expr, Node, ProdPart, SumPart};
 use model_grammar::{Chain, Rel};
@@ -37,9 +38,9 @@ fn first_mark(alloc: Global, expr: &Expr) -> Result<Mark, Memory>
     ensures { IfOk result (λ mark. mark ≡ first_mark (plain_expr expr.now)) }
 {
     match &expr.node {
-        Node::Field(name) => Ok(Mark::Field(name.copy(alloc)?)),
+        Node::Field(name) => name.copy(alloc).map(Mark::Field),
         Node::Num(value) => Ok(Mark::Number(*value)),
-        Node::Str(text) => Ok(Mark::Constant(text.copy(alloc)?)),
+        Node::Str(text) => text.copy(alloc).map(Mark::Constant),
         Node::Truth(value) => Ok(Mark::Truth(*value)),
         Node::Not(_) => Ok(Mark::Not),
         Node::Minus(_) => Ok(Mark::Minus),
@@ -51,12 +52,26 @@ fn first_mark(alloc: Global, expr: &Expr) -> Result<Mark, Memory>
     }
 }
 
+/// Adds the piece.
+fn add_mark(marks: &mut Vec<Mark>, mark: Mark) -> Result<(), Memory>
+    ensures { OnOk result (marks.new.items ≡ marks.old.items ++ mark ∷ []) }
+{
+    Ok(marks.push(mark)?)
+}
+
+/// Adds the piece that stands first.
+fn add_first(alloc: Global, expr: &Expr, marks: &mut Vec<Mark>) -> Result<(), Memory>
+    ensures { OnOk result (marks.new.items ≡ marks.old.items ++ first_mark (plain_expr expr.now) ∷ []) }
+{
+    add_mark(marks, first_mark(alloc, expr)?)
+}
+
 /// Adds the pieces of the expression.
 #[cycle(written)]
 fn add_marks(alloc: Global, expr: &Expr, marks: &mut Vec<Mark>) -> Result<(), Memory>
     ensures { OnOk result (marks.new.items ≡ marks.old.items ++ marks_of (plain_expr expr.now)) }
 {
-    marks.push(first_mark(alloc, expr)?)?;
+    add_first(alloc, expr, marks)?;
     match &expr.node {
         Node::Field(_) | Node::Num(_) | Node::Str(_) | Node::Truth(_) => Ok(()),
         Node::Not(part) | Node::Minus(part) => add_marks(alloc, part, marks),
@@ -76,10 +91,10 @@ fn add_operands(alloc: Global, parts: &[Expr], marks: &mut Vec<Mark>) -> Result<
     ensures { OnOk result (marks.new.items ≡ marks.old.items ++ marks_of_parts (unmarked (map plain_expr parts.now))) }
 {
     for part in parts {
-        marks.push(Mark::Part(false))?;
+        add_mark(marks, Mark::Part(false))?;
         add_marks(alloc, part, marks)?;
     }
-    Ok(marks.push(Mark::End)?)
+    add_mark(marks, Mark::End)
 }
 
 /// Adds the pieces of the parts of a sum.
@@ -88,10 +103,10 @@ fn add_summands(alloc: Global, parts: &[SumPart], marks: &mut Vec<Mark>) -> Resu
     ensures { OnOk result (marks.new.items ≡ marks.old.items ++ marks_of_parts (plain_sum_parts parts.now)) }
 {
     for part in parts {
-        marks.push(Mark::Part(part.minus))?;
+        add_mark(marks, Mark::Part(part.minus))?;
         add_marks(alloc, &part.part, marks)?;
     }
-    Ok(marks.push(Mark::End)?)
+    add_mark(marks, Mark::End)
 }
 
 /// Adds the pieces of the parts of a product.
@@ -100,10 +115,10 @@ fn add_factors(alloc: Global, parts: &[ProdPart], marks: &mut Vec<Mark>) -> Resu
     ensures { OnOk result (marks.new.items ≡ marks.old.items ++ marks_of_parts (plain_prod_parts parts.now)) }
 {
     for part in parts {
-        marks.push(Mark::Part(part.remainder))?;
+        add_mark(marks, Mark::Part(part.remainder))?;
         add_marks(alloc, &part.part, marks)?;
     }
-    Ok(marks.push(Mark::End)?)
+    add_mark(marks, Mark::End)
 }
 
 impl Written {
@@ -131,7 +146,7 @@ impl Written {
     {
         let mut marks = Vec::new(alloc);
         for mark in &self.marks {
-            marks.push(mark.copy(alloc)?)?;
+            pushed(&mut marks, mark.copy(alloc))?;
         }
         Ok(Written { marks })
     }
@@ -143,9 +158,9 @@ impl Mark {
         ensures { IfOk result (λ copy. copy ≡ self.now) }
     {
         match self {
-            Mark::Field(name) => Ok(Mark::Field(name.copy(alloc)?)),
+            Mark::Field(name) => name.copy(alloc).map(Mark::Field),
             Mark::Number(value) => Ok(Mark::Number(*value)),
-            Mark::Constant(text) => Ok(Mark::Constant(text.copy(alloc)?)),
+            Mark::Constant(text) => text.copy(alloc).map(Mark::Constant),
             Mark::Truth(value) => Ok(Mark::Truth(*value)),
             Mark::Not => Ok(Mark::Not),
             Mark::Minus => Ok(Mark::Minus),

@@ -44,7 +44,7 @@ formula_of-returns-in-None t c =
     let left = rw c.deref-in-None.ensures at c.formula_of-in-None.ensures in
     let right = rw c.deref-in-None-2.ensures at c.formula_of-in-None-2.ensures in
     rw c.in-Compare.is (follows_both c.formula_of-in-None.result c.formula_of-in-None-2.result c.compared_tests.result (λ f g made. plain_formula made ≡ compared_by rel (agreement_of (plain_formula f) (plain_formula g))) (λ f. plain_formula f ≡ formula_in fields a) (λ f. plain_formula f ≡ formula_in fields b) (λ made. plain_formula made ≡ compared_in fields rel a b (formula_in fields a) (formula_in fields b)) (forms_in fields a) (forms_in fields b)
-    (λ f first g second made is. is ∙ (λ i. compared_by rel (agreement_of (first i) (second i))) ∙ sym (alone (formula_in fields a) (formula_in fields b))) left right c.compared_tests.ensures)
+    (λ f first g second made is. is ∙ (λ i. compared_by rel (agreement_of (first i) (second i))) ∙ sym {a = compared_in fields rel a b (formula_in fields a) (formula_in fields b)} (alone (formula_in fields a) (formula_in fields b))) left right c.compared_tests.ensures)
 
 pub formula_of-returns-in-Not : goal.formula_of-returns-in-Not
 formula_of-returns-in-Not t c =

@@ -3,7 +3,9 @@ use Rattle.std.proofs.lemmas.List.{take_all, length-map}
 use Rattle.model_tree.specs.Signature.{sorts_of, PlainField}
 use Rattle.fast_tree.specs.Signatures.{plain_signature, plain_field}
 use Rattle.fast_syntax.specs.Plain.{plain_expr}
-use Rattle.record_label.specs.Written.{written_for_each}
+use Rattle.record_label.specs.Written.{plain_written, written_for, written_for_each}
+use Rattle.fast_tree.specs.Signatures.{plain_sort}
+use Rattle.record_label.proofs.CopyFacts.{given_made}
 use Rattle.record_label.proofs.EntryFacts.{kept_more}
 use Rattle.record_label.proofs.maps.kept_of_each.Goals as goal
 
@@ -17,7 +19,8 @@ index-requires c =
 pub loop-i-preserved : goal.loop-i-preserved
 loop-i-preserved c =
     let low = c.loop-i-test.true in
-    (omega (arith, low), kept_more c.args.labels.now c.args.into.now.fields.items c.requires c.loop-i.i c.index-labels-i.result c.index.result.now c.loop-i-test.true c.index-labels-i.is c.index.ensures c.loop-i.written.items c.push.new.self.items c.in_ok-kept_of.field-0 (c.in_ok-push.ensures {u = tt}).items c.loop-i.invariant.1 (c.in_ok-kept_of.ensures {u = tt}))
+    let own = c.in_ok-pushed.ensures {u = tt} in
+    (omega (arith, low), kept_more c.args.labels.now c.args.into.now.fields.items c.requires c.loop-i.i c.index-labels-i.result c.index.result.now c.loop-i-test.true c.index-labels-i.is c.index.ensures c.loop-i.written.items c.pushed.new.list.items own.0 own.2 c.loop-i.invariant.1 (given_made c.kept_of-kept.result (λ kept. plain_written kept ≡ written_for (plain_sort c.index.result.now.sort) (plain_expr c.index-labels-i.result)) own.0 own.1 c.kept_of-kept.ensures))
 
 pub returns : goal.returns
 returns c =

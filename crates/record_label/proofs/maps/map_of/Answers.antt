@@ -3,8 +3,10 @@ use Rattle.std.proofs.lemmas.List.{take_all, length-map}
 use Rattle.model_tree.specs.Signature.{sorts_of}
 use Rattle.fast_tree.specs.Signatures.{plain_signature}
 use Rattle.fast_syntax.specs.Plain.{plain_expr}
-use Rattle.record_label.specs.Maps.{AreEntriesOf}
+use Rattle.record_label.specs.Maps.{AreEntriesOf, IsEntryOf}
 use Rattle.record_label.specs.PlainMaps.{plain_entry}
+use Rattle.fast_tree.specs.Signatures.{plain_sort}
+use Rattle.record_label.proofs.CopyFacts.{given_made}
 use Rattle.record_label.proofs.EntryFacts.{many_sorts, many_labels, label_sorted, label_outside, entries_more}
 use Rattle.record_label.proofs.maps.map_of.Goals as goal
 
@@ -15,18 +17,19 @@ index-requires c =
     let whole = c.args.into.now.fields.ok in
     omega (arith, many, low, whole)
 
-pub entry_of-requires-clause-sorted : goal.entry_of-requires-clause-sorted
-entry_of-requires-clause-sorted c =
+pub entry_of-entry-requires-clause-sorted : goal.entry_of-entry-requires-clause-sorted
+entry_of-entry-requires-clause-sorted c =
     label_sorted (plain_signature c.args.from.now).fields c.args.labels.now c.args.into.now.fields.items c.requires.sorted c.loop-i.i c.index-labels-i.result c.index.result.now c.loop-i-test.true c.index-labels-i.is c.index.ensures
 
-pub entry_of-requires-clause-within : goal.entry_of-requires-clause-within
-entry_of-requires-clause-within c n o =
+pub entry_of-entry-requires-clause-within : goal.entry_of-entry-requires-clause-within
+entry_of-entry-requires-clause-within c n o =
     c.requires.within n (label_outside (plain_signature c.args.from.now).fields c.args.labels.now c.args.into.now.fields.items c.requires.sorted c.loop-i.i c.index-labels-i.result c.index.result.now c.loop-i-test.true c.index-labels-i.is c.index.ensures n o)
 
 pub loop-i-preserved : goal.loop-i-preserved
 loop-i-preserved c =
     let low = c.loop-i-test.true in
-    (omega (arith, low), entries_more (plain_signature c.args.from.now).fields c.args.labels.now c.args.into.now.fields.items c.requires.sorted c.loop-i.i c.index-labels-i.result c.index.result.now c.loop-i-test.true c.index-labels-i.is c.index.ensures c.loop-i.entries.items c.push.new.self.items c.in_ok-entry_of.field-0 (c.in_ok-push.ensures {u = tt}).items c.loop-i.invariant.1 (c.in_ok-entry_of.ensures {u = tt}))
+    let own = c.in_ok-pushed.ensures {u = tt} in
+    (omega (arith, low), entries_more (plain_signature c.args.from.now).fields c.args.labels.now c.args.into.now.fields.items c.requires.sorted c.loop-i.i c.index-labels-i.result c.index.result.now c.loop-i-test.true c.index-labels-i.is c.index.ensures c.loop-i.entries.items c.pushed.new.list.items own.0 own.2 c.loop-i.invariant.1 (given_made c.entry_of-entry.result (λ entry. IsEntryOf (plain_signature c.args.from.now).fields (plain_expr c.index-labels-i.result) (plain_sort c.index.result.now.sort) (plain_entry entry)) own.0 own.1 c.entry_of-entry.ensures))
 
 pub kept_of_each-requires : goal.kept_of_each-requires
 kept_of_each-requires c = many_labels (plain_signature c.args.from.now).fields c.args.labels.now c.args.into.now.fields.items c.requires.sorted
