@@ -1,5 +1,5 @@
 -- What is so of results that follow from other ones.
-use Rattle.std.proofs.Common.{◌≡◌, ◌++◌, ◌⊎◌, inl, inr, List, Result, Ok, Err, MatchResult, refl, sym, subst}
+use Rattle.std.proofs.Common.{◌≡◌, ◌++◌, ◌⊎◌, inl, inr, List, Result, Ok, Err, MatchResult, refl, ap, sym, subst}
 use Rattle.std.proofs.Math.IntN.{ℤ}
 use Rattle.model_form.specs.Form.{Form}
 use Rattle.model_guard.specs.Forms.{HasOutside}
@@ -34,13 +34,13 @@ both_made first second (Err e) is P P' R f h k (inl want) = want
 both_made first second (Err e) is P P' R f h k (inr (inl one)) = subst (λ s. UnlessMemory s P) one h
 both_made first second (Err e) is P P' R f h k (inr (inr other)) = subst (λ s. UnlessMemory s P') other k
 
+only_memory : (e : FormStop) → StopsAt (λ _. ⊥) e → e ≡ Memory
+only_memory (Range n) h = absurd h
+only_memory Memory h = refl
+
 pub made : {A B : Type 0} (from : Result A FormStop) (r : Result B FormStop) (is : A → B → Type 0) (P : A → Type 0) (P' : B → Type 0) → ((a : A) → P a → (b : B) → is a b → P' b) → UnlessMemory from P → Follows from is (λ _ _. ⊥) r → UnlessMemory r P'
 made (Ok a) (Ok b) is P P' f h k = f a h b k
 made (Ok a) (Err e) is P P' f h k = only_memory e k
-  where
-    only_memory : (e : FormStop) → StopsAt (λ _. ⊥) e → e ≡ Memory
-    only_memory (Range n) h = absurd h
-    only_memory Memory h = refl
 made (Err e) r is P P' f h k = subst (λ s. UnlessMemory s P') (sym k) h
 
 -- the stop that it is, and the value where there is none
@@ -50,3 +50,26 @@ stops_after {A} {B} made e is outside P Q Q' g o h k = follows made (Err e) is o
 pub taken : {A B : Type 0} (made : Result A FormStop) (b : B) (is : A → B → Type 0) (outside : A → ℤ → Type 0) (P : A → Type 0) (Q : ℤ → Type 0) → MatchResult made P (StopsAt Q) → Follows made is outside (Ok b) → (a : A) × P a × is a b
 taken (Ok a) b is outside P Q h k = (a, h, k)
 taken (Err e) b is outside P Q h k = absurd cc
+
+-- the same where memory alone stops what follows
+pub why_stopped : {A B : Type 0} (from : Result A FormStop) (e : FormStop) (is : A → B → Type 0) → Follows from is (λ _ _. ⊥) (Err e) → (e ≡ Memory) ⊎ (from ≡ Err e)
+why_stopped (Ok a) e is k = inl (only_memory e k)
+why_stopped (Err f) e is k = let same : f ≡ e = cc in inr (ap Err same)
+
+pub value_taken : {A B : Type 0} (from : Result A FormStop) (b : B) (is : A → B → Type 0) → Follows from is (λ _ _. ⊥) (Ok b) → (a : A) × (from ≡ Ok a) × is a b
+value_taken (Ok a) b is k = (a, refl, k)
+value_taken (Err e) b is k = absurd cc
+
+pub first_stopped : {A B D : Type 0} (first : Result A FormStop) (second : Result B FormStop) (e : FormStop) (is : A → D → Type 0) → Follows first is (λ _ _. ⊥) (Err e) → (e ≡ Memory) ⊎ (first ≡ Err e) ⊎ (second ≡ Err e)
+first_stopped first second e is k = by (why_stopped first e is k)
+  where
+    by : (e ≡ Memory) ⊎ (first ≡ Err e) → (e ≡ Memory) ⊎ (first ≡ Err e) ⊎ (second ≡ Err e)
+    by (inl want) = inl want
+    by (inr own) = inr (inl own)
+
+pub second_stopped : {A B D : Type 0} (first : Result A FormStop) (second : Result B FormStop) (e : FormStop) (is : B → D → Type 0) → Follows second is (λ _ _. ⊥) (Err e) → (e ≡ Memory) ⊎ (first ≡ Err e) ⊎ (second ≡ Err e)
+second_stopped first second e is k = by (why_stopped second e is k)
+  where
+    by : (e ≡ Memory) ⊎ (second ≡ Err e) → (e ≡ Memory) ⊎ (first ≡ Err e) ⊎ (second ≡ Err e)
+    by (inl want) = inl want
+    by (inr own) = inr (inr own)

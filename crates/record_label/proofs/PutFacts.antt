@@ -1,5 +1,5 @@
 -- The steps by which a map's entries are put for fields.
-use Rattle.std.proofs.Common.{◌≡◌, ℕ, zero, suc, ◌+◌, ◌<◌, ◌≤◌, ◌⊎◌, inl, inr, ◌++◌, List, [], ◌∷◌, map, take, length, get_or, slice_index_or, None, Bool, true, false, Result, MatchResult, Vec, Global, refl, ap, sym, ◌∙◌, subst, arith}
+use Rattle.std.proofs.Common.{◌≡◌, ℕ, zero, suc, ◌+◌, ◌<◌, ◌≤◌, ◌⊎◌, inl, inr, ◌++◌, List, [], ◌∷◌, map, take, drop, length, get_or, append_assoc, slice_index_or, None, Bool, true, false, Result, MatchResult, Vec, Global, refl, ap, sym, ◌∙◌, subst, arith}
 use Rattle.std.proofs.Math.IntN.{ℤ}
 use Rattle.std.proofs.lemmas.List.{take_more, take_all, map-append}
 use Rattle.model_tree.specs.Formula.{Formula, formulas_of, formula, all_of, some_of}
@@ -12,7 +12,12 @@ use Rattle.lin_form.specs.declared.stop.FormStop.{FormStop}
 use Rattle.lin_form.specs.Stops.{StopsAt}
 use Rattle.record_label.specs.Rows.{RowAtom}
 use Rattle.record_label.specs.Guards.{joined_of}
-use Rattle.record_label.specs.Maps.{Entry, put_formula, put_formulas, IsOutsideOf, IsOutsideOfSome, SomeOutside}
+use Rattle.model_form.specs.Form.{Form}
+use Rattle.record_label.specs.declared.maps.RowEntry.{RowEntry}
+use Rattle.record_label.specs.declared.maps.RowEntry.TheVariants.{Number, Truth, Text}
+use Rattle.record_label.specs.PlainMaps.{plain_entry}
+use Rattle.record_label.proofs.Looking.{one_there, none_there}
+use Rattle.record_label.specs.Maps.{Entry, forms_of, put_formula, put_formulas, IsOutsideOf, IsOutsideOfSome, SomeOutside}
 use Rattle.record_label.proofs.FormFacts.{passed}
 
 -- ---- one by one
@@ -99,3 +104,23 @@ pub nothing_at : {X : Type 0} (xs : List X) (k : ℕ) (d : X) → None ≡ slice
 nothing_at [] k d e = refl
 nothing_at (x ∷ xs) zero d e = cc
 nothing_at (x ∷ xs) (suc k) d e = nothing_at xs k d e
+
+-- the forms up to an entry, and of one entry more
+module _ (es : List RowEntry) (i : ℕ) (e : RowEntry) (low : i < length es) (is : e ≡ get_or es i e) (made now all : List Form) where
+  pub forms_more : (f : Form) → e ≡ Number f → now ≡ made ++ f ∷ [] → made ++ forms_of (map plain_entry (drop i es)) ≡ all → now ++ forms_of (map plain_entry (drop (i + 1) es)) ≡ all
+  forms_more f kind pushed before =
+      ap (λ fs. fs ++ forms_of (map plain_entry (drop (i + 1) es))) pushed
+      ∙ append_assoc made (f ∷ []) (forms_of (map plain_entry (drop (i + 1) es)))
+      ∙ sym (ap (λ fs. made ++ fs) (one_there (λ xs. forms_of (map plain_entry xs)) es i e low is f (λ rest. ap (λ x. forms_of (map plain_entry (x ∷ rest))) kind)))
+      ∙ before
+
+  pub forms_same : ((f : Form) → e ≡ Number f → ⊥) → now ≡ made → made ++ forms_of (map plain_entry (drop i es)) ≡ all → now ++ forms_of (map plain_entry (drop (i + 1) es)) ≡ all
+  forms_same other kept before =
+      ap (λ fs. fs ++ forms_of (map plain_entry (drop (i + 1) es))) kept
+      ∙ sym (ap (λ fs. made ++ fs) (none_there (λ xs. forms_of (map plain_entry xs)) es i e low is (λ rest. no_form e rest other)))
+      ∙ before
+    where
+      no_form : (x : RowEntry) (rest : List RowEntry) → ((f : Form) → x ≡ Number f → ⊥) → forms_of (map plain_entry (x ∷ rest)) ≡ forms_of (map plain_entry rest)
+      no_form (Number f) rest other = absurd (other f refl)
+      no_form (Truth f) rest other = refl
+      no_form (Text s) rest other = refl
