@@ -1,5 +1,6 @@
 -- Fields and values that are looked at one by one.
-use Rattle.std.proofs.Common.{◌≡◌, ℕ, zero, suc, ◌+◌, ◌-◌, ◌<◌, ◌≤◌, Bool, true, false, cond, List, [], ◌∷◌, map, length, drop, get_or, refl, ap, sym, ◌∙◌, subst, arith}
+use Rattle.std.proofs.Common.{◌≡◌, ℕ, zero, suc, ◌+◌, ◌-◌, ◌<◌, ◌≤◌, Bool, true, false, cond, List, [], ◌∷◌, Option, Some, map, length, drop, get_or, refl, ap, sym, ◌∙◌, subst, arith}
+use Rattle.std.specs.List.{slice_get}
 use Rattle.std.proofs.lemmas.List.{drop_more, at_drop_all}
 use denote.Enum.Bare.{sameb}
 use Rattle.fast_tree.proofs.Printing.{drop_at}
@@ -60,3 +61,18 @@ module _ {W X : Type 0} (of_kind : List W → List X) (ws : List W) (i : ℕ) (w
 pub past_one : {X : Type 0} (xs : List X) (x d : X) (k : ℕ) → (k ≡ 0 → ⊥) → get_or (x ∷ xs) k d ≡ get_or xs (k - 1) d
 past_one xs x d zero some = absurd (some refl)
 past_one xs x d (suc k) some = let one : suc k - 1 ≡ k = omega arith in ap (λ j. get_or xs j d) (sym one)
+
+pub got_past : {X : Type 0} (xs : List X) (x : X) (k : ℕ) → (k ≡ 0 → ⊥) → slice_get (x ∷ xs) k ≡ slice_get xs (k - 1)
+got_past xs x zero some = absurd (some refl)
+got_past xs x (suc k) some = let one : suc k - 1 ≡ k = omega arith in ap (slice_get xs) (sym one)
+
+-- going over things, of which those of one kind are sought by their number
+module _ {W X : Type 0} (of_kind : List W → List X) (ws : List W) (i : ℕ) (w : W) (low : i < length ws) (is : w ≡ get_or ws i w) (k : ℕ) (all : Option X) (before : slice_get (of_kind (drop i ws)) k ≡ all) where
+  pub sought_here : (x : X) → ((rest : List W) → of_kind (w ∷ rest) ≡ x ∷ of_kind rest) → k ≡ 0 → Some x ≡ all
+  sought_here x step first = sym (ap (slice_get (of_kind (drop i ws))) first ∙ ap (λ xs. slice_get xs 0) (one_there of_kind ws i w low is x step)) ∙ before
+
+  pub sought_past : (x : X) (m : ℕ) → ((rest : List W) → of_kind (w ∷ rest) ≡ x ∷ of_kind rest) → (k ≡ 0 → ⊥) → m ≡ k - 1 → slice_get (of_kind (drop (i + 1) ws)) m ≡ all
+  sought_past x m step later next = ap (slice_get (of_kind (drop (i + 1) ws))) next ∙ sym (got_past (of_kind (drop (i + 1) ws)) x k later) ∙ sym (ap (λ xs. slice_get xs k) (one_there of_kind ws i w low is x step)) ∙ before
+
+  pub sought_other : (m : ℕ) → ((rest : List W) → of_kind (w ∷ rest) ≡ of_kind rest) → m ≡ k → slice_get (of_kind (drop (i + 1) ws)) m ≡ all
+  sought_other m step next = ap (slice_get (of_kind (drop (i + 1) ws))) next ∙ sym (ap (λ xs. slice_get xs k) (none_there of_kind ws i w low is step)) ∙ before

@@ -17,7 +17,8 @@ use Rattle.record_label.specs.declared.maps.RowEntry.{RowEntry}
 use Rattle.record_label.specs.declared.maps.RowEntry.TheVariants.{Number, Truth, Text}
 use Rattle.record_label.specs.PlainMaps.{plain_entry}
 use Rattle.record_label.proofs.Looking.{one_there, none_there}
-use Rattle.record_label.specs.Maps.{Entry, forms_of, put_formula, put_formulas, IsOutsideOf, IsOutsideOfSome, SomeOutside}
+use Rattle.flat_label.specs.declared.texts.TextSide.{TextSide}
+use Rattle.record_label.specs.Maps.{Entry, forms_of, formulas_in, sides_in, put_formula, put_formulas, IsOutsideOf, IsOutsideOfSome, SomeOutside}
 use Rattle.record_label.proofs.FormFacts.{passed}
 
 -- ---- one by one
@@ -124,3 +125,13 @@ module _ (es : List RowEntry) (i : ℕ) (e : RowEntry) (low : i < length es) (is
       no_form (Number f) rest other = absurd (other f refl)
       no_form (Truth f) rest other = refl
       no_form (Text s) rest other = refl
+
+pub no_formula : (x : RowEntry) (rest : List RowEntry) → ((f : Written RowAtom) → x ≡ Truth f → ⊥) → formulas_in (map plain_entry (x ∷ rest)) ≡ formulas_in (map plain_entry rest)
+no_formula (Number f) rest other = refl
+no_formula (Truth f) rest other = absurd (other f refl)
+no_formula (Text s) rest other = refl
+
+pub no_side : (x : RowEntry) (rest : List RowEntry) → ((s : TextSide) → x ≡ Text s → ⊥) → sides_in (map plain_entry (x ∷ rest)) ≡ sides_in (map plain_entry rest)
+no_side (Number f) rest other = refl
+no_side (Truth f) rest other = refl
+no_side (Text s) rest other = absurd (other s refl)

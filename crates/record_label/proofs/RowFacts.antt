@@ -69,6 +69,11 @@ numbers_fit (text t ∷ fields) h = numbers_fit fields h
 
 -- ---- there are as many numbers, truth values and texts as their sorts
 
+pub no_text : (v : Value) (rest : List Value) → ((t : List ℕ) → v ≡ values.Text t → ⊥) → texts_in (map field_of (v ∷ rest)) ≡ texts_in (map field_of rest)
+no_text (values.Int n) rest other = refl
+no_text (values.Bool b) rest other = refl
+no_text (values.Text t) rest other = absurd (other t refl)
+
 pub no_truth : (v : Value) (rest : List Value) → ((b : Bool) → v ≡ values.Bool b → ⊥) → truths_in (map field_of (v ∷ rest)) ≡ truths_in (map field_of rest)
 no_truth (values.Int n) rest other = refl
 no_truth (values.Bool b) rest other = absurd (other b refl)

@@ -4,11 +4,13 @@ use Rattle.std.proofs.lemmas.Result.{err_from_is_err_and}
 use Rattle.model_grammar.specs.declared.Chain.TheVariants.{Conjunction, Disjunction}
 use Rattle.model_grammar.specs.Syntax.{chain}
 use Rattle.model_guard.specs.Forms.{forms_in, forms_in_all, HasOutside}
-use Rattle.model_tree.specs.Formula.{all_of, some_of, negation}
+use Rattle.model_tree.specs.Formula.{Formula, all_of, some_of, negation}
 use Rattle.label_core.specs.Formula.{plain_formula}
 use Rattle.fast_syntax.specs.Plain.{plain_expr, plain_node}
 use Rattle.fast_tree.specs.Signatures.{plain_signature}
 use Rattle.record_label.specs.Guards.{joined_of, formula_in, compared_in, compared_by, agreement_of}
+use Rattle.std.proofs.lemmas.List.{take_all}
+use Rattle.record_label.specs.Rows.{RowAtom}
 use Rattle.record_label.specs.Parts.{unmarked}
 use Rattle.record_label.proofs.ExprParts.{plain_and, plain_or}
 use Rattle.record_label.proofs.Follows.{follows, follows_both, stops_after, taken}
@@ -75,3 +77,18 @@ formulas_of-loop-part-preserved t c =
       rw own.2 (formulas_more fields ps i it c.loop-part.formulas.items own.0 c.loop-part-test.true c.part-item.is c.loop-part.invariant.0 own.1),
       λ n o. c.loop-part.invariant.1 n (in_rest fields false (plain_expr it) (unmarked (map plain_expr (drop (i + 1) ps))) (unmarked (map plain_expr (drop i ps))) n at o),
     )
+
+pub formulas_of-returns : goal.formulas_of-returns
+formulas_of-returns t c =
+    let fields = (plain_signature c.args.signature.now).fields in
+    c.joined.ensures ∙ ap (joined_of c.args.every) (c.loop-part.invariant.0 ∙ ap (λ es. map (formula_in fields) (map plain_expr es)) (take_all c.loop-part.part-index c.args.parts.now c.loop-part-test.false))
+
+pub formula_of-returns-in-Some : goal.formula_of-returns-in-Some
+formula_of-returns-in-Some t c =
+    let fields = (plain_signature c.args.signature.now).fields in
+    let a = plain_expr c.in-Compare.left.value in
+    let b = plain_expr c.in-Compare.right.value in
+    let rel = c.in-Compare.rel in
+    let outside = HasOutside (forms_in fields a ++ forms_in fields b) in
+    let told = rw (c.deref-in-Compare.ensures, c.deref-in-Compare-2.ensures) at c.in-Some.ensures in
+    rw c.in-Compare.is (passed c.in-Some.made (λ made. (f g : Formula RowAtom) → plain_formula made ≡ compared_in fields rel a b f g) (λ made. plain_formula made ≡ compared_in fields rel a b (formula_in fields a) (formula_in fields b)) outside outside (λ made says. says (formula_in fields a) (formula_in fields b)) (λ n o. o) told)
