@@ -9,7 +9,7 @@ use Rattle.fast_tree.specs.declared.signature.FieldOf.{FieldOf}
 use Rattle.fast_tree.specs.declared.signature.Sort.{Sort}
 use Rattle.fast_tree.specs.declared.signature.Sort.TheVariants.{Int, Bool as Truth, Text}
 use Rattle.fast_tree.specs.Signatures.{plain_sort, plain_field}
-use Rattle.model_label.specs.Fields.{same_name, same_sort, has_field, number_at}
+use Rattle.model_label.specs.Fields.{same_name, same_sort, is_field_of, sort_at, has_field, number_at}
 use Rattle.record_label.specs.Rows.{count_of}
 
 same : (x y : Sort) → sameb the_type x y ≡ same_sort (plain_sort x) (plain_sort y)
@@ -48,6 +48,15 @@ module _ (fs : List FieldOf) (i : ℕ) (f : FieldOf) (sort : Sort) (name : List 
       let rest = number_at (map plain_field (drop (i + 1) fs)) (plain_sort sort) name in
       one_more b (same_sort (plain_sort f.sort) (plain_sort sort)) n m i rest (number_at (map plain_field (drop i fs)) (plain_sort sort) name) total (is ∙ same f.sort sort) now
       (here n ∙ ap (λ b. cond b 0 (cond (same_sort (plain_sort f.sort) (plain_sort sort)) (suc rest) rest)) (sym other))
+
+  has_here : (b : Bool) → b ≡ same_name f.name name → has_field (map plain_field (drop i fs)) (plain_sort sort) name ≡ is_field_of (plain_sort sort) (cond b (Some (plain_sort f.sort)) (sort_at (map plain_field (drop (i + 1) fs)) name))
+  has_here b is = ap (λ left. has_field (map plain_field left) (plain_sort sort) name) (drop_at fs i f low f_is) ∙ ap (λ c. is_field_of (plain_sort sort) (cond c (Some (plain_sort f.sort)) (sort_at (map plain_field (drop (i + 1) fs)) name))) (sym is)
+
+  pub has_this : (b all : Bool) → true ≡ same_name f.name name → b ≡ sameb the_type f.sort sort → has_field (map plain_field (drop i fs)) (plain_sort sort) name ≡ all → b ≡ all
+  has_this b all named is before = is ∙ same f.sort sort ∙ sym (has_here true named) ∙ before
+
+  pub has_other : (all : Bool) → false ≡ same_name f.name name → has_field (map plain_field (drop i fs)) (plain_sort sort) name ≡ all → has_field (map plain_field (drop (i + 1) fs)) (plain_sort sort) name ≡ all
+  has_other all other before = sym (has_here false other) ∙ before
 
 -- ---- what is of one kind among other things
 

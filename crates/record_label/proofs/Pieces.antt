@@ -1,10 +1,11 @@
 -- Which expressions have the same pieces.
-use Rattle.std.proofs.Common.{◌≡◌, Bool, List, [], ◌∷◌, ◌++◌, ◌⊎◌, inl, inr, map, Vec, Global, refl, ap, sym, ◌∙◌, append_assoc, append-nil}
+use Rattle.std.proofs.Common.{◌≡◌, Bool, List, [], ◌∷◌, ◌++◌, ◌⊎◌, inl, inr, map, Vec, Box, Global, ℤ, refl, ap, sym, ◌∙◌, append_assoc, append-nil}
 use Rattle.fast_fault.specs.declared.place.Pos.{Pos}
+use Rattle.fast_fault.specs.declared.text.Text.{Text}
 use Rattle.fast_syntax.specs.Plain.{plain_expr, plain_node}
 use Rattle.fast_syntax.specs.declared.expressions.Expr as Expr'
 use Rattle.fast_syntax.specs.declared.expressions.Node.{Node}
-use Rattle.fast_syntax.specs.declared.expressions.Node.TheVariants.{Or, And}
+use Rattle.fast_syntax.specs.declared.expressions.Node.TheVariants.{Field, Num, Str, Truth, Not, Minus, Or, And}
 use Rattle.model_grammar.specs.Places.{nowhere, bare, bare_parts}
 use Rattle.model_grammar.specs.Syntax.{Expr, field, number, text, truth, negation, compare, minus, chain, Parts, no_parts, part}
 use Rattle.record_label.specs.Parts.{unmarked}
@@ -69,6 +70,20 @@ all_added e old pushed new rest m first push behind added =
     ∙ ap (λ n. old ++ n ∷ rest) first
     ∙ ap (λ ms. old ++ first_mark e ∷ ms) behind
     ∙ sym (ap (λ ms. old ++ ms) (whole e))
+
+-- what stands alone, and what has one part
+pub alone_added : (e : Expr) (old new : List Mark) → later_marks e ≡ [] → new ≡ old ++ first_mark e ∷ [] → new ≡ old ++ marks_of e
+alone_added e old new none first = all_added e old new new [] (first_mark e) refl first (sym none) (sym (append-nil new))
+
+pub none_behind : (n : Node) (p : Pos) → ((t : Text) × (n ≡ Field t)) ⊎ ((m : ℤ) × (n ≡ Num m)) ⊎ ((t : Text) × (n ≡ Str t)) ⊎ ((b : Bool) × (n ≡ Truth b)) → later_marks (plain_node n p) ≡ []
+none_behind n p (inl (t, is)) = ap later_marks (ap (λ m. plain_node m p) is)
+none_behind n p (inr (inl (m, is))) = ap later_marks (ap (λ k. plain_node k p) is)
+none_behind n p (inr (inr (inl (t, is)))) = ap later_marks (ap (λ m. plain_node m p) is)
+none_behind n p (inr (inr (inr (b, is)))) = ap later_marks (ap (λ m. plain_node m p) is)
+
+pub part_behind : (n : Node) (p : Pos) (e : Box Expr'.Expr Global) → (n ≡ Not e) ⊎ (n ≡ Minus e) → later_marks (plain_node n p) ≡ marks_of (plain_expr e.value)
+part_behind n p e (inl is) = ap later_marks (ap (λ m. plain_node m p) is)
+part_behind n p e (inr is) = ap later_marks (ap (λ m. plain_node m p) is)
 
 pub operands_behind : (n : Node) (p : Pos) (v : Vec Expr'.Expr Global) → (n ≡ Or v) ⊎ (n ≡ And v) → later_marks (plain_node n p) ≡ marks_of_parts (unmarked (map plain_expr v.items))
 operands_behind n p v (inl is) = ap later_marks (ap (λ m. plain_node m p) is ∙ plain_or v p)

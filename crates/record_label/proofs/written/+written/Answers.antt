@@ -5,8 +5,8 @@ use Rattle.fast_syntax.specs.Plain.{plain_expr, plain_node}
 use Rattle.fast_syntax.specs.Slices.{plain_sum_parts, plain_prod_parts}
 use Rattle.fast_syntax.proofs.Rows.{plain_sum_of, plain_product_of}
 use Rattle.record_label.specs.Parts.{unmarked}
-use Rattle.record_label.specs.Written.{marks_of_parts, later_marks}
-use Rattle.record_label.proofs.Pieces.{all_added, operands_behind, one_part, no_part}
+use Rattle.record_label.specs.Written.{marks_of, marks_of_parts, later_marks}
+use Rattle.record_label.proofs.Pieces.{all_added, alone_added, none_behind, part_behind, operands_behind, one_part, no_part}
 use Rattle.record_label.proofs.FormFacts.{sum_at, product_at, operand_at}
 use Rattle.record_label.proofs.written.+written.Goals as goal
 
@@ -93,3 +93,14 @@ add_marks-returns-in-Or t c =
     (all_added (plain_expr c.args.expr.now) c.args.marks.now.items c.add_first.new.marks.items c.add_operands.new.marks.items _ _ refl (c.in_ok-add_first.ensures {u = tt})
     (ap (λ es. marks_of_parts (unmarked (map plain_expr es))) c.deref-in-Or.ensures.value ∙ sym (operands_behind c.args.expr.now.node c.args.expr.now.place c.in-Or.parts c.in-Or.is)))
     c.add_operands.ensures
+
+pub add_marks-returns-in-Field : goal.add_marks-returns-in-Field
+add_marks-returns-in-Field t c =
+    alone_added (plain_expr c.args.expr.now) c.args.marks.now.items c.add_first.new.marks.items (none_behind c.args.expr.now.node c.args.expr.now.place c.in-Field.is) (c.in_ok-add_first.ensures {u = tt})
+
+pub add_marks-returns-in-Not : goal.add_marks-returns-in-Not
+add_marks-returns-in-Not t c =
+    on_ok_weaker c.add_marks-in-Not.result
+    (all_added (plain_expr c.args.expr.now) c.args.marks.now.items c.add_first.new.marks.items c.add_marks-in-Not.new.marks.items _ _ refl (c.in_ok-add_first.ensures {u = tt})
+    (ap (λ e. marks_of (plain_expr e)) c.deref-in-Not.ensures ∙ sym (part_behind c.args.expr.now.node c.args.expr.now.place c.in-Not.part c.in-Not.is)))
+    c.add_marks-in-Not.ensures
