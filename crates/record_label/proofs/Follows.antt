@@ -27,21 +27,9 @@ follows_both first second (Err e) is P P' R fs gs f h k (inl want) = subst (Stop
 follows_both first second (Err e) is P P' R fs gs f h k (inr (inl one)) = stops_weaker (HasOutside fs) (HasOutside (fs ++ gs)) e (outside_left fs gs) (subst (λ s. MatchResult s P (StopsAt (HasOutside fs))) one h)
 follows_both first second (Err e) is P P' R fs gs f h k (inr (inr other)) = stops_weaker (HasOutside gs) (HasOutside (fs ++ gs)) e (outside_right fs gs) (subst (λ s. MatchResult s P' (StopsAt (HasOutside gs))) other k)
 
--- the same where memory alone stops
-pub both_made : {A B C : Type 0} (first : Result A FormStop) (second : Result B FormStop) (r : Result C FormStop) (is : A → B → C → Type 0) (P : A → Type 0) (P' : B → Type 0) (R : C → Type 0) → ((a : A) → P a → (b : B) → P' b → (c : C) → is a b c → R c) → UnlessMemory first P → UnlessMemory second P' → FollowsBoth first second is r → UnlessMemory r R
-both_made first second (Ok c) is P P' R f h k (a, b, one, other, so) = f a (subst (λ s. UnlessMemory s P) one h) b (subst (λ s. UnlessMemory s P') other k) c so
-both_made first second (Err e) is P P' R f h k (inl want) = want
-both_made first second (Err e) is P P' R f h k (inr (inl one)) = subst (λ s. UnlessMemory s P) one h
-both_made first second (Err e) is P P' R f h k (inr (inr other)) = subst (λ s. UnlessMemory s P') other k
-
 only_memory : (e : FormStop) → StopsAt (λ _. ⊥) e → e ≡ Memory
 only_memory (Range n) h = absurd h
 only_memory Memory h = refl
-
-pub made : {A B : Type 0} (from : Result A FormStop) (r : Result B FormStop) (is : A → B → Type 0) (P : A → Type 0) (P' : B → Type 0) → ((a : A) → P a → (b : B) → is a b → P' b) → UnlessMemory from P → Follows from is (λ _ _. ⊥) r → UnlessMemory r P'
-made (Ok a) (Ok b) is P P' f h k = f a h b k
-made (Ok a) (Err e) is P P' f h k = only_memory e k
-made (Err e) r is P P' f h k = subst (λ s. UnlessMemory s P') (sym k) h
 
 -- the stop that it is, and the value where there is none
 pub stops_after : {A B : Type 0} (made : Result A FormStop) (e : FormStop) (is : A → B → Type 0) (outside : A → ℤ → Type 0) (P : A → Type 0) (Q Q' : ℤ → Type 0) → ((n : ℤ) → Q n → Q' n) → ((a : A) → P a → (n : ℤ) → outside a n → Q' n) → MatchResult made P (StopsAt Q) → Follows made is outside (Err e) → StopsAt Q' e

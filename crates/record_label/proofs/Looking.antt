@@ -1,7 +1,7 @@
 -- Fields and values that are looked at one by one.
-use Rattle.std.proofs.Common.{◌≡◌, ℕ, zero, suc, ◌+◌, ◌-◌, ◌<◌, ◌≤◌, Bool, true, false, cond, List, [], ◌∷◌, Option, Some, map, length, drop, get_or, refl, ap, sym, ◌∙◌, subst, arith}
+use Rattle.std.proofs.Common.{◌≡◌, ℕ, zero, suc, ◌+◌, ◌-◌, ◌<◌, ◌≤◌, Bool, true, false, cond, List, ◌∷◌, Option, Some, map, length, drop, get_or, refl, ap, sym, ◌∙◌, arith}
 use Rattle.std.specs.List.{slice_get}
-use Rattle.std.proofs.lemmas.List.{drop_more, at_drop_all}
+use Rattle.std.proofs.lemmas.List.{drop_more}
 use denote.Enum.Bare.{sameb}
 use Rattle.fast_tree.proofs.Printing.{drop_at}
 use Rattle.fast_tree.specs.contracts.signature.Sort.{the_type}
@@ -34,20 +34,20 @@ pub count_more : (ss : List Sort) (i : ℕ) (s : Sort) (b : Bool) (n m total : �
 count_more ss i s b n m total low is now = one_more b (same_sort (plain_sort (get_or ss i Int)) (plain_sort s)) n m i (count_of (plain_sort s) (map plain_sort (drop (i + 1) ss))) (count_of (plain_sort s) (map plain_sort (drop i ss))) total (is ∙ same (get_or ss i Int) s) now (ap (λ left. count_of (plain_sort s) (map plain_sort left)) (drop_more ss i Int low))
 
 module _ (fs : List FieldOf) (i : ℕ) (f : FieldOf) (sort : Sort) (name : List ℕ) (low : i < length fs) (f_is : f ≡ get_or fs i f) where
-  here : (n : ℕ) → number_at (map plain_field (drop i fs)) (plain_sort sort) name ≡ cond (same_name f.name name) 0 (cond (same_sort (plain_sort f.sort) (plain_sort sort)) (suc (number_at (map plain_field (drop (i + 1) fs)) (plain_sort sort) name)) (number_at (map plain_field (drop (i + 1) fs)) (plain_sort sort) name))
-  here n = ap (λ left. number_at (map plain_field left) (plain_sort sort) name) (drop_at fs i f low f_is)
+  here : number_at (map plain_field (drop i fs)) (plain_sort sort) name ≡ cond (same_name f.name name) 0 (cond (same_sort (plain_sort f.sort) (plain_sort sort)) (suc (number_at (map plain_field (drop (i + 1) fs)) (plain_sort sort) name)) (number_at (map plain_field (drop (i + 1) fs)) (plain_sort sort) name))
+  here = ap (λ left. number_at (map plain_field left) (plain_sort sort) name) (drop_at fs i f low f_is)
 
   pub number_here : (n total : ℕ) → true ≡ same_name f.name name → (n ≤ i) × (n + number_at (map plain_field (drop i fs)) (plain_sort sort) name ≡ total) → n ≡ total
   number_here n total is h =
       let rest = number_at (map plain_field (drop (i + 1) fs)) (plain_sort sort) name in
-      let none : number_at (map plain_field (drop i fs)) (plain_sort sort) name ≡ 0 = here n ∙ ap (λ b. cond b 0 (cond (same_sort (plain_sort f.sort) (plain_sort sort)) (suc rest) rest)) (sym is) in
+      let none : number_at (map plain_field (drop i fs)) (plain_sort sort) name ≡ 0 = here ∙ ap (λ b. cond b 0 (cond (same_sort (plain_sort f.sort) (plain_sort sort)) (suc rest) rest)) (sym is) in
       let all = h.1 in omega arith
 
   pub number_more : (b : Bool) (n m total : ℕ) → false ≡ same_name f.name name → b ≡ sameb the_type f.sort sort → m ≡ cond b (n + 1) n → (n ≤ i) × (n + number_at (map plain_field (drop i fs)) (plain_sort sort) name ≡ total) → (m ≤ i + 1) × (m + number_at (map plain_field (drop (i + 1) fs)) (plain_sort sort) name ≡ total)
   number_more b n m total other is now =
       let rest = number_at (map plain_field (drop (i + 1) fs)) (plain_sort sort) name in
       one_more b (same_sort (plain_sort f.sort) (plain_sort sort)) n m i rest (number_at (map plain_field (drop i fs)) (plain_sort sort) name) total (is ∙ same f.sort sort) now
-      (here n ∙ ap (λ b. cond b 0 (cond (same_sort (plain_sort f.sort) (plain_sort sort)) (suc rest) rest)) (sym other))
+      (here ∙ ap (λ b. cond b 0 (cond (same_sort (plain_sort f.sort) (plain_sort sort)) (suc rest) rest)) (sym other))
 
   has_here : (b : Bool) → b ≡ same_name f.name name → has_field (map plain_field (drop i fs)) (plain_sort sort) name ≡ is_field_of (plain_sort sort) (cond b (Some (plain_sort f.sort)) (sort_at (map plain_field (drop (i + 1) fs)) name))
   has_here b is = ap (λ left. has_field (map plain_field left) (plain_sort sort) name) (drop_at fs i f low f_is) ∙ ap (λ c. is_field_of (plain_sort sort) (cond c (Some (plain_sort f.sort)) (sort_at (map plain_field (drop (i + 1) fs)) name))) (sym is)
@@ -77,9 +77,6 @@ got_past xs x (suc k) some = let one : suc k - 1 ≡ k = omega arith in ap (slic
 
 -- going over things, of which those of one kind are sought by their number
 module _ {W X : Type 0} (of_kind : List W → List X) (ws : List W) (i : ℕ) (w : W) (low : i < length ws) (is : w ≡ get_or ws i w) (k : ℕ) (all : Option X) (before : slice_get (of_kind (drop i ws)) k ≡ all) where
-  pub sought_here : (x : X) → ((rest : List W) → of_kind (w ∷ rest) ≡ x ∷ of_kind rest) → k ≡ 0 → Some x ≡ all
-  sought_here x step first = sym (ap (slice_get (of_kind (drop i ws))) first ∙ ap (λ xs. slice_get xs 0) (one_there of_kind ws i w low is x step)) ∙ before
-
   pub sought_past : (x : X) (m : ℕ) → ((rest : List W) → of_kind (w ∷ rest) ≡ x ∷ of_kind rest) → (k ≡ 0 → ⊥) → m ≡ k - 1 → slice_get (of_kind (drop (i + 1) ws)) m ≡ all
   sought_past x m step later next = ap (slice_get (of_kind (drop (i + 1) ws))) next ∙ sym (got_past (of_kind (drop (i + 1) ws)) x k later) ∙ sym (ap (λ xs. slice_get xs k) (one_there of_kind ws i w low is x step)) ∙ before
 

@@ -13,6 +13,6 @@ abbrev pub Follows : {A B : Type 0} → Result A FormStop → (A → B → Type 
 Follows (Ok a) is outside result = MatchResult result (is a) (StopsAt (outside a))
 Follows (Err stop) is outside result = result ≡ Err stop
 
--- what is so by both values; where there is one no value, why it or the other wasn't made
+-- what is so by both values; where one of them isn't there, why one wasn't made; or want of memory
 abbrev pub FollowsBoth : {A B C : Type 0} → Result A FormStop → Result B FormStop → (A → B → C → Type 0) → Result C FormStop → Type 0
 FollowsBoth {A} {B} first second is result = MatchResult result (λ c. (a : A) × (b : B) × (first ≡ Ok a) × (second ≡ Ok b) × is a b c) (λ stop. (stop ≡ Memory) ⊎ (first ≡ Err stop) ⊎ (second ≡ Err stop))

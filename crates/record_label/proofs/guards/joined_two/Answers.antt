@@ -1,9 +1,8 @@
-use Rattle.std.proofs.Common.{◌≡◌, ◌++◌, ◌∷◌, [], ◌⊎◌, inl, inr, Err, map, ap, ◌∙◌}
+use Rattle.std.proofs.Common.{◌≡◌, ◌++◌, ◌∷◌, [], map, ap, ◌∙◌}
 use Rattle.std.proofs.lemmas.Result.{err_from_is_err_and}
-use Rattle.lin_form.specs.declared.stop.FormStop.TheVariants.{Memory}
 use Rattle.label_core.specs.Formula.{plain_formula}
 use Rattle.record_label.specs.Guards.{joined_of}
-use Rattle.record_label.proofs.Follows.{why_stopped, value_taken, first_stopped, second_stopped}
+use Rattle.record_label.proofs.Follows.{value_taken, first_stopped, second_stopped}
 use Rattle.record_label.proofs.guards.joined_two.Goals as goal
 
 pub returns-in_err-added : goal.returns-in_err-added

@@ -1,4 +1,4 @@
-use Rattle.std.proofs.Common.{◌≡◌, ◌+◌, false, List, ◌∷◌, drop, map, get_or, ap, sym, ◌∙◌}
+use Rattle.std.proofs.Common.{◌+◌, false, List, ◌∷◌, drop, map, get_or, ap, sym, ◌∙◌}
 use Rattle.fast_tree.specs.declared.label.Value.{Value}
 use Rattle.fast_tree.specs.Entries.{field_of}
 use Rattle.record_label.specs.Rows.{truths_in}
