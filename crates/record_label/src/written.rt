@@ -38,9 +38,9 @@ fn first_mark(alloc: Global, expr: &Expr) -> Result<Mark, Memory>
     ensures { IfOk result (λ mark. mark ≡ first_mark (plain_expr expr.now)) }
 {
     match &expr.node {
-        Node::Field(name) => name.copy(alloc).map(Mark::Field),
+        Node::Field(name) => Ok(Mark::Field(name.copy(alloc)?)),
         Node::Num(value) => Ok(Mark::Number(*value)),
-        Node::Str(text) => text.copy(alloc).map(Mark::Constant),
+        Node::Str(text) => Ok(Mark::Constant(text.copy(alloc)?)),
         Node::Truth(value) => Ok(Mark::Truth(*value)),
         Node::Not(_) => Ok(Mark::Not),
         Node::Minus(_) => Ok(Mark::Minus),
@@ -158,9 +158,9 @@ impl Mark {
         ensures { IfOk result (λ copy. copy ≡ self.now) }
     {
         match self {
-            Mark::Field(name) => name.copy(alloc).map(Mark::Field),
+            Mark::Field(name) => Ok(Mark::Field(name.copy(alloc)?)),
             Mark::Number(value) => Ok(Mark::Number(*value)),
-            Mark::Constant(text) => text.copy(alloc).map(Mark::Constant),
+            Mark::Constant(text) => Ok(Mark::Constant(text.copy(alloc)?)),
             Mark::Truth(value) => Ok(Mark::Truth(*value)),
             Mark::Not => Ok(Mark::Not),
             Mark::Minus => Ok(Mark::Minus),
