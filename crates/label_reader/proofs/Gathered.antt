@@ -1,5 +1,5 @@
 -- The operands of a chain, gathered while they are read.
-use Rattle.std.proofs.Common.{◌≡◌, ◌+◌, ◌≤◌, Bool, false, List, [], ◌∷◌, ◌++◌, length, refl, sym, ap, ◌∙◌, subst, arith, map, Option}
+use Rattle.std.proofs.Common.{◌≡◌, ◌≤◌, Bool, false, List, [], ◌∷◌, ◌++◌, length, refl, sym, ap, ◌∙◌, subst, arith, map, Option}
 use Rattle.std.proofs.lemmas.List.{length-append}
 use Rattle.model_program.specs.declared.Word.{Word}
 use Rattle.model_program.specs.Lexeme.{Lexeme}
@@ -98,9 +98,6 @@ chaining_ends k tokens rest s parts e so_far is_sign none is =
     subst (λ (x : Expr). IsRead (IsExpr (chain_level k)) (GoesOn (chain_level k)) tokens x rest)
     (chain_is k s so_far.first so_far.more rest so_far.first_sign is_sign none ∙ ap (λ l. chain k s.place (parts_from l)) (sym so_far.gathered) ∙ sym is)
     (chain_ends k tokens rest so_far.first so_far.more so_far.part_way none)
-
-pub chaining_shorter : (k : Chain) (tokens rest after : List Lexeme) (s t : Lexeme) (parts : List (Bool × Expr)) → IsChaining k tokens rest s parts → rest ≡ t ∷ after → length after + 1 ≤ length tokens
-chaining_shorter k tokens rest after s t parts so_far here = let a = so_far.shorter in let b : length rest ≡ length (t ∷ after) = ap length here in omega arith
 
 -- Operands behind an operator that stands before them.
 

@@ -1,5 +1,5 @@
 -- The levels of label expressions: by which words they begin and go on, and of what they are made.
-use Rattle.std.proofs.Common.{◌≡◌, ◌<◌, List, [], ◌∷◌, ◌++◌, refl, sym, ap, ◌∙◌, subst, append_assoc, append-nil, arith, Option, Some, None, ◌⊎◌, inl, inr}
+use Rattle.std.proofs.Common.{◌≡◌, ◌+◌, ◌*◌, ◌-◌, ◌<◌, List, [], ◌∷◌, ◌++◌, refl, sym, ap, ◌∙◌, subst, append_assoc, append-nil, arith, Option, Some, None, ◌⊎◌, inl, inr}
 use Rattle.model_program.specs.declared.Word.{Word}
 use Rattle.model_program.specs.declared.Word.TheVariants.{And, Or, Not, Id, Equal, NotEqual, AtMost, AtLeast, Less, Greater, Plus, Minus, Star, Percent}
 use Rattle.model_program.specs.Lexeme.{Lexeme}
@@ -23,6 +23,13 @@ use Rattle.model_grammar.specs.Expressions.{IsExpr, disjunction, conjunction, ne
 use Rattle.model_grammar.specs.Printed.{rank, chain_level}
 use Rattle.model_grammar.proofs.Levels.{chained, primary}
 use Rattle.label_reader.specs.Levels.{strength, GoesOn, BeginsAt, NoSign, NoRel}
+
+-- the operands of a chain bind tighter than it
+pub tighter : (k : Chain) → 2 * (7 - rank (operand k)) + 2 < 2 * (7 - rank (chain_level k)) + 1
+tighter Disjunction = omega arith
+tighter Conjunction = omega arith
+tighter kinds.Sum = omega arith
+tighter Product = omega arith
 
 -- Words.
 

@@ -6,6 +6,7 @@ use Rattle.model_grammar.specs.declared.Level.TheVariants.{Unary, Prim}
 use Rattle.model_grammar.specs.declared.Chain.TheVariants.{Product}
 use Rattle.model_grammar.specs.Operators.{is_marking}
 use Rattle.model_grammar.specs.Syntax.{number, chain, part, no_parts}
+use Rattle.model_grammar.specs.Printed.{rank}
 use Rattle.fast_syntax.specs.Plain.{plain_expr}
 use Rattle.label_reader.specs.Levels.{GoesOn, BeginsAt}
 use Rattle.label_reader.specs.Operands.{marked, mark_in, parts_from}
@@ -13,7 +14,7 @@ use Rattle.label_reader.proofs.Digits.{negated_number_is}
 use Rattle.label_reader.proofs.Exits.{stepped, exit, reads_as, reads_wider, shorter, not_longer, taken, sign_next}
 use Rattle.label_reader.proofs.Keeping.{told_read, reads_whole, reads_kept, reads_closed, reads_to_close, told_kept, passes_kept, made_of_kept, made_reads, made_fails}
 use Rattle.label_reader.proofs.Joins.{without_read, without_fails}
-use Rattle.label_reader.proofs.LevelForms.{level_begins, sample_prim, wider_read, wider_fails, first_operand_fails, one_operand, chain_fails, negated_makes, not_negated_makes, cmp_in_neg, left_fails, left_alone, right_fails, both_read, rel_read}
+use Rattle.label_reader.proofs.LevelForms.{tighter, level_begins, sample_prim, wider_read, wider_fails, first_operand_fails, one_operand, chain_fails, negated_makes, not_negated_makes, cmp_in_neg, left_fails, left_alone, right_fails, both_read, rel_read}
 use Rattle.label_reader.proofs.Gathered.{chaining_starts, chaining_more, chaining_ends, operand_fails, operand_read}
 use Rattle.label_reader.proofs.Primaries.{minus_makes, no_minus_makes, negated_number, negated_other, sample_without, closed_by, open_makes}
 use Rattle.label_reader.proofs.Insides.{further_fails, two_makes, many_makes, many_read, sample_behind_first, percent_makes, rel_makes, nested_makes, ends_e, minus_whole_fails, minus_further_fails, minus_further_read, minus_close_fails, minus_close_read}
@@ -193,3 +194,80 @@ pub read_behind_minus-returns-in-Err : goal.read_behind_minus-returns-in-Err
 read_behind_minus-returns-in-Err t c = reads_closed _ _ _ plain_expr _ c.to_close.ensures
     (λ read. minus_close_read (record { read = c.in_ok-whole.ensures; here = c.requires.here; word = c.requires.minus }) c.in-Err.ensures read)
     (λ bad fails. minus_close_fails _ (record { read = c.in_ok-whole.ensures; here = c.requires.here; word = c.requires.minus }) c.in-Err.ensures fails)
+
+-- Measures.
+
+pub read_level-read_chain-requires : goal.read_level-read_chain-requires
+read_level-read_chain-requires t c = (omega (arith, ap rank c.in-E.is, c.decreases), tt)
+
+pub read_level-read_chain-requires-in-Conj : goal.read_level-read_chain-requires-in-Conj
+read_level-read_chain-requires-in-Conj t c = (omega (arith, ap rank c.in-Conj.is, c.decreases), tt)
+
+pub read_level-read_negation-requires : goal.read_level-read_negation-requires
+read_level-read_negation-requires t c = (omega (arith, ap rank c.in-Neg.is, c.decreases), tt)
+
+pub read_level-read_comparison-requires : goal.read_level-read_comparison-requires
+read_level-read_comparison-requires t c = (omega (arith, ap rank c.in-Cmp.is, c.decreases), tt)
+
+pub read_level-read_chain-requires-in-Sum : goal.read_level-read_chain-requires-in-Sum
+read_level-read_chain-requires-in-Sum t c = (omega (arith, ap rank c.in-Sum.is, c.decreases), tt)
+
+pub read_level-read_chain-requires-in-Prod : goal.read_level-read_chain-requires-in-Prod
+read_level-read_chain-requires-in-Prod t c = (omega (arith, ap rank c.in-Prod.is, c.decreases), tt)
+
+pub read_level-read_unary-requires : goal.read_level-read_unary-requires
+read_level-read_unary-requires t c = (omega (arith, ap rank c.in-Unary.is, c.decreases), tt)
+
+pub read_level-read_primary-requires : goal.read_level-read_primary-requires
+read_level-read_primary-requires t c = (omega (arith, ap rank c.in-Prim.is, c.decreases), tt)
+
+pub read_chain-read_level-requires : goal.read_chain-read_level-requires
+read_chain-read_level-requires t c = (omega (arith, ap rank c.operand.ensures, tighter c.args.kind, c.decreases), tt)
+
+pub read_chain-read_level-requires-in-Some-sign_next : goal.read_chain-read_level-requires-in-Some-sign_next
+read_chain-read_level-requires-in-Some-sign_next t c = let a = taken _ _ _ (stepped _ c.in-Some-sign_next.ensures c.advance.ensures).0 in (omega (arith, a, c.parts.invariant.0.shorter, c.decreases), tt)
+
+pub read_negation-read_level-requires : goal.read_negation-read_level-requires
+read_negation-read_level-requires t c = (omega (arith, c.decreases), tt)
+
+pub read_negation-read_level-requires-2 : goal.read_negation-read_level-requires-2
+read_negation-read_level-requires-2 t c = let a = taken _ _ _ (stepped _ c.in-Some.ensures c.advance.ensures).0 in (omega (arith, a, c.decreases), tt)
+
+pub read_comparison-read_level-requires : goal.read_comparison-read_level-requires
+read_comparison-read_level-requires t c = (omega (arith, c.decreases), tt)
+
+pub read_comparison-read_level-requires-2 : goal.read_comparison-read_level-requires-2
+read_comparison-read_level-requires-2 t c = let a = taken _ _ _ (stepped _ c.in-Some.ensures c.advance.ensures).0 in let b = not_longer _ _ c.in_ok-left.ensures in (omega (arith, a, b, c.decreases), tt)
+
+pub read_unary-read_primary-requires : goal.read_unary-read_primary-requires
+read_unary-read_primary-requires t c = (omega (arith, c.decreases), tt)
+
+pub read_unary-read_primary-requires-2 : goal.read_unary-read_primary-requires-2
+read_unary-read_primary-requires-2 t c = let a = taken _ _ _ (stepped _ c.in-Some.ensures c.advance.ensures).0 in (omega (arith, a, c.decreases), tt)
+
+pub read_primary-read_inside-requires : goal.read_primary-read_inside-requires
+read_primary-read_inside-requires t c = let a = taken _ _ _ (stepped _ c.in-Some.ensures c.advance.ensures).0 in (omega (arith, a, c.decreases), tt)
+
+pub read_inside-read_primary-requires : goal.read_inside-read_primary-requires
+read_inside-read_primary-requires t c = let a = taken _ _ _ (stepped _ c.in-Some-many_next.ensures c.advance.ensures).0 in (omega (arith, a, c.decreases), tt)
+
+pub read_inside-read_two-requires : goal.read_inside-read_two-requires
+read_inside-read_two-requires t c = let a = taken _ _ _ (stepped _ c.in-Some-peek_if.ensures c.advance-in-Some-peek_if.ensures).0 in (omega (arith, a, c.decreases), tt)
+
+pub read_inside-read_two-requires-in-Some-rel_next : goal.read_inside-read_two-requires-in-Some-rel_next
+read_inside-read_two-requires-in-Some-rel_next t c = let a = taken _ _ _ (stepped _ c.in-Some-rel_next.ensures c.advance-in-Some-rel_next.ensures).0 in (omega (arith, a, c.decreases), tt)
+
+pub read_inside-read_level-requires : goal.read_inside-read_level-requires
+read_inside-read_level-requires t c = (omega (arith, c.decreases), tt)
+
+pub read_behind_minus-read_level-requires : goal.read_behind_minus-read_level-requires
+read_behind_minus-read_level-requires t c = (omega (arith, c.decreases), tt)
+
+pub read_further-read_primary-requires : goal.read_further-read_primary-requires
+read_further-read_primary-requires t c = (omega (arith, c.decreases), tt)
+
+pub read_further-read_primary-requires-in-parts : goal.read_further-read_primary-requires-in-parts
+read_further-read_primary-requires-in-parts t c = (omega (arith, c.parts.invariant.0.shorter, c.decreases), tt)
+
+pub read_two-read_primary-requires : goal.read_two-read_primary-requires
+read_two-read_primary-requires t c = (omega (arith, c.decreases), tt)
