@@ -16,6 +16,7 @@ use crate::declarations::Declarations;
 use crate::declared_type::DeclaredType;
 use crate::heads::{Head, head_of};
 use crate::names::Names;
+use crate::rules::name_of;
 use fast_fault::Text;
 use fast_syntax::items::{Body, Item};
 
@@ -55,10 +56,7 @@ impl<'p> Context<'p> {
     pub(crate) fn type_name(&self, name: &Text) -> Option<&'p Text>
         ensures { type_name result ≡ option_map (λ t. t.name.text) (find_type (items_of self.now) name.now) }
     {
-        match self.find_type(name) {
-            Some(of) => Some(&of.item.name.text),
-            None => None,
-        }
+        name_of(&self.find_type(name))
     }
 
     /// The type that the item of this number is.

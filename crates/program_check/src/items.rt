@@ -69,8 +69,9 @@ impl Checker {
         ensures { Notes self.old self.new (flat_map (rule_failures (items_of context.now) (plain_name of.now)) (map plain_rule rules.now)) }
     {
         let types = Between { from: of, into: of };
+        let from = context.find_type(&of.text);
         'rules: for rule in rules {
-            self.check_rule(context, &types, rule, None);
+            self.check_rule(context, &types, &from, rule, None);
         }
     }
 
@@ -85,8 +86,9 @@ impl Checker {
     fn check_out_rules(&mut self, context: &Context, types: &Between, rules: &[OutRule])
         ensures { Notes self.old self.new (flat_map (out_rule_failures (items_of context.now) (plain_name types.now.from.now) (plain_name types.now.into.now)) (map plain_out_rule rules.now)) }
     {
+        let from = context.find_type(&types.from.text);
         'rules: for rule in rules {
-            self.check_rule(context, types, &rule.rule, Some(&rule.out));
+            self.check_rule(context, types, &from, &rule.rule, Some(&rule.out));
         }
     }
 

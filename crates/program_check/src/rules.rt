@@ -5,9 +5,10 @@ ghost use Rattle.std.specs.Prelude.{◌≡◌, Some, None, map, is_some};
 ghost use Rattle.std.specs.List.{flat_map};
 ghost use Rattle.std.specs.Option.{option_map};
 ghost use Rattle.model_names.specs.Declared.{find_type};
+ghost use Rattle.model_names.specs.Kinds.{declared_type};
 ghost use Rattle.fast_syntax.specs.View.{plain_name, plain_demand};
 ghost use Rattle.fast_syntax.specs.Plain.{plain_guard, plain_rule, plain_out};
-ghost use Rattle.model_checks.specs.Rules.{differ, constructor_failures, label_count_failures, scope_of, variable_failures, guard_failures, type_name_failures, demand_failures};
+ghost use Rattle.model_checks.specs.Rules.{differ, constructor_failures, label_count_failures, scope_of, variable_failures, guard_failures, type_at, type_name_failures, demand_failures};
 ghost use Rattle.program_check.specs.Notes.{Notes};
 ghost use Rattle.program_check.specs.Typed.{plain_option, type_name};
 ghost use Rattle.program_check.specs.Contexts.{items_of};
@@ -44,6 +45,16 @@ pub(crate) fn differ(left: Option<&Text>, right: Option<&Text>) -> bool
         return false;
     };
     *left != *right
+}
+
+/// The name of a type, where it is declared.
+pub(crate) fn name_of<'p>(of: &Option<DeclaredType<'p>>) -> Option<&'p Text>
+    ensures { type_name result ≡ option_map (λ t. t.name.text) (plain_option of.now) }
+{
+    match of {
+        Some(of) => Some(&of.item.name.text),
+        None => None,
+    }
 }
 
 /// The fields of a type, where it is declared.
@@ -127,12 +138,20 @@ impl Checker {
     }
 
     /// In a rule for trees of this type a demanded language is a `lang` of trees of the type.
-    fn check_given(&mut self, context: &Context, of: &Name, vars: &Vars, given: &[Demand])
+    fn check_given(
+        &mut self,
+        context: &Context,
+        of: &Name,
+        input: Option<&Text>,
+        vars: &Vars,
+        given: &[Demand],
+    )
+        requires { type_name input ≡ declared_type (items_of context.now) (plain_name of.now) }
         ensures { Kept self.old vars.now → Notes self.old self.new (flat_map (demand_failures (items_of context.now) (plain_name of.now) (plain_vars vars.now)) (map plain_demand given.now)) }
     {
         let wanted = Standing {
             kind: Some(Kind::Language),
-            input: context.type_name(&of.text),
+            input,
             output: None,
         };
         'given: for demand in given {
@@ -141,24 +160,25 @@ impl Checker {
         }
     }
 
-    /// A rule for trees of a type. One of a transformation between the types has an output term.
+    /// A rule for trees of this type. One of a transformation between the types has an output term.
     pub(crate) fn check_rule(
         &mut self,
         context: &Context,
         types: &Between,
+        from: &Option<DeclaredType>,
         rule: &Rule,
         out: Option<&Out>,
     )
+        requires { plain_option from.now ≡ type_at (items_of context.now) (plain_name types.now.from.now) }
         ensures { Notes self.old self.new (whole_rule_failures (items_of context.now) (plain_name types.now.from.now) (plain_name types.now.into.now) (plain_rule rule.now) (option_map (λ o. plain_out o.now) out.entry)) }
     {
-        let from = context.find_type(&types.from.text);
-        self.check_constructor(&from, &rule.ctor, rule.vars.len());
+        self.check_constructor(from, &rule.ctor, rule.vars.len());
         let vars = Vars {
             all: &rule.vars,
             names: self.check_repeated(Code::DuplicateVariable, &rule.vars),
         };
-        self.check_guard(&scope_of(&from), &rule.guard);
-        self.check_given(context, types.from, &vars, &rule.given);
+        self.check_guard(&scope_of(from), &rule.guard);
+        self.check_given(context, types.from, name_of(from), &vars, &rule.given);
         self.check_made(context, types, &vars, out);
     }
 }

@@ -17,7 +17,7 @@ given-preserved c kept h =
     let of = plain_name c.args.of.now in
     let name = plain_name c.demand-item.result.language in
     let last = c.check_variable.ensures (λ m. kept (c.given.invariant kept (c.check_ruled.ensures m).had).had) h in
-    let asked = same (ap (λ n. ruled_failures items (Some language) n None name) c.type_name.ensures ∙ language_by_head items of name) (c.check_ruled.ensures last.had) in
+    let asked = same (ap (λ n. ruled_failures items (Some language) n None name) c.requires ∙ language_by_head items of name) (c.check_ruled.ensures last.had) in
     let one = next asked last in
     let each = demand_failures items of (plain_vars c.args.vars.now) in
     more _ one (one_of each plain_demand c.args.given.now c.given.demand-index c.demand-item.result c.given-test.true c.demand-item.is) (c.given.invariant kept one.had)

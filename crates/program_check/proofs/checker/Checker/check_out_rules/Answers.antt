@@ -8,6 +8,9 @@ use Rattle.program_check.specs.Contexts.{items_of}
 use Rattle.program_check.proofs.Noting.{more, done, one_of}
 use Rattle.program_check.proofs.checker.Checker.check_out_rules.Goals as goal
 
+pub check_rule-requires : goal.check_rule-requires
+check_rule-requires c = c.find_type-from.ensures
+
 pub rules-preserved : goal.rules-preserved
 rules-preserved c h =
     let one = c.check_rule.ensures h in

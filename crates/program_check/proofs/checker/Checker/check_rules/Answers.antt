@@ -8,6 +8,9 @@ use Rattle.program_check.specs.Contexts.{items_of}
 use Rattle.program_check.proofs.Noting.{same, ends, more, done, one_of}
 use Rattle.program_check.proofs.checker.Checker.check_rules.Goals as goal
 
+pub check_rule-requires : goal.check_rule-requires
+check_rule-requires c = c.find_type-from.ensures
+
 pub rules-preserved : goal.rules-preserved
 rules-preserved c h =
     let each = rule_failures (items_of c.args.context.now) (plain_name c.args.of.now) in
