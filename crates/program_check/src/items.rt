@@ -9,6 +9,7 @@ ghost use Rattle.model_checks.specs.Rules.{rule_limit, rule_failures, out_rule_f
 ghost use Rattle.model_checks.specs.Programs.{is_tree, type_again, claim_failures, body_failures};
 ghost use Rattle.program_check.specs.Notes.{HasMemory, Notes};
 ghost use Rattle.program_check.specs.Contexts.{items_of, before_of};
+ghost use Rattle.program_check.specs.Typed.{AreFound};
 ghost use Rattle.program_check.specs.Standings.{plain_kind, IsStanding, beside_failures};
 ghost use Rattle.program_check.specs.Heads.{plain_head, head_failures, value_failures, content_failures, headless_failures};
 ghost use Rattle.model_grammar.specs.Syntax as plain;
@@ -68,10 +69,15 @@ impl Checker {
     fn check_rules(&mut self, context: &Context, of: &Name, rules: &[Rule])
         ensures { Notes self.old self.new (flat_map (rule_failures (items_of context.now) (plain_name of.now)) (map plain_rule rules.now)) }
     {
-        let types = Between { from: of, into: of };
-        let from = context.find_type(&of.text);
+        let declared = context.find_type(&of.text);
+        let types = Between {
+            from: of,
+            into: of,
+            inputs: declared,
+            outputs: declared,
+        };
         'rules: for rule in rules {
-            self.check_rule(context, &types, &from, rule, None);
+            self.check_rule(context, &types, rule, None);
         }
     }
 
@@ -84,11 +90,11 @@ impl Checker {
     }
 
     fn check_out_rules(&mut self, context: &Context, types: &Between, rules: &[OutRule])
+        requires { AreFound (items_of context.now) types.now }
         ensures { Notes self.old self.new (flat_map (out_rule_failures (items_of context.now) (plain_name types.now.from.now) (plain_name types.now.into.now)) (map plain_out_rule rules.now)) }
     {
-        let from = context.find_type(&types.from.text);
         'rules: for rule in rules {
-            self.check_rule(context, types, &from, &rule.rule, Some(&rule.out));
+            self.check_rule(context, types, &rule.rule, Some(&rule.out));
         }
     }
 
@@ -164,6 +170,8 @@ impl Checker {
                 let types = Between {
                     from: &item.from,
                     into: &item.into,
+                    inputs: context.find_type(&item.from.text),
+                    outputs: context.find_type(&item.into.text),
                 };
                 self.check_out_rule_limit(&item.rules);
                 self.check_out_rules(context, &types, &item.rules)

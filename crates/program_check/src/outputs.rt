@@ -1,8 +1,9 @@
 //! What may fail in the labels of a node and in an output term, whose labels speak of the input.
 
-ghost use Rattle.std.specs.Prelude.{◌≡◌, [], Some, None, map};
+ghost use Rattle.std.specs.Prelude.{◌≡◌, [], List, Some, None, map};
 ghost use Rattle.std.specs.Option.{option_map};
 ghost use Rattle.model_grammar.specs.Syntax as plain;
+ghost use Rattle.model_grammar.specs.Syntax.{Item};
 ghost use Rattle.fast_syntax.specs.View.{plain_name, plain_field};
 ghost use Rattle.fast_syntax.specs.Plain.{plain_expr, plain_out};
 ghost use Rattle.fast_syntax.specs.Slices.{plain_outputs};
@@ -11,7 +12,7 @@ ghost use Rattle.model_checks.specs.Rules.{fields_of, out_failures, outs_failure
 ghost use Rattle.program_check.specs.Notes.{Notes};
 ghost use Rattle.program_check.specs.Contexts.{items_of};
 ghost use Rattle.program_check.specs.Known.{plain_scope};
-ghost use Rattle.program_check.specs.Typed.{plain_option};
+ghost use Rattle.program_check.specs.Typed.{plain_option, AreFound};
 ghost use Rattle.program_check.specs.Variables.{plain_vars, Kept, made_failures};
 ghost use Rattle.program_check.specs.Nodes.{field_at, label_at, node_failures};
 
@@ -20,7 +21,7 @@ use crate::context::Context;
 use crate::declared_type::DeclaredType;
 use crate::expressions::{Kind, Standing};
 use crate::labels::{Scope, differ_in_sort};
-use crate::rules::{Between, differ, scope_of};
+use crate::rules::{Between, differ, name_of, scope_of};
 use crate::types::sort_named;
 use crate::vars::Vars;
 use fast_fault::Code;
@@ -61,11 +62,10 @@ impl Checker {
     }
 
     /// A child that is given as it is: the types of inputs and outputs are the same.
-    fn check_child(&mut self, context: &Context, types: &Between, vars: &Vars, name: &Name)
-        ensures { Kept self.old vars.now → Notes self.old self.new (out_failures (items_of context.now) (plain_name types.now.from.now) (plain_name types.now.into.now) (plain_vars vars.now) (plain.child (plain_name name.now))) }
+    fn check_child(&mut self, types: &Between, vars: &Vars, name: &Name)
+        ensures { (items : List Item) → AreFound items types.now → Kept self.old vars.now → Notes self.old self.new (out_failures items (plain_name types.now.from.now) (plain_name types.now.into.now) (plain_vars vars.now) (plain.child (plain_name name.now))) }
     {
-        let from = context.type_name(&types.from.text);
-        let differ = differ(from, context.type_name(&types.into.text));
+        let differ = differ(name_of(&types.inputs), name_of(&types.outputs));
         self.check_variable(vars, name);
         self.note_if(differ, Code::WrongType, name.place);
     }
@@ -79,12 +79,13 @@ impl Checker {
         name: &Name,
         child: &Name,
     )
+        requires { AreFound (items_of context.now) types.now }
         ensures { Kept self.old vars.now → Notes self.old self.new (out_failures (items_of context.now) (plain_name types.now.from.now) (plain_name types.now.into.now) (plain_vars vars.now) (plain.call (plain_name name.now) (plain_name child.now))) }
     {
         let wanted = Standing {
             kind: Some(Kind::Transformation),
-            input: context.type_name(&types.from.text),
-            output: context.type_name(&types.into.text),
+            input: name_of(&types.inputs),
+            output: name_of(&types.outputs),
         };
         self.check_ruled(context, &wanted, name);
         self.check_variable(vars, child);
@@ -93,17 +94,18 @@ impl Checker {
     /// An output term of a rule between these types.
     #[cycle(check_out)]
     fn check_out(&mut self, context: &Context, types: &Between, vars: &Vars, out: &Out)
+        requires { AreFound (items_of context.now) types.now }
         ensures { Kept self.old vars.now → Notes self.old self.new (out_failures (items_of context.now) (plain_name types.now.from.now) (plain_name types.now.into.now) (plain_vars vars.now) (plain_out out.now)) }
     {
         match out {
             Out::Child(name) => {
-                self.check_child(context, types, vars, name);
+                self.check_child(types, vars, name);
             }
             Out::Call(name, child) => {
                 self.check_call(context, types, vars, name, child);
             }
             Out::Node(name, labels, outs) => {
-                self.check_node(context, types, name, labels, outs.len());
+                self.check_node(types, name, labels, outs.len());
                 self.check_outs(context, types, vars, outs)
             }
         }
@@ -111,6 +113,7 @@ impl Checker {
 
     #[cycle(check_out)]
     fn check_outs(&mut self, context: &Context, types: &Between, vars: &Vars, outs: &[Out])
+        requires { AreFound (items_of context.now) types.now }
         ensures { Kept self.old vars.now → Notes self.old self.new (outs_failures (items_of context.now) (plain_name types.now.from.now) (plain_name types.now.into.now) (plain_vars vars.now) (plain_outputs outs.now)) }
     {
         'outs: for out in outs {
@@ -119,21 +122,12 @@ impl Checker {
     }
 
     /// The constructor of a node, and its labels, which speak of the input.
-    fn check_node(
-        &mut self,
-        context: &Context,
-        types: &Between,
-        name: &Name,
-        labels: &[Expr],
-        count: usize,
-    )
-        ensures { Notes self.old self.new (node_failures (items_of context.now) (plain_name types.now.from.now) (plain_name types.now.into.now) (plain_name name.now) (map plain_expr labels.now) count) }
+    fn check_node(&mut self, types: &Between, name: &Name, labels: &[Expr], count: usize)
+        ensures { (items : List Item) → AreFound items types.now → Notes self.old self.new (node_failures items (plain_name types.now.from.now) (plain_name types.now.into.now) (plain_name name.now) (map plain_expr labels.now) count) }
     {
-        let from = context.find_type(&types.from.text);
-        let into = context.find_type(&types.into.text);
-        self.check_constructor(&into, name, count);
-        self.check_label_count(&into, name, labels.len());
-        self.check_labels(&scope_of(&from), fields_of(&into), labels)
+        self.check_constructor(&types.outputs, name, count);
+        self.check_label_count(&types.outputs, name, labels.len());
+        self.check_labels(&scope_of(&types.inputs), fields_of(&types.outputs), labels)
     }
 
     /// The output term of a rule between these types, where it has one.
@@ -144,6 +138,7 @@ impl Checker {
         vars: &Vars,
         out: Option<&Out>,
     )
+        requires { AreFound (items_of context.now) types.now }
         ensures { Kept self.old vars.now → Notes self.old self.new (made_failures (items_of context.now) (plain_name types.now.from.now) (plain_name types.now.into.now) (plain_vars vars.now) (option_map (λ o. plain_out o.now) out.entry)) }
     {
         if let Some(out) = out {

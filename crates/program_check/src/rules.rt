@@ -8,9 +8,9 @@ ghost use Rattle.model_names.specs.Declared.{find_type};
 ghost use Rattle.model_names.specs.Kinds.{declared_type};
 ghost use Rattle.fast_syntax.specs.View.{plain_name, plain_demand};
 ghost use Rattle.fast_syntax.specs.Plain.{plain_guard, plain_rule, plain_out};
-ghost use Rattle.model_checks.specs.Rules.{differ, constructor_failures, label_count_failures, scope_of, variable_failures, guard_failures, type_at, type_name_failures, demand_failures};
+ghost use Rattle.model_checks.specs.Rules.{differ, constructor_failures, label_count_failures, scope_of, variable_failures, guard_failures, type_name_failures, demand_failures};
 ghost use Rattle.program_check.specs.Notes.{Notes};
-ghost use Rattle.program_check.specs.Typed.{plain_option, type_name};
+ghost use Rattle.program_check.specs.Typed.{plain_option, type_name, AreFound};
 ghost use Rattle.program_check.specs.Contexts.{items_of};
 ghost use Rattle.program_check.specs.Standings.{plain_kind};
 ghost use Rattle.program_check.specs.Heads.{ruled_failures};
@@ -30,11 +30,14 @@ use fast_syntax::items::{Out, Rule};
 use fast_syntax::{Demand, Name};
 use fast_tree::Sort;
 
-/// The types of the inputs and of the outputs of a transformation. Those of a language are the type of its trees.
+/// The types of the inputs and of the outputs of a transformation, by their names and as they are declared. Those of a
+/// language are the type of its trees.
 #[derive(Clone, Copy)]
 pub(crate) struct Between<'p> {
     pub(crate) from: &'p Name,
     pub(crate) into: &'p Name,
+    pub(crate) inputs: Option<DeclaredType<'p>>,
+    pub(crate) outputs: Option<DeclaredType<'p>>,
 }
 
 /// Whether the types of these names are known and differ.
@@ -160,25 +163,25 @@ impl Checker {
         }
     }
 
-    /// A rule for trees of this type. One of a transformation between the types has an output term.
+    /// A rule for trees of a type. One of a transformation between the types has an output term.
     pub(crate) fn check_rule(
         &mut self,
         context: &Context,
         types: &Between,
-        from: &Option<DeclaredType>,
         rule: &Rule,
         out: Option<&Out>,
     )
-        requires { plain_option from.now ≡ type_at (items_of context.now) (plain_name types.now.from.now) }
+        requires { AreFound (items_of context.now) types.now }
         ensures { Notes self.old self.new (whole_rule_failures (items_of context.now) (plain_name types.now.from.now) (plain_name types.now.into.now) (plain_rule rule.now) (option_map (λ o. plain_out o.now) out.entry)) }
     {
-        self.check_constructor(from, &rule.ctor, rule.vars.len());
+        self.check_constructor(&types.inputs, &rule.ctor, rule.vars.len());
         let vars = Vars {
             all: &rule.vars,
             names: self.check_repeated(Code::DuplicateVariable, &rule.vars),
         };
-        self.check_guard(&scope_of(from), &rule.guard);
-        self.check_given(context, types.from, name_of(from), &vars, &rule.given);
+        self.check_guard(&scope_of(&types.inputs), &rule.guard);
+        let input = name_of(&types.inputs);
+        self.check_given(context, types.from, input, &vars, &rule.given);
         self.check_made(context, types, &vars, out);
     }
 }

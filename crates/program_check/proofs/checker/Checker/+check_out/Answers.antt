@@ -32,8 +32,8 @@ check_outs-returns t c kept h =
 
 pub check_out-returns-in-Node : goal.check_out-returns-in-Node
 check_out-returns-in-Node t c kept h =
-    let last = c.check_outs.ensures (λ m. kept (c.check_node.ensures m).had) h in
     let items = items_of c.args.context.now in
+    let last = c.check_outs.ensures (λ m. kept (c.check_node.ensures items c.requires m).had) h in
     let from = plain_name c.args.types.now.from.now in
     let into = plain_name c.args.types.now.into.now in
     let vars = plain_vars c.args.vars.now in
@@ -41,14 +41,14 @@ check_out-returns-in-Node t c kept h =
     let labels = map plain_expr c.in-Node.labels.items in
     let outs = plain_outputs c.in-Node.outs.items in
     let is = ap plain_out c.in-Node.is ∙ plain_made name c.in-Node.labels c.in-Node.outs in
-    let node = same (ap (λ xs. node_failures items from into (plain_name name) (map plain_expr xs) c.len.result) c.deref.ensures.value) (c.check_node.ensures last.had) in
+    let node = same (ap (λ xs. node_failures items from into (plain_name name) (map plain_expr xs) c.len.result) c.deref.ensures.value) (c.check_node.ensures items c.requires last.had) in
     same (ap (out_failures items from into vars) (sym is))
     (node_noted items from into vars (plain_name name) labels outs c.len.result _ _ _ (c.len.ensures ∙ sym c.deref-in-Node.ensures.len ∙ outs_counted c.deref-in-Node.result.now ∙ ap (λ xs. count_outs (plain_outputs xs)) c.deref-in-Node.ensures.value) node (same (ap (λ xs. outs_failures items from into vars (plain_outputs xs)) c.deref-in-Node.ensures.value) last))
 
 pub check_out-returns-in-Child : goal.check_out-returns-in-Child
 check_out-returns-in-Child t c kept h =
     let each = out_failures (items_of c.args.context.now) (plain_name c.args.types.now.from.now) (plain_name c.args.types.now.into.now) (plain_vars c.args.vars.now) in
-    same (ap each (sym (ap plain_out c.in-Child.is))) (c.check_child.ensures kept h)
+    same (ap each (sym (ap plain_out c.in-Child.is))) (c.check_child.ensures (items_of c.args.context.now) c.requires kept h)
 
 pub check_out-returns-in-Call : goal.check_out-returns-in-Call
 check_out-returns-in-Call t c kept h =

@@ -1,7 +1,6 @@
 use Rattle.std.proofs.Common.{◌∙◌, sym, ap, map, length}
 use Rattle.fast_syntax.specs.View.{plain_name, plain_field}
 use Rattle.fast_syntax.specs.Plain.{plain_expr}
-use Rattle.program_check.specs.Contexts.{items_of}
 use Rattle.program_check.specs.Known.{plain_scope}
 use Rattle.program_check.specs.Typed.{plain_option}
 use Rattle.std.proofs.lemmas.List.{length-map}
@@ -10,8 +9,8 @@ use Rattle.program_check.proofs.NodeParts.{node_made}
 use Rattle.program_check.proofs.checker.Checker.check_node.Goals as goal
 
 pub returns : goal.returns
-returns c h =
+returns c items found h =
     let last = c.check_labels.ensures h in
     let two = c.check_label_count.ensures last.had in
-    node_made (items_of c.args.context.now) (plain_name c.args.types.now.from.now) (plain_name c.args.types.now.into.now) (plain_name c.args.name.now) (map plain_expr c.args.labels.now) c.args.count (length c.args.labels.now) (plain_option c.find_type-into.result) (plain_scope c.scope_of.result) (map plain_field c.fields_of.result.now) _ _ _ _
-    c.find_type-into.ensures (c.scope_of.ensures ∙ ap scope_of c.find_type-from.ensures) c.fields_of.ensures (sym (length-map c.args.labels.now plain_expr)) (c.check_constructor.ensures two.had) two last
+    node_made items (plain_name c.args.types.now.from.now) (plain_name c.args.types.now.into.now) (plain_name c.args.name.now) (map plain_expr c.args.labels.now) c.args.count (length c.args.labels.now) (plain_option c.args.types.now.outputs) (plain_scope c.scope_of.result) (map plain_field c.fields_of.result.now) _ _ _ _
+    found.outputs (c.scope_of.ensures ∙ ap scope_of found.inputs) c.fields_of.ensures (sym (length-map c.args.labels.now plain_expr)) (c.check_constructor.ensures two.had) two last

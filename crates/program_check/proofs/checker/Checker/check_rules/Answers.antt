@@ -9,7 +9,7 @@ use Rattle.program_check.proofs.Noting.{same, ends, more, done, one_of}
 use Rattle.program_check.proofs.checker.Checker.check_rules.Goals as goal
 
 pub check_rule-requires : goal.check_rule-requires
-check_rule-requires c = c.find_type-from.ensures
+check_rule-requires c = record { inputs = c.find_type-declared.ensures; outputs = c.find_type-declared.ensures }
 
 pub rules-preserved : goal.rules-preserved
 rules-preserved c h =
