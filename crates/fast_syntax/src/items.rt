@@ -1,13 +1,38 @@
 //! Items, and the expressions and output terms in them.
 
+ghost use Rattle.std.specs.Prelude.{◌≡◌, ◌++◌, ◌∷◌, [], OnOk};
+ghost use Rattle.fast_syntax.specs.Plain.{plain_item, plain_program};
+
 use crate::expressions::Expr;
 use crate::{Demand, Name, TypeItem};
-use fast_fault::Pos;
+use fast_fault::{Memory, Pos};
 use model_grammar::{Op1, Op2};
+use std::alloc::Global;
 
 #[derive(Drop)]
 pub struct Program {
     pub items: Vec<Item>,
+}
+
+impl Program {
+    /// A program without items.
+    pub fn new(alloc: Global) -> Program
+        ensures { plain_program result ≡ [] }
+    {
+        Program {
+            items: Vec::new(alloc),
+        }
+    }
+
+    /// One item more, at the end.
+    pub fn add(&mut self, item: Item) -> Result<(), Memory>
+        ensures { OnOk result (plain_program self.new ≡ plain_program self.old ++ plain_item item ∷ []) }
+    {
+        Ok(self.items.push(item)?)
+    }
+
+    /// Frees it. How each of its parts is freed is proved here, and not again in each crate that lets a program go.
+    pub fn let_go(self) {}
 }
 
 /// An item. Its place is that of its first token.

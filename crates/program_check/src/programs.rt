@@ -126,10 +126,15 @@ pub fn check(alloc: Global, program: Program) -> Result<Checked, CheckStop>
     ensures refused { IfErr result (IsStop (refusal_of (plain_program program))) }
 {
     let mut declared = Declarations::new(alloc);
-    let signatures = number_and_sign(alloc, &program.items, &mut declared)?;
-    Ok(Checked {
-        program,
-        declared,
-        signatures,
-    })
+    match number_and_sign(alloc, &program.items, &mut declared) {
+        Ok(signatures) => Ok(Checked {
+            program,
+            declared,
+            signatures,
+        }),
+        Err(stop) => {
+            program.let_go();
+            Err(stop)
+        }
+    }
 }

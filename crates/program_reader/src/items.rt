@@ -1,6 +1,6 @@
 //! Items, and whole programs: all tokens are read, or the first wrong one is told.
 
-ghost use Rattle.std.specs.Prelude.{◌≡◌, map, [], List, IfOk};
+ghost use Rattle.std.specs.Prelude.{◌≡◌, [], List, IfOk};
 ghost use Rattle.read_forms.specs.Reads.{closed, anything};
 ghost use Rattle.model_program.specs.declared.Word.TheVariants as word;
 ghost use Rattle.model_grammar.specs.Grammar.{IsInto, IsItem, IsProgram};
@@ -22,7 +22,7 @@ use fast_syntax::items::{
     AssertItem, Body, DefItem, Item, LangItem, Program, TransItem, TreeItem, X,
 };
 use fast_syntax::{Name, Pos};
-use label_reader::{Between, ReadTokensStop, Reader, Stop, kept, pushed, read_some};
+use label_reader::{Between, ReadTokensStop, Reader, Stop, kept, read_some};
 use std::alloc::Global;
 
 /// A name, and the name of its type.
@@ -148,16 +148,17 @@ fn read_item(reader: &mut Reader) -> Result<Item, Stop>
     }
 }
 
-/// Items up to the end of the tokens.
-fn read_program(reader: &mut Reader) -> Result<Vec<Item>, Stop>
-    ensures read { Reads IsProgram anything (left reader.old) (left reader.new) (λ v. map plain_item v.items) result }
+/// Puts the items up to the end of the tokens into a program without items.
+fn read_program(reader: &mut Reader, program: &mut Program) -> Result<(), Stop>
+    requires { plain_program program.old ≡ [] }
+    ensures read { Reads IsProgram anything (left reader.old) (left reader.new) (λ _. plain_program program.new) result }
     ensures whole { IfOk result (λ _. left reader.new ≡ []) }
 {
-    let mut all = Vec::new(reader.alloc);
     'items: while reader.count_left() > 0 {
-        all = pushed(all, read_item(reader))?;
+        let item = read_item(reader)?;
+        program.add(item)?;
     }
-    Ok(all)
+    Ok(())
 }
 
 /// The program that the tokens spell.
@@ -170,9 +171,13 @@ pub fn read_items<'t>(alloc: Global, tokens: &'t [Token<'t>]) -> Result<Program,
     ensures refused { IfWrong result (IsFirstWrong IsProgram (lexemes tokens.now)) }
 {
     let mut reader = Reader::new(alloc, tokens);
-    match read_program(&mut reader) {
-        Ok(items) => Ok(Program { items }),
-        Err(Stop::Memory) => Err(ReadTokensStop::Memory),
-        Err(Stop::Wrong) => Err(ReadTokensStop::Wrong(tokens.len() - reader.count_left())),
+    let mut program = Program::new(alloc);
+    let Err(stop) = read_program(&mut reader, &mut program) else {
+        return Ok(program);
+    };
+    program.let_go();
+    match stop {
+        Stop::Memory => Err(ReadTokensStop::Memory),
+        Stop::Wrong => Err(ReadTokensStop::Wrong(tokens.len() - reader.count_left())),
     }
 }

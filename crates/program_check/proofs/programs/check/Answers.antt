@@ -8,5 +8,5 @@ use Rattle.program_check.proofs.programs.check.Goals as goal
 pub invariant_of-result : goal.invariant_of-result
 invariant_of-result c =
     let same = ap (λ (xs : List Item). map plain_item xs) c.deref.ensures.value in
-    let passes = subst (λ (items : List plain.Item). Passes items c.number_and_sign.new.declared c.in_ok-signatures.signatures.items) same c.in_ok-signatures.ensures in
+    let passes = subst (λ (items : List plain.Item). Passes items c.number_and_sign.new.declared c.in-Ok.signatures.items) same c.in-Ok.ensures in
     record { well_formed = passes.well_formed; numbered = passes.numbered; signed = passes.signed }
