@@ -8,7 +8,6 @@ use Rattle.fast_syntax.proofs.Appending.{drop_at}
 use Rattle.fast_fault.specs.declared.code.Code.TheVariants.{DuplicateVariable}
 use Rattle.model_program.specs.Syntax.{Name, TypeItem, Demand}
 use Rattle.model_grammar.specs.Syntax.{Rule, Out, Item}
-use Rattle.model_checks.specs.Sorts.{Scope}
 use Rattle.model_checks.specs.Types.{repeated}
 use Rattle.model_checks.specs.Rules.{constructor_failures, scope_of, guard_failures, type_at, demand_failures}
 use Rattle.program_check.specs.declared.checker.Checker.{Checker}
@@ -33,12 +32,12 @@ either_way f None o e = sym e
 either_way f (Some x) o e = sym e
 
 -- a rule, by its parts
-pub rule_noted : (items : List Item) (of into : Name) (r : Rule) (out : Option Out) (t : Option TypeItem) (s : Scope) (vars : List Name) (given : List Demand) (n : ℕ) (a b c d e f : Checker) → t ≡ type_at items of → s ≡ scope_of t → vars ≡ r.vars → given ≡ r.given → n ≡ length r.vars
-    → Noted a b (constructor_failures t r.ctor n) → Noted b c (repeated DuplicateVariable vars) → Noted c d (guard_failures s r.guard) → Noted d e (flat_map (demand_failures items of vars) given) → Noted e f (made_failures items of into vars out)
+pub rule_noted : (items : List Item) (of into : Name) (r : Rule) (out : Option Out) (t : Option TypeItem) (vars : List Name) (given : List Demand) (n : ℕ) (a b c d e f : Checker) → t ≡ type_at items of → vars ≡ r.vars → given ≡ r.given → n ≡ length r.vars
+    → Noted a b (constructor_failures t r.ctor n) → Noted b c (repeated DuplicateVariable vars) → Noted c d (guard_failures (scope_of t) r.guard) → Noted d e (flat_map (demand_failures items of vars) given) → Noted e f (made_failures items of into vars out)
     → Noted a f (whole_rule_failures items of into r out)
-rule_noted items of into r out t s vars given n a b c d e f t_is s_is vars_are given_is many one two three four five =
+rule_noted items of into r out t vars given n a b c d e f t_is vars_are given_is many one two three four five =
     next (next (same (ap₂ (λ o m. constructor_failures o r.ctor m) t_is many) one)
-    (next (same (ap (repeated DuplicateVariable) vars_are) two) (next (same (ap (λ x. guard_failures x r.guard) (s_is ∙ ap scope_of t_is)) three)
+    (next (same (ap (repeated DuplicateVariable) vars_are) two) (next (same (ap (λ x. guard_failures (scope_of x) r.guard) t_is) three)
     (same (ap₂ (λ vs ds. flat_map (demand_failures items of vs) ds) vars_are given_is) four)))) (same (ap (λ vs. made_failures items of into vs out) vars_are) five)
 
 -- whether one of them passes, seen element by element

@@ -5,7 +5,6 @@ ghost use Rattle.std.specs.Prelude.{◌≡◌, Some, None, map, is_some};
 ghost use Rattle.std.specs.List.{flat_map};
 ghost use Rattle.std.specs.Option.{option_map};
 ghost use Rattle.model_names.specs.Declared.{find_type};
-ghost use Rattle.model_names.specs.Kinds.{declared_type};
 ghost use Rattle.fast_syntax.specs.View.{plain_name, plain_demand};
 ghost use Rattle.fast_syntax.specs.Plain.{plain_guard, plain_rule, plain_out};
 ghost use Rattle.model_checks.specs.Rules.{differ, constructor_failures, label_count_failures, scope_of, variable_failures, guard_failures, type_name_failures, demand_failures};
@@ -114,11 +113,12 @@ impl Checker {
     }
 
     /// A guard is a truth value.
-    fn check_guard(&mut self, scope: &Scope, guard: &Option<Expr>)
-        ensures { Notes self.old self.new (guard_failures (plain_scope scope.now) (plain_guard guard.now)) }
+    fn check_guard(&mut self, of: &Option<DeclaredType>, guard: &Option<Expr>)
+        ensures { Notes self.old self.new (guard_failures (scope_of (plain_option of.now)) (plain_guard guard.now)) }
     {
         if let Some(guard) = guard {
-            self.check_sorted(scope, Sort::Bool, guard);
+            self.check_sorted(&scope_of(of), Sort::Bool, guard)
+                .into_side(guard.place);
         }
     }
 
@@ -144,17 +144,16 @@ impl Checker {
     fn check_given(
         &mut self,
         context: &Context,
-        of: &Name,
-        input: Option<&Text>,
+        types: &Between,
         vars: &Vars,
         given: &[Demand],
     )
-        requires { type_name input ≡ declared_type (items_of context.now) (plain_name of.now) }
-        ensures { Kept self.old vars.now → Notes self.old self.new (flat_map (demand_failures (items_of context.now) (plain_name of.now) (plain_vars vars.now)) (map plain_demand given.now)) }
+        requires { AreFound (items_of context.now) types.now }
+        ensures { Kept self.old vars.now → Notes self.old self.new (flat_map (demand_failures (items_of context.now) (plain_name types.now.from.now) (plain_vars vars.now)) (map plain_demand given.now)) }
     {
         let wanted = Standing {
             kind: Some(Kind::Language),
-            input,
+            input: name_of(&types.inputs),
             output: None,
         };
         'given: for demand in given {
@@ -179,9 +178,8 @@ impl Checker {
             all: &rule.vars,
             names: self.check_repeated(Code::DuplicateVariable, &rule.vars),
         };
-        self.check_guard(&scope_of(&types.inputs), &rule.guard);
-        let input = name_of(&types.inputs);
-        self.check_given(context, types.from, input, &vars, &rule.given);
+        self.check_guard(&types.inputs, &rule.guard);
+        self.check_given(context, types, &vars, &rule.given);
         self.check_made(context, types, &vars, out);
     }
 }

@@ -9,5 +9,5 @@ use Rattle.program_check.proofs.checker.Checker.check_given.Given as goal
 
 abbrev pub invariant-given : goal.invariant-given
 invariant-given l =
-    let each = demand_failures (items_of l.context) (plain_name l.of) (plain_vars l.vars) in
+    let each = demand_failures (items_of l.context) (plain_name l.types.from.now) (plain_vars l.vars) in
     Kept l.initial.self l.vars → Left l.initial.self l.self (flat_map each (map plain_demand l.given)) (flat_map each (map plain_demand (drop l.demand-index l.given)))

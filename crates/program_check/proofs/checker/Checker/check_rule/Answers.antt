@@ -6,16 +6,12 @@ use Rattle.fast_syntax.specs.View.{plain_name, plain_demand}
 use Rattle.fast_syntax.specs.Plain.{plain_rule, plain_out}
 use Rattle.model_checks.specs.Types.{is_among, repeated}
 use Rattle.program_check.specs.Contexts.{items_of}
-use Rattle.program_check.specs.Known.{plain_scope}
 use Rattle.program_check.specs.Typed.{plain_option}
 use Rattle.program_check.specs.declared.vars.Vars.{Vars}
 use Rattle.program_check.specs.Variables.{Kept}
 use Rattle.program_check.proofs.Noting.{same}
 use Rattle.program_check.proofs.Searching.{rule_noted}
 use Rattle.program_check.proofs.checker.Checker.check_rule.Goals as goal
-
-pub check_given-requires : goal.check_given-requires
-check_given-requires c = c.name_of-input.ensures ∙ ap (option_map (λ t. t.name.text)) c.requires.inputs
 
 pub returns : goal.returns
 returns c h =
@@ -32,6 +28,6 @@ returns c h =
     let held = rule.vars.ok in
     let many : c.len.result ≡ length rule.vars.items = omega arith in
     rule_noted (items_of c.args.context.now) (plain_name c.args.types.now.from.now) (plain_name c.args.types.now.into.now) (plain_rule rule) (option_map (λ o. plain_out o.now) c.args.out)
-    (plain_option c.args.types.now.inputs) (plain_scope c.scope_of.result) (map plain_name c.deref.result.now) (map plain_demand c.deref-3.result.now) c.len.result _ _ _ _ _ _
-    c.requires.inputs c.scope_of.ensures (ap (map plain_name) c.deref.ensures.value) (ap (map plain_demand) c.deref-3.ensures.value) (many ∙ sym (length-map rule.vars.items plain_name))
+    (plain_option c.args.types.now.inputs) (map plain_name c.deref.result.now) (map plain_demand c.deref-3.result.now) c.len.result _ _ _ _ _ _
+    c.requires.inputs (ap (map plain_name) c.deref.ensures.value) (ap (map plain_demand) c.deref-3.ensures.value) (many ∙ sym (length-map rule.vars.items plain_name))
     (c.check_constructor.ensures two.had) (same (ap (λ xs. repeated DuplicateVariable (map plain_name xs)) (sym vars_are)) two) three four five
