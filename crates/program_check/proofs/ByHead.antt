@@ -22,7 +22,7 @@ use Rattle.fast_syntax.specs.View.{plain_name}
 use Rattle.fast_syntax.specs.Plain.{plain_into}
 use Rattle.program_check.specs.Typed.{type_name}
 use Rattle.program_check.specs.Standings.{plain_kind, IsStanding}
-use Rattle.program_check.specs.Heads.{PlainHead, head_of, head_named, not_ruled, ruled_failures, head_failures, content_failures, headless_failures}
+use Rattle.program_check.specs.Heads.{PlainHead, head_of, head_named, not_ruled, ruled_failures, head_failures, behind_head}
 
 -- what is lent of something that may be there
 pub lent : {A B : Type 0} (f : A → B) (r : Option (Bor A)) (o : Option A) → option_copied r ≡ o → option_map (λ x. f x.now) r ≡ option_map f o
@@ -184,10 +184,10 @@ module _ (items before : List Item) (name : Name) where
   some_named h b is tells = ap (λ b. fails_if (not b) UsedTooEarly name.place) tells ∙ ap (λ h. option_map_or (λ (h : PlainHead). fails_if (not (h.has_rules || is_some (find_item before name.text))) UsedTooEarly name.place) h (failure UnknownName name.place)) (sym is) ∙ name_by_head items before name
 
 -- an item, by its head and what stands behind it
-pub item_by_head : (items before : List Item) (b : Body) → option_map_or (λ h. head_failures items before h ++ content_failures items before h b) (head_of b) (headless_failures items before b) ≡ body_failures items before b
+pub item_by_head : (items before : List Item) (b : Body) → option_map_or (head_failures items before) (head_of b) [] ++ behind_head items before b ≡ body_failures items before b
 item_by_head items before (sorts t) = refl
 item_by_head items before (tree t) =
-    ap (λ xs. (name_again items before t.name ++ xs) ++ (whole ++ [])) (ends type) ∙ ap (λ xs. (name_again items before t.name ++ type) ++ xs) (ends whole) ∙ append_assoc (name_again items before t.name) type whole
+    ap (λ xs. (name_again items before t.name ++ xs) ++ whole) (ends type) ∙ append_assoc (name_again items before t.name) type whole
   where
     type : List Refusal
     type = type_name_failures items t.of

@@ -1,11 +1,11 @@
 -- The heads of items, and what a name may stand for that is to have rules.
-use Rattle.std.specs.Prelude.{ℕ, Bool, true, false, ◌||◌, not, cond, List, [], ◌++◌, map, Option, Some, None}
+use Rattle.std.specs.Prelude.{ℕ, Bool, true, false, ◌||◌, not, cond, List, ◌++◌, map, Option, Some, None}
 use Rattle.std.specs.Option.{option_map, option_map_or, option_and_then}
 use Rattle.std.specs.List.{flat_map}
 use Rattle.fast_fault.specs.declared.code.Code.TheVariants.{UnknownName, WrongKind, WrongType}
 use Rattle.fast_fault.specs.declared.refusal.Refusal.{Refusal}
 use Rattle.model_program.specs.Syntax.{Name}
-use Rattle.model_grammar.specs.Syntax.{X, Body, sorts, tree, lang, trans, def, assertion, Item}
+use Rattle.model_grammar.specs.Syntax.{Body, sorts, tree, lang, trans, def, assertion, Item}
 use Rattle.model_names.specs.Declared.{find_item}
 use Rattle.model_names.specs.Kinds.{Kind, language, transformation, a_tree, defined_kind, declared_type}
 use Rattle.model_checks.specs.Failures.{failure, fails_if}
@@ -52,24 +52,11 @@ ruled_failures items kind input output name = option_map_or (not_ruled items kin
 abbrev pub head_failures : List Item → List Item → PlainHead → List Refusal
 head_failures items before h = name_again items before h.name ++ (type_name_failures items h.input ++ into_failures items before h.output)
 
--- what fails in the expression of a definition or a tree
-abbrev pub value_failures : List Item → List Item → PlainHead → X → List Refusal
-value_failures items before h x = whole_failures items before (declared_type items h.input) h.kind x ++ needs_output items before h.output x
-
--- what fails behind a head
-abbrev pub content_failures : List Item → List Item → PlainHead → Body → List Refusal
-content_failures items before h (sorts t) = []
-content_failures items before h (tree t) = value_failures items before h t.value
-content_failures items before h (lang l) = rule_limit l.rules ++ flat_map (rule_failures items l.of) l.rules
-content_failures items before h (trans t) = rule_limit (map (λ r. r.rule) t.rules) ++ flat_map (out_rule_failures items t.from t.into) t.rules
-content_failures items before h (def d) = value_failures items before h d.value
-content_failures items before h (assertion a) = []
-
--- what fails in an item without a head
-abbrev pub headless_failures : List Item → List Item → Body → List Refusal
-headless_failures items before (sorts t) = type_again items before t.name ++ type_failures t
-headless_failures items before (tree t) = []
-headless_failures items before (lang l) = []
-headless_failures items before (trans t) = []
-headless_failures items before (def d) = []
-headless_failures items before (assertion a) = claim_failures items before a.claim
+-- what fails behind the head of an item, and in one without a head
+abbrev pub behind_head : List Item → List Item → Body → List Refusal
+behind_head items before (sorts t) = type_again items before t.name ++ type_failures t
+behind_head items before (tree t) = whole_failures items before (declared_type items t.of) a_tree t.value
+behind_head items before (lang l) = rule_limit l.rules ++ flat_map (rule_failures items l.of) l.rules
+behind_head items before (trans t) = rule_limit (map (λ r. r.rule) t.rules) ++ flat_map (out_rule_failures items t.from t.into) t.rules
+behind_head items before (def d) = whole_failures items before (declared_type items d.from) (defined_kind d.into) d.value ++ needs_output items before d.into d.value
+behind_head items before (assertion a) = claim_failures items before a.claim

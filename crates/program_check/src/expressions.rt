@@ -209,7 +209,7 @@ fn output_of_two<'p>(op: Op2, first: &Standing<'p>, second: &Standing<'p>) -> Op
 }
 
 /// The name of the type that has this name.
-fn declared<'p>(context: &Context<'p>, name: Option<&Name>) -> Option<&'p Text>
+pub(crate) fn declared<'p>(context: &Context<'p>, name: Option<&Name>) -> Option<&'p Text>
     ensures { type_name result ≡ option_and_then (declared_type (items_of context.now)) (option_map (λ n. plain_name n.now) name.entry) }
 {
     match name {

@@ -1,28 +1,29 @@
 //! What may fail in an item, by its kind.
 
-ghost use Rattle.std.specs.Prelude.{◌≡◌, ◌++◌, Some, None, map};
+ghost use Rattle.std.specs.Prelude.{◌≡◌, ◌++◌, [], Some, None, map};
 ghost use Rattle.std.specs.List.{flat_map};
-ghost use Rattle.std.specs.Option.{option_map};
+ghost use Rattle.std.specs.Option.{option_map, option_map_or};
 ghost use Rattle.fast_syntax.specs.View.{plain_name, plain_type};
-ghost use Rattle.fast_syntax.specs.Plain.{plain_x, plain_rule, plain_out_rule, plain_claim, plain_body, plain_item};
+ghost use Rattle.fast_syntax.specs.Plain.{plain_x, plain_rule, plain_out_rule, plain_claim, plain_def, plain_body, plain_item};
 ghost use Rattle.model_checks.specs.Rules.{rule_limit, rule_failures, out_rule_failures};
 ghost use Rattle.model_checks.specs.Programs.{is_tree, type_again, claim_failures, body_failures};
 ghost use Rattle.program_check.specs.Notes.{HasMemory, Notes};
 ghost use Rattle.program_check.specs.Contexts.{items_of, before_of};
-ghost use Rattle.program_check.specs.Typed.{AreFound};
 ghost use Rattle.program_check.specs.Standings.{plain_kind, IsStanding, beside_failures};
-ghost use Rattle.program_check.specs.Heads.{plain_head, head_failures, value_failures, content_failures, headless_failures};
+ghost use Rattle.program_check.specs.Heads.{head_of, head_failures, behind_head};
 ghost use Rattle.model_grammar.specs.Syntax as plain;
 ghost use Rattle.model_checks.specs.Types.{type_failures};
 
 use crate::checker::Checker;
 use crate::context::Context;
-use crate::expressions::{Kind, Standing, only_as, place_of, standing_of};
-use crate::heads::{Head, head_of};
+use crate::expressions::{Kind, Standing, declared, defined_kind, only_as, place_of};
+use crate::heads::head_of;
 use crate::limits::MOST_RULES;
 use crate::rules::{Between, differ};
 use fast_fault::Code;
-use fast_syntax::items::{Body, Claim, Item, OutRule, Rule, X};
+use fast_syntax::items::{
+    Body, Claim, DefItem, Item, OutRule, Rule, X,
+};
 use fast_syntax::{Name, TypeItem};
 
 fn is_tree(standing: &Standing) -> bool
@@ -37,9 +38,12 @@ fn is_tree(standing: &Standing) -> bool
 
 impl Checker {
     /// What an item declares wasn't declared before, and its types are declared.
-    fn check_head(&mut self, context: &Context, head: &Head)
-        ensures { Notes self.old self.new (head_failures (items_of context.now) (before_of context.now) (plain_head head.now)) }
+    fn check_head(&mut self, context: &Context, item: &Item)
+        ensures { Notes self.old self.new (option_map_or (head_failures (items_of context.now) (before_of context.now)) (head_of (plain_item item.now).body) []) }
     {
+        let Some(head) = head_of(item) else {
+            return;
+        };
         let again = context.has_item_before(&head.name.text);
         self.note_if(again, Code::DuplicateName, head.name.place);
         self.check_type_name(context, head.input);
@@ -48,14 +52,15 @@ impl Checker {
         }
     }
 
-    /// The expression of a definition or a tree is of the kind and of the types that its head says.
-    fn check_value(&mut self, context: &Context, head: &Head, x: &X)
-        ensures { Notes self.old self.new (value_failures (items_of context.now) (before_of context.now) (plain_head head.now) (plain_x x.now)) }
+    /// The expression of a definition is of the kind and of the types that it says.
+    fn check_def(&mut self, context: &Context, item: &DefItem)
+        ensures { Notes self.old self.new (behind_head (items_of context.now) (before_of context.now) (plain.def (plain_def item.now))) }
     {
-        let wanted = standing_of(context, head);
-        let found = self.check_as(context, 0, wanted.input, head.kind, x);
+        let input = context.type_name(&item.from.text);
+        let wanted = declared(context, item.into.as_ref());
+        let found = self.check_as(context, 0, input, defined_kind(&item.into), &item.value);
         let output = only_as(Kind::Transformation, found.kind, found.output);
-        self.note_if(differ(wanted.output, output), Code::WrongType, place_of(x));
+        self.note_if(differ(wanted, output), Code::WrongType, place_of(&item.value));
     }
 
     fn check_rule_limit(&mut self, rules: &[Rule])
@@ -67,8 +72,9 @@ impl Checker {
     }
 
     fn check_rules(&mut self, context: &Context, of: &Name, rules: &[Rule])
-        ensures { Notes self.old self.new (flat_map (rule_failures (items_of context.now) (plain_name of.now)) (map plain_rule rules.now)) }
+        ensures { Notes self.old self.new (rule_limit (map plain_rule rules.now) ++ flat_map (rule_failures (items_of context.now) (plain_name of.now)) (map plain_rule rules.now)) }
     {
+        self.check_rule_limit(rules);
         let declared = context.find_type(&of.text);
         let types = Between {
             from: of,
@@ -89,12 +95,18 @@ impl Checker {
         }
     }
 
-    fn check_out_rules(&mut self, context: &Context, types: &Between, rules: &[OutRule])
-        requires { AreFound (items_of context.now) types.now }
-        ensures { Notes self.old self.new (flat_map (out_rule_failures (items_of context.now) (plain_name types.now.from.now) (plain_name types.now.into.now)) (map plain_out_rule rules.now)) }
+    fn check_out_rules(&mut self, context: &Context, from: &Name, into: &Name, rules: &[OutRule])
+        ensures { Notes self.old self.new (rule_limit (map (λ r. plain_rule r.rule) rules.now) ++ flat_map (out_rule_failures (items_of context.now) (plain_name from.now) (plain_name into.now)) (map plain_out_rule rules.now)) }
     {
+        self.check_out_rule_limit(rules);
+        let types = Between {
+            from,
+            into,
+            inputs: context.find_type(&from.text),
+            outputs: context.find_type(&into.text),
+        };
         'rules: for rule in rules {
-            self.check_rule(context, types, &rule.rule, Some(&rule.out));
+            self.check_rule(context, &types, &rule.rule, Some(&rule.out));
         }
     }
 
@@ -154,39 +166,22 @@ impl Checker {
         self.check_type(item)
     }
 
-    /// What stands behind a head.
-    fn check_content(&mut self, context: &Context, head: &Head, body: &Body)
-        ensures { Notes self.old self.new (content_failures (items_of context.now) (before_of context.now) (plain_head head.now) (plain_body body.now)) }
-    {
-        match body {
-            Body::Sorts(_) | Body::Assert(_) => {}
-            Body::Tree(item) => self.check_value(context, head, &item.value),
-            Body::Def(item) => self.check_value(context, head, &item.value),
-            Body::Lang(item) => {
-                self.check_rule_limit(&item.rules);
-                self.check_rules(context, &item.of, &item.rules)
-            }
-            Body::Trans(item) => {
-                let types = Between {
-                    from: &item.from,
-                    into: &item.into,
-                    inputs: context.find_type(&item.from.text),
-                    outputs: context.find_type(&item.into.text),
-                };
-                self.check_out_rule_limit(&item.rules);
-                self.check_out_rules(context, &types, &item.rules)
-            }
-        }
-    }
-
-    /// An item without a head: a type or a claim.
-    fn check_headless(&mut self, context: &Context, body: &Body)
-        ensures { Notes self.old self.new (headless_failures (items_of context.now) (before_of context.now) (plain_body body.now)) }
+    /// What stands behind the head of an item, or all of one that has none.
+    fn check_body(&mut self, context: &Context, body: &Body)
+        ensures { Notes self.old self.new (behind_head (items_of context.now) (before_of context.now) (plain_body body.now)) }
     {
         match body {
             Body::Sorts(item) => self.check_sorts(context, item),
+            Body::Tree(item) => {
+                let wanted = context.type_name(&item.of.text);
+                self.check_as(context, 0, wanted, Kind::Tree, &item.value);
+            }
+            Body::Lang(item) => self.check_rules(context, &item.of, &item.rules),
+            Body::Trans(item) => {
+                self.check_out_rules(context, &item.from, &item.into, &item.rules)
+            }
+            Body::Def(item) => self.check_def(context, item),
             Body::Assert(item) => self.check_claim(context, &item.claim),
-            Body::Tree(_) | Body::Lang(_) | Body::Trans(_) | Body::Def(_) => {}
         }
     }
 
@@ -194,12 +189,7 @@ impl Checker {
     pub(crate) fn check_item(&mut self, context: &Context, item: &Item)
         ensures { Notes self.old self.new (body_failures (items_of context.now) (before_of context.now) (plain_item item.now).body) }
     {
-        match head_of(item) {
-            Some(head) => {
-                self.check_head(context, &head);
-                self.check_content(context, &head, &item.body)
-            }
-            None => self.check_headless(context, &item.body),
-        }
+        self.check_head(context, item);
+        self.check_body(context, &item.body)
     }
 }

@@ -9,5 +9,5 @@ use Rattle.program_check.proofs.checker.Checker.check_out_rules.Given as goal
 
 abbrev pub invariant-rules : goal.invariant-rules
 invariant-rules l =
-    let each = out_rule_failures (items_of l.context) (plain_name l.types.from.now) (plain_name l.types.into.now) in
+    let each = out_rule_failures (items_of l.context) (plain_name l.from) (plain_name l.into) in
     Left l.initial.self l.self (flat_map each (map plain_out_rule l.rules)) (flat_map each (map plain_out_rule (drop l.rule-index l.rules)))

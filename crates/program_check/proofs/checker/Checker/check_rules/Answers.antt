@@ -5,7 +5,7 @@ use Rattle.fast_syntax.specs.View.{plain_name}
 use Rattle.fast_syntax.specs.Plain.{plain_rule}
 use Rattle.model_checks.specs.Rules.{rule_failures}
 use Rattle.program_check.specs.Contexts.{items_of}
-use Rattle.program_check.proofs.Noting.{same, ends, more, done, one_of}
+use Rattle.program_check.proofs.Noting.{next, same, ends, more, done, one_of}
 use Rattle.program_check.proofs.checker.Checker.check_rules.Goals as goal
 
 pub check_rule-requires : goal.check_rule-requires
@@ -20,4 +20,5 @@ rules-preserved c h =
 pub returns : goal.returns
 returns c h =
     let each = rule_failures (items_of c.args.context.now) (plain_name c.args.of.now) in
-    done (ap (λ xs. flat_map each (map plain_rule xs)) (drop_all c.rules.rule-index c.args.rules.now c.rules-test.false)) (c.rules.invariant h)
+    let rest = done (ap (λ xs. flat_map each (map plain_rule xs)) (drop_all c.rules.rule-index c.args.rules.now c.rules-test.false)) (c.rules.invariant h) in
+    next (c.check_rule_limit.ensures rest.had) rest
