@@ -49,12 +49,16 @@ fn number_of(text: &str) -> Option<i128>
 pub(crate) fn numeral_next<'t>(reader: &Reader<'t>) -> Option<(Token<'t>, i128)>
     ensures { MatchOption result (NoNumeral (left reader.now)) (λ x. IsNumeralAt (left reader.now) (lexeme x.0) x.1 (behind reader.now)) }
 {
-    let token = reader.peek()?;
+    let Some(token) = reader.peek() else {
+        return None;
+    };
     if !is_same(token.word, Word::Number) {
         return None;
     }
-    let number = number_of(token.text)?;
-    Some((token, number))
+    match number_of(token.text) {
+        Some(number) => Some((token, number)),
+        None => None,
+    }
 }
 
 pub fn read_numeral<'t>(reader: &mut Reader<'t>) -> Result<(Token<'t>, i128), Stop>

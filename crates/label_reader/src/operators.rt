@@ -80,9 +80,13 @@ fn rel_of(word: Word) -> Option<Rel>
 pub(crate) fn rel_next<'t>(reader: &Reader<'t>) -> Option<(Token<'t>, Rel)>
     ensures { MatchOption result (NoRel (left reader.now)) (λ x. (left reader.now ≡ lexeme x.0 ∷ behind reader.now) × (x.0.word ≡ rel_word x.1)) }
 {
-    let token = reader.peek()?;
-    let rel = rel_of(token.word)?;
-    Some((token, rel))
+    let Some(token) = reader.peek() else {
+        return None;
+    };
+    match rel_of(token.word) {
+        Some(rel) => Some((token, rel)),
+        None => None,
+    }
 }
 
 fn many_of(word: Word) -> Option<Chain>
@@ -101,9 +105,13 @@ fn many_of(word: Word) -> Option<Chain>
 pub(crate) fn many_next<'t>(reader: &Reader<'t>) -> Option<(Token<'t>, Chain)>
     ensures { MatchOption result (NoMany (left reader.now)) (λ x. (left reader.now ≡ lexeme x.0 ∷ behind reader.now) × IsMany x.1 x.0.word) }
 {
-    let token = reader.peek()?;
-    let kind = many_of(token.word)?;
-    Some((token, kind))
+    let Some(token) = reader.peek() else {
+        return None;
+    };
+    match many_of(token.word) {
+        Some(kind) => Some((token, kind)),
+        None => None,
+    }
 }
 
 /// Whether a primary expression comes next, if any expression does that doesn't begin with `-` or `not`.
