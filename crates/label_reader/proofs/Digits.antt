@@ -90,7 +90,8 @@ minus_is zero = refl
 minus_is (suc m) = omega (arith, ints)
 
 -- the number that is written with a `-`
-pub negated_number_is : (n : ℤ) (m : ℕ) → n ≡ pos m → m < 10 ^ 38 → to_z w128 (of_z w128 (pos 0 -ℤ to_z w128 (of_z w128 n))) ≡ negative m
-negated_number_is n m is small =
+pub negated_number_is : (n : ℤ) (text : List ℕ) → n ≡ pos (digits_value 10 text) → IsDigits text → to_z w128 (of_z w128 (pos 0 -ℤ to_z w128 (of_z w128 n))) ≡ negative (digits_value 10 text)
+negated_number_is n text is digits =
+    let m = digits_value 10 text in let small = digits_small text digits in
     let e : to_z w128 (of_z w128 n) ≡ pos m = to_z-of_z w128 n (fits_below n m is small) ∙ is in
     ap (λ z. to_z w128 (of_z w128 (pos 0 -ℤ z))) e ∙ ap (λ z. to_z w128 (of_z w128 z)) (minus_is m) ∙ to_z-of_z w128 (negative m) (negated_fits m small)

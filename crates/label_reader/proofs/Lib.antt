@@ -8,6 +8,7 @@ pub mod Closings
 pub mod LevelForms
 pub mod Gathered
 pub mod Primaries
+pub mod ByToken
 pub mod Insides
 pub mod Further
 pub mod Listed

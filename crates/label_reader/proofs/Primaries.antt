@@ -8,6 +8,7 @@ use Rattle.model_program.specs.Joined.{◌⌢◌, IsNext, IsOther, ◌⊗◌}
 use Rattle.read_forms.specs.Reads.{GoesOnAs, Stops, IsRead, IsRefused, Fails, StartsIn, closed}
 use Rattle.model_program.specs.Grammar.{IsWord, IsDigits}
 use Rattle.model_program.specs.Quotes.{IsQuoted, no_units}
+use Rattle.model_program.proofs.QuoteLaws.{quoted_stands_for}
 use Rattle.read_forms.specs.Parts.{HasSample, AllStartIn, other_than}
 use Rattle.read_forms.proofs.Forms.{Makes, as_fails, stops_next, stops_other, stops_other_than, alternative}
 use Rattle.read_forms.proofs.Words.{sample_token, word_starts}
@@ -64,15 +65,15 @@ numeral_read t tokens rest here is digits = record {
   only = λ more other after v as_rest same spelled stops. let e : t ∷ more ≡ v ∷ after = same ∙ ap (λ l. l ++ after) spelled.0.0 in (cc, cc);
 }
 
-pub string_read : (t : Lexeme) (values : List ℕ) (tokens rest : List Lexeme) → tokens ≡ t ∷ rest → t.word ≡ Quoted → IsQuoted t.text values → ((others : List ℕ) → IsQuoted t.text others → others ≡ values) → IsRead IsString closed tokens (t, values) rest
-string_read t values tokens rest here is quoted one = record {
+pub string_read : (t : Lexeme) (values : List ℕ) (tokens rest : List Lexeme) → tokens ≡ t ∷ rest → t.word ≡ Quoted → IsQuoted t.text values → IsRead IsString closed tokens (t, values) rest
+string_read t values tokens rest here is quoted = record {
   part = t ∷ [];
   split = here;
   spelled = ((refl, is), quoted);
   only = λ more other after v as_rest same spelled stops.
       let e : t ∷ more ≡ v.0 ∷ after = same ∙ ap (λ l. l ++ after) spelled.0.0 in
       let f : v.0 ≡ t = cc in
-      let g : v.1 ≡ values = one v.1 (subst (λ (l : Lexeme). IsQuoted l.text v.1) f spelled.1) in
+      let g : v.1 ≡ values = sym (quoted_stands_for _ v.1 (subst (λ (l : Lexeme). IsQuoted l.text v.1) f spelled.1)) ∙ quoted_stands_for _ values quoted in
       let both : v ≡ (t, values) = λ i. (f i, g i) in
       (both, cc);
 }

@@ -1,6 +1,7 @@
 -- Tokens of constants.
 use Rattle.std.specs.Prelude.{◌≡◌, ◌<◌, ◌^◌, ℕ, ℤ, pos, List, ◌∷◌}
 use Rattle.std.specs.Str.Parse.{digits_value}
+use Rattle.fast_fault.specs.declared.place.Pos.{Pos}
 use Rattle.model_program.specs.declared.Word.TheVariants.{Number, Quoted}
 use Rattle.model_program.specs.Lexeme.{Lexeme}
 use Rattle.model_program.specs.Grammar.{IsWord, IsDigits}
@@ -18,18 +19,24 @@ IsAmount t n = (n ≡ pos (digits_value 10 t.text)) × (digits_value 10 t.text <
 abbrev pub NoNumeral : List Lexeme → Type 0
 NoNumeral tokens = (t : Lexeme) (rest : List Lexeme) → tokens ≡ t ∷ rest → t.word ≡ Number → IsDigits t.text → ⊥
 
--- they begin with it
-pub record IsNumeralAt (tokens : List Lexeme) (t : Lexeme) (n : ℤ) (rest : List Lexeme) : Type 0 where
-  pub here : tokens ≡ t ∷ rest
-  pub word : t.word ≡ Number
-  pub digits : IsDigits t.text
-  pub amount : IsAmount t n
+-- they begin with it, and it writes the number
+pub record IsNumeralAt (tokens : List Lexeme) (place : Pos) (n : ℤ) (rest : List Lexeme) : Type 0 where
+  pub token : Lexeme
+  pub here : tokens ≡ token ∷ rest
+  pub word : token.word ≡ Number
+  pub digits : IsDigits token.text
+  pub amount : IsAmount token n
+  pub at : place ≡ token.place
 
 -- whatever stands behind it
-abbrev pub IsNumeralNext : List Lexeme → Lexeme → ℤ → Type 0
-IsNumeralNext tokens t n = (rest : List Lexeme) × IsNumeralAt tokens t n rest
+abbrev pub IsNumeralNext : List Lexeme → Pos → ℤ → Type 0
+IsNumeralNext tokens place n = (rest : List Lexeme) × IsNumeralAt tokens place n rest
 
--- a STRING token, and what it stands for
+-- STRING, by what it stands for
+abbrev pub IsQuotation : List ℕ → List Lexeme → Type 0
+IsQuotation values tokens = (t : Lexeme) × IsWord Quoted t tokens × IsQuoted t.text values
+
+-- its token, and what it stands for
 abbrev pub IsString : Lexeme × List ℕ → List Lexeme → Type 0
 IsString v tokens = IsWord Quoted v.0 tokens × IsQuoted v.0.text v.1
 

@@ -1,17 +1,17 @@
 //! Numbers and texts: each is read with the value that it stands for, and a number with more than 38 digits is refused.
 
-ghost use Rattle.std.specs.Prelude.{◌≡◌, ◌∷◌, [], MatchOption, IfOk, pos, ◌<◌, ◌^◌, Some, None};
+ghost use Rattle.std.specs.Prelude.{◌≡◌, ◌∷◌, [], MatchOption, pos, ◌<◌, ◌^◌, Some, None};
 ghost use Rattle.std.specs.Str.{chars};
 ghost use Rattle.std.specs.Str.Parse.{digits_value};
 ghost use Rattle.read_forms.specs.Reads.{closed};
-ghost use Rattle.model_program.specs.Grammar.{IsDigits};
-ghost use Rattle.fast_lex.specs.Tokens.{lexeme};
+ghost use Rattle.model_program.specs.Grammar.{IsDigits, IsNumber};
 ghost use Rattle.label_reader.specs.Results.{left, behind, Reads};
-ghost use Rattle.label_reader.specs.Constants.{IsNumeral, NoNumeral, IsNumeralAt, IsAmount, IsString};
+ghost use Rattle.label_reader.specs.Constants.{NoNumeral, IsNumeralAt, IsQuotation};
 
 use crate::reader::{Reader, is_same};
 use crate::stop::Stop;
-use fast_lex::{Token, Word, is_quoted, quoted_value};
+use fast_fault::Pos;
+use fast_lex::{Word, is_quoted, quoted_value};
 use fast_syntax::Text;
 
 /// The first character, and what follows it.
@@ -45,9 +45,9 @@ fn number_of(text: &str) -> Option<i128>
     Some(value as i128)
 }
 
-/// The next token, where it is a number, with the number that it writes.
-pub(crate) fn numeral_next<'t>(reader: &Reader<'t>) -> Option<(Token<'t>, i128)>
-    ensures { MatchOption result (NoNumeral (left reader.now)) (λ x. IsNumeralAt (left reader.now) (lexeme x.0) x.1 (behind reader.now)) }
+/// The number that the next token writes, where it is one, and its place.
+pub(crate) fn numeral_next(reader: &Reader) -> Option<(Pos, i128)>
+    ensures { MatchOption result (NoNumeral (left reader.now)) (λ x. IsNumeralAt (left reader.now) x.0 x.1 (behind reader.now)) }
 {
     let Some(token) = reader.peek() else {
         return None;
@@ -56,25 +56,25 @@ pub(crate) fn numeral_next<'t>(reader: &Reader<'t>) -> Option<(Token<'t>, i128)>
         return None;
     }
     match number_of(token.text) {
-        Some(number) => Some((token, number)),
+        Some(number) => Some((token.place, number)),
         None => None,
     }
 }
 
-pub fn read_numeral<'t>(reader: &mut Reader<'t>) -> Result<(Token<'t>, i128), Stop>
-    ensures read { Reads IsNumeral closed (left reader.old) (left reader.new) (λ x. lexeme x.0) result }
-    ensures value { IfOk result (λ x. IsAmount (lexeme x.0) x.1) }
+/// The number that the next token writes.
+pub fn read_numeral(reader: &mut Reader) -> Result<i128, Stop>
+    ensures { Reads IsNumber closed (left reader.old) (left reader.new) (λ n. n) result }
 {
-    let Some(found) = numeral_next(reader) else {
+    let Some((_place, number)) = numeral_next(reader) else {
         return Err(Stop::Wrong);
     };
     reader.advance();
-    Ok(found)
+    Ok(number)
 }
 
-/// A quoted text: its token, and what it stands for.
-pub fn read_string<'t>(reader: &mut Reader<'t>) -> Result<(Token<'t>, Text), Stop>
-    ensures { Reads IsString closed (left reader.old) (left reader.new) (λ x. (lexeme x.0, x.1)) result }
+/// What a quoted text stands for.
+pub fn read_string(reader: &mut Reader) -> Result<Text, Stop>
+    ensures { Reads IsQuotation closed (left reader.old) (left reader.new) (λ t. t) result }
 {
     let Some(token) = reader.peek_if(Word::Quoted) else {
         return Err(Stop::Wrong);
@@ -84,5 +84,5 @@ pub fn read_string<'t>(reader: &mut Reader<'t>) -> Result<(Token<'t>, Text), Sto
     }
     let text = quoted_value(reader.alloc, token.text)?;
     reader.advance();
-    Ok((token, text))
+    Ok(text)
 }

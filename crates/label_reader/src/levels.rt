@@ -16,7 +16,7 @@ ghost use Rattle.label_reader.specs.Results.{left, behind, Reads, IfMade};
 ghost use Rattle.label_reader.specs.Operands.{prefixed};
 ghost use Rattle.label_reader.specs.Levels.{GoesOn};
 ghost use Rattle.label_reader.specs.Constants.{NoNumeral, IsNumeralNext};
-ghost use Rattle.label_reader.specs.Inside.{IsInside, IsBehindFirst, AreTwo, IsBare, IsUnsigned, IsWhole};
+ghost use Rattle.label_reader.specs.Inside.{IsInside, IsBehindFirst, AreTwo, IsUnsigned, IsWhole};
 
 use crate::constants::{numeral_next, read_numeral, read_string};
 use crate::keep::{kept, to_close};
@@ -148,7 +148,7 @@ fn read_unary(reader: &mut Reader) -> Result<Expr, Stop>
     };
     reader.advance();
     if reader.is_next(Word::Number) {
-        let (_digits, number) = read_numeral(reader)?;
+        let number = read_numeral(reader)?;
         let place = sign.place;
         let node = Node::Num(-number);
         return Ok(Expr { place, node });
@@ -198,15 +198,11 @@ fn read_leaf(reader: &mut Reader) -> Result<Expr, Stop>
             Ok(Expr { place, node })
         }
         Word::Quoted => {
-            let (quoted, text) = read_string(reader)?;
-            let place = quoted.place;
-            let node = Node::Str(text);
+            let node = Node::Str(read_string(reader)?);
             Ok(Expr { place, node })
         }
         _ => {
-            let (numeral, number) = read_numeral(reader)?;
-            let place = numeral.place;
-            let node = Node::Num(number);
+            let node = Node::Num(read_numeral(reader)?);
             Ok(Expr { place, node })
         }
     }
@@ -262,9 +258,9 @@ fn unsigned(whole: Expr, before: &Reader, rest: &Reader) -> Result<Expr, Expr>
     match node {
         Node::Minus(operand) => Ok(Box::into_inner(operand)),
         Node::Num(number) => match numeral_behind(before) {
-            Some((token, value)) => Ok(Expr {
-                place: token.place,
-                node: Node::Num(value),
+            Some((place, number)) => Ok(Expr {
+                place,
+                node: Node::Num(number),
             }),
             None => Err(Expr {
                 place,
@@ -275,9 +271,9 @@ fn unsigned(whole: Expr, before: &Reader, rest: &Reader) -> Result<Expr, Expr>
     }
 }
 
-/// The number behind the next token.
-fn numeral_behind<'t>(before: &Reader<'t>) -> Option<(Token<'t>, i128)>
-    ensures { MatchOption result (NoNumeral (behind before.now)) (λ x. IsNumeralNext (behind before.now) (lexeme x.0) x.1) }
+/// The number behind the next token, and its place.
+fn numeral_behind(before: &Reader) -> Option<(Pos, i128)>
+    ensures { MatchOption result (NoNumeral (behind before.now)) (λ x. IsNumeralNext (behind before.now) x.0 x.1) }
 {
     let mut at_number = *before;
     at_number.advance();

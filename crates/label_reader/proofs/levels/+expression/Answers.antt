@@ -11,6 +11,7 @@ use Rattle.fast_syntax.specs.Plain.{plain_expr}
 use Rattle.label_reader.specs.Levels.{GoesOn, BeginsAt}
 use Rattle.label_reader.specs.Operands.{marked, mark_in, parts_from}
 use Rattle.label_reader.proofs.Digits.{negated_number_is}
+use Rattle.label_reader.proofs.ByToken.{numeral_of, numeral_fails}
 use Rattle.label_reader.proofs.Exits.{stepped, exit, reads_as, reads_wider, shorter, not_longer, taken, sign_next}
 use Rattle.label_reader.proofs.Keeping.{told_read, reads_whole, reads_kept, reads_closed, reads_to_close, told_kept, passes_kept, made_of_kept, made_reads, made_fails}
 use Rattle.label_reader.proofs.Joins.{without_read, without_fails}
@@ -87,14 +88,14 @@ read_comparison-returns t c = let e = stepped _ c.in-Some.ensures c.advance.ensu
 pub read_unary-returns-in_default : goal.read_unary-returns-in_default
 read_unary-returns-in_default t c = reads_as _ _ _ _ (no_minus_makes _ c.in_default.ensures) (reads_wider _ _ _ _ _ _ _ (closed_by (GoesOn Unary)) c.read_primary.ensures)
 
-pub read_unary-returns-in_err-_digits : goal.read_unary-returns-in_err-_digits
-read_unary-returns-in_err-_digits t c = let e = stepped _ c.in-Some.ensures c.advance.ensures in
-    exit _ _ _ _ c.from_residual.result c.from_residual.ensures.1 (as_fails _ (minus_makes _ (next_of Minus _ _ _ e.0 e.1)) (then_fails _ (ends_closed _ _) (word_read Minus _ _ _ e.0 e.1) (as_fails _ (negated_number _ _ (c.is_next.ensures.yes c.if-is_next.true)) (closed_fails _ c.in_err-_digits.ensures.read))))
+pub read_unary-returns-in_err-number : goal.read_unary-returns-in_err-number
+read_unary-returns-in_err-number t c = let e = stepped _ c.in-Some.ensures c.advance.ensures in
+    exit _ _ _ _ c.from_residual.result c.from_residual.ensures.1 (as_fails _ (minus_makes _ (next_of Minus _ _ _ e.0 e.1)) (then_fails _ (ends_closed _ _) (word_read Minus _ _ _ e.0 e.1) (as_fails _ (negated_number _ _ (c.is_next.ensures.yes c.if-is_next.true)) (closed_fails _ (numeral_fails _ c.in_err-number.ensures)))))
 
 pub read_unary-returns-then-is_next : goal.read_unary-returns-then-is_next
-read_unary-returns-then-is_next t c = let e = stepped _ c.in-Some.ensures c.advance.ensures in let v = c.in_ok-_digits.ensures.value in
-    read_at (ap (λ n. number c.in-Some.sign.place n) (sym (negated_number_is _ _ v.0 v.1)))
-    (as_read (minus_makes _ (next_of Minus _ _ _ e.0 e.1)) (then_read (ends_closed _ _) (word_read Minus _ _ _ e.0 e.1) (as_read (negated_number _ _ (c.is_next.ensures.yes c.if-is_next.true)) (closed_read c.in_ok-_digits.ensures.read))))
+read_unary-returns-then-is_next t c = let e = stepped _ c.in-Some.ensures c.advance.ensures in let of = numeral_of c.in_ok-number.ensures in
+    read_at (ap (λ n. number c.in-Some.sign.place n) (sym (negated_number_is _ _ of.3 of.2.spelled.1)))
+    (as_read (minus_makes _ (next_of Minus _ _ _ e.0 e.1)) (then_read (ends_closed _ _) (word_read Minus _ _ _ e.0 e.1) (as_read (negated_number _ _ (c.is_next.ensures.yes c.if-is_next.true)) (closed_read of.2))))
 
 pub read_unary-returns : goal.read_unary-returns
 read_unary-returns t c = let e = stepped _ c.in-Some.ensures c.advance.ensures in let other = c.is_next.ensures.no c.if-is_next.false in let makes = minus_makes _ (next_of Minus _ _ _ e.0 e.1) in
