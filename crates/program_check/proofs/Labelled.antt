@@ -1,5 +1,5 @@
 -- What is noted and known of a label expression, from what is so of its parts.
-use Rattle.std.proofs.Common.{◌≡◌, Bool, List, Option, Some, None, sym, ap, ap₂, ◌∙◌, subst, append_assoc, ◌++◌}
+use Rattle.std.proofs.Common.{◌≡◌, Bool, List, Option, Some, None, refl, sym, ap, ap₂, ◌∙◌, subst, append_assoc, ◌++◌}
 use Rattle.std.specs.Prelude.{negsuc}
 use Rattle.std.specs.Option.{option_map}
 use Rattle.fast_fault.specs.declared.code.Code.TheVariants.{NumberRange, WrongSort}
@@ -22,7 +22,7 @@ use Rattle.fast_syntax.specs.declared.expressions.Expr as code
 use Rattle.fast_syntax.specs.Plain.{plain_expr}
 use Rattle.program_check.specs.declared.labels.Side.{Side}
 use Rattle.program_check.proofs.Places.{place_is}
-use Rattle.model_checks.specs.Forms.{is_out_of_range, has_field, have_field, form_in_range, added}
+use Rattle.model_checks.specs.Forms.{is_out_of_range, has_field, have_field, form_in_range, kept, added}
 use Rattle.model_checks.specs.Labels.{label_failures, sorted_failures, operands_failures, compared, needs_sort_of}
 use Rattle.program_check.specs.declared.labels.Scope.{Scope}
 use Rattle.program_check.specs.declared.labels.Known.{Known}
@@ -103,6 +103,15 @@ truth_known scope e known has is sort_is has_is form_is = record {
   sort = ap (λ (k : Known). option_map plain_sort k.sort) is ∙ sort_is;
   has = ap (λ (k : Known). k.has_field) is ∙ has_is;
   form = ap (λ (k : Known). k.form) is ∙ form_is;
+}
+
+-- a number with its sign changed
+pub minus_known : (scope : Scope) (e : Expr) (place : Pos) (inside : Known) (form : Option Form) → IsKnown scope e inside → form ≡ kept (option_map (product_form (negsuc 0)) inside.form)
+    → IsKnown scope (minus place e) (record { sort = Some sorts.Int; has_field = inside.has_field; form = form })
+minus_known scope e place inside form of is = record {
+  sort = refl;
+  has = of.has;
+  form = is ∙ ap (λ f. kept (option_map (product_form (negsuc 0)) f)) of.form;
 }
 
 pub truths_known : (scope : Scope) (parts : Parts) (known : Known) (has : Bool) → known ≡ record { sort = Some sorts.Bool; has_field = has; form = None } → has ≡ have_field (plain_scope scope) parts → AreTruths scope parts known

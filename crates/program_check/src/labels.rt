@@ -455,8 +455,21 @@ impl Checker {
             Node::Num(number) => self.check_number(scope, *number, e.place),
             Node::Str(text) => self.check_text(text, e.place),
             Node::Truth(_) => Known::of_truth(false),
-            Node::Not(inside) => self.check_not(scope, inside, e.place),
-            Node::Minus(inside) => self.check_minus(scope, inside, e.place),
+            Node::Not(inside) => {
+                let truth = self
+                    .check_sorted(scope, Sort::Bool, inside)
+                    .into_side(e.place);
+                Known::of_truth(truth.has_field)
+            }
+            Node::Minus(inside) => {
+                let known = self.check_sorted(scope, Sort::Int, inside);
+                let form = self.negate(known.form, e.place);
+                Known {
+                    sort: Some(Sort::Int),
+                    has_field: known.has_field,
+                    form,
+                }
+            }
             Node::Compare(rel, left, right) => {
                 let of_left = self.check_label(scope, left).into_side(left.place);
                 let of_right = self.check_label(scope, right).into_side(right.place);
@@ -479,31 +492,6 @@ impl Checker {
         let known = self.check_label(scope, e);
         self.note_if(is_other_sort(sort, known.sort), Code::WrongSort, e.place);
         known
-    }
-
-    #[cycle(check_label)]
-    fn check_not(&mut self, scope: &Scope, inside: &Expr, place: Pos) -> Known
-        ensures noted { Notes self.old self.new (label_failures (plain_scope scope.now) (plain.negation place (plain_expr inside.now))) }
-        ensures known { HasMemory self.new → IsKnown scope.now (plain.negation place (plain_expr inside.now)) result }
-    {
-        let truth = self
-            .check_sorted(scope, Sort::Bool, inside)
-            .into_side(place);
-        Known::of_truth(truth.has_field)
-    }
-
-    #[cycle(check_label)]
-    fn check_minus(&mut self, scope: &Scope, inside: &Expr, place: Pos) -> Known
-        ensures noted { Notes self.old self.new (label_failures (plain_scope scope.now) (plain.minus place (plain_expr inside.now))) }
-        ensures known { HasMemory self.new → IsKnown scope.now (plain.minus place (plain_expr inside.now)) result }
-    {
-        let known = self.check_sorted(scope, Sort::Int, inside);
-        let form = self.negate(known.form, place);
-        Known {
-            sort: Some(Sort::Int),
-            has_field: known.has_field,
-            form,
-        }
     }
 
     /// Operands that are to be truth values, as all of them are together.

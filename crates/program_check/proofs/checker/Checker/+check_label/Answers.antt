@@ -1,10 +1,9 @@
 use Rattle.std.proofs.Common.{◌≡◌, ◌+◌, false, drop, refl, sym, ap, ap₂, ◌∙◌, ◌||◌, Some, subst, arith}
 use Rattle.std.proofs.Math.IntN.{pos}
-use Rattle.std.specs.Prelude.{negsuc}
 use Rattle.std.specs.Option.{option_map}
 use Rattle.std.proofs.lemmas.List.{drop_all}
 use Rattle.model_tree.specs.Signature.{wholes, truths}
-use Rattle.model_form.specs.Sums.{product_form, sum_form, number_form}
+use Rattle.model_form.specs.Sums.{sum_form, number_form}
 use Rattle.model_grammar.specs.declared.Chain.TheVariants.{Disjunction, Conjunction, Sum, Product}
 use Rattle.model_grammar.specs.Syntax as plain
 use Rattle.fast_syntax.specs.declared.expressions.Node.{Node}
@@ -22,8 +21,10 @@ use Rattle.program_check.proofs.FormsMade.{taken}
 use Rattle.program_check.proofs.Chains.{sorted_more, sorted_done, has_more, has_done, added_more, added_done, steps_more, steps_done, form_more, form_done}
 use Rattle.fast_fault.specs.declared.code.Code.TheVariants.{WrongSort}
 use Rattle.model_checks.specs.Failures.{fails_if}
+use Rattle.fast_tree.specs.declared.signature.Sort.TheVariants as sorts
+use Rattle.program_check.specs.declared.labels.Known.{Known}
 use Rattle.program_check.specs.declared.labels.Side.{Side}
-use Rattle.program_check.proofs.Labelled.{other_sort, side_at, truth_known, minus_noted, sum_noted, compare_noted, step_noted, or_known, and_known, truths_known}
+use Rattle.program_check.proofs.Labelled.{other_sort, side_at, truth_known, minus_known, minus_noted, sum_noted, compare_noted, step_noted, or_known, and_known, truths_known}
 use Rattle.program_check.proofs.checker.Checker.+check_label.Goals as goal
 
 pub check_sorted-returns-clause-noted : goal.check_sorted-returns-clause-noted
@@ -35,28 +36,6 @@ check_sorted-returns-clause-noted t c h =
 
 pub check_sorted-returns-clause-known : goal.check_sorted-returns-clause-known
 check_sorted-returns-clause-known t c h = c.check_label-known.ensures.known (c.note_if.ensures h).had
-
-pub check_not-returns-clause-noted : goal.check_not-returns-clause-noted
-check_not-returns-clause-noted t c = c.check_sorted.ensures.noted
-
-pub check_not-returns-clause-known : goal.check_not-returns-clause-known
-check_not-returns-clause-known t c h =
-    let has = ap (λ (x : Side). x.has_field) c.into_side-truth.ensures ∙ (c.check_sorted.ensures.known h).has in
-    truth_known c.args.scope.now (plain.negation c.args.place (plain_expr c.args.inside.now)) c.of_truth.result c.into_side-truth.result.has_field c.of_truth.ensures refl has refl
-
-pub check_minus-returns-clause-known : goal.check_minus-returns-clause-known
-check_minus-returns-clause-known t c h =
-    let known = c.check_sorted-known.ensures.known (c.negate-form.ensures.noted h).had in
-    record {
-      sort = refl;
-      has = known.has;
-      form = c.negate-form.ensures.form h ∙ ap (λ f. kept (option_map (product_form (negsuc 0)) f)) known.form;
-    }
-
-pub check_minus-returns-clause-noted : goal.check_minus-returns-clause-noted
-check_minus-returns-clause-noted t c h =
-    let last = c.negate-form.ensures.noted h in
-    minus_noted (plain_scope c.args.scope.now) (plain_expr c.args.inside.now) c.args.place c.check_sorted-known.result.form _ _ _ (c.check_sorted-known.ensures.known last.had).form (c.check_sorted-known.ensures.noted last.had) last
 
 pub check_truths-parts-preserved : goal.check_truths-parts-preserved
 check_truths-parts-preserved t c =
@@ -218,25 +197,31 @@ pub check_label-returns-in-Not-clause-noted : goal.check_label-returns-in-Not-cl
 check_label-returns-in-Not-clause-noted t c h =
     let s = plain_scope c.args.scope.now in
     let place = c.args.e.now.place in
-    same (ap (λ x. label_failures s (plain.negation place (plain_expr x))) c.deref.ensures ∙ sym (ap (λ n. label_failures s (plain_node n place)) c.in-Not.is)) (c.check_not.ensures.noted h)
+    same (ap (λ x. label_failures s (plain.negation place (plain_expr x))) c.deref.ensures ∙ sym (ap (λ n. label_failures s (plain_node n place)) c.in-Not.is)) (c.check_sorted.ensures.noted h)
 
 pub check_label-returns-in-Not-clause-known : goal.check_label-returns-in-Not-clause-known
 check_label-returns-in-Not-clause-known t c h =
     let place = c.args.e.now.place in
     let is = ap (λ x. plain.negation place (plain_expr x)) c.deref.ensures ∙ sym (ap (λ n. plain_node n place) c.in-Not.is) in
-    subst (λ (e : plain.Expr). IsKnown c.args.scope.now e c.check_not.result) is (c.check_not.ensures.known h)
+    let has = ap (λ (x : Side). x.has_field) c.into_side-truth.ensures ∙ (c.check_sorted.ensures.known h).has in
+    subst (λ (e : plain.Expr). IsKnown c.args.scope.now e c.of_truth-in-Not.result) is
+    (truth_known c.args.scope.now (plain.negation place (plain_expr c.deref.result.now)) c.of_truth-in-Not.result c.into_side-truth.result.has_field c.of_truth-in-Not.ensures refl has refl)
 
 pub check_label-returns-in-Minus-clause-noted : goal.check_label-returns-in-Minus-clause-noted
 check_label-returns-in-Minus-clause-noted t c h =
     let s = plain_scope c.args.scope.now in
     let place = c.args.e.now.place in
-    same (ap (λ x. label_failures s (plain.minus place (plain_expr x))) c.deref-in-Minus.ensures ∙ sym (ap (λ n. label_failures s (plain_node n place)) c.in-Minus.is)) (c.check_minus.ensures.noted h)
+    let last = c.negate-form.ensures.noted h in
+    same (ap (λ x. label_failures s (plain.minus place (plain_expr x))) c.deref-in-Minus.ensures ∙ sym (ap (λ n. label_failures s (plain_node n place)) c.in-Minus.is))
+    (minus_noted s (plain_expr c.deref-in-Minus.result.now) place c.check_sorted-known.result.form _ _ _ (c.check_sorted-known.ensures.known last.had).form (c.check_sorted-known.ensures.noted last.had) last)
 
 pub check_label-returns-in-Minus-clause-known : goal.check_label-returns-in-Minus-clause-known
 check_label-returns-in-Minus-clause-known t c h =
     let place = c.args.e.now.place in
     let is = ap (λ x. plain.minus place (plain_expr x)) c.deref-in-Minus.ensures ∙ sym (ap (λ n. plain_node n place) c.in-Minus.is) in
-    subst (λ (e : plain.Expr). IsKnown c.args.scope.now e c.check_minus.result) is (c.check_minus.ensures.known h)
+    let known : Known = record { sort = Some sorts.Int; has_field = c.check_sorted-known.result.has_field; form = c.negate-form.result } in
+    subst (λ (e : plain.Expr). IsKnown c.args.scope.now e known) is
+    (minus_known c.args.scope.now (plain_expr c.deref-in-Minus.result.now) place c.check_sorted-known.result c.negate-form.result (c.check_sorted-known.ensures.known (c.negate-form.ensures.noted h).had) (c.negate-form.ensures.form h))
 
 pub check_label-returns-in-Or-clause-noted : goal.check_label-returns-in-Or-clause-noted
 check_label-returns-in-Or-clause-noted t c =
@@ -288,9 +273,3 @@ check_label-returns-in-Prod-clause-known t c h =
 
 pub check_sorted-check_label-known-requires : goal.check_sorted-check_label-known-requires
 check_sorted-check_label-known-requires t c = (omega (arith, c.decreases), tt)
-
-pub check_not-check_sorted-requires : goal.check_not-check_sorted-requires
-check_not-check_sorted-requires t c = (omega (arith, c.decreases), tt)
-
-pub check_minus-check_sorted-known-requires : goal.check_minus-check_sorted-known-requires
-check_minus-check_sorted-known-requires t c = (omega (arith, c.decreases), tt)
