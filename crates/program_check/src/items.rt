@@ -21,9 +21,7 @@ use crate::heads::head_of;
 use crate::limits::MOST_RULES;
 use crate::rules::{Between, differ};
 use fast_fault::Code;
-use fast_syntax::items::{
-    Body, Claim, DefItem, Item, OutRule, Rule, X,
-};
+use fast_syntax::items::{Body, Claim, DefItem, Item, OutRule, Rule, X};
 use fast_syntax::{Name, TypeItem};
 
 fn is_tree(standing: &Standing) -> bool
@@ -60,7 +58,11 @@ impl Checker {
         let wanted = declared(context, item.into.as_ref());
         let found = self.check_as(context, 0, input, defined_kind(&item.into), &item.value);
         let output = only_as(Kind::Transformation, found.kind, found.output);
-        self.note_if(differ(wanted, output), Code::WrongType, place_of(&item.value));
+        self.note_if(
+            differ(wanted, output),
+            Code::WrongType,
+            place_of(&item.value),
+        );
     }
 
     fn check_rule_limit(&mut self, rules: &[Rule])

@@ -141,13 +141,7 @@ impl Checker {
     }
 
     /// In a rule for trees of this type a demanded language is a `lang` of trees of the type.
-    fn check_given(
-        &mut self,
-        context: &Context,
-        types: &Between,
-        vars: &Vars,
-        given: &[Demand],
-    )
+    fn check_given(&mut self, context: &Context, types: &Between, vars: &Vars, given: &[Demand])
         requires { AreFound (items_of context.now) types.now }
         ensures { Kept self.old vars.now → Notes self.old self.new (flat_map (demand_failures (items_of context.now) (plain_name types.now.from.now) (plain_vars vars.now)) (map plain_demand given.now)) }
     {
