@@ -15,7 +15,6 @@ use Rattle.read_forms.proofs.Lists.{to_left, to_right}
 use Rattle.label_reader.specs.declared.lists.Between.TheVariants.{Comma}
 use Rattle.label_reader.specs.Lists.{IsItem}
 use Rattle.label_reader.proofs.Listed.{named_item, sample_some_to}
-use Rattle.label_reader.specs.Constants.{IsNumeral}
 use Rattle.label_reader.proofs.Names.{sample_name, name_starts}
 use Rattle.label_reader.proofs.Primaries.{sample_numeral}
 use Rattle.program_reader.specs.Names.{IsNameTo}
@@ -30,11 +29,9 @@ sample_sort = sample_as (λ t. record { text = sort_text t.text; place = t.place
 pub sample_number : HasSample IsNumber
 sample_number = sample_as (λ t. pos (digits_value 10 t.text)) (λ t ts spelled. (t, spelled.0, spelled.1, refl)) sample_numeral
 
--- the number and the closing parenthesis, by the token of the number
-pub rank_makes : (tokens : List Lexeme) → Makes (IsNumeral ⊗ IsSign RoundClose) (IsNumber ⊗ IsSign RoundClose) (λ v. (pos (digits_value 10 v.0.text), v.1)) closed tokens
-rank_makes tokens = remade
-    (λ v ts spelled. record { front = spelled.front; back = spelled.back; split = spelled.split; at_front = (v.0, spelled.at_front.0, spelled.at_front.1, refl); at_back = spelled.at_back })
-    (λ b ts spelled. let n = spelled.at_front in ((n.0, b.1), record { front = spelled.front; back = spelled.back; split = spelled.split; at_front = (n.1, n.2); at_back = spelled.at_back }, (λ i. (n.3 i, b.1))))
+-- the number and the closing parenthesis
+pub rank_makes : (tokens : List Lexeme) → Makes (IsNumber ⊗ IsSign RoundClose) (IsNumber ⊗ IsSign RoundClose) (λ v. v) closed tokens
+rank_makes tokens = remade (λ v ts spelled. spelled) (λ v ts spelled. (v, spelled, refl))
 
 abbrev pub ctor_of : Name × (ℤ × Unit {0}) → CtorItem
 ctor_of v = record { name = v.0; rank = v.1.0 }

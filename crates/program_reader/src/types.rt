@@ -91,7 +91,7 @@ impl Items for Ctors {
 
     fn read_item(reader: &mut Reader) -> Result<CtorItem, Stop> {
         let name = read_name_to(reader, Word::RoundOpen)?;
-        let (name, (_digits, rank)) = kept(name, to_close(read_numeral(reader), reader))?;
+        let (name, rank) = kept(name, to_close(read_numeral(reader), reader))?;
         Ok(CtorItem { name, rank })
     }
 }
