@@ -3,7 +3,6 @@
 ghost use Rattle.std.specs.Prelude.{◌≡◌, ◌<◌, ◌≤◌, ◌+◌, [], Some, None, map};
 ghost use Rattle.std.specs.Option.{option_map, option_and_then};
 ghost use Rattle.model_tree.specs.Limits.{most_around};
-ghost use Rattle.fast_fault.specs.declared.code.Code.TheVariants as code;
 ghost use Rattle.model_grammar.specs.Syntax as plain;
 ghost use Rattle.model_names.specs.Declared.{find_type};
 ghost use Rattle.model_names.specs.Kinds.{taken_by_one, given_by_one, taken_first, taken_second, given_by_two, declared_type, defined_kind};
