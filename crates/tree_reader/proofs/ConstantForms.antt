@@ -1,14 +1,14 @@
 -- Of what labels are made.
-use Rattle.std.proofs.Common.{◌≡◌, ℕ, pos, true, false, List, [], ◌∷◌, ◌++◌, refl, sym, ap, ◌∙◌, subst, ◌⊎◌, inl, inr}
+use Rattle.std.proofs.Common.{◌≡◌, ℕ, pos, true, false, List, [], ◌∷◌, ◌++◌, refl, sym, ap, ◌∙◌, subst, Some, ◌⊎◌, inl, inr}
 use Rattle.std.specs.Str.Parse.{digits_value}
 use Rattle.model_program.specs.declared.Word.{Word}
 use Rattle.model_program.specs.declared.Word.TheVariants.{True, False, Number, Quoted, Minus, Comma, SquareOpen, SquareClose}
 use Rattle.model_program.specs.Lexeme.{Lexeme}
 use Rattle.model_program.specs.Joined.{IsNext, IsOther, ◌⊗◌}
-use Rattle.read_forms.specs.Reads.{Stops, StartsIn, closed}
+use Rattle.read_forms.specs.Reads.{Stops, StartsIn, Fails, closed}
 use Rattle.model_program.specs.Grammar.{IsWord}
 use Rattle.read_forms.specs.Parts.{HasSample, other_than}
-use Rattle.read_forms.proofs.Forms.{Makes, sample_as, sample_pair, alternative, stops_other_than, starts_wider, ends_closed}
+use Rattle.read_forms.proofs.Forms.{Makes, as_fails, sample_as, sample_pair, alternative, stops_other_than, starts_wider, ends_closed}
 use Rattle.read_forms.proofs.Words.{sample_sign, sample_token}
 use Rattle.model_grammar.specs.Syntax.{Expr, number, text, truth}
 use Rattle.model_grammar.specs.Expressions.{negative}
@@ -17,6 +17,7 @@ use Rattle.label_reader.specs.Constants.{IsNumeral, IsString}
 use Rattle.label_reader.specs.Lists.{Without, IsItem}
 use Rattle.label_reader.specs.declared.lists.Between.TheVariants as gap
 use Rattle.label_reader.proofs.Listed.{sample_any_to}
+use Rattle.label_reader.proofs.Primaries.{numeral_missing}
 
 pub true_makes : (tokens : List Lexeme) → IsNext True tokens → Makes (IsWord True) IsConstant (λ v. truth v.place true) closed tokens
 true_makes tokens is_next = alternative (other_than True) tokens (λ v ts spelled. subst (λ (l : List Lexeme). IsConstant (truth v.place true) l) (sym spelled.0) (a_true v spelled.1)) (λ b ts spelled. back b ts spelled) (stops_other_than True tokens is_next)
@@ -79,6 +80,10 @@ number_makes tokens no_true no_false no_text no_minus = alternative OtherLabel t
     back e ts (a_text t values is quoted) = inl (inl (inr is))
     back e ts (a_true t is) = inl (inl (inl (inl is)))
     back e ts (a_false t is) = inl (inl (inl (inr is)))
+
+-- no token is left
+pub label_ended : (tokens : List Lexeme) → tokens ≡ [] → Fails IsConstant closed tokens (Some tokens)
+label_ended tokens ended = subst (λ (l : List Lexeme). Fails IsConstant closed l (Some l)) (sym ended) (as_fails _ (number_makes [] tt tt tt tt) (record { why = numeral_missing [] (λ t rest here is digits. absurd cc) }))
 
 -- A row of labels.
 

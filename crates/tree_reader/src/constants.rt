@@ -30,30 +30,35 @@ impl Items for Constants {
     ghost goes_on = { closed };
 
     fn read_item(reader: &mut Reader) -> Result<Constant, Stop> {
-        if let Some(token) = reader.peek_if(Word::True) {
-            reader.advance();
-            let (place, value) = (token.place, Value::Truth(true));
-            return Ok(Constant { place, value });
+        let Some(token) = reader.peek() else {
+            return Err(Stop::Wrong);
+        };
+        let place = token.place;
+        match token.word {
+            Word::True => {
+                reader.advance();
+                let value = Value::Truth(true);
+                Ok(Constant { place, value })
+            }
+            Word::False => {
+                reader.advance();
+                let value = Value::Truth(false);
+                Ok(Constant { place, value })
+            }
+            Word::Quoted => {
+                let value = Value::Text(read_string(reader)?);
+                Ok(Constant { place, value })
+            }
+            Word::Minus => {
+                reader.advance();
+                let value = Value::Number(-read_numeral(reader)?);
+                Ok(Constant { place, value })
+            }
+            _ => {
+                let value = Value::Number(read_numeral(reader)?);
+                Ok(Constant { place, value })
+            }
         }
-        if let Some(token) = reader.peek_if(Word::False) {
-            reader.advance();
-            let (place, value) = (token.place, Value::Truth(false));
-            return Ok(Constant { place, value });
-        }
-        if reader.is_next(Word::Quoted) {
-            let (token, text) = read_string(reader)?;
-            let (place, value) = (token.place, Value::Text(text));
-            return Ok(Constant { place, value });
-        }
-        if let Some(sign) = reader.peek_if(Word::Minus) {
-            reader.advance();
-            let (_digits, number) = read_numeral(reader)?;
-            let (place, value) = (sign.place, Value::Number(-number));
-            return Ok(Constant { place, value });
-        }
-        let (token, number) = read_numeral(reader)?;
-        let (place, value) = (token.place, Value::Number(number));
-        Ok(Constant { place, value })
     }
 }
 
