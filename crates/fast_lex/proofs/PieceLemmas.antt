@@ -14,7 +14,7 @@ use Rattle.model_program.proofs.Runs.{same_front, same_run, run_longest}
 use Rattle.model_program.proofs.Families.{Begins, family, Words, IsAlone, longest_alone, none_alone, same_family}
 use Rattle.model_program.proofs.Unique.{halves_of, same_hyphenated, name_all}
 use Rattle.fast_lex.specs.declared.piece.Found.{Found}
-use Rattle.fast_lex.specs.Runs.{IsBehind, IsRun, IsNext, HasNone, IsNextPiece, HasNoDouble, NextIn}
+use Rattle.fast_lex.specs.Runs.{IsBehind, IsRun, IsNext, HasNone, IsNextPiece, HasNoDouble, NextIn, ends_double}
 use Rattle.fast_lex.proofs.AmountLemmas.{run_count, digit_ascii}
 use Rattle.fast_lex.proofs.RunLemmas.{behind_both}
 
@@ -84,6 +84,29 @@ sign_length cs one = let e = spelled_among (λ v. (length (spelling v) ≡ 1) �
   where
     every : AllWords (λ v. (length (spelling v) ≡ 1) ⊎ (length (spelling v) ≡ 2)) signs
     every = (inl refl, (inl refl, (inl refl, (inl refl, (inl refl, (inl refl, (inl refl, (inl refl, (inl refl, (inr refl, (inr refl, (inr refl, (inl refl, (inr refl, (inr refl, (inr refl, (inl refl, (inl refl, (inl refl, (inl refl, (inl refl, (inl refl, (inl refl, tt)))))))))))))))))))))))
+
+-- a sign has one character, or ends as a sign of two does
+EndsSign : List ℕ → Type 0
+EndsSign [] = ⊥
+EndsSign (c ∷ []) = Unit {0}
+EndsSign (c ∷ d ∷ []) = ends_double d ≡ true
+EndsSign (c ∷ d ∷ e ∷ cs) = ⊥
+
+signs_end : AllWords (λ v. EndsSign (spelling v)) signs
+unfolding signs EndsSign
+signs_end = (tt, (tt, (tt, (tt, (tt, (tt, (tt, (tt, (tt, (refl, (refl, (refl, (tt, (refl, (refl, (refl, (tt, (tt, (tt, (tt, (tt, (tt, (tt, tt)))))))))))))))))))))))
+
+-- two characters that don't end so are none
+pub other_end : (c d : ℕ) → ends_double d ≡ false → None ≡ spelled signs (c ∷ d ∷ [])
+unfolding EndsSign
+other_end c d other = by (spelled signs (c ∷ d ∷ [])) refl
+  where
+    by : (found : Option Word) → spelled signs (c ∷ d ∷ []) ≡ found → None ≡ found
+    by None is = refl
+    by (Some w) is =
+        let e = spelled_among (λ v. EndsSign (spelling v)) signs signs_end (c ∷ d ∷ []) w is in
+        let ends : ends_double d ≡ true = subst EndsSign e.0 e.1 in
+        let no : true ≡ false = sym ends ∙ other in cc
 
 pub double_none_short : (text after : List ℕ) (c : ℕ) → chars text ≡ c ∷ chars after → chars after ≡ [] → HasNoDouble (chars text)
 double_none_short text after c characters ended = λ front rest same is two.

@@ -1,5 +1,5 @@
 -- What stands at the front of a text, and what follows it.
-use Rattle.std.specs.Prelude.{◌≡◌, ℕ, ◌≤◌, Bool, List, [], ◌∷◌, true, ◌++◌, length, encode_utf8_all, Option}
+use Rattle.std.specs.Prelude.{◌≡◌, ℕ, ◌≤◌, ◌==◌, ◌||◌, Bool, List, [], ◌∷◌, true, ◌++◌, length, encode_utf8_all, Option}
 use Rattle.std.specs.Str.{chars}
 use Rattle.fast_lex.specs.declared.scan.Class.{Class}
 use Rattle.fast_lex.specs.declared.scan.Class.TheVariants.{Name, Digit, Hexadecimal, Line}
@@ -42,6 +42,10 @@ pub record IsNext (kind : PieceKind) (word : Option Word) (text rest : List ℕ)
   pub is : IsPiece kind front (chars rest)
   pub longest : (other more : List ℕ) → front ++ chars rest ≡ other ++ more → IsPiece kind other more → length other ≤ length front
   pub named : word ≡ word_of kind front
+
+-- the last character of a sign of two
+abbrev pub ends_double : ℕ → Bool
+ends_double c = (c == 61) || (c == 62)
 
 -- no sign of two characters begins the text
 abbrev pub HasNoDouble : List ℕ → Type 0

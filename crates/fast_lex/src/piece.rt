@@ -4,7 +4,7 @@ ghost use Rattle.std.specs.Prelude.{◌≡◌, MatchOption};
 ghost use Rattle.std.specs.Str.{chars};
 ghost use Rattle.model_program.specs.Characters.{begins_name, is_blank, in_name};
 ghost use Rattle.model_program.specs.Pieces.{HasNoPiece, Name, Hyphenated, Digits, Sign, Comment};
-ghost use Rattle.fast_lex.specs.Runs.{IsRun, IsNext, IsNextPiece, HasNone, HasNoDouble, NextIn};
+ghost use Rattle.fast_lex.specs.Runs.{IsRun, IsNext, IsNextPiece, HasNone, HasNoDouble, NextIn, ends_double};
 
 use crate::quoted::quoted;
 use crate::scan::{Class, front, next_char, run_end};
@@ -28,6 +28,13 @@ fn begins_name(c: char) -> bool
     ensures { result ≡ begins_name c }
 {
     c.is_ascii_alphabetic() || c == '_'
+}
+
+// Whether a sign of two characters may end so.
+fn ends_double(c: char) -> bool
+    ensures { result ≡ ends_double c }
+{
+    c == '=' || c == '>'
 }
 
 // The keyword with a hyphen at the front of the text, whose part before the hyphen ends at `end`.
@@ -96,7 +103,11 @@ fn double_sign<'t>(text: &'t str) -> Option<Found<'t>>
     ensures { MatchOption result (HasNoDouble (chars text.now)) (λ x. IsNext Sign x.word text.now x.rest.now) }
 {
     let (_, after) = next_char(text)?;
-    let (_, rest) = next_char(after)?;
+    let (second, rest) = next_char(after)?;
+    // most signs have one character, and are told without a look at the spellings of two
+    if !ends_double(second) {
+        return None;
+    }
     let word = sign_of(front(text, rest))?;
     Some(Found {
         word: Some(word),
