@@ -1,5 +1,5 @@
 -- What is known of the name of a field.
-use Rattle.std.proofs.Common.{◌≡◌, ℕ, zero, suc, ◌<◌, true, cond, List, [], ◌∷◌, map, length, get_or, Option, Some, None, Bor, refl, sym, ap, ◌∙◌, arith, not}
+use Rattle.std.proofs.Common.{◌≡◌, ℕ, true, cond, List, [], map, Option, Some, None, Bor, sym, ap, ◌∙◌, not}
 use Rattle.std.specs.Prelude.{is_some}
 use Rattle.std.specs.Option.{option_map, option_and_then}
 use Rattle.fast_fault.specs.declared.code.Code.TheVariants.{UnknownField}
@@ -23,25 +23,17 @@ use Rattle.program_check.specs.Known.{plain_scope, IsKnown}
 use Rattle.program_check.specs.Notes.{Noted}
 use Rattle.program_check.proofs.Noting.{same}
 
-pub element_at : {A : Type 0} (xs : List A) (i : ℕ) → i < length xs → (x : A) × (x ≡ get_or xs i x)
-element_at [] i low = absurd (omega (arith, low))
-element_at (x ∷ xs) zero low = (x, refl)
-element_at (x ∷ xs) (suc i) low = element_at xs i (omega (arith, low))
-
 scope_is : (scope : Scope) (fields : Bor (List FieldItem)) → scope.fields ≡ Some fields → plain_scope scope ≡ Some (map plain_field fields.now)
 scope_is scope fields e = ap (option_map (λ (fs : Bor (List FieldItem)). map plain_field fs.now)) e
 
-pub known_field : (scope : Scope) (fields : Bor (List FieldItem)) (name : List ℕ) (place : Pos) (i : ℕ) (sort : Option Sort) (form : Option Form)
-    → scope.fields ≡ Some fields → i < length fields.now → ((x : FieldItem) → x ≡ get_or fields.now i x → find_field (map plain_field fields.now) name ≡ Some (plain_field x))
-    → ((x : FieldItem) → x ≡ get_or fields.now i x → option_map plain_sort sort ≡ sort_named x.sort.text)
+pub known_field : (scope : Scope) (fields : Bor (List FieldItem)) (name : List ℕ) (place : Pos) (there : FieldItem) (sort : Option Sort) (form : Option Form)
+    → scope.fields ≡ Some fields → find_field (map plain_field fields.now) name ≡ Some (plain_field there) → option_map plain_sort sort ≡ sort_named there.sort.text
     → form ≡ option_and_then (λ s. cond (same_sort s wholes) (form_numbered (number_at (plain_fields (map plain_field fields.now)) wholes name)) None) (option_map plain_sort sort)
     → IsKnown scope (field place name) (record { sort = sort; has_field = true; form = form })
-known_field scope fields name place i sort form scope_some low found sorted form_of =
-    let at = element_at fields.now i low in
+known_field scope fields name place there sort form scope_some here sorted form_of =
     let fs = map plain_field fields.now in
-    let here : find_field fs name ≡ Some (plain_field at.0) = found at.0 at.1 in
     let known : plain_scope scope ≡ Some fs = scope_is scope fields scope_some in
-    let sort_is : option_map plain_sort sort ≡ field_sort (Some fs) name = sorted at.0 at.1 ∙ ap (option_and_then (λ f. sort_named f.sort.text)) (sym here) in
+    let sort_is : option_map plain_sort sort ≡ field_sort (Some fs) name = sorted ∙ ap (option_and_then (λ f. sort_named f.sort.text)) (sym here) in
     record {
       sort = sort_is ∙ ap (λ s. field_sort s name) (sym known);
       has = sym (ap (λ s. is_field s name) known ∙ ap is_some here);
@@ -49,7 +41,6 @@ known_field scope fields name place i sort form scope_some low found sorted form
     }
 
 -- nothing fails at the name of a field
-pub field_there : (scope : Scope) (fields : Bor (List FieldItem)) (name : List ℕ) (place : Pos) (i : ℕ) (a b : Checker) → scope.fields ≡ Some fields → i < length fields.now → ((x : FieldItem) → x ≡ get_or fields.now i x → find_field (map plain_field fields.now) name ≡ Some (plain_field x)) → Noted a b [] → Noted a b (unknown_field (plain_scope scope) name place)
-field_there scope fields name place i a b scope_some low found none =
-    let at = element_at fields.now i low in
-    same (sym (ap (λ s. unknown_field s name place) (scope_is scope fields scope_some) ∙ ap (λ o. fails_if (not (is_some o)) UnknownField place) (found at.0 at.1))) none
+pub field_there : (scope : Scope) (fields : Bor (List FieldItem)) (name : List ℕ) (place : Pos) (there : FieldItem) (a b : Checker) → scope.fields ≡ Some fields → find_field (map plain_field fields.now) name ≡ Some (plain_field there) → Noted a b [] → Noted a b (unknown_field (plain_scope scope) name place)
+field_there scope fields name place there a b scope_some found none =
+    same (sym (ap (λ s. unknown_field s name place) (scope_is scope fields scope_some) ∙ ap (λ o. fails_if (not (is_some o)) UnknownField place) found)) none

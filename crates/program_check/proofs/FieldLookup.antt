@@ -1,5 +1,5 @@
 -- A field is looked for by its name.
-use Rattle.std.proofs.Common.{◌≡◌, ℕ, zero, suc, ◌+◌, ◌<◌, ◌≤◌, true, false, cond, List, [], ◌∷◌, map, length, drop, get_or, Some, None, refl, sym, ap, ◌∙◌, arith}
+use Rattle.std.proofs.Common.{◌≡◌, ℕ, ◌+◌, ◌<◌, ◌≤◌, true, false, cond, List, map, length, drop, get_or, Some, None, refl, ap, ◌∙◌}
 use Rattle.std.proofs.lemmas.List.{drop_all}
 use Rattle.model_names.specs.Declared.{same_text}
 use Rattle.model_checks.specs.Sorts.{find_field}
@@ -20,16 +20,10 @@ goes_on fields name i x low is apart left =
     let here = drop_at fields i x low is in
     record { found = left.found ∙ ap (λ xs. find_field (map plain_field xs) name) here ∙ ap (λ b. cond b (Some (plain_field x)) (find_field rest name)) apart }
 
-pub is_found : (fields : List FieldItem) (name : List ℕ) (i : ℕ) (y : FieldItem) → i < length fields → y ≡ get_or fields i y → same_text y.name.text name ≡ true → Left fields name i → (x : FieldItem) → x ≡ get_or fields i x → find_field (map plain_field fields) name ≡ Some (plain_field x)
-is_found fields name i y low is here left x same =
+pub is_found : (fields : List FieldItem) (name : List ℕ) (i : ℕ) (y : FieldItem) → i < length fields → y ≡ get_or fields i y → same_text y.name.text name ≡ true → Left fields name i → find_field (map plain_field fields) name ≡ Some (plain_field y)
+is_found fields name i y low is here left =
     let rest = map plain_field (drop (i + 1) fields) in
     left.found ∙ ap (λ xs. find_field (map plain_field xs) name) (drop_at fields i y low is) ∙ ap (λ b. cond b (Some (plain_field y)) (find_field rest name)) here
-    ∙ ap (λ z. Some (plain_field z)) (is ∙ one_element fields i y x low ∙ sym same)
-  where
-    one_element : (xs : List FieldItem) (i : ℕ) (d e : FieldItem) → i < length xs → get_or xs i d ≡ get_or xs i e
-    one_element [] i d e low = absurd (omega (arith, low))
-    one_element (x ∷ xs) zero d e low = refl
-    one_element (x ∷ xs) (suc i) d e low = one_element xs i d e (omega (arith, low))
 
 pub is_nowhere : (fields : List FieldItem) (name : List ℕ) (i : ℕ) → length fields ≤ i → Left fields name i → find_field (map plain_field fields) name ≡ None
 is_nowhere fields name i end left = left.found ∙ ap (λ xs. find_field (map plain_field xs) name) (drop_all i fields end)

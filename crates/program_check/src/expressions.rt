@@ -19,7 +19,7 @@ ghost use Rattle.program_check.specs.Standings.{plain_kind, IsStanding, only_as,
 use crate::checker::Checker;
 use crate::context::Context;
 use crate::heads::Head;
-use crate::labels::{Scope, either};
+use crate::labels::Scope;
 use crate::limits::MOST_AROUND;
 use crate::outputs::fields_of;
 use crate::rules::differ;
@@ -276,7 +276,7 @@ impl Checker {
                 output: None,
             };
         };
-        let known = either(head.has_rules, context.has_item_before(&name.text));
+        let known = head.has_rules | context.has_item_before(&name.text);
         self.note_if(!known, Code::UsedTooEarly, name.place);
         standing_of(context, &head)
     }

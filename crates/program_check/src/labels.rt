@@ -49,11 +49,10 @@ pub(crate) struct Known {
     pub(crate) form: Option<Form>,
 }
 
-/// A side of a comparison, or a label: its sort, whether it has the name of a field in it, and where it stands.
-#[derive(Clone, Copy)]
+/// A side of a comparison: what is known of it, and where it stands.
+#[derive(Drop)]
 pub(crate) struct Side {
-    pub(crate) sort: Option<Sort>,
-    pub(crate) has_field: bool,
+    pub(crate) known: Known,
     pub(crate) place: Pos,
 }
 
@@ -64,26 +63,13 @@ struct Factor {
     form: Option<Form>,
 }
 
-pub(crate) fn either(a: bool, b: bool) -> bool
-    ensures { result ≡ (a || b) }
+/// The field of this name.
+fn find_field<'p>(fields: &'p [FieldItem], name: &Text) -> Option<&'p FieldItem>
+    ensures { MatchOption result (find_field (map plain_field fields.now) name.now ≡ None) (λ field. find_field (map plain_field fields.now) name.now ≡ Some (plain_field field.now)) }
 {
-    a || b
-}
-
-pub(crate) fn both(a: bool, b: bool) -> bool
-    ensures { result ≡ (a && b) }
-{
-    a && b
-}
-
-/// Where the field of this name stands.
-fn find_field(fields: &[FieldItem], name: &Text) -> Option<usize>
-    ensures found { MatchOption result (find_field (map plain_field fields.now) name.now ≡ None) (λ i. (x : _) → x ≡ get_or fields.now i x → find_field (map plain_field fields.now) name.now ≡ Some (plain_field x)) }
-    ensures within { MatchOption result (Unit {0}) (λ i. i < length fields.now) }
-{
-    'fields: for (number, field) in fields.iter().enumerate() {
+    'fields: for field in fields {
         if field.name.text == *name {
-            return Some(number);
+            return Some(field);
         }
     }
     None
@@ -114,14 +100,6 @@ fn number_at(fields: &[FieldItem], name: &Text) -> usize
     number
 }
 
-/// The sort of the field at this place.
-fn sort_at(fields: &[FieldItem], number: usize) -> Option<Sort>
-    requires { number < length fields.now }
-    ensures { (x : _) → x ≡ get_or fields.now number x → option_map plain_sort result ≡ sort_named x.sort.text }
-{
-    sort_named(&fields[number].sort.text)
-}
-
 fn is_label_number(number: i128) -> bool
     ensures { result ≡ is_label_number number }
 {
@@ -129,34 +107,12 @@ fn is_label_number(number: i128) -> bool
 }
 
 impl Known {
-    /// An expression without fields and without a form.
-    fn of_nothing(sort: Option<Sort>) -> Known
-        ensures { result ≡ record { sort = sort; has_field = false; form = None } }
+    /// An expression without a form.
+    fn formless(sort: Option<Sort>, has_field: bool) -> Known
+        ensures { result ≡ record { sort = sort; has_field = has_field; form = None } }
     {
         Known {
             sort,
-            has_field: false,
-            form: None,
-        }
-    }
-
-    /// It, as a side of a comparison that stands here. Its form is let go.
-    pub(crate) fn into_side(self, place: Pos) -> Side
-        ensures { result ≡ record { sort = self.sort; has_field = self.has_field; place = place } }
-    {
-        Side {
-            sort: self.sort,
-            has_field: self.has_field,
-            place,
-        }
-    }
-
-    /// A truth value.
-    fn of_truth(has_field: bool) -> Known
-        ensures { result ≡ record { sort = Some Sort.Bool; has_field = has_field; form = None } }
-    {
-        Known {
-            sort: Some(Sort::Bool),
             has_field,
             form: None,
         }
@@ -215,19 +171,7 @@ impl Checker {
         }
     }
 
-    /// The form of the whole number of this number, where it is one of the first eight.
-    fn form_numbered(&mut self, number: usize) -> Option<Form>
-        ensures noted { Notes self.old self.new [] }
-        ensures form { HasMemory self.new → result ≡ form_numbered number }
-    {
-        if number >= MOST_FIELDS {
-            return None;
-        }
-        let made = Form::field(self.alloc, number as u32);
-        self.take_form(made)
-    }
-
-    /// The form of the field of this name, where it is a whole number and has a form.
+    /// The form of the field of this name, where it is one of the first eight whole numbers.
     fn form_of_field(
         &mut self,
         fields: &[FieldItem],
@@ -237,22 +181,14 @@ impl Checker {
         ensures noted { Notes self.old self.new [] }
         ensures form { HasMemory self.new → result ≡ option_and_then (λ s. cond (same_sort s wholes) (form_numbered (number_at (plain_fields (map plain_field fields.now)) wholes name.now)) None) (option_map plain_sort sort) }
     {
-        match sort {
-            Some(Sort::Int) => self.form_numbered(number_at(fields, name)),
-            _ => None,
-        }
-    }
-
-    /// The remainder of a form by a number.
-    fn remainder(&mut self, form: Option<Form>, divisor: Option<u32>) -> Option<Form>
-        requires { IfSome divisor (λ k. (0 < k) × (k ≤ greatest_divisor)) }
-        ensures noted { Notes self.old self.new [] }
-        ensures form { HasMemory self.new → result ≡ remainder_of form divisor }
-    {
-        let (Some(form), Some(divisor)) = (form, divisor) else {
+        let Some(Sort::Int) = sort else {
             return None;
         };
-        let made = form.into_remainder(self.alloc, divisor);
+        let number = number_at(fields, name);
+        if number >= MOST_FIELDS {
+            return None;
+        }
+        let made = Form::field(self.alloc, number as u32);
         self.take_form(made)
     }
 
@@ -303,13 +239,13 @@ impl Checker {
         ensures known { HasMemory self.new → IsKnown scope.now (plain.field place name.now) result }
     {
         let Some(fields) = scope.fields else {
-            return Known::of_nothing(None);
+            return Known::formless(None, false);
         };
-        let Some(place_of_field) = find_field(fields, name) else {
+        let Some(field) = find_field(fields, name) else {
             self.note(Code::UnknownField, place);
-            return Known::of_nothing(None);
+            return Known::formless(None, false);
         };
-        let sort = sort_at(fields, place_of_field);
+        let sort = sort_named(&field.sort.text);
         let form = self.form_of_field(fields, name, sort);
         Known {
             sort,
@@ -324,7 +260,7 @@ impl Checker {
     {
         if !is_label_number(number) {
             self.note(Code::NumberRange, place);
-            return Known::of_nothing(Some(Sort::Int));
+            return Known::formless(Some(Sort::Int), false);
         }
         let made = Form::number(self.alloc, number);
         Known {
@@ -339,30 +275,34 @@ impl Checker {
         ensures known { result ≡ record { sort = Some Sort.Text; has_field = false; form = None } }
     {
         self.note_if(text.as_str().len() > LONGEST_TEXT, Code::TooMany, place);
-        Known::of_nothing(Some(Sort::Text))
+        Known::formless(Some(Sort::Text), false)
     }
 
     /// It is to be of this sort.
-    fn check_sort(&mut self, sort: Sort, side: Side)
-        ensures { Notes self.old self.new (sort_failures (plain_sort sort) side) }
+    fn check_sort(&mut self, sort: Sort, side: &Side)
+        ensures { Notes self.old self.new (sort_failures (plain_sort sort) side.now) }
     {
-        self.note_if(is_other_sort(sort, side.sort), Code::WrongSort, side.place);
+        let differs = is_other_sort(sort, side.known.sort);
+        self.note_if(differs, Code::WrongSort, side.place);
     }
 
-    /// The sides of an equality are of one sort, those of another comparison are whole numbers.
-    fn check_sides(&mut self, rel: Rel, left: Side, right: Side)
-        ensures { Notes self.old self.new (sides_failures rel left right) }
+    /// The sides of an equality are of one sort, those of another comparison are whole numbers. Their forms are let go.
+    fn check_sides(&mut self, rel: Rel, left: Side, right: Side) -> Known
+        ensures noted { Notes self.old self.new (sides_failures rel left right) }
+        ensures known { result ≡ record { sort = Some Sort.Bool; has_field = left.known.has_field || right.known.has_field; form = None } }
     {
         match rel {
             Rel::Equal | Rel::NotEqual => {
-                let differ = differ_in_sort(left.sort, right.sort);
+                let differ = differ_in_sort(left.known.sort, right.known.sort);
                 self.note_if(differ, Code::WrongSort, right.place);
             }
             Rel::Less | Rel::AtMost | Rel::Greater | Rel::AtLeast => {
-                self.check_sort(Sort::Int, left);
-                self.check_sort(Sort::Int, right);
+                self.check_sort(Sort::Int, &left);
+                self.check_sort(Sort::Int, &right);
             }
         }
+        let has_field = left.known.has_field | right.known.has_field;
+        Known::formless(Some(Sort::Bool), has_field)
     }
 
     /// A form with its sign changed.
@@ -419,9 +359,15 @@ impl Checker {
         ensures noted { Notes self.old self.new (divided (plain_expr e.now)) }
         ensures form { HasMemory self.new → result ≡ remainder_of before.form (divisor_of (plain_expr e.now)) }
     {
-        let divisor = divisor_of(e);
-        self.note_if(divisor.is_none(), Code::BadModulus, e.place);
-        self.remainder(before.form, divisor)
+        let Some(divisor) = divisor_of(e) else {
+            self.note(Code::BadModulus, e.place);
+            return None;
+        };
+        let Some(form) = before.form else {
+            return None;
+        };
+        let made = form.into_remainder(self.alloc, divisor);
+        self.take_form(made)
     }
 
     /// A step of a product by a factor or to a remainder.
@@ -438,7 +384,7 @@ impl Checker {
         if part.remainder {
             self.check_remainder(before, &part.part)
         } else {
-            let both = both(before.has_field, known.has_field);
+            let both = before.has_field & known.has_field;
             self.note_if(both, Code::NotLinear, place);
             self.multiply(&before, known, place)
         }
@@ -454,12 +400,10 @@ impl Checker {
             Node::Field(name) => self.check_field(scope, name, e.place),
             Node::Num(number) => self.check_number(scope, *number, e.place),
             Node::Str(text) => self.check_text(text, e.place),
-            Node::Truth(_) => Known::of_truth(false),
+            Node::Truth(_) => Known::formless(Some(Sort::Bool), false),
             Node::Not(inside) => {
-                let truth = self
-                    .check_sorted(scope, Sort::Bool, inside)
-                    .into_side(e.place);
-                Known::of_truth(truth.has_field)
+                let truth = self.check_sorted(scope, Sort::Bool, inside);
+                Known::formless(Some(Sort::Bool), truth.has_field)
             }
             Node::Minus(inside) => {
                 let known = self.check_sorted(scope, Sort::Int, inside);
@@ -471,10 +415,15 @@ impl Checker {
                 }
             }
             Node::Compare(rel, left, right) => {
-                let of_left = self.check_label(scope, left).into_side(left.place);
-                let of_right = self.check_label(scope, right).into_side(right.place);
-                self.check_sides(*rel, of_left, of_right);
-                Known::of_truth(either(of_left.has_field, of_right.has_field))
+                let one = Side {
+                    known: self.check_label(scope, left),
+                    place: left.place,
+                };
+                let other = Side {
+                    known: self.check_label(scope, right),
+                    place: right.place,
+                };
+                self.check_sides(*rel, one, other)
             }
             Node::Or(parts) => self.check_truths(scope, parts),
             Node::And(parts) => self.check_truths(scope, parts),
@@ -502,12 +451,10 @@ impl Checker {
     {
         let mut has_field = false;
         'parts: for part in parts {
-            let truth = self
-                .check_sorted(scope, Sort::Bool, part)
-                .into_side(part.place);
-            has_field = either(has_field, truth.has_field);
+            let truth = self.check_sorted(scope, Sort::Bool, part);
+            has_field = has_field | truth.has_field;
         }
-        Known::of_truth(has_field)
+        Known::formless(Some(Sort::Bool), has_field)
     }
 
     #[cycle(check_label)]
@@ -519,7 +466,7 @@ impl Checker {
         let mut added = Some(Vec::new(self.alloc));
         'parts: for part in parts {
             let known = self.check_sorted(scope, Sort::Int, &part.part);
-            has_field = either(has_field, known.has_field);
+            has_field = has_field | known.has_field;
             added = self.with_part(added, part.minus, known.form);
         }
         let form = self.add_up(added, place);
@@ -541,25 +488,15 @@ impl Checker {
             form: self.take_form(one),
         };
         'parts: for part in parts {
-            before = self.check_step(scope, before, part, place);
+            let known = self.check_sorted(scope, Sort::Int, &part.part);
+            let has_field = before.has_field | known.has_field;
+            let form = self.check_next(before, &known, part, place);
+            before = Factor { has_field, form };
         }
         Known {
             sort: Some(Sort::Int),
             has_field: before.has_field,
             form: before.form,
         }
-    }
-
-    /// A step of a product.
-    #[cycle(check_label)]
-    fn check_step(&mut self, scope: &Scope, before: Factor, part: &ProdPart, place: Pos) -> Factor
-        ensures noted { Notes self.old self.new (step_failures (plain_scope scope.now) place before.has_field before.form part.now.remainder (plain_expr part.now.part)) }
-        ensures has { HasMemory self.new → result.has_field ≡ (before.has_field || has_field (plain_scope scope.now) (plain_expr part.now.part)) }
-        ensures form { HasMemory self.new → result.form ≡ step_form (plain_scope scope.now) before.has_field before.form part.now.remainder (plain_expr part.now.part) }
-    {
-        let known = self.check_sorted(scope, Sort::Int, &part.part);
-        let has_field = either(before.has_field, known.has_field);
-        let form = self.check_next(before, &known, part, place);
-        Factor { has_field, form }
     }
 }

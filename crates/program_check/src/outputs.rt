@@ -44,11 +44,11 @@ impl Checker {
     fn check_label_at(&mut self, scope: &Scope, fields: &[FieldItem], number: usize, e: &Expr)
         ensures { Notes self.old self.new (label_at (plain_scope scope.now) (field_at (map plain_field fields.now) number) (plain_expr e.now)) }
     {
-        let label = self.check_label(scope, e).into_side(e.place);
+        let label = self.check_label(scope, e);
         if number < fields.len() {
             let sort = sort_named(&fields[number].sort.text);
             let differ = differ_in_sort(sort, label.sort);
-            self.note_if(differ, Code::WrongSort, label.place);
+            self.note_if(differ, Code::WrongSort, e.place);
         }
     }
 

@@ -20,7 +20,7 @@ use crate::checker::Checker;
 use crate::context::Context;
 use crate::declared_type::{DeclaredType, ctor_named};
 use crate::expressions::{Kind, Standing, is_other_kind, standing_of};
-use crate::labels::{Scope, either};
+use crate::labels::Scope;
 use crate::types::is_rank;
 use crate::vars::Vars;
 use fast_fault::{Code, Text};
@@ -117,8 +117,7 @@ impl Checker {
         ensures { Notes self.old self.new (guard_failures (scope_of (plain_option of.now)) (plain_guard guard.now)) }
     {
         if let Some(guard) = guard {
-            self.check_sorted(&scope_of(of), Sort::Bool, guard)
-                .into_side(guard.place);
+            self.check_sorted(&scope_of(of), Sort::Bool, guard);
         }
     }
 
@@ -130,14 +129,15 @@ impl Checker {
             self.note(Code::UnknownName, name.place);
             return;
         };
-        if either(!head.has_rules, is_other_kind(head.kind, wanted.kind)) {
+        let other = !head.has_rules | is_other_kind(head.kind, wanted.kind);
+        if other {
             self.note(Code::WrongKind, name.place);
             return;
         }
         let found = standing_of(context, &head);
         let inputs = differ(found.input, wanted.input);
         let outputs = differ(found.output, wanted.output);
-        self.note_if(either(inputs, outputs), Code::WrongType, name.place);
+        self.note_if(inputs | outputs, Code::WrongType, name.place);
     }
 
     /// In a rule for trees of this type a demanded language is a `lang` of trees of the type.

@@ -14,7 +14,7 @@ use Rattle.fast_syntax.proofs.Rows.{plain_or, plain_and, plain_sum_of, plain_pro
 use Rattle.model_checks.specs.Forms.{has_field, kept, form_behind}
 use Rattle.model_checks.specs.Labels.{label_failures, operands_failures, steps_failures}
 use Rattle.fast_tree.specs.Signatures.{plain_sort}
-use Rattle.program_check.specs.Known.{plain_scope, plain_added, next_form, IsKnown}
+use Rattle.program_check.specs.Known.{plain_scope, plain_added, next_form, step_failures, step_form, IsKnown}
 use Rattle.program_check.specs.Notes.{HasMemory, Notes}
 use Rattle.program_check.proofs.Noting.{next, same, nothing, and_none, left_by}
 use Rattle.program_check.proofs.FormsMade.{taken}
@@ -23,7 +23,6 @@ use Rattle.fast_fault.specs.declared.code.Code.TheVariants.{WrongSort}
 use Rattle.model_checks.specs.Failures.{fails_if}
 use Rattle.fast_tree.specs.declared.signature.Sort.TheVariants as sorts
 use Rattle.program_check.specs.declared.labels.Known.{Known}
-use Rattle.program_check.specs.declared.labels.Side.{Side}
 use Rattle.program_check.proofs.Labelled.{other_sort, side_at, truth_known, minus_known, minus_noted, sum_noted, compare_noted, step_noted, or_known, and_known, truths_known}
 use Rattle.program_check.proofs.checker.Checker.+check_label.Goals as goal
 
@@ -43,11 +42,11 @@ check_truths-parts-preserved t c =
     let items = c.args.parts.now in
     let i = c.parts.part-index in
     let x = c.part-item.result in
-    let one = c.check_sorted.ensures.noted in
+    let one = c.check_sorted-truth.ensures.noted in
     let split = ap plain_operands (drop_at items i x c.parts-test.true c.part-item.is) in
     record {
       noted = λ h. sorted_more s truths (plain_expr x) false (plain_operands (drop i items)) (plain_operands (drop (i + 1) items)) _ _ _ _ split (one h) (c.parts.invariant.noted (one h).had);
-      has = λ h. has_more s (plain_expr x) false (plain_operands (drop i items)) (plain_operands (drop (i + 1) items)) _ _ _ _ split (ap (λ (y : Side). y.has_field) c.into_side-truth.ensures ∙ (c.check_sorted.ensures.known h).has) c.either-has_field.ensures (c.parts.invariant.has (one h).had);
+      has = λ h. has_more s (plain_expr x) false (plain_operands (drop i items)) (plain_operands (drop (i + 1) items)) _ _ _ _ split (c.check_sorted-truth.ensures.known h).has refl (c.parts.invariant.has (one h).had);
     }
 
 pub check_truths-returns-clause-noted : goal.check_truths-returns-clause-noted
@@ -58,7 +57,7 @@ check_truths-returns-clause-noted t c h =
 pub check_truths-returns-clause-known : goal.check_truths-returns-clause-known
 check_truths-returns-clause-known t c h =
     let items = c.args.parts.now in
-    truths_known c.args.scope.now (plain_operands items) c.of_truth.result c.parts.has_field c.of_truth.ensures
+    truths_known c.args.scope.now (plain_operands items) c.formless.result c.parts.has_field c.formless.ensures
     (has_done (plain_scope c.args.scope.now) (plain_operands (drop c.parts.part-index items)) c.parts.has_field _ (ap plain_operands (drop_all c.parts.part-index items c.parts-test.false)) (c.parts.invariant.has h))
 
 pub check_sum-parts-preserved : goal.check_sum-parts-preserved
@@ -73,7 +72,7 @@ check_sum-parts-preserved t c =
     let split = ap plain_sum_parts (drop_at items i x c.parts-test.true c.part-item.is) in
     record {
       noted = λ h. sorted_more s wholes (plain_expr x.part) x.minus (plain_sum_parts (drop i items)) (plain_sum_parts (drop (i + 1) items)) _ _ _ _ split (and_none (one (none h).had) (none h)) (c.parts.invariant.noted (one (none h).had).had);
-      has = λ h. has_more s (plain_expr x.part) x.minus (plain_sum_parts (drop i items)) (plain_sum_parts (drop (i + 1) items)) _ _ _ _ split (known (none h).had).has c.either-has_field.ensures (c.parts.invariant.has (one (none h).had).had);
+      has = λ h. has_more s (plain_expr x.part) x.minus (plain_sum_parts (drop i items)) (plain_sum_parts (drop (i + 1) items)) _ _ _ _ split (known (none h).had).has refl (c.parts.invariant.has (one (none h).had).had);
       added = λ h. added_more s (plain_expr x.part) x.minus (plain_sum_parts (drop i items)) (plain_sum_parts (drop (i + 1) items)) _ _ _ _ split (known (none h).had).form (c.with_part-added.ensures.added h) (c.parts.invariant.added (one (none h).had).had);
     }
 
@@ -118,12 +117,23 @@ check_product-parts-preserved t c =
     let items = c.args.parts.now in
     let i = c.parts.part-index in
     let x = c.part-item.result in
-    let step = c.check_step-before.ensures in
+    let next = c.check_next-form.ensures in
+    let known = c.check_sorted-known.ensures in
+    let has = c.parts.before.has_field in
+    let form = c.parts.before.form in
     let split = ap plain_prod_parts (drop_at items i x c.parts-test.true c.part-item.is) in
+    let step : Notes c.parts.self c.check_next-form.new.self (step_failures s c.args.place has form x.remainder (plain_expr x.part)) = λ h.
+    let last = next.noted h in
+    let k = known.known last.had in
+    step_noted s c.args.place has form x.remainder (plain_expr x.part) c.check_sorted-known.result.has_field c.check_sorted-known.result.form _ _ _ k.has k.form (known.noted last.had) last in
+    let has_is : HasMemory c.check_next-form.new.self → (has || c.check_sorted-known.result.has_field) ≡ (has || has_field s (plain_expr x.part)) = λ h. ap (λ b. has || b) (known.known (next.noted h).had).has in
+    let form_is : HasMemory c.check_next-form.new.self → c.check_next-form.result ≡ step_form s has form x.remainder (plain_expr x.part) = λ h.
+    let k = known.known (next.noted h).had in
+    next.form h ∙ ap₂ (λ h f. next_form has form x.remainder h f (plain_expr x.part)) k.has k.form in
     record {
-      noted = λ h. steps_more s c.args.place (plain_expr x.part) x.remainder (plain_prod_parts (drop i items)) (plain_prod_parts (drop (i + 1) items)) _ _ _ _ _ _ _ _ split (step.has h) (step.form h) (step.noted h) (c.parts.invariant.noted (step.noted h).had);
-      has = λ h. has_more s (plain_expr x.part) x.remainder (plain_prod_parts (drop i items)) (plain_prod_parts (drop (i + 1) items)) _ (has_field s (plain_expr x.part)) _ _ split refl (step.has h) (c.parts.invariant.has (step.noted h).had);
-      form = λ h. form_more s (plain_expr x.part) x.remainder (plain_prod_parts (drop i items)) (plain_prod_parts (drop (i + 1) items)) _ _ _ _ _ split (step.has h) (step.form h) (c.parts.invariant.form (step.noted h).had);
+      noted = λ h. steps_more s c.args.place (plain_expr x.part) x.remainder (plain_prod_parts (drop i items)) (plain_prod_parts (drop (i + 1) items)) _ _ _ _ _ _ _ _ split (has_is h) (form_is h) (step h) (c.parts.invariant.noted (step h).had);
+      has = λ h. has_more s (plain_expr x.part) x.remainder (plain_prod_parts (drop i items)) (plain_prod_parts (drop (i + 1) items)) _ (has_field s (plain_expr x.part)) _ _ split refl (has_is h) (c.parts.invariant.has (step h).had);
+      form = λ h. form_more s (plain_expr x.part) x.remainder (plain_prod_parts (drop i items)) (plain_prod_parts (drop (i + 1) items)) _ _ _ _ _ split (has_is h) (form_is h) (c.parts.invariant.form (step h).had);
     }
 
 pub check_product-returns-clause-known : goal.check_product-returns-clause-known
@@ -143,20 +153,6 @@ check_product-returns-clause-noted t c h =
     steps_done (plain_scope c.args.scope.now) c.args.place (plain_prod_parts (drop c.parts.part-index items)) c.parts.before.has_field c.parts.before.form _ _ _
     (ap plain_prod_parts (drop_all c.parts.part-index items c.parts-test.false)) (c.parts.invariant.noted h)
 
-pub check_step-returns-clause-has : goal.check_step-returns-clause-has
-check_step-returns-clause-has t c h = c.either-has_field.ensures ∙ ap (λ b. c.args.before.has_field || b) (c.check_sorted-known.ensures.known (c.check_next-form.ensures.noted h).had).has
-
-pub check_step-returns-clause-form : goal.check_step-returns-clause-form
-check_step-returns-clause-form t c h =
-    let known = c.check_sorted-known.ensures.known (c.check_next-form.ensures.noted h).had in
-    c.check_next-form.ensures.form h ∙ ap₂ (λ h f. next_form c.args.before.has_field c.args.before.form c.args.part.now.remainder h f (plain_expr c.args.part.now.part)) known.has known.form
-
-pub check_step-returns-clause-noted : goal.check_step-returns-clause-noted
-check_step-returns-clause-noted t c h =
-    let last = c.check_next-form.ensures.noted h in
-    let known = c.check_sorted-known.ensures.known last.had in
-    step_noted (plain_scope c.args.scope.now) c.args.place c.args.before.has_field c.args.before.form c.args.part.now.remainder (plain_expr c.args.part.now.part) c.check_sorted-known.result.has_field c.check_sorted-known.result.form _ _ _ known.has known.form (c.check_sorted-known.ensures.noted last.had) last
-
 pub check_label-returns-in-Field-clause-noted : goal.check_label-returns-in-Field-clause-noted
 check_label-returns-in-Field-clause-noted t c h = same (ap (λ n. label_failures (plain_scope c.args.scope.now) (plain_node n c.args.e.now.place)) (sym c.in-Field.is)) (c.check_field.ensures.noted h)
 
@@ -173,39 +169,37 @@ pub check_label-returns-in-Compare-clause-noted : goal.check_label-returns-in-Co
 check_label-returns-in-Compare-clause-noted t c h =
     let s = plain_scope c.args.scope.now in
     let place = c.args.e.now.place in
-    let last = c.check_sides.ensures h in
+    let last = c.check_sides.ensures.noted h in
     let two = c.check_label-in-Compare.ensures.noted last.had in
     let one = c.check_label.ensures.noted two.had in
-    let left = side_at c.args.scope.now c.in-Compare.left.value _ _ c.check_label.result c.into_side-of_left.result c.deref-in-Compare.ensures c.deref-in-Compare-2.ensures c.into_side-of_left.ensures (c.check_label.ensures.known two.had) in
-    let right = side_at c.args.scope.now c.in-Compare.right.value _ _ c.check_label-in-Compare.result c.into_side-of_right.result c.deref-in-Compare-3.ensures c.deref-in-Compare-4.ensures c.into_side-of_right.ensures (c.check_label-in-Compare.ensures.known last.had) in
+    let left = side_at c.args.scope.now c.in-Compare.left.value _ _ c.check_label.result c.deref-in-Compare.ensures c.deref-in-Compare-2.ensures (c.check_label.ensures.known two.had) in
+    let right = side_at c.args.scope.now c.in-Compare.right.value _ _ c.check_label-in-Compare.result c.deref-in-Compare-3.ensures c.deref-in-Compare-4.ensures (c.check_label-in-Compare.ensures.known last.had) in
     same (ap (λ n. label_failures s (plain_node n place)) (sym c.in-Compare.is))
     (compare_noted s c.in-Compare.rel place (plain_expr c.in-Compare.left.value) _ (plain_expr c.in-Compare.right.value) _ _ _ _ _ _ _
     (ap plain_expr c.deref-in-Compare.ensures) (ap plain_expr c.deref-in-Compare-3.ensures) left right one two last)
 
 pub check_label-returns-in-Compare-clause-known : goal.check_label-returns-in-Compare-clause-known
 check_label-returns-in-Compare-clause-known t c h =
-    let last = c.check_sides.ensures h in
+    let last = c.check_sides.ensures.noted h in
     let two = c.check_label-in-Compare.ensures.noted last.had in
-    let left = side_at c.args.scope.now c.in-Compare.left.value _ _ c.check_label.result c.into_side-of_left.result c.deref-in-Compare.ensures c.deref-in-Compare-2.ensures c.into_side-of_left.ensures (c.check_label.ensures.known two.had) in
-    let right = side_at c.args.scope.now c.in-Compare.right.value _ _ c.check_label-in-Compare.result c.into_side-of_right.result c.deref-in-Compare-3.ensures c.deref-in-Compare-4.ensures c.into_side-of_right.ensures (c.check_label-in-Compare.ensures.known last.had) in
-    let has = c.either.ensures ∙ ap₂ (λ a b. a || b) left.has right.has in
+    let left = side_at c.args.scope.now c.in-Compare.left.value _ _ c.check_label.result c.deref-in-Compare.ensures c.deref-in-Compare-2.ensures (c.check_label.ensures.known two.had) in
+    let right = side_at c.args.scope.now c.in-Compare.right.value _ _ c.check_label-in-Compare.result c.deref-in-Compare-3.ensures c.deref-in-Compare-4.ensures (c.check_label-in-Compare.ensures.known last.had) in
     let place = c.args.e.now.place in
-    subst (λ (n : Node). IsKnown c.args.scope.now (plain_node n place) c.of_truth-in-Compare.result) (sym c.in-Compare.is)
-    (truth_known c.args.scope.now (plain.compare place c.in-Compare.rel (plain_expr c.in-Compare.left.value) (plain_expr c.in-Compare.right.value)) c.of_truth-in-Compare.result c.either.result c.of_truth-in-Compare.ensures refl has refl)
+    subst (λ (n : Node). IsKnown c.args.scope.now (plain_node n place) c.check_sides.result) (sym c.in-Compare.is)
+    (truth_known c.args.scope.now (plain.compare place c.in-Compare.rel (plain_expr c.in-Compare.left.value) (plain_expr c.in-Compare.right.value)) c.check_sides.result _ c.check_sides.ensures.known refl (ap₂ (λ a b. a || b) left.has right.has) refl)
 
 pub check_label-returns-in-Not-clause-noted : goal.check_label-returns-in-Not-clause-noted
 check_label-returns-in-Not-clause-noted t c h =
     let s = plain_scope c.args.scope.now in
     let place = c.args.e.now.place in
-    same (ap (λ x. label_failures s (plain.negation place (plain_expr x))) c.deref.ensures ∙ sym (ap (λ n. label_failures s (plain_node n place)) c.in-Not.is)) (c.check_sorted.ensures.noted h)
+    same (ap (λ x. label_failures s (plain.negation place (plain_expr x))) c.deref.ensures ∙ sym (ap (λ n. label_failures s (plain_node n place)) c.in-Not.is)) (c.check_sorted-truth.ensures.noted h)
 
 pub check_label-returns-in-Not-clause-known : goal.check_label-returns-in-Not-clause-known
 check_label-returns-in-Not-clause-known t c h =
     let place = c.args.e.now.place in
     let is = ap (λ x. plain.negation place (plain_expr x)) c.deref.ensures ∙ sym (ap (λ n. plain_node n place) c.in-Not.is) in
-    let has = ap (λ (x : Side). x.has_field) c.into_side-truth.ensures ∙ (c.check_sorted.ensures.known h).has in
-    subst (λ (e : plain.Expr). IsKnown c.args.scope.now e c.of_truth-in-Not.result) is
-    (truth_known c.args.scope.now (plain.negation place (plain_expr c.deref.result.now)) c.of_truth-in-Not.result c.into_side-truth.result.has_field c.of_truth-in-Not.ensures refl has refl)
+    subst (λ (e : plain.Expr). IsKnown c.args.scope.now e c.formless-in-Not.result) is
+    (truth_known c.args.scope.now (plain.negation place (plain_expr c.deref.result.now)) c.formless-in-Not.result c.check_sorted-truth.result.has_field c.formless-in-Not.ensures refl (c.check_sorted-truth.ensures.known h).has refl)
 
 pub check_label-returns-in-Minus-clause-noted : goal.check_label-returns-in-Minus-clause-noted
 check_label-returns-in-Minus-clause-noted t c h =

@@ -1,6 +1,4 @@
 use Rattle.std.proofs.Common.{sym, ap, subst}
-use Rattle.fast_fault.specs.declared.code.Code.TheVariants.{NotLinear}
-use Rattle.model_checks.specs.Failures.{fails_if}
 use Rattle.program_check.proofs.Noting.{next, same}
 use Rattle.fast_syntax.specs.Plain.{plain_expr}
 use Rattle.std.proofs.Common.{Bool}
@@ -17,4 +15,4 @@ pub returns-else-part-clause-noted : goal.returns-else-part-clause-noted
 returns-else-part-clause-noted c h =
     let last = c.multiply.ensures.noted h in
     same (ap (λ m. next_failures c.args.place c.args.before.has_field c.args.before.form m c.args.known.now.has_field c.args.known.now.form (plain_expr c.args.part.now.part)) (sym c.if-part.false))
-    (next (same (ap (λ b. fails_if b NotLinear c.args.place) c.both-both.ensures) (c.note_if.ensures last.had)) last)
+    (next (c.note_if.ensures last.had) last)

@@ -15,15 +15,15 @@ returns-in_default c =
     let w = c.args.wanted.now in
     as_same (none_ruled (items_of c.args.context.now) (option_map plain_kind w.kind) (type_name w.input) (type_name w.output) (plain_name c.args.name.now) (sym c.find_head.ensures ∙ ap (option_map plain_head) c.in_default.is)) c.note.ensures
 
-pub returns-then-either : goal.returns-then-either
-returns-then-either c =
+pub returns-then-other : goal.returns-then-other
+returns-then-other c =
     let w = c.args.wanted.now in
-    as_same (other_ruled (items_of c.args.context.now) (option_map plain_kind w.kind) (type_name w.input) (type_name w.output) (plain_name c.args.name.now) (plain_head c.in-Some.head) c.either.result (sym c.find_head.ensures ∙ ap (option_map plain_head) c.in-Some.is)
-    (c.either.ensures ∙ ap (λ b. not c.in-Some.head.has_rules || b) c.is_other_kind.ensures) c.if-either.true) c.note-then-either.ensures
+    as_same (other_ruled (items_of c.args.context.now) (option_map plain_kind w.kind) (type_name w.input) (type_name w.output) (plain_name c.args.name.now) (plain_head c.in-Some.head) (not c.in-Some.head.has_rules || c.is_other_kind.result) (sym c.find_head.ensures ∙ ap (option_map plain_head) c.in-Some.is)
+    (ap (λ b. not c.in-Some.head.has_rules || b) c.is_other_kind.ensures) c.if-other.true) c.note-then-other.ensures
 
 pub returns : goal.returns
 returns c =
     let w = c.args.wanted.now in
-    as_same (same_ruled (items_of c.args.context.now) (option_map plain_kind w.kind) (type_name w.input) (type_name w.output) (plain_name c.args.name.now) (plain_head c.in-Some.head) c.either.result c.either-2.result (sym c.find_head.ensures ∙ ap (option_map plain_head) c.in-Some.is)
-    (c.either.ensures ∙ ap (λ b. not c.in-Some.head.has_rules || b) c.is_other_kind.ensures) c.if-either.false
-    (c.either-2.ensures ∙ ap₂ (λ p q. p || q) (c.differ-inputs.ensures ∙ ap (λ n. differ n (type_name w.input)) c.standing_of-found.ensures.input) (c.differ-outputs.ensures ∙ ap (λ n. differ n (type_name w.output)) c.standing_of-found.ensures.output))) c.note_if.ensures
+    as_same (same_ruled (items_of c.args.context.now) (option_map plain_kind w.kind) (type_name w.input) (type_name w.output) (plain_name c.args.name.now) (plain_head c.in-Some.head) (not c.in-Some.head.has_rules || c.is_other_kind.result) (c.differ-inputs.result || c.differ-outputs.result) (sym c.find_head.ensures ∙ ap (option_map plain_head) c.in-Some.is)
+    (ap (λ b. not c.in-Some.head.has_rules || b) c.is_other_kind.ensures) c.if-other.false
+    (ap₂ (λ p q. p || q) (c.differ-inputs.ensures ∙ ap (λ n. differ n (type_name w.input)) c.standing_of-found.ensures.input) (c.differ-outputs.ensures ∙ ap (λ n. differ n (type_name w.output)) c.standing_of-found.ensures.output))) c.note_if.ensures

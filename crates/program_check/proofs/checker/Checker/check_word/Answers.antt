@@ -21,5 +21,5 @@ returns-in_default-clause-noted c = as_same (none_named (items_of c.args.context
 
 pub returns-clause-noted : goal.returns-clause-noted
 returns-clause-noted c =
-    as_same (some_named (items_of c.args.context.now) (before_of c.args.context.now) (plain_name c.args.name.now) (plain_head c.in-Some.head) c.either-known.result (sym c.find_head.ensures ∙ ap (option_map plain_head) c.in-Some.is)
-    (c.either-known.ensures ∙ ap (λ k. c.in-Some.head.has_rules || k) c.has_item_before.ensures)) c.note_if.ensures
+    as_same (some_named (items_of c.args.context.now) (before_of c.args.context.now) (plain_name c.args.name.now) (plain_head c.in-Some.head) (c.in-Some.head.has_rules || c.has_item_before.result) (sym c.find_head.ensures ∙ ap (option_map plain_head) c.in-Some.is)
+    (ap (λ k. c.in-Some.head.has_rules || k) c.has_item_before.ensures)) c.note_if.ensures
