@@ -14,7 +14,9 @@ use Rattle.model_checks.specs.Rules.{differ, own_lang, own_trans, language_failu
 use Rattle.model_checks.specs.Programs.{name_again, into_failures, needs_output, body_failures}
 use Rattle.std.specs.List.{flat_map}
 use Rattle.std.proofs.lemmas.List.{append_assoc}
-use Rattle.program_check.proofs.Noting.{ends}
+use Rattle.program_check.specs.declared.checker.Checker.{Checker}
+use Rattle.program_check.specs.Notes.{Notes}
+use Rattle.program_check.proofs.Noting.{ends, and_next, as_same}
 use Rattle.model_checks.specs.Expressions.{is_other_kind, is_known_later, name_failures, whole_failures}
 use Rattle.program_check.specs.declared.expressions.Standing.{Standing}
 use Rattle.fast_syntax.specs.declared.Name as named
@@ -223,3 +225,7 @@ item_by_head items before (def d) = append_assoc (name_again items before d.name
     value : List Refusal
     value = whole_failures items before (declared_type items d.from) (defined_kind d.into) d.value ++ needs_output items before d.into d.value
 item_by_head items before (assertion a) = refl
+
+-- an item, by its head and what stands behind it
+pub item_noted : (items before : List Item) (b body : Body) (x y z : Checker) → b ≡ body → Notes x y (option_map_or (head_failures items before) (head_of body) []) → Notes y z (behind_head items before b) → Notes x z (body_failures items before body)
+item_noted items before b body x y z is one two = as_same (item_by_head items before body) (and_next one (as_same (ap (behind_head items before) is) two))

@@ -70,12 +70,12 @@ pub record AreTruths (scope : Scope) (parts : Parts) (known : Known) : Type 0 wh
 
 -- what fails where something is to be of a sort
 abbrev pub sort_failures : Sort → Side → List Refusal
-sort_failures sort side = fails_if (is_other_sort sort (option_map plain_sort side.known.sort)) WrongSort side.place
+sort_failures sort side = fails_if (is_other_sort sort (option_map plain_sort side.sort)) WrongSort side.place
 
 -- what fails at the sides of a comparison
 abbrev pub sides_failures : Rel → Side → Side → List Refusal
-sides_failures Equal left right = fails_if (differ_in_sort (option_map plain_sort left.known.sort) (option_map plain_sort right.known.sort)) WrongSort right.place
-sides_failures NotEqual left right = fails_if (differ_in_sort (option_map plain_sort left.known.sort) (option_map plain_sort right.known.sort)) WrongSort right.place
+sides_failures Equal left right = fails_if (differ_in_sort (option_map plain_sort left.sort) (option_map plain_sort right.sort)) WrongSort right.place
+sides_failures NotEqual left right = fails_if (differ_in_sort (option_map plain_sort left.sort) (option_map plain_sort right.sort)) WrongSort right.place
 sides_failures Less left right = sort_failures wholes left ++ sort_failures wholes right
 sides_failures AtMost left right = sort_failures wholes left ++ sort_failures wholes right
 sides_failures Greater left right = sort_failures wholes left ++ sort_failures wholes right
@@ -83,7 +83,7 @@ sides_failures AtLeast left right = sort_failures wholes left ++ sort_failures w
 
 -- what fails where a label isn't of its field's sort
 abbrev pub field_sort_failures : FieldItem → Side → List Refusal
-field_sort_failures f label = fails_if (differ_in_sort (sort_named f.sort.text) (option_map plain_sort label.known.sort)) WrongSort label.place
+field_sort_failures f label = fails_if (differ_in_sort (sort_named f.sort.text) (option_map plain_sort label.sort)) WrongSort label.place
 
 -- what fails where a product goes on, to a remainder or by a factor of which this is known
 abbrev pub next_failures : Pos → Bool → Option Form → Bool → Bool → Option Form → Expr → List Refusal

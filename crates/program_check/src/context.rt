@@ -7,18 +7,16 @@ ghost use Rattle.std.specs.Option.{option_map, option_and_then};
 ghost use Rattle.std.proofs.Props.{props};
 ghost use Rattle.model_names.specs.Declared.{find_type, find_item};
 ghost use Rattle.fast_syntax.specs.Plain.{plain_item};
-ghost use Rattle.program_check.specs.Naming.{place_in};
-ghost use Rattle.program_check.specs.Numbered.{is_below, own_type_item, own_ctors, ctor_place, type_there, AreNumbered};
+ghost use Rattle.program_check.specs.Numbered.{is_below, AreNumbered};
 ghost use Rattle.program_check.specs.Typed.{plain_option, type_name};
 ghost use Rattle.program_check.specs.Heads.{plain_head, head_named};
 
-use crate::declarations::Declarations;
+use crate::declarations::{Declarations, own_type};
 use crate::declared_type::DeclaredType;
 use crate::heads::{Head, head_of};
-use crate::names::Names;
 use crate::rules::name_of;
 use fast_fault::Text;
-use fast_syntax::items::{Body, Item};
+use fast_syntax::items::Item;
 
 /// The items of a program with their declarations, and how many items stand before the one that is looked at.
 #[derive(Clone, Copy)]
@@ -36,10 +34,19 @@ impl<'p> Context<'p> {
     pub(crate) fn find_type(&self, name: &Text) -> Option<DeclaredType<'p>>
         ensures { plain_option result ≡ find_type (items_of self.now) name.now }
     {
-        match self.declared.types.place(name) {
-            Some(place) => self.type_at(place),
-            None => None,
-        }
+        let Some(place) = self.declared.types.place(name) else {
+            return None;
+        };
+        let Some(ctors) = self.declared.ctors.get(place) else {
+            return None;
+        };
+        let Some(item) = self.items.get(place) else {
+            return None;
+        };
+        let Some(own) = own_type(item) else {
+            return None;
+        };
+        Some(DeclaredType { item: own, ctors })
     }
 
     /// The type of this name, where there is a name.
@@ -57,19 +64,6 @@ impl<'p> Context<'p> {
         ensures { type_name result ≡ option_map (λ t. t.name.text) (find_type (items_of self.now) name.now) }
     {
         name_of(&self.find_type(name))
-    }
-
-    /// The type that the item of this number is.
-    fn type_at(&self, place: usize) -> Option<DeclaredType<'p>>
-        ensures { plain_option result ≡ type_there (items_of self.now) (Some place) }
-    {
-        match self.declared.ctors.get(place) {
-            Some(ctors) => match self.items.get(place) {
-                Some(item) => as_type(item, ctors),
-                None => None,
-            },
-            None => None,
-        }
     }
 
     /// The head of the first item that declares this name of a language, transformation, definition or tree.
@@ -106,16 +100,5 @@ fn is_below(place: Option<usize>, before: usize) -> bool
     match place {
         Some(place) => place < before,
         None => false,
-    }
-}
-
-/// The type that an item is.
-fn as_type<'p>(item: &'p Item, ctors: &'p Names) -> Option<DeclaredType<'p>>
-    requires { place_in ctors.now ≡ ctor_place (own_ctors (plain_item item.now)) }
-    ensures { plain_option result ≡ own_type_item (plain_item item.now).body }
-{
-    match &item.body {
-        Body::Sorts(own) => Some(DeclaredType { item: own, ctors }),
-        _ => None,
     }
 }

@@ -14,7 +14,7 @@ ghost use Rattle.program_check.specs.Notes.{HasMemory, Notes};
 ghost use Rattle.program_check.specs.Typed.{type_name};
 ghost use Rattle.program_check.specs.Heads.{plain_head};
 ghost use Rattle.program_check.specs.Contexts.{items_of, before_of};
-ghost use Rattle.program_check.specs.Standings.{plain_kind, IsStanding, only_as, as_failures, input_of_two, output_of_two, second_wanted, be_failures, kind_taken, kind_given, kind_given_by_two, standing_of_one, standing_of_two, literal_failures};
+ghost use Rattle.program_check.specs.Standings.{plain_kind, IsStanding, only_as, as_failures, second_wanted, be_failures, kind_taken, standing_of_one, standing_of_two, literal_failures};
 
 use crate::checker::Checker;
 use crate::context::Context;
@@ -55,15 +55,6 @@ fn taken_by_one(op: Op1) -> Kind
     }
 }
 
-fn given_by_one(op: Op1) -> Kind
-    ensures { result ≡ kind_given op }
-{
-    match op {
-        Op1::Complement | Op1::Minimize | Op1::Domain => Kind::Language,
-        Op1::GetWitness => Kind::Tree,
-    }
-}
-
 fn taken_first(op: Op2) -> Kind
     ensures { plain_kind result ≡ taken_first op }
 {
@@ -86,16 +77,6 @@ fn taken_second(op: Op2) -> Kind
         | Op2::Restrict
         | Op2::RestrictOut => Kind::Language,
         Op2::Compose => Kind::Transformation,
-        Op2::Apply => Kind::Tree,
-    }
-}
-
-fn given_by_two(op: Op2) -> Kind
-    ensures { result ≡ kind_given_by_two op }
-{
-    match op {
-        Op2::Intersect | Op2::Union | Op2::Difference | Op2::PreImage => Kind::Language,
-        Op2::Compose | Op2::Restrict | Op2::RestrictOut => Kind::Transformation,
         Op2::Apply => Kind::Tree,
     }
 }
@@ -159,51 +140,47 @@ fn wanted_second<'p>(op: Op2, first: &Standing<'p>) -> Option<&'p Text>
 fn of_one<'p>(op: Op1, operand: &Standing<'p>) -> Standing<'p>
     ensures { result ≡ standing_of_one op operand.now }
 {
-    let taken = taken_by_one(op);
-    Standing {
-        kind: Some(given_by_one(op)),
-        input: only_as(taken, operand.kind, operand.input),
-        output: None,
+    let input = only_as(taken_by_one(op), operand.kind, operand.input);
+    match op {
+        Op1::Complement | Op1::Minimize | Op1::Domain => Standing {
+            kind: Some(Kind::Language),
+            input,
+            output: None,
+        },
+        Op1::GetWitness => Standing {
+            kind: Some(Kind::Tree),
+            input,
+            output: None,
+        },
     }
 }
 
 fn of_two<'p>(op: Op2, first: &Standing<'p>, second: &Standing<'p>) -> Standing<'p>
     ensures { result ≡ standing_of_two op first.now second.now }
 {
-    Standing {
-        kind: Some(given_by_two(op)),
-        input: input_of_two(op, first),
-        output: output_of_two(op, first, second),
-    }
-}
-
-/// The name of the type of what an operation gives.
-fn input_of_two<'p>(op: Op2, first: &Standing<'p>) -> Option<&'p Text>
-    ensures { result ≡ input_of_two op first.now }
-{
-    let taken = taken_first(op);
+    let input = only_as(taken_first(op), first.kind, first.input);
+    let output = only_as(Kind::Transformation, first.kind, first.output);
     match op {
-        Op2::Apply => only_as(taken, first.kind, first.output),
-        Op2::Intersect
-        | Op2::Union
-        | Op2::Difference
-        | Op2::PreImage
-        | Op2::Compose
-        | Op2::Restrict
-        | Op2::RestrictOut => only_as(taken, first.kind, first.input),
-    }
-}
-
-/// The name of the type of the outputs of what an operation gives.
-fn output_of_two<'p>(op: Op2, first: &Standing<'p>, second: &Standing<'p>) -> Option<&'p Text>
-    ensures { result ≡ output_of_two op first.now second.now }
-{
-    match op {
-        Op2::Compose => only_as(Kind::Transformation, second.kind, second.output),
-        Op2::Restrict | Op2::RestrictOut => {
-            only_as(Kind::Transformation, first.kind, first.output)
-        }
-        Op2::Intersect | Op2::Union | Op2::Difference | Op2::PreImage | Op2::Apply => None,
+        Op2::Intersect | Op2::Union | Op2::Difference | Op2::PreImage => Standing {
+            kind: Some(Kind::Language),
+            input,
+            output: None,
+        },
+        Op2::Compose => Standing {
+            kind: Some(Kind::Transformation),
+            input,
+            output: only_as(Kind::Transformation, second.kind, second.output),
+        },
+        Op2::Restrict | Op2::RestrictOut => Standing {
+            kind: Some(Kind::Transformation),
+            input,
+            output,
+        },
+        Op2::Apply => Standing {
+            kind: Some(Kind::Tree),
+            input: output,
+            output: None,
+        },
     }
 }
 

@@ -3,16 +3,15 @@
 ghost use Rattle.std.specs.Prelude.{◌≡◌, ◌++◌, [], Some, None, map};
 ghost use Rattle.std.specs.List.{flat_map};
 ghost use Rattle.std.specs.Option.{option_map, option_map_or};
-ghost use Rattle.fast_syntax.specs.View.{plain_name, plain_type};
+ghost use Rattle.fast_syntax.specs.View.{plain_name};
 ghost use Rattle.fast_syntax.specs.Plain.{plain_x, plain_rule, plain_out_rule, plain_claim, plain_def, plain_body, plain_item};
 ghost use Rattle.model_checks.specs.Rules.{rule_limit, rule_failures, out_rule_failures};
-ghost use Rattle.model_checks.specs.Programs.{is_tree, type_again, claim_failures, body_failures};
+ghost use Rattle.model_checks.specs.Programs.{is_tree, claim_failures, body_failures};
 ghost use Rattle.program_check.specs.Notes.{HasMemory, Notes};
 ghost use Rattle.program_check.specs.Contexts.{items_of, before_of};
 ghost use Rattle.program_check.specs.Standings.{plain_kind, IsStanding, beside_failures};
 ghost use Rattle.program_check.specs.Heads.{head_of, head_failures, behind_head};
 ghost use Rattle.model_grammar.specs.Syntax as plain;
-ghost use Rattle.model_checks.specs.Types.{type_failures};
 
 use crate::checker::Checker;
 use crate::context::Context;
@@ -21,8 +20,8 @@ use crate::heads::head_of;
 use crate::limits::MOST_RULES;
 use crate::rules::{Between, differ};
 use fast_fault::Code;
+use fast_syntax::Name;
 use fast_syntax::items::{Body, Claim, DefItem, Item, OutRule, Rule, X};
-use fast_syntax::{Name, TypeItem};
 
 fn is_tree(standing: &Standing) -> bool
     ensures { result ≡ is_tree (option_map plain_kind standing.now.kind) }
@@ -160,38 +159,21 @@ impl Checker {
         }
     }
 
-    fn check_sorts(&mut self, context: &Context, item: &TypeItem)
-        ensures { Notes self.old self.new (type_again (items_of context.now) (before_of context.now) (plain_name item.now.name) ++ type_failures (plain_type item.now)) }
-    {
-        let again = context.has_type_before(&item.name.text);
-        self.note_if(again, Code::DuplicateType, item.name.place);
-        self.check_type(item)
-    }
-
-    /// What stands behind the head of an item, or all of one that has none.
-    fn check_body(&mut self, context: &Context, body: &Body)
-        ensures { Notes self.old self.new (behind_head (items_of context.now) (before_of context.now) (plain_body body.now)) }
-    {
-        match body {
-            Body::Sorts(item) => self.check_sorts(context, item),
-            Body::Tree(item) => {
-                let wanted = context.type_name(&item.of.text);
-                self.check_as(context, 0, wanted, Kind::Tree, &item.value);
-            }
-            Body::Lang(item) => self.check_rules(context, &item.of, &item.rules),
-            Body::Trans(item) => {
-                self.check_out_rules(context, &item.from, &item.into, &item.rules)
-            }
-            Body::Def(item) => self.check_def(context, item),
-            Body::Assert(item) => self.check_claim(context, &item.claim),
-        }
-    }
-
     /// Notes what fails in an item.
     pub(crate) fn check_item(&mut self, context: &Context, item: &Item)
         ensures { Notes self.old self.new (body_failures (items_of context.now) (before_of context.now) (plain_item item.now).body) }
     {
         self.check_head(context, item);
-        self.check_body(context, &item.body)
+        match &item.body {
+            Body::Sorts(own) => self.check_type(context, own),
+            Body::Tree(own) => {
+                let wanted = context.type_name(&own.of.text);
+                self.check_as(context, 0, wanted, Kind::Tree, &own.value);
+            }
+            Body::Lang(own) => self.check_rules(context, &own.of, &own.rules),
+            Body::Trans(own) => self.check_out_rules(context, &own.from, &own.into, &own.rules),
+            Body::Def(own) => self.check_def(context, own),
+            Body::Assert(own) => self.check_claim(context, &own.claim),
+        }
     }
 }

@@ -49,10 +49,11 @@ pub(crate) struct Known {
     pub(crate) form: Option<Form>,
 }
 
-/// A side of a comparison: what is known of it, and where it stands.
-#[derive(Drop)]
+/// A side of a comparison, or a label: its sort, whether it has the name of a field in it, and where it stands.
+#[derive(Clone, Copy)]
 pub(crate) struct Side {
-    pub(crate) known: Known,
+    pub(crate) sort: Option<Sort>,
+    pub(crate) has_field: bool,
     pub(crate) place: Pos,
 }
 
@@ -115,6 +116,17 @@ impl Known {
             sort,
             has_field,
             form: None,
+        }
+    }
+
+    /// It, as a side of a comparison that stands here. Its form is let go.
+    pub(crate) fn into_side(self, place: Pos) -> Side
+        ensures { result ≡ record { sort = self.sort; has_field = self.has_field; place = place } }
+    {
+        Side {
+            sort: self.sort,
+            has_field: self.has_field,
+            place,
         }
     }
 }
@@ -279,30 +291,26 @@ impl Checker {
     }
 
     /// It is to be of this sort.
-    fn check_sort(&mut self, sort: Sort, side: &Side)
-        ensures { Notes self.old self.new (sort_failures (plain_sort sort) side.now) }
+    fn check_sort(&mut self, sort: Sort, side: Side)
+        ensures { Notes self.old self.new (sort_failures (plain_sort sort) side) }
     {
-        let differs = is_other_sort(sort, side.known.sort);
-        self.note_if(differs, Code::WrongSort, side.place);
+        self.note_if(is_other_sort(sort, side.sort), Code::WrongSort, side.place);
     }
 
-    /// The sides of an equality are of one sort, those of another comparison are whole numbers. Their forms are let go.
-    fn check_sides(&mut self, rel: Rel, left: Side, right: Side) -> Known
-        ensures noted { Notes self.old self.new (sides_failures rel left right) }
-        ensures known { result ≡ record { sort = Some Sort.Bool; has_field = left.known.has_field || right.known.has_field; form = None } }
+    /// The sides of an equality are of one sort, those of another comparison are whole numbers.
+    fn check_sides(&mut self, rel: Rel, left: Side, right: Side)
+        ensures { Notes self.old self.new (sides_failures rel left right) }
     {
         match rel {
             Rel::Equal | Rel::NotEqual => {
-                let differ = differ_in_sort(left.known.sort, right.known.sort);
+                let differ = differ_in_sort(left.sort, right.sort);
                 self.note_if(differ, Code::WrongSort, right.place);
             }
             Rel::Less | Rel::AtMost | Rel::Greater | Rel::AtLeast => {
-                self.check_sort(Sort::Int, &left);
-                self.check_sort(Sort::Int, &right);
+                self.check_sort(Sort::Int, left);
+                self.check_sort(Sort::Int, right);
             }
         }
-        let has_field = left.known.has_field | right.known.has_field;
-        Known::formless(Some(Sort::Bool), has_field)
     }
 
     /// A form with its sign changed.
@@ -402,7 +410,9 @@ impl Checker {
             Node::Str(text) => self.check_text(text, e.place),
             Node::Truth(_) => Known::formless(Some(Sort::Bool), false),
             Node::Not(inside) => {
-                let truth = self.check_sorted(scope, Sort::Bool, inside);
+                let truth = self
+                    .check_sorted(scope, Sort::Bool, inside)
+                    .into_side(e.place);
                 Known::formless(Some(Sort::Bool), truth.has_field)
             }
             Node::Minus(inside) => {
@@ -415,15 +425,11 @@ impl Checker {
                 }
             }
             Node::Compare(rel, left, right) => {
-                let one = Side {
-                    known: self.check_label(scope, left),
-                    place: left.place,
-                };
-                let other = Side {
-                    known: self.check_label(scope, right),
-                    place: right.place,
-                };
-                self.check_sides(*rel, one, other)
+                let of_left = self.check_label(scope, left).into_side(left.place);
+                let of_right = self.check_label(scope, right).into_side(right.place);
+                self.check_sides(*rel, of_left, of_right);
+                let has_field = of_left.has_field | of_right.has_field;
+                Known::formless(Some(Sort::Bool), has_field)
             }
             Node::Or(parts) => self.check_truths(scope, parts),
             Node::And(parts) => self.check_truths(scope, parts),
@@ -451,7 +457,9 @@ impl Checker {
     {
         let mut has_field = false;
         'parts: for part in parts {
-            let truth = self.check_sorted(scope, Sort::Bool, part);
+            let truth = self
+                .check_sorted(scope, Sort::Bool, part)
+                .into_side(part.place);
             has_field = has_field | truth.has_field;
         }
         Known::formless(Some(Sort::Bool), has_field)

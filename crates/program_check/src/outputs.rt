@@ -1,7 +1,6 @@
 //! What may fail in the labels of a node and in an output term, whose labels speak of the input.
 
-ghost use Rattle.std.specs.Prelude.{◌≡◌, [], List, Some, None, map};
-ghost use Rattle.std.specs.Option.{option_map};
+ghost use Rattle.std.specs.Prelude.{◌≡◌, [], List, map};
 ghost use Rattle.model_grammar.specs.Syntax as plain;
 ghost use Rattle.model_grammar.specs.Syntax.{Item};
 ghost use Rattle.fast_syntax.specs.View.{plain_name, plain_field};
@@ -13,7 +12,7 @@ ghost use Rattle.program_check.specs.Notes.{Notes};
 ghost use Rattle.program_check.specs.Contexts.{items_of};
 ghost use Rattle.program_check.specs.Known.{plain_scope};
 ghost use Rattle.program_check.specs.Typed.{plain_option, AreFound};
-ghost use Rattle.program_check.specs.Variables.{plain_vars, Kept, made_failures};
+ghost use Rattle.program_check.specs.Variables.{plain_vars, Kept};
 ghost use Rattle.program_check.specs.Nodes.{field_at, label_at, node_failures};
 
 use crate::checker::Checker;
@@ -44,11 +43,11 @@ impl Checker {
     fn check_label_at(&mut self, scope: &Scope, fields: &[FieldItem], number: usize, e: &Expr)
         ensures { Notes self.old self.new (label_at (plain_scope scope.now) (field_at (map plain_field fields.now) number) (plain_expr e.now)) }
     {
-        let label = self.check_label(scope, e);
+        let label = self.check_label(scope, e).into_side(e.place);
         if number < fields.len() {
             let sort = sort_named(&fields[number].sort.text);
             let differ = differ_in_sort(sort, label.sort);
-            self.note_if(differ, Code::WrongSort, e.place);
+            self.note_if(differ, Code::WrongSort, label.place);
         }
     }
 
@@ -93,7 +92,7 @@ impl Checker {
 
     /// An output term of a rule between these types.
     #[cycle(check_out)]
-    fn check_out(&mut self, context: &Context, types: &Between, vars: &Vars, out: &Out)
+    pub(crate) fn check_out(&mut self, context: &Context, types: &Between, vars: &Vars, out: &Out)
         requires { AreFound (items_of context.now) types.now }
         ensures { Kept self.old vars.now → Notes self.old self.new (out_failures (items_of context.now) (plain_name types.now.from.now) (plain_name types.now.into.now) (plain_vars vars.now) (plain_out out.now)) }
     {
@@ -128,21 +127,5 @@ impl Checker {
         self.check_constructor(&types.outputs, name, count);
         self.check_label_count(&types.outputs, name, labels.len());
         self.check_labels(&scope_of(&types.inputs), fields_of(&types.outputs), labels)
-    }
-
-    /// The output term of a rule between these types, where it has one.
-    pub(crate) fn check_made(
-        &mut self,
-        context: &Context,
-        types: &Between,
-        vars: &Vars,
-        out: Option<&Out>,
-    )
-        requires { AreFound (items_of context.now) types.now }
-        ensures { Kept self.old vars.now → Notes self.old self.new (made_failures (items_of context.now) (plain_name types.now.from.now) (plain_name types.now.into.now) (plain_vars vars.now) (option_map (λ o. plain_out o.now) out.entry)) }
-    {
-        if let Some(out) = out {
-            self.check_out(context, types, vars, out);
-        }
     }
 }

@@ -117,7 +117,8 @@ impl Checker {
         ensures { Notes self.old self.new (guard_failures (scope_of (plain_option of.now)) (plain_guard guard.now)) }
     {
         if let Some(guard) = guard {
-            self.check_sorted(&scope_of(of), Sort::Bool, guard);
+            self.check_sorted(&scope_of(of), Sort::Bool, guard)
+                .into_side(guard.place);
         }
     }
 
@@ -174,6 +175,8 @@ impl Checker {
         };
         self.check_guard(&types.inputs, &rule.guard);
         self.check_given(context, types, &vars, &rule.given);
-        self.check_made(context, types, &vars, out);
+        if let Some(out) = out {
+            self.check_out(context, types, &vars, out);
+        }
     }
 }

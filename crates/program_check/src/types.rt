@@ -1,17 +1,20 @@
 //! What may fail in a type by itself: a leaf that is missing, names that stand twice, unknown sorts, and numbers of fields
 //! and children that are too great.
 
-ghost use Rattle.std.specs.Prelude.{◌≡◌, map, not, is_some};
+ghost use Rattle.std.specs.Prelude.{◌≡◌, ◌++◌, map, not, is_some};
 ghost use Rattle.std.specs.List.{flat_map};
 ghost use Rattle.std.specs.Option.{option_map};
 ghost use Rattle.fast_tree.specs.Signatures.{plain_sort};
-ghost use Rattle.fast_syntax.specs.View.{plain_field, plain_ctor, plain_type};
+ghost use Rattle.fast_syntax.specs.View.{plain_name, plain_field, plain_ctor, plain_type};
 ghost use Rattle.model_names.specs.Sorts.{sort_named};
 ghost use Rattle.model_checks.specs.Types.{is_rank, is_rank_in_range, field_failures, ctor_failures, field_limit, type_failures};
+ghost use Rattle.model_checks.specs.Programs.{type_again};
+ghost use Rattle.program_check.specs.Contexts.{items_of, before_of};
 ghost use Rattle.program_check.specs.Notes.{Notes};
 ghost use Rattle.program_check.specs.Nodes.{ctors_failures};
 
 use crate::checker::Checker;
+use crate::context::Context;
 use crate::declared_type::has_leaf;
 use crate::limits::{MOST_CHILDREN, MOST_FIELDS};
 use fast_fault::{Code, Text};
@@ -92,9 +95,11 @@ impl Checker {
     }
 
     /// Notes what fails in a type.
-    pub(crate) fn check_type(&mut self, item: &TypeItem)
-        ensures { Notes self.old self.new (type_failures (plain_type item.now)) }
+    pub(crate) fn check_type(&mut self, context: &Context, item: &TypeItem)
+        ensures { Notes self.old self.new (type_again (items_of context.now) (before_of context.now) (plain_name item.now.name) ++ type_failures (plain_type item.now)) }
     {
+        let again = context.has_type_before(&item.name.text);
+        self.note_if(again, Code::DuplicateType, item.name.place);
         self.check_repeated(Code::DuplicateName, &item.fields);
         self.check_own_sorts(item);
         self.check_field_limit(&item.fields);

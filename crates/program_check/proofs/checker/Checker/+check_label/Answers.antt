@@ -23,6 +23,7 @@ use Rattle.fast_fault.specs.declared.code.Code.TheVariants.{WrongSort}
 use Rattle.model_checks.specs.Failures.{fails_if}
 use Rattle.fast_tree.specs.declared.signature.Sort.TheVariants as sorts
 use Rattle.program_check.specs.declared.labels.Known.{Known}
+use Rattle.program_check.specs.declared.labels.Side.{Side}
 use Rattle.program_check.proofs.Labelled.{other_sort, side_at, truth_known, minus_known, minus_noted, sum_noted, compare_noted, step_noted, or_known, and_known, truths_known}
 use Rattle.program_check.proofs.checker.Checker.+check_label.Goals as goal
 
@@ -42,11 +43,11 @@ check_truths-parts-preserved t c =
     let items = c.args.parts.now in
     let i = c.parts.part-index in
     let x = c.part-item.result in
-    let one = c.check_sorted-truth.ensures.noted in
+    let one = c.check_sorted.ensures.noted in
     let split = ap plain_operands (drop_at items i x c.parts-test.true c.part-item.is) in
     record {
       noted = λ h. sorted_more s truths (plain_expr x) false (plain_operands (drop i items)) (plain_operands (drop (i + 1) items)) _ _ _ _ split (one h) (c.parts.invariant.noted (one h).had);
-      has = λ h. has_more s (plain_expr x) false (plain_operands (drop i items)) (plain_operands (drop (i + 1) items)) _ _ _ _ split (c.check_sorted-truth.ensures.known h).has refl (c.parts.invariant.has (one h).had);
+      has = λ h. has_more s (plain_expr x) false (plain_operands (drop i items)) (plain_operands (drop (i + 1) items)) _ _ _ _ split (ap (λ (y : Side). y.has_field) c.into_side-truth.ensures ∙ (c.check_sorted.ensures.known h).has) refl (c.parts.invariant.has (one h).had);
     }
 
 pub check_truths-returns-clause-noted : goal.check_truths-returns-clause-noted
@@ -169,37 +170,39 @@ pub check_label-returns-in-Compare-clause-noted : goal.check_label-returns-in-Co
 check_label-returns-in-Compare-clause-noted t c h =
     let s = plain_scope c.args.scope.now in
     let place = c.args.e.now.place in
-    let last = c.check_sides.ensures.noted h in
+    let last = c.check_sides.ensures h in
     let two = c.check_label-in-Compare.ensures.noted last.had in
     let one = c.check_label.ensures.noted two.had in
-    let left = side_at c.args.scope.now c.in-Compare.left.value _ _ c.check_label.result c.deref-in-Compare.ensures c.deref-in-Compare-2.ensures (c.check_label.ensures.known two.had) in
-    let right = side_at c.args.scope.now c.in-Compare.right.value _ _ c.check_label-in-Compare.result c.deref-in-Compare-3.ensures c.deref-in-Compare-4.ensures (c.check_label-in-Compare.ensures.known last.had) in
+    let left = side_at c.args.scope.now c.in-Compare.left.value _ _ c.check_label.result c.into_side-of_left.result c.deref-in-Compare.ensures c.deref-in-Compare-2.ensures c.into_side-of_left.ensures (c.check_label.ensures.known two.had) in
+    let right = side_at c.args.scope.now c.in-Compare.right.value _ _ c.check_label-in-Compare.result c.into_side-of_right.result c.deref-in-Compare-3.ensures c.deref-in-Compare-4.ensures c.into_side-of_right.ensures (c.check_label-in-Compare.ensures.known last.had) in
     same (ap (λ n. label_failures s (plain_node n place)) (sym c.in-Compare.is))
     (compare_noted s c.in-Compare.rel place (plain_expr c.in-Compare.left.value) _ (plain_expr c.in-Compare.right.value) _ _ _ _ _ _ _
     (ap plain_expr c.deref-in-Compare.ensures) (ap plain_expr c.deref-in-Compare-3.ensures) left right one two last)
 
 pub check_label-returns-in-Compare-clause-known : goal.check_label-returns-in-Compare-clause-known
 check_label-returns-in-Compare-clause-known t c h =
-    let last = c.check_sides.ensures.noted h in
+    let last = c.check_sides.ensures h in
     let two = c.check_label-in-Compare.ensures.noted last.had in
-    let left = side_at c.args.scope.now c.in-Compare.left.value _ _ c.check_label.result c.deref-in-Compare.ensures c.deref-in-Compare-2.ensures (c.check_label.ensures.known two.had) in
-    let right = side_at c.args.scope.now c.in-Compare.right.value _ _ c.check_label-in-Compare.result c.deref-in-Compare-3.ensures c.deref-in-Compare-4.ensures (c.check_label-in-Compare.ensures.known last.had) in
+    let left = side_at c.args.scope.now c.in-Compare.left.value _ _ c.check_label.result c.into_side-of_left.result c.deref-in-Compare.ensures c.deref-in-Compare-2.ensures c.into_side-of_left.ensures (c.check_label.ensures.known two.had) in
+    let right = side_at c.args.scope.now c.in-Compare.right.value _ _ c.check_label-in-Compare.result c.into_side-of_right.result c.deref-in-Compare-3.ensures c.deref-in-Compare-4.ensures c.into_side-of_right.ensures (c.check_label-in-Compare.ensures.known last.had) in
+    let has = ap₂ (λ a b. a || b) left.has right.has in
     let place = c.args.e.now.place in
-    subst (λ (n : Node). IsKnown c.args.scope.now (plain_node n place) c.check_sides.result) (sym c.in-Compare.is)
-    (truth_known c.args.scope.now (plain.compare place c.in-Compare.rel (plain_expr c.in-Compare.left.value) (plain_expr c.in-Compare.right.value)) c.check_sides.result _ c.check_sides.ensures.known refl (ap₂ (λ a b. a || b) left.has right.has) refl)
+    subst (λ (n : Node). IsKnown c.args.scope.now (plain_node n place) c.formless-in-Compare.result) (sym c.in-Compare.is)
+    (truth_known c.args.scope.now (plain.compare place c.in-Compare.rel (plain_expr c.in-Compare.left.value) (plain_expr c.in-Compare.right.value)) c.formless-in-Compare.result _ c.formless-in-Compare.ensures refl has refl)
 
 pub check_label-returns-in-Not-clause-noted : goal.check_label-returns-in-Not-clause-noted
 check_label-returns-in-Not-clause-noted t c h =
     let s = plain_scope c.args.scope.now in
     let place = c.args.e.now.place in
-    same (ap (λ x. label_failures s (plain.negation place (plain_expr x))) c.deref.ensures ∙ sym (ap (λ n. label_failures s (plain_node n place)) c.in-Not.is)) (c.check_sorted-truth.ensures.noted h)
+    same (ap (λ x. label_failures s (plain.negation place (plain_expr x))) c.deref.ensures ∙ sym (ap (λ n. label_failures s (plain_node n place)) c.in-Not.is)) (c.check_sorted.ensures.noted h)
 
 pub check_label-returns-in-Not-clause-known : goal.check_label-returns-in-Not-clause-known
 check_label-returns-in-Not-clause-known t c h =
     let place = c.args.e.now.place in
     let is = ap (λ x. plain.negation place (plain_expr x)) c.deref.ensures ∙ sym (ap (λ n. plain_node n place) c.in-Not.is) in
+    let has = ap (λ (x : Side). x.has_field) c.into_side-truth.ensures ∙ (c.check_sorted.ensures.known h).has in
     subst (λ (e : plain.Expr). IsKnown c.args.scope.now e c.formless-in-Not.result) is
-    (truth_known c.args.scope.now (plain.negation place (plain_expr c.deref.result.now)) c.formless-in-Not.result c.check_sorted-truth.result.has_field c.formless-in-Not.ensures refl (c.check_sorted-truth.ensures.known h).has refl)
+    (truth_known c.args.scope.now (plain.negation place (plain_expr c.deref.result.now)) c.formless-in-Not.result c.into_side-truth.result.has_field c.formless-in-Not.ensures refl has refl)
 
 pub check_label-returns-in-Minus-clause-noted : goal.check_label-returns-in-Minus-clause-noted
 check_label-returns-in-Minus-clause-noted t c h =

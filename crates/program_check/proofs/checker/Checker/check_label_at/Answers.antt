@@ -19,13 +19,12 @@ pub returns-then-number-fields : goal.returns-then-number-fields
 returns-then-number-fields c h =
     let last = c.note_if.ensures h in
     let field = c.index-fields-number.result in
-    let label = c.check_label-label.result in
-    let place = c.args.e.now.place in
-    let side = side_is c.args.scope.now c.args.e.now label (c.check_label-label.ensures.known last.had) in
-    let sort = same (ap (λ b. fails_if b WrongSort place) (c.differ_in_sort-differ.ensures ∙ ap (λ o. differ_in_sort o (option_map plain_sort label.sort)) (c.sort_named-sort.ensures ∙ ap (λ (f : FieldItem). sort_named f.sort.text) (sym c.index-fields-number.is)))) last in
+    let label = c.into_side-label.result in
+    let side = side_is c.args.scope.now c.args.e.now c.check_label.result label c.into_side-label.ensures (c.check_label.ensures.known last.had) in
+    let sort = same (ap (λ b. fails_if b WrongSort label.place) (c.differ_in_sort-differ.ensures ∙ ap (λ o. differ_in_sort o (option_map plain_sort label.sort)) (c.sort_named-sort.ensures ∙ ap (λ (f : FieldItem). sort_named f.sort.text) (sym c.index-fields-number.is)))) last in
     same (ap (λ o. label_at (plain_scope c.args.scope.now) o (plain_expr c.args.e.now)) (there_by plain_field c.args.fields.now c.args.number field c.if-number-fields.true c.index-fields-number.is))
-    (next (c.check_label-label.ensures.noted last.had) (same (field_sort_are (plain_scope c.args.scope.now) (plain_field field) (plain_expr c.args.e.now) _ side) sort))
+    (next (c.check_label.ensures.noted last.had) (same (field_sort_are (plain_scope c.args.scope.now) (plain_field field) (plain_expr c.args.e.now) label side) sort))
 
-pub returns : goal.returns
-returns c =
-    as_same (ap (λ o. label_at (plain_scope c.args.scope.now) o (plain_expr c.args.e.now)) (past_by plain_field c.args.fields.now c.args.number c.if-number-fields.false)) c.check_label-label.ensures.noted
+pub returns-else-number-fields : goal.returns-else-number-fields
+returns-else-number-fields c =
+    as_same (ap (λ o. label_at (plain_scope c.args.scope.now) o (plain_expr c.args.e.now)) (past_by plain_field c.args.fields.now c.args.number c.if-number-fields.false)) c.check_label.ensures.noted
