@@ -1,6 +1,6 @@
 -- What fails at a node, from what fails in its parts.
-use Rattle.std.proofs.Common.{◌≡◌, ℕ, suc, List, [], ◌∷◌, ◌++◌, Option, length, refl, ap, ap₂, ◌∙◌, append_assoc}
-use Rattle.model_program.specs.Syntax.{Name, TypeItem, FieldItem}
+use Rattle.std.proofs.Common.{◌≡◌, ℕ, suc, List, [], ◌∷◌, ◌++◌, Option, length, refl, ap, ◌∙◌, append_assoc}
+use Rattle.model_program.specs.Syntax.{Name, TypeItem}
 use Rattle.model_grammar.specs.Syntax.{Expr, Item, node, Outs}
 use Rattle.fast_syntax.specs.declared.items.Out as code
 use Rattle.fast_syntax.specs.Slices.{plain_outputs}
@@ -25,9 +25,9 @@ node_noted items from into vars name labels outs n a b c counted one two =
     let rest = outs_failures items from into vars outs in
     same (append_assoc ctor (count ++ own) rest ∙ ap (λ l. ctor ++ l) (append_assoc count own rest)) (next (same (ap (node_failures items from into name labels) counted) one) two)
 
-pub node_made : (items : List Item) (from into : Name) (name : Name) (labels : List Expr) (n m : ℕ) (t : Option TypeItem) (s : Scope) (fields : List FieldItem) (a b c d : Checker)
-    → t ≡ type_at items into → s ≡ scope_of (type_at items from) → fields ≡ fields_of t → m ≡ length labels
-    → Noted a b (constructor_failures t name n) → Noted b c (label_count_failures t name m) → Noted c d (labels_failures s fields labels) → Noted a d (node_failures items from into name labels n)
-node_made items from into name labels n m t s fields a b c d t_is s_is fields_are counted one two three =
+pub node_made : (items : List Item) (from into : Name) (name : Name) (labels : List Expr) (n m : ℕ) (t : Option TypeItem) (s : Scope) (a b c : Checker)
+    → t ≡ type_at items into → s ≡ scope_of (type_at items from) → m ≡ length labels
+    → Noted a b (constructor_failures t name n) → Noted b c (label_count_failures t name m ++ labels_failures s (fields_of t) labels) → Noted a c (node_failures items from into name labels n)
+node_made items from into name labels n m t s a b c t_is s_is counted one two =
     next (same (ap (λ o. constructor_failures o name n) t_is) one)
-    (next (same (ap₂ (λ o k. label_count_failures o name k) t_is counted) two) (same (ap₂ (λ x y. labels_failures x y labels) s_is (fields_are ∙ ap fields_of t_is)) three))
+    (same (λ i. label_count_failures (t_is i) name (counted i) ++ labels_failures (s_is i) (fields_of (t_is i)) labels) two)

@@ -21,7 +21,6 @@ use crate::context::Context;
 use crate::heads::Head;
 use crate::labels::Scope;
 use crate::limits::MOST_AROUND;
-use crate::outputs::fields_of;
 use crate::rules::differ;
 use crate::waiting::Waiting;
 use fast_fault::{Code, Pos, Text};
@@ -271,9 +270,8 @@ impl Checker {
     {
         let of = context.type_called(expected);
         self.check_constructor(&of, name, count);
-        self.check_label_count(&of, name, labels.len());
         let scope = Scope { fields: Some(&[]) };
-        self.check_labels(&scope, fields_of(&of), labels)
+        self.check_own_labels(&scope, &of, name, labels)
     }
 
     /// Notes what fails in an expression inside so many operations, and tells what it stands for. A literal has the type

@@ -214,7 +214,10 @@ impl Checker {
         ensures noted { Notes self.old self.new [] }
         ensures added { HasMemory self.new → plain_added result ≡ joined (plain_added added) (with_part minus form (Some [])) }
     {
-        let (Some(mut parts), Some(form)) = (added, form) else {
+        let Some(mut parts) = added else {
+            return None;
+        };
+        let Some(form) = form else {
             return None;
         };
         match parts.push(Signed { minus, form }) {

@@ -1,13 +1,13 @@
 //! What may fail in the labels of a node and in an output term, whose labels speak of the input.
 
-ghost use Rattle.std.specs.Prelude.{◌≡◌, [], List, map};
+ghost use Rattle.std.specs.Prelude.{◌++◌, List, map, length};
 ghost use Rattle.model_grammar.specs.Syntax as plain;
 ghost use Rattle.model_grammar.specs.Syntax.{Item};
 ghost use Rattle.fast_syntax.specs.View.{plain_name, plain_field};
 ghost use Rattle.fast_syntax.specs.Plain.{plain_expr, plain_out};
 ghost use Rattle.fast_syntax.specs.Slices.{plain_outputs};
 ghost use Rattle.model_checks.specs.Labels.{labels_failures};
-ghost use Rattle.model_checks.specs.Rules.{fields_of, out_failures, outs_failures};
+ghost use Rattle.model_checks.specs.Rules.{label_count_failures, fields_of, out_failures, outs_failures};
 ghost use Rattle.program_check.specs.Notes.{Notes};
 ghost use Rattle.program_check.specs.Contexts.{items_of};
 ghost use Rattle.program_check.specs.Known.{plain_scope};
@@ -28,16 +28,6 @@ use fast_syntax::expressions::Expr;
 use fast_syntax::items::Out;
 use fast_syntax::{FieldItem, Name};
 
-/// The fields of a type, or none where it isn't declared.
-pub(crate) fn fields_of<'p>(of: &Option<DeclaredType<'p>>) -> &'p [FieldItem]
-    ensures { map plain_field result.now ≡ fields_of (plain_option of.now) }
-{
-    match of {
-        Some(of) => &of.item.fields,
-        None => &[],
-    }
-}
-
 impl Checker {
     /// The label of this number.
     fn check_label_at(&mut self, scope: &Scope, fields: &[FieldItem], number: usize, e: &Expr)
@@ -52,12 +42,31 @@ impl Checker {
     }
 
     /// The labels of a node.
-    pub(crate) fn check_labels(&mut self, scope: &Scope, fields: &[FieldItem], labels: &[Expr])
+    fn check_labels(&mut self, scope: &Scope, fields: &[FieldItem], labels: &[Expr])
         ensures { Notes self.old self.new (labels_failures (plain_scope scope.now) (map plain_field fields.now) (map plain_expr labels.now)) }
     {
         'labels: for (number, label) in labels.iter().enumerate() {
             self.check_label_at(scope, fields, number, label);
         }
+    }
+
+    /// The labels of a node of this type: there is one for each field.
+    pub(crate) fn check_own_labels(
+        &mut self,
+        scope: &Scope,
+        of: &Option<DeclaredType>,
+        name: &Name,
+        labels: &[Expr],
+    )
+        ensures { Notes self.old self.new (label_count_failures (plain_option of.now) (plain_name name.now) (length labels.now) ++ labels_failures (plain_scope scope.now) (fields_of (plain_option of.now)) (map plain_expr labels.now)) }
+    {
+        let Some(of) = of else {
+            self.check_labels(scope, &[], labels);
+            return;
+        };
+        let fields = &of.item.fields;
+        self.note_if(fields.len() != labels.len(), Code::WrongRank, name.place);
+        self.check_labels(scope, fields, labels)
     }
 
     /// A child that is given as it is: the types of inputs and outputs are the same.
@@ -125,7 +134,6 @@ impl Checker {
         ensures { (items : List Item) → AreFound items types.now → Notes self.old self.new (node_failures items (plain_name types.now.from.now) (plain_name types.now.into.now) (plain_name name.now) (map plain_expr labels.now) count) }
     {
         self.check_constructor(&types.outputs, name, count);
-        self.check_label_count(&types.outputs, name, labels.len());
-        self.check_labels(&scope_of(&types.inputs), fields_of(&types.outputs), labels)
+        self.check_own_labels(&scope_of(&types.inputs), &types.outputs, name, labels)
     }
 }

@@ -7,7 +7,7 @@ ghost use Rattle.std.specs.Option.{option_map};
 ghost use Rattle.model_names.specs.Declared.{find_type};
 ghost use Rattle.fast_syntax.specs.View.{plain_name, plain_demand};
 ghost use Rattle.fast_syntax.specs.Plain.{plain_guard, plain_rule, plain_out};
-ghost use Rattle.model_checks.specs.Rules.{differ, constructor_failures, label_count_failures, scope_of, variable_failures, guard_failures, type_name_failures, demand_failures};
+ghost use Rattle.model_checks.specs.Rules.{differ, constructor_failures, scope_of, variable_failures, guard_failures, type_name_failures, demand_failures};
 ghost use Rattle.program_check.specs.Notes.{Notes};
 ghost use Rattle.program_check.specs.Typed.{plain_option, type_name, AreFound};
 ghost use Rattle.program_check.specs.Contexts.{items_of};
@@ -84,15 +84,6 @@ impl Checker {
                 self.note_if(!is_rank(count, ctor.rank), Code::WrongRank, name.place);
             }
             None => self.note(Code::UnknownName, name.place),
-        }
-    }
-
-    /// There is a label for each field.
-    pub(crate) fn check_label_count(&mut self, of: &Option<DeclaredType>, name: &Name, count: usize)
-        ensures { Notes self.old self.new (label_count_failures (plain_option of.now) (plain_name name.now) count) }
-    {
-        if let Some(of) = of {
-            self.note_if(of.item.fields.len() != count, Code::WrongRank, name.place);
         }
     }
 

@@ -1,5 +1,5 @@
 use Rattle.std.proofs.Common.{◌∙◌, sym, ap, map, length}
-use Rattle.fast_syntax.specs.View.{plain_name, plain_field}
+use Rattle.fast_syntax.specs.View.{plain_name}
 use Rattle.fast_syntax.specs.Plain.{plain_expr}
 use Rattle.program_check.specs.Known.{plain_scope}
 use Rattle.program_check.specs.Typed.{plain_option}
@@ -10,7 +10,6 @@ use Rattle.program_check.proofs.checker.Checker.check_node.Goals as goal
 
 pub returns : goal.returns
 returns c items found h =
-    let last = c.check_labels.ensures h in
-    let two = c.check_label_count.ensures last.had in
-    node_made items (plain_name c.args.types.now.from.now) (plain_name c.args.types.now.into.now) (plain_name c.args.name.now) (map plain_expr c.args.labels.now) c.args.count (length c.args.labels.now) (plain_option c.args.types.now.outputs) (plain_scope c.scope_of.result) (map plain_field c.fields_of.result.now) _ _ _ _
-    found.outputs (c.scope_of.ensures ∙ ap scope_of found.inputs) c.fields_of.ensures (sym (length-map c.args.labels.now plain_expr)) (c.check_constructor.ensures two.had) two last
+    let last = c.check_own_labels.ensures h in
+    node_made items (plain_name c.args.types.now.from.now) (plain_name c.args.types.now.into.now) (plain_name c.args.name.now) (map plain_expr c.args.labels.now) c.args.count (length c.args.labels.now) (plain_option c.args.types.now.outputs) (plain_scope c.scope_of.result) _ _ _
+    found.outputs (c.scope_of.ensures ∙ ap scope_of found.inputs) (sym (length-map c.args.labels.now plain_expr)) (c.check_constructor.ensures last.had) last
