@@ -127,23 +127,8 @@ impl Checker {
         self.check_as(context, 0, wanted, kind, x)
     }
 
-    /// What is to be empty is a language or a transformation.
-    fn check_empty(&mut self, context: &Context, x: &X)
-        ensures { Notes self.old self.new (claim_failures (items_of context.now) (before_of context.now) (plain.empty (plain_x x.now))) }
-    {
-        let standing = self.check_x(context, 0, None, x);
-        self.note_if(is_tree(&standing), Code::WrongKind, place_of(x));
-    }
-
-    /// The first language has the type of the inputs, and the second that of the outputs.
-    fn check_type_check(&mut self, context: &Context, x: &X, y: &X, z: &X)
-        ensures { Notes self.old self.new (claim_failures (items_of context.now) (before_of context.now) (plain.type_check (plain_x x.now) (plain_x y.now) (plain_x z.now))) }
-    {
-        let standing = self.check_beside(context, x, Kind::Transformation, y);
-        let output = only_as(Kind::Transformation, standing.kind, standing.output);
-        self.check_as(context, 0, output, Kind::Language, z);
-    }
-
+    /// What is to be empty is a language or a transformation. In the claim of types the first language has the type of the inputs,
+    /// and the second that of the outputs.
     fn check_claim(&mut self, context: &Context, claim: &Claim)
         ensures { Notes self.old self.new (claim_failures (items_of context.now) (before_of context.now) (plain_claim claim.now)) }
     {
@@ -154,8 +139,15 @@ impl Checker {
             Claim::Member(x, y) => {
                 self.check_beside(context, y, Kind::Tree, x);
             }
-            Claim::Empty(x) => self.check_empty(context, x),
-            Claim::TypeCheck(x, y, z) => self.check_type_check(context, x, y, z),
+            Claim::Empty(x) => {
+                let standing = self.check_x(context, 0, None, x);
+                self.note_if(is_tree(&standing), Code::WrongKind, place_of(x));
+            }
+            Claim::TypeCheck(x, y, z) => {
+                let standing = self.check_beside(context, x, Kind::Transformation, y);
+                let output = only_as(Kind::Transformation, standing.kind, standing.output);
+                self.check_as(context, 0, output, Kind::Language, z);
+            }
         }
     }
 

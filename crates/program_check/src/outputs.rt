@@ -13,7 +13,7 @@ ghost use Rattle.program_check.specs.Contexts.{items_of};
 ghost use Rattle.program_check.specs.Known.{plain_scope};
 ghost use Rattle.program_check.specs.Typed.{plain_option, AreFound};
 ghost use Rattle.program_check.specs.Variables.{plain_vars, Kept};
-ghost use Rattle.program_check.specs.Nodes.{field_at, label_at, node_failures};
+ghost use Rattle.program_check.specs.Nodes.{node_failures};
 
 use crate::checker::Checker;
 use crate::context::Context;
@@ -29,24 +29,17 @@ use fast_syntax::items::Out;
 use fast_syntax::{FieldItem, Name};
 
 impl Checker {
-    /// The label of this number.
-    fn check_label_at(&mut self, scope: &Scope, fields: &[FieldItem], number: usize, e: &Expr)
-        ensures { Notes self.old self.new (label_at (plain_scope scope.now) (field_at (map plain_field fields.now) number) (plain_expr e.now)) }
-    {
-        let label = self.check_label(scope, e).into_side(e.place);
-        if number < fields.len() {
-            let sort = sort_named(&fields[number].sort.text);
-            let differ = differ_in_sort(sort, label.sort);
-            self.note_if(differ, Code::WrongSort, label.place);
-        }
-    }
-
     /// The labels of a node.
     fn check_labels(&mut self, scope: &Scope, fields: &[FieldItem], labels: &[Expr])
         ensures { Notes self.old self.new (labels_failures (plain_scope scope.now) (map plain_field fields.now) (map plain_expr labels.now)) }
     {
-        'labels: for (number, label) in labels.iter().enumerate() {
-            self.check_label_at(scope, fields, number, label);
+        'labels: for (number, e) in labels.iter().enumerate() {
+            let label = self.check_label(scope, e).into_side(e.place);
+            if number < fields.len() {
+                let sort = sort_named(&fields[number].sort.text);
+                let differ = differ_in_sort(sort, label.sort);
+                self.note_if(differ, Code::WrongSort, label.place);
+            }
         }
     }
 
