@@ -24,7 +24,7 @@ some_place true o = refl
 some_place false None = refl
 some_place false (Some n) = refl
 
-placed_among : (names : List Name) (text : List ℕ) → is_some (name_place names text) ≡ is_among names text
+pub placed_among : (names : List Name) (text : List ℕ) → is_some (name_place names text) ≡ is_among names text
 placed_among [] text = refl
 placed_among (n ∷ names) text = some_place (same_text n.text text) (name_place names text) ∙ ap (λ b. same_text n.text text || b) (placed_among names text)
 
@@ -69,6 +69,3 @@ all_noted f code all i start known names end so_far =
 
 pub all_placed : {A : Type 0} (f : A → Name) (code : Code) (all : List A) (i : ℕ) (start known : Checker) (names : Names) → length all ≤ i → SoFar f code all i start known names → (text : List ℕ) → place_in names text ≡ name_place (map f all) text
 all_placed f code all i start known names end so_far text = so_far.there text ∙ ap (λ xs. name_place (map f xs) text) (take_all i all end)
-
-pub all_there : {A : Type 0} (f : A → Name) (code : Code) (all : List A) (i : ℕ) (start known : Checker) (names : Names) → length all ≤ i → SoFar f code all i start known names → (text : List ℕ) → is_some (place_in names text) ≡ is_among (map f all) text
-all_there f code all i start known names end so_far text = ap is_some (all_placed f code all i start known names end so_far text) ∙ placed_among (map f all) text

@@ -4,7 +4,7 @@ ghost use Rattle.std.specs.Prelude.{◌≡◌, ◌++◌, [], Some, None, map};
 ghost use Rattle.std.specs.List.{flat_map};
 ghost use Rattle.std.specs.Option.{option_map, option_map_or};
 ghost use Rattle.fast_syntax.specs.View.{plain_name};
-ghost use Rattle.fast_syntax.specs.Plain.{plain_x, plain_rule, plain_out_rule, plain_claim, plain_def, plain_body, plain_item};
+ghost use Rattle.fast_syntax.specs.Plain.{plain_x, plain_rule, plain_out_rule, plain_claim, plain_def, plain_item};
 ghost use Rattle.model_checks.specs.Rules.{rule_limit, rule_failures, out_rule_failures};
 ghost use Rattle.model_checks.specs.Programs.{is_tree, claim_failures, body_failures};
 ghost use Rattle.program_check.specs.Notes.{HasMemory, Notes};
@@ -64,18 +64,12 @@ impl Checker {
         );
     }
 
-    fn check_rule_limit(&mut self, rules: &[Rule])
-        ensures { Notes self.old self.new (rule_limit (map plain_rule rules.now)) }
+    fn check_rules(&mut self, context: &Context, of: &Name, rules: &[Rule])
+        ensures { Notes self.old self.new (rule_limit (map plain_rule rules.now) ++ flat_map (rule_failures (items_of context.now) (plain_name of.now)) (map plain_rule rules.now)) }
     {
         if rules.len() > MOST_RULES {
             self.note(Code::TooMany, rules[MOST_RULES].ctor.place);
         }
-    }
-
-    fn check_rules(&mut self, context: &Context, of: &Name, rules: &[Rule])
-        ensures { Notes self.old self.new (rule_limit (map plain_rule rules.now) ++ flat_map (rule_failures (items_of context.now) (plain_name of.now)) (map plain_rule rules.now)) }
-    {
-        self.check_rule_limit(rules);
         let declared = context.find_type(&of.text);
         let types = Between {
             from: of,
@@ -88,18 +82,12 @@ impl Checker {
         }
     }
 
-    fn check_out_rule_limit(&mut self, rules: &[OutRule])
-        ensures { Notes self.old self.new (rule_limit (map (λ r. plain_rule r.rule) rules.now)) }
+    fn check_out_rules(&mut self, context: &Context, from: &Name, into: &Name, rules: &[OutRule])
+        ensures { Notes self.old self.new (rule_limit (map (λ r. plain_rule r.rule) rules.now) ++ flat_map (out_rule_failures (items_of context.now) (plain_name from.now) (plain_name into.now)) (map plain_out_rule rules.now)) }
     {
         if rules.len() > MOST_RULES {
             self.note(Code::TooMany, rules[MOST_RULES].rule.ctor.place);
         }
-    }
-
-    fn check_out_rules(&mut self, context: &Context, from: &Name, into: &Name, rules: &[OutRule])
-        ensures { Notes self.old self.new (rule_limit (map (λ r. plain_rule r.rule) rules.now) ++ flat_map (out_rule_failures (items_of context.now) (plain_name from.now) (plain_name into.now)) (map plain_out_rule rules.now)) }
-    {
-        self.check_out_rule_limit(rules);
         let types = Between {
             from,
             into,

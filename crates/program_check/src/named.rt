@@ -4,7 +4,7 @@ ghost use Rattle.std.specs.Prelude.{◌≡◌, ℕ, List, map, is_some};
 ghost use Rattle.fast_syntax.specs.View.{plain_name};
 ghost use Rattle.model_program.specs.Syntax as plain;
 ghost use Rattle.model_checks.specs.Failures.{fails_if};
-ghost use Rattle.model_checks.specs.Types.{is_among, repeated};
+ghost use Rattle.model_checks.specs.Types.{repeated};
 ghost use Rattle.program_check.specs.Notes.{HasMemory, Notes};
 ghost use Rattle.program_check.specs.Naming.{place_in, Adds};
 ghost use Rattle.program_check.specs.Numbered.{name_place};
@@ -66,7 +66,6 @@ impl Checker {
     /// Notes each name that stood before. The names come back for look-ups.
     pub(crate) fn check_repeated<N: Named>(&mut self, code: Code, all: &[N]) -> Names
         ensures noted { Notes self.old self.new (repeated code (map N.name_of all.now)) }
-        ensures names { HasMemory self.new → (text : List ℕ) → is_some (place_in result text) ≡ is_among (map N.name_of all.now) text }
         ensures places { HasMemory self.new → (text : List ℕ) → place_in result text ≡ name_place (map N.name_of all.now) text }
     {
         let mut names = Names::new(self.alloc);

@@ -4,10 +4,9 @@ ghost use Rattle.std.specs.Prelude.{◌≡◌, ◌<◌, OnOk, IfOk, IfErr, Match
 ghost use Rattle.std.specs.Option.{option_map};
 ghost use Rattle.std.proofs.Props.{props};
 ghost use Rattle.fast_tree.specs.Signatures.{plain_signature};
-ghost use Rattle.model_checks.specs.Programs.{item_limit, is_well_formed, refusal_of};
+ghost use Rattle.model_checks.specs.Programs.{is_well_formed, refusal_of};
 ghost use Rattle.fast_syntax.specs.Plain.{plain_item, plain_program};
 ghost use Rattle.program_check.specs.Numbered.{AreNumbered};
-ghost use Rattle.program_check.specs.Notes.{Notes};
 ghost use Rattle.program_check.specs.Stops.{IsStop};
 ghost use Rattle.program_check.specs.Signed.{own_signature, Passes};
 
@@ -50,17 +49,6 @@ impl From<Memory> for CheckStop {
     }
 }
 
-impl Checker {
-    /// There are not too many items.
-    fn check_item_limit(&mut self, items: &[Item])
-        ensures { Notes self.old self.new (item_limit (map plain_item items.now)) }
-    {
-        if items.len() > MOST_ITEMS {
-            self.note(Code::TooMany, items[MOST_ITEMS].place);
-        }
-    }
-}
-
 /// The first of the failing conditions.
 fn find_refusal(
     alloc: Global,
@@ -75,7 +63,9 @@ fn find_refusal(
         ran_out: false,
         alloc,
     };
-    checker.check_item_limit(items);
+    if items.len() > MOST_ITEMS {
+        checker.note(Code::TooMany, items[MOST_ITEMS].place);
+    }
     'items: for before in 0..items.len() {
         let context = Context {
             items,

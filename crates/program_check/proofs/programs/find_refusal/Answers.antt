@@ -1,16 +1,32 @@
-use Rattle.std.proofs.Common.{[], None, map, sym, ap, ◌∙◌}
+use Rattle.std.proofs.Common.{[], false, Option, None, map, sym, ap, subst, ◌∙◌}
 use Rattle.fast_syntax.specs.Plain.{plain_item}
-use Rattle.model_checks.specs.Failures.{first_among}
+use Rattle.model_checks.specs.Failures.{failure, first_among}
 use Rattle.model_checks.specs.Programs.{item_limit, failures_behind}
-use Rattle.program_check.proofs.Noting.{first_among-append}
+use Rattle.program_check.proofs.Noting.{as_same, nothing, first_among-append}
 use Rattle.program_check.proofs.Numbering.{item_more}
+use Rattle.std.specs.Option.{option_map_or}
+use Rattle.model_tree.specs.Limits.{most_items}
+use Rattle.fast_fault.specs.declared.code.Code.TheVariants.{TooMany}
+use Rattle.model_grammar.specs.Syntax as plain
+use Rattle.fast_syntax.specs.declared.items.Item.{Item}
+use Rattle.program_check.specs.declared.checker.Checker.{Checker}
+use Rattle.program_check.specs.Notes.{Notes}
+use Rattle.program_check.proofs.Found.{there_by, past_by}
 use Rattle.program_check.proofs.programs.find_refusal.Goals as goal
+use Rattle.program_check.proofs.programs.find_refusal.Goals.{then-items-gt-MOST_ITEMS, else-items-gt-MOST_ITEMS}
 
 pub items-init : goal.items-init
 items-init c h =
     let all = map plain_item c.args.items.now in
     let behind = failures_behind all [] all in
-    ap (λ k. first_among k behind) (c.check_item_limit.ensures h).is ∙ sym (first_among-append None (item_limit all) behind)
+    let start : Checker = record { known = None; ran_out = false; alloc = c.args.alloc } in
+    let plain_limit = λ (o : Option plain.Item). option_map_or (λ (x : plain.Item). failure TooMany x.place) o [] in
+    let limit : Notes start c.if-items-gt-MOST_ITEMS.checker (item_limit all) = elim c.if-items-gt-MOST_ITEMS.branch [
+      | then-items-gt-MOST_ITEMS w ↦ subst (λ (x : Checker). Notes start x (item_limit all)) (sym w.checker-is)
+          (as_same (ap plain_limit (there_by plain_item c.args.items.now most_items w.index-items-10000.result w.if-items-gt-MOST_ITEMS.true w.index-items-10000.is)) (as_same (ap (λ (x : Item). failure TooMany x.place) (sym w.index-items-10000.is)) w.note.ensures))
+      | else-items-gt-MOST_ITEMS w ↦ subst (λ (x : Checker). Notes start x (item_limit all)) (sym w.checker-is) (as_same (ap plain_limit (past_by plain_item c.args.items.now most_items w.if-items-gt-MOST_ITEMS.false)) (nothing start))
+    ] in
+    ap (λ k. first_among k behind) (limit h).is ∙ sym (first_among-append None (item_limit all) behind)
 
 pub items-preserved : goal.items-preserved
 items-preserved c h =

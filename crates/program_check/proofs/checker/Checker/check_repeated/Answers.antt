@@ -1,5 +1,5 @@
 use Rattle.fast_syntax.specs.View.{plain_name}
-use Rattle.program_check.proofs.Repeating.{at_first, one_more, all_noted, all_there, all_placed}
+use Rattle.program_check.proofs.Repeating.{at_first, one_more, all_noted, all_placed}
 use Rattle.program_check.proofs.checker.Checker.check_repeated.Goals as goal
 
 pub all-init : goal.all-init
@@ -13,9 +13,6 @@ all-preserved g c h =
 
 pub returns-clause-noted : goal.returns-clause-noted
 returns-clause-noted g c h = all_noted g.N.Named.name_of c.args.code c.args.all.now c.all.place c.args.self.now c.all.self c.all.names c.all-test.false (c.all.invariant h)
-
-pub returns-clause-names : goal.returns-clause-names
-returns-clause-names g c h = all_there g.N.Named.name_of c.args.code c.args.all.now c.all.place c.args.self.now c.all.self c.all.names c.all-test.false (c.all.invariant h)
 
 pub returns-clause-places : goal.returns-clause-places
 returns-clause-places g c h = all_placed g.N.Named.name_of c.args.code c.args.all.now c.all.place c.args.self.now c.all.self c.all.names c.all-test.false (c.all.invariant h)

@@ -12,6 +12,8 @@ use Rattle.program_check.specs.Typed.{plain_option}
 use Rattle.program_check.specs.declared.vars.Vars.{Vars}
 use Rattle.program_check.specs.Variables.{plain_vars, Kept, made_failures}
 use Rattle.program_check.proofs.Noting.{same, nothing}
+use Rattle.std.specs.Prelude.{is_some}
+use Rattle.program_check.proofs.Repeating.{placed_among}
 use Rattle.program_check.proofs.Searching.{rule_noted}
 use Rattle.program_check.proofs.checker.Checker.check_rule.Goals as goal
 
@@ -23,7 +25,7 @@ returns-in-Some c h =
     let into = plain_name c.args.types.now.into.now in
     let vars_are = c.deref.ensures.value ∙ sym c.deref-2.ensures.value in
     let vars : Vars = record { all = c.deref.result; names = c.check_repeated.result } in
-    let kept : Kept c.check_repeated.new.self vars = λ m text. c.check_repeated.ensures.names m text ∙ ap (λ xs. is_among (map plain_name xs) text) (sym vars_are) in
+    let kept : Kept c.check_repeated.new.self vars = λ m text. ap is_some (c.check_repeated.ensures.places m text) ∙ placed_among (map plain_name c.deref-2.result.now) text ∙ ap (λ xs. is_among (map plain_name xs) text) (sym vars_are) in
     let kept_given : Kept c.check_guard.new.self vars = λ m. kept (c.check_guard.ensures m).had in
     let kept_made : Kept c.check_given.new.self vars = λ m. kept_given (c.check_given.ensures kept_given m).had in
     let made = λ (o : Option (Bor Out)). made_failures items from into (plain_vars vars) (option_map (λ o. plain_out o.now) o) in
@@ -46,7 +48,7 @@ returns c h =
     let into = plain_name c.args.types.now.into.now in
     let vars_are = c.deref.ensures.value ∙ sym c.deref-2.ensures.value in
     let vars : Vars = record { all = c.deref.result; names = c.check_repeated.result } in
-    let kept : Kept c.check_repeated.new.self vars = λ m text. c.check_repeated.ensures.names m text ∙ ap (λ xs. is_among (map plain_name xs) text) (sym vars_are) in
+    let kept : Kept c.check_repeated.new.self vars = λ m text. ap is_some (c.check_repeated.ensures.places m text) ∙ placed_among (map plain_name c.deref-2.result.now) text ∙ ap (λ xs. is_among (map plain_name xs) text) (sym vars_are) in
     let kept_given : Kept c.check_guard.new.self vars = λ m. kept (c.check_guard.ensures m).had in
     let made = λ (o : Option (Bor Out)). made_failures items from into (plain_vars vars) (option_map (λ o. plain_out o.now) o) in
     let five = same (ap made (sym c.in_default.is)) (nothing c.check_given.new.self h) in
