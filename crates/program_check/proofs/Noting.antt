@@ -1,6 +1,6 @@
 -- Failing conditions that are noted, one list after another.
 use Rattle.std.proofs.Common.{◌≡◌, ℕ, ◌+◌, ◌<◌, List, [], ◌∷◌, ◌++◌, length, map, drop, get_or, Option, refl, sym, ap, ◌∙◌, Bool, true, false, true≢false, not, subst}
-use Rattle.std.specs.Prelude.{Result, Ok, Err, IfOk, IsOk, MatchResult, Some, None, is_some}
+use Rattle.std.specs.Prelude.{Result, Ok, Err, IfOk, OnOk, IsOk, MatchResult, Some, None, is_some}
 use Rattle.std.specs.Option.{option_map}
 use Rattle.std.specs.List.{flat_map}
 use Rattle.fast_fault.specs.declared.refusal.Refusal.{Refusal}
@@ -65,6 +65,10 @@ if_made {T} {E} P is made = subst (λ (r : Result T E). IfOk r P) is made
 pub was_done : {T E : Type 0} (P Q : Type 0) (r : Result T E) → IsOk r → MatchResult r (λ _. P) (λ _. Q) → P
 was_done P Q (Ok x) done made = made
 was_done P Q (Err e) done made = absurd (true≢false (sym done))
+
+pub was_ok : {T E : Type 0} (P : Type 0) (r : Result T E) → IsOk r → OnOk r P → P
+was_ok P (Ok x) done made = made
+was_ok P (Err e) done made = absurd (true≢false (sym done))
 
 pub either_way : {T E : Type 0} {P Q R : Type 0} (r : Result T E) → (P → R) → (Q → R) → MatchResult r (λ _. P) (λ _. Q) → R
 either_way (Ok x) one other made = one made

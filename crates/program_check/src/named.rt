@@ -1,12 +1,11 @@
 //! What has a name, and names that stand twice.
 
-ghost use Rattle.std.specs.Prelude.{◌≡◌, ℕ, List, map, is_some};
+ghost use Rattle.std.specs.Prelude.{◌≡◌, ℕ, List, map};
 ghost use Rattle.fast_syntax.specs.View.{plain_name};
 ghost use Rattle.model_program.specs.Syntax as plain;
-ghost use Rattle.model_checks.specs.Failures.{fails_if};
 ghost use Rattle.model_checks.specs.Types.{repeated};
 ghost use Rattle.program_check.specs.Notes.{HasMemory, Notes};
-ghost use Rattle.program_check.specs.Naming.{place_in, Adds};
+ghost use Rattle.program_check.specs.Naming.{place_in};
 ghost use Rattle.program_check.specs.Numbered.{name_place};
 
 use crate::checker::Checker;
@@ -53,16 +52,6 @@ impl Named for CtorItem {
 }
 
 impl Checker {
-    /// Notes a name that is there already, and adds it otherwise.
-    fn add_name(&mut self, code: Code, names: &mut Names, name: &Name, place: usize)
-        ensures noted { Notes self.old self.new (fails_if (is_some (place_in names.old name.now.text)) code name.now.place) }
-        ensures names { HasMemory self.new → Adds names.old names.new name.now.text place }
-    {
-        self.note_if(names.place(&name.text).is_some(), code, name.place);
-        let added = names.add(self.alloc, &name.text, place);
-        self.note_want(added);
-    }
-
     /// Notes each name that stood before. The names come back for look-ups.
     pub(crate) fn check_repeated<N: Named>(&mut self, code: Code, all: &[N]) -> Names
         ensures noted { Notes self.old self.new (repeated code (map N.name_of all.now)) }
@@ -70,7 +59,10 @@ impl Checker {
     {
         let mut names = Names::new(self.alloc);
         'all: for (place, one) in all.iter().enumerate() {
-            self.add_name(code, &mut names, one.name(), place);
+            let name = one.name();
+            self.note_if(names.place(&name.text).is_some(), code, name.place);
+            let added = names.add(self.alloc, &name.text, place);
+            self.note_want(added);
         }
         names
     }

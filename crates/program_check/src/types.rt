@@ -1,13 +1,13 @@
 //! What may fail in a type by itself: a leaf that is missing, names that stand twice, unknown sorts, and numbers of fields
 //! and children that are too great.
 
-ghost use Rattle.std.specs.Prelude.{◌≡◌, ◌++◌, map, not, is_some};
+ghost use Rattle.std.specs.Prelude.{◌≡◌, ◌++◌, is_some};
 ghost use Rattle.std.specs.List.{flat_map};
 ghost use Rattle.std.specs.Option.{option_map};
 ghost use Rattle.fast_tree.specs.Signatures.{plain_sort};
-ghost use Rattle.fast_syntax.specs.View.{plain_name, plain_field, plain_ctor, plain_type};
+ghost use Rattle.fast_syntax.specs.View.{plain_name, plain_ctor, plain_type};
 ghost use Rattle.model_names.specs.Sorts.{sort_named};
-ghost use Rattle.model_checks.specs.Types.{is_rank, is_rank_in_range, field_failures, ctor_failures, field_limit, type_failures};
+ghost use Rattle.model_checks.specs.Types.{is_rank, is_rank_in_range, field_failures, ctor_failures, type_failures};
 ghost use Rattle.model_checks.specs.Programs.{type_again};
 ghost use Rattle.program_check.specs.Contexts.{items_of, before_of};
 ghost use Rattle.program_check.specs.Notes.{Notes};
@@ -76,15 +76,6 @@ impl Checker {
         }
     }
 
-    /// There are not too many fields.
-    fn check_field_limit(&mut self, fields: &[FieldItem])
-        ensures { Notes self.old self.new (field_limit (map plain_field fields.now)) }
-    {
-        if fields.len() > MOST_FIELDS {
-            self.note(Code::TooMany, fields[MOST_FIELDS].name.place);
-        }
-    }
-
     /// The names of the constructors are different, and one of them has no children.
     fn check_ctors(&mut self, item: &TypeItem)
         ensures { Notes self.old self.new (ctors_failures (plain_type item.now)) }
@@ -100,9 +91,12 @@ impl Checker {
     {
         let again = context.has_type_before(&item.name.text);
         self.note_if(again, Code::DuplicateType, item.name.place);
-        self.check_repeated(Code::DuplicateName, &item.fields);
+        let fields: &[FieldItem] = &item.fields;
+        self.check_repeated(Code::DuplicateName, fields);
         self.check_own_sorts(item);
-        self.check_field_limit(&item.fields);
+        if fields.len() > MOST_FIELDS {
+            self.note(Code::TooMany, fields[MOST_FIELDS].name.place);
+        }
         self.check_ctors(item);
         self.check_ranks(item);
     }

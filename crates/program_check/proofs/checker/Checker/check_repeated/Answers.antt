@@ -1,5 +1,9 @@
 use Rattle.fast_syntax.specs.View.{plain_name}
 use Rattle.program_check.proofs.Repeating.{at_first, one_more, all_noted, all_placed}
+use Rattle.std.proofs.Common.{◌∙◌, ap}
+use Rattle.std.specs.Prelude.{is_some}
+use Rattle.model_checks.specs.Failures.{fails_if}
+use Rattle.program_check.proofs.Noting.{same, and_none, was_ok}
 use Rattle.program_check.proofs.checker.Checker.check_repeated.Goals as goal
 
 pub all-init : goal.all-init
@@ -7,9 +11,12 @@ all-init g c = at_first g.N.Named.name_of c.args.code c.args.all.now c.args.self
 
 pub all-preserved : goal.all-preserved
 all-preserved g c h =
-    let noted = c.add_name.ensures.noted h in
-    one_more g.N.Named.name_of c.args.code c.args.all.now c.all.place c.index-all-place.result (plain_name c.name.result.now) c.args.self.now c.all.self c.add_name.new.self c.all.names c.add_name.new.names
-    c.all-test.true c.index-all-place.is c.name.ensures noted (c.add_name.ensures.names h) (c.all.invariant noted.had)
+    let name = c.name-name.result.now in
+    let none = c.note_want.ensures.noted h in
+    let there = c.is_some.ensures ∙ ap is_some c.place.ensures in
+    let noted = and_none (same (ap (λ b. fails_if b c.args.code name.place) there) (c.note_if.ensures none.had)) none in
+    one_more g.N.Named.name_of c.args.code c.args.all.now c.all.place c.index-all-place.result (plain_name name) c.args.self.now c.all.self c.note_want.new.self c.all.names c.add-added.new.self
+    c.all-test.true c.index-all-place.is c.name-name.ensures noted (was_ok _ c.add-added.result (c.note_want.ensures.done h) c.add-added.ensures) (c.all.invariant noted.had)
 
 pub returns-clause-noted : goal.returns-clause-noted
 returns-clause-noted g c h = all_noted g.N.Named.name_of c.args.code c.args.all.now c.all.place c.args.self.now c.all.self c.all.names c.all-test.false (c.all.invariant h)
