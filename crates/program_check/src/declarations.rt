@@ -3,7 +3,7 @@
 ghost use Rattle.std.specs.Prelude.{◌≡◌, [], Some, None, IfOk, OnOk, map};
 ghost use Rattle.std.specs.Option.{option_map};
 ghost use Rattle.model_names.specs.Declared.{declares};
-ghost use Rattle.fast_syntax.specs.View.{plain_ctor, plain_type};
+ghost use Rattle.fast_syntax.specs.View.{plain_type};
 ghost use Rattle.fast_syntax.specs.Plain.{plain_item};
 ghost use Rattle.program_check.specs.Naming.{Grows};
 ghost use Rattle.program_check.specs.Numbered.{declares_type, own_type_item, own_ctors, HasCtors, AreNumbered, Declares};
@@ -52,21 +52,15 @@ fn number_name(alloc: Global, names: &mut Names, item: &Item, place: usize) -> R
     }
 }
 
-/// The constructors of an item, where it is a type.
-fn own_ctors(item: &Item) -> &[CtorItem]
-    ensures { map plain_ctor result.now ≡ own_ctors (plain_item item.now) }
-{
-    match own_type(item) {
-        Some(own) => &own.ctors,
-        None => &[],
-    }
-}
-
-/// The numbers of these constructors.
-fn number_ctors(alloc: Global, ctors: &[CtorItem]) -> Result<Names, Memory>
-    ensures { IfOk result (HasCtors (map plain_ctor ctors.now)) }
+/// The numbers of the constructors of an item, where it is a type.
+fn number_ctors(alloc: Global, item: &Item) -> Result<Names, Memory>
+    ensures { IfOk result (HasCtors (own_ctors (plain_item item.now))) }
 {
     let mut names = Names::new(alloc);
+    let Some(own) = own_type(item) else {
+        return Ok(names);
+    };
+    let ctors: &[CtorItem] = &own.ctors;
     'ctors: for (place, ctor) in ctors.iter().enumerate() {
         names.add(alloc, &ctor.name.text, place)?;
     }
@@ -91,7 +85,7 @@ impl Declarations {
     {
         number_type(alloc, &mut self.types, item, place)?;
         number_name(alloc, &mut self.names, item, place)?;
-        self.ctors.push(number_ctors(alloc, own_ctors(item))?)?;
+        self.ctors.push(number_ctors(alloc, item)?)?;
         Ok(())
     }
 

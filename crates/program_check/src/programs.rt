@@ -80,21 +80,6 @@ fn find_refusal(
     Ok(checker.known)
 }
 
-/// The signatures of the types of a program that passes, whose names are numbered.
-fn signed_if_passing(
-    alloc: Global,
-    items: &[Item],
-    declared: &Declarations,
-) -> Result<Vec<Option<Signature>>, CheckStop>
-    requires { AreNumbered (map plain_item items.now) declared.now }
-    ensures { MatchResult result (λ made. Passes (map plain_item items.now) declared.now made.items) (IsStop (refusal_of (map plain_item items.now))) }
-{
-    match find_refusal(alloc, items, declared)? {
-        Some(refusal) => Err(CheckStop::Refused(refusal)),
-        None => Ok(all_made(alloc, items)?),
-    }
-}
-
 /// Numbers what the items declare, and makes the signatures of their types, where the program passes.
 fn number_and_sign(
     alloc: Global,
@@ -105,7 +90,10 @@ fn number_and_sign(
     ensures { MatchResult result (λ made. Passes (map plain_item items.now) declared.new made.items) (IsStop (refusal_of (map plain_item items.now))) }
 {
     declared.number(alloc, items)?;
-    signed_if_passing(alloc, items, declared)
+    match find_refusal(alloc, items, declared)? {
+        Some(refusal) => Err(CheckStop::Refused(refusal)),
+        None => Ok(all_made(alloc, items)?),
+    }
 }
 
 /// Checks a program. It passes as it is where none of the conditions on programs fails; else the one that comes first in
