@@ -1,5 +1,5 @@
 -- Forms that are in range, and those that aren't.
-use Rattle.std.proofs.Common.{◌≡◌, cond, Option, Some, None, sym, ap, ◌∙◌, not, subst}
+use Rattle.std.proofs.Common.{◌≡◌, cond, Option, Some, None, sym, ap, ◌∙◌, not}
 use Rattle.std.proofs.Math.IntN.{ℤ}
 use Rattle.std.specs.Prelude.{Result, Ok, Err, IfOk, MatchResult}
 use Rattle.model_form.specs.Form.{Form}
@@ -34,7 +34,3 @@ makes f made is in_range = record { is = is; in_range = in_range }
 pub taken : {E : Type 0} (made : Result Form E) (form : Option Form) (f : Form) → IsTaken made form → IfOk made (λ g. g ≡ f) → form ≡ Some f
 taken made None f none is = absurd none
 taken made (Some g) f e is = ap Some (if_made (λ g. g ≡ f) e is)
-
-pub taken_or : {E : Type 0} (Q : E → Type 0) (made : Result Form E) (form : Option Form) (f : Form) → IsTaken made form → MatchResult made (λ g. g ≡ f) Q → form ≡ Some f
-taken_or Q made None f none is = absurd none
-taken_or Q made (Some g) f e is = ap Some (subst (λ r. MatchResult r (λ g. g ≡ f) Q) e is)

@@ -1,5 +1,5 @@
 -- Failing conditions that are noted, one list after another.
-use Rattle.std.proofs.Common.{◌≡◌, ℕ, ◌+◌, ◌<◌, List, [], ◌∷◌, ◌++◌, length, map, drop, get_or, Option, refl, sym, ap, ◌∙◌, Bool, true, false, true≢false, not, subst}
+use Rattle.std.proofs.Common.{◌≡◌, ℕ, ◌+◌, ◌<◌, List, [], ◌∷◌, ◌++◌, length, map, drop, get_or, Option, refl, sym, ap, ◌∙◌, Bool, true, false, true≢false, subst}
 use Rattle.std.specs.Prelude.{Result, Ok, Err, IfOk, OnOk, IsOk, MatchResult, Some, None, is_some}
 use Rattle.std.specs.Option.{option_map}
 use Rattle.std.specs.List.{flat_map}
@@ -47,10 +47,6 @@ ends (x ∷ xs) = ap (λ ys. x ∷ ys) (ends xs)
 -- memory ran out
 pub ran : {A : Type 0} {b : Bool} → b ≡ true → b ≡ false → A
 ran is isnt = absurd (true≢false (sym is ∙ isnt))
-
-pub turned : (a b : Bool) → a ≡ not b → b ≡ not a
-turned a true is = ap not (sym is)
-turned a false is = ap not (sym is)
 
 -- whether there is something, seen another way
 pub some_mapped : {A B : Type 0} (f : A → B) (o : Option A) → is_some o ≡ is_some (option_map f o)

@@ -1,5 +1,5 @@
 -- Parts of what fails at a node, and in a type.
-use Rattle.std.specs.Prelude.{ℕ, List, ◌++◌, Option, Some, None, length, map, not, slice_get}
+use Rattle.std.specs.Prelude.{ℕ, List, ◌++◌, Option, Some, None, length, map, not}
 use Rattle.fast_fault.specs.declared.code.Code.TheVariants.{DuplicateName, NoLeaf}
 use Rattle.fast_fault.specs.declared.refusal.Refusal.{Refusal}
 use Rattle.model_program.specs.Syntax.{Name, FieldItem, TypeItem}
@@ -9,10 +9,6 @@ use Rattle.model_checks.specs.Sorts.{Scope}
 use Rattle.model_checks.specs.Types.{repeated, has_leaf}
 use Rattle.model_checks.specs.Labels.{label_failures, needs_sort_of, labels_failures}
 use Rattle.model_checks.specs.Rules.{type_at, constructor_failures, label_count_failures, scope_of, fields_of}
-
--- the field of this number
-abbrev pub field_at : List FieldItem → ℕ → Option FieldItem
-field_at = slice_get
 
 -- a label, with its field where there is one
 abbrev pub label_at : Scope → Option FieldItem → Expr → List Refusal

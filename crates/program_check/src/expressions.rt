@@ -5,7 +5,7 @@ ghost use Rattle.std.specs.Option.{option_map, option_and_then};
 ghost use Rattle.model_tree.specs.Limits.{most_around};
 ghost use Rattle.model_grammar.specs.Syntax as plain;
 ghost use Rattle.model_names.specs.Declared.{find_type};
-ghost use Rattle.model_names.specs.Kinds.{taken_by_one, given_by_one, taken_first, taken_second, given_by_two, declared_type, defined_kind};
+ghost use Rattle.model_names.specs.Kinds.{taken_by_one, taken_first, taken_second, declared_type, defined_kind};
 ghost use Rattle.fast_syntax.specs.View.{plain_name};
 ghost use Rattle.fast_syntax.specs.Plain.{plain_expr, plain_x, plain_into};
 ghost use Rattle.fast_syntax.specs.Slices.{plain_children};

@@ -1,7 +1,7 @@
 //! What may fail in a label expression, and what is known of one: its sort, whether it has the name of a field, and its form
 //! as a sum where it is a whole number.
 
-ghost use Rattle.std.specs.Prelude.{◌≡◌, ◌<◌, ◌||◌, ◌&&◌, MatchOption, IfSome, Some, None, [], ◌≤◌, negsuc, false, cond, map, not, length, get_or, nat_le, encode_utf8_all};
+ghost use Rattle.std.specs.Prelude.{◌≡◌, ◌<◌, MatchOption, IfSome, Some, None, [], ◌≤◌, negsuc, false, cond, map, not, length, nat_le, encode_utf8_all};
 ghost use Rattle.std.specs.Option.{option_map, option_and_then};
 ghost use Rattle.fast_fault.specs.declared.code.Code.TheVariants as code;
 ghost use Rattle.fast_tree.specs.Signatures.{plain_sort};
@@ -22,7 +22,7 @@ ghost use Rattle.model_tree.specs.Range.{is_label_number};
 ghost use Rattle.model_checks.specs.Forms.{is_out_of_range, kept, has_field, form_numbered, product_of, remainder_of, divisor_of, with_part};
 ghost use Rattle.model_checks.specs.Labels.{unknown_field, label_failures, operands_failures, sorted_failures, divided};
 ghost use Rattle.program_check.specs.Notes.{HasMemory, Notes};
-ghost use Rattle.program_check.specs.Known.{plain_scope, IsKnown, form_made, is_range, IsTaken, IsMade, AreTruths, plain_added, joined, sort_failures, sides_failures, next_failures, next_form, step_failures, step_form};
+ghost use Rattle.program_check.specs.Known.{plain_scope, IsKnown, form_made, is_range, IsTaken, IsMade, AreTruths, plain_added, joined, sort_failures, sides_failures, next_failures, next_form};
 
 use crate::checker::Checker;
 use crate::limits::{LONGEST_TEXT, MOST_FIELDS};
