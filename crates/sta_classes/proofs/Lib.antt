@@ -21,6 +21,7 @@ pub mod SameGuards
 pub mod Turns
 pub mod Firsts
 pub mod Opens
+pub mod NewLists
 pub mod Enough
 pub mod Shapes
 pub mod Keys

@@ -1,5 +1,5 @@
 -- Trees over children that are opened.
-use Rattle.std.proofs.Common.{ℕ, zero, suc, ◌∷◌, Vec, ◌≡◌, ◌<◌, ◌≤◌, ◌-◌, ◌↔◌, ◌&&◌, not, Bool, true, List, [], length, map, get_or, All, Contains, refl, sym, ap, ap₂, subst, ◌∙◌, arith}
+use Rattle.std.proofs.Common.{ℕ, Vec, ◌≡◌, ◌<◌, ◌≤◌, ◌-◌, ◌↔◌, ◌&&◌, not, Bool, true, List, [], length, map, get_or, All, Contains, sym, ap, ap₂, subst, ◌∙◌, arith}
 use Rattle.std.proofs.lemmas.List.{length-map}
 use Rattle.std.proofs.lemmas.List.Elements.{All-contains}
 use Rattle.model_tree.specs.Label.{Label}
@@ -15,9 +15,9 @@ use Rattle.sta_classes.specs.Applying.{is_fixed, truth_at, IsRules, IsFired}
 use Rattle.sta_classes.specs.Bits.{both}
 use Rattle.sta_classes.specs.Rules.{plain_rules, meaning_of}
 use Rattle.sta_classes.specs.Rows.{found_of, founds, class_rows_at, class_counts_at, lists_of}
-use Rattle.sta_classes.specs.Lists.{IsListWith}
+use Rattle.sta_classes.specs.Lists.{IsNewList}
 use Rattle.sta_classes.specs.Pending.{IsMet}
-use Rattle.sta_classes.specs.Searched.{firsts_of, AreKinds, IsSound, IsOpened, IsTold}
+use Rattle.sta_classes.specs.Searched.{firsts_of, AreKinds, IsSound, IsOpened, IsOver, IsTold}
 use Rattle.sta_classes.specs.declared.class.Class.{Class}
 use Rattle.sta_classes.specs.declared.class.TheConstants.{CAP}
 use Rattle.sta_classes.specs.declared.place.Place.{Place}
@@ -30,12 +30,6 @@ use Rattle.sta_classes.proofs.Applying.{row_is_step, same_step, told_apart, same
 use Rattle.sta_classes.proofs.Meet.{both_maps}
 use Rattle.sta_classes.proofs.Listed.{cost_above}
 use Rattle.sta_classes.proofs.Firsts.{listed_low}
-
--- a constructor that has a place is there
-pub has_place : (ranks : List ℕ) (c j : ℕ) → j < get_or ranks c 0 → c < length ranks
-has_place [] c j low = absurd (omega (arith, low))
-has_place (r ∷ ranks) zero j low = omega arith
-has_place (r ∷ ranks) (suc c) j low = let h : c < length ranks = has_place ranks c j low in omega (arith, h)
 
 pub all_by_place : (P : ℕ → Type 0) (ks : List ℕ) → ((j : ℕ) → j < length ks → P (get_or ks j 0)) → All P ks
 all_by_place P ks h i d low = subst P (same_default ks i 0 d low) (h i low)
@@ -100,26 +94,17 @@ module _ {V : Type 0} (ranks : List ℕ) (has keeps : Label → Type 0) (meaning
       let last : length found - 1 < length found = omega arith in
       omega (arith, h.rising k (length found - 1) (omega arith) last, cost_above (founds label found) CAP (length found - 1) ks at (capped (length found - 1) last))
 
--- a list of kinds with the last class
-module _ {A V G H : Type 0} (holds : A → Label → Bool) (ranks : List ℕ) (rules : List (Vec (StaRule A) G)) (classes : List (Class V)) (places : List (Vec Place H)) (kinds : AreKinds ranks rules classes places) where
-  pub list_low : (c place last : ℕ) (ks : List ℕ) → c < length ranks → IsListWith (firsts_of (get_or (lists_of places) c [])) place last (get_or ranks c 0) ks → All (λ k. k < length classes) ks
-  list_low c place last ks low h = all_by_place (λ k. k < length classes) ks (λ j j_low. listed_low holds ranks rules classes places kinds c j (get_or ks j 0) low (omega (arith, j_low, h.0)) (h.1 j (omega (arith, j_low, h.0))).0)
-
-  pub list_has : (c place last : ℕ) (ks : List ℕ) → place < get_or ranks c 0 → IsListWith (firsts_of (get_or (lists_of places) c [])) place last (get_or ranks c 0) ks → Contains ks last
-  list_has c place last ks low h =
-      let here : get_or ks place 0 ≡ last = (h.1 place low).1.0 refl in
-      let inside : place < length ks = omega (arith, low, h.0) in
-      (place, inside, same_default ks place last 0 inside ∙ here)
-
--- the places of a list that has the last class
-pub list_with : (classes : List (List ℕ)) (n last j : ℕ) (ks : List ℕ) → length ks ≡ n → ((i : ℕ) → i < length ks → Contains (get_or classes i []) (get_or ks i 0)) → get_or ks j 0 ≡ last → ((i : ℕ) → i < j → ¬ (get_or ks i 0 ≡ last)) → IsListWith classes j last n ks
-list_with classes n last j ks wide listed at none = (wide, λ i low. (listed i (omega (arith, low, wide)), (λ e. ap (λ k. get_or ks k 0) e ∙ at, λ before. none i before)))
+-- children of a new list of kinds
+pub new_over : {A V W G H : Type 0} {label_of : V → Label} {holds : A → Label → Bool} (M : Meaning label_of holds W) (ranks : List ℕ) (rules : List (Vec (StaRule A) G)) (classes : List (Class V)) (places : List (Vec Place H)) (s : Pending V) → IsSound ranks M.has M.keeps (meaning_of holds (plain_rules rules)) label_of classes s → AreKinds ranks rules classes places
+    → (c : ℕ) (ks : List ℕ) → c < length ranks → IsNewList (firsts_of (get_or (lists_of places) c [])) (length classes) ks → IsOver label_of ranks classes c ks
+new_over {label_of = label_of} {holds = holds} M ranks rules classes places s sound kinds c ks low new =
+    let wide : length ks ≡ get_or ranks c 0 = new.0 ∙ length-map (get_or (lists_of places) c []) (λ p. p.firsts.items) ∙ (kinds.each c low).many in
+    record {
+      low = low;
+      wide = wide;
+      children = all_by_place (λ k. k < length classes) ks (λ j j_low. listed_low holds ranks rules classes places kinds c j (get_or ks j 0) low (omega (arith, j_low, wide)) (new.1 j (omega (arith, j_low, new.0))));
+      above = λ k k_low. above_all ranks M.has M.keeps (meaning_of holds (plain_rules rules)) label_of classes s sound ks (new.2 (omega (arith, k_low))) k k_low;
+    }
 
 pub counts_as : {V : Type 0} (label : V → Label) (classes cs : List (Class V)) (ks : List ℕ) (nodes : ℕ) → cs ≡ classes → nodes ≡ cost CAP (class_counts_at cs ks) → nodes ≡ cost CAP (nodes_at (founds label classes) ks)
 counts_as label classes cs ks nodes same e = e ∙ ap (λ z. cost CAP (class_counts_at z ks)) same ∙ ap (λ ns. cost CAP (map (λ k. get_or ns k 0) ks)) (sym (counts_are label classes))
-
--- the lists that the program makes are those of the places
-pub lists_same : (P : List ℕ → Type 0) (ps ps' : List Place) (place last last' n : ℕ) → ps ≡ ps' → last ≡ last' → length ps' ≡ n → ((ks : List ℕ) → P ks ↔ IsListWith (map (λ p. p.firsts.items) ps) place last (length ps) ks) → (ks : List ℕ) → P ks ↔ IsListWith (firsts_of ps') place last' n ks
-lists_same P ps ps' place last last' n same end long h ks =
-    subst (λ m. P ks ↔ IsListWith (firsts_of ps') place last' m ks) long
-    (subst (λ l. P ks ↔ IsListWith (firsts_of ps') place l (length ps') ks) end (subst (λ z. P ks ↔ IsListWith (firsts_of z) place last (length z) ks) same (h ks)))

@@ -29,6 +29,10 @@ pub record AreNumbered (states kind_of firsts : List ℕ) (keys rows : List Row)
 abbrev pub IsNumbered : List Row → Place → Type 0
 IsNumbered rows p = AreNumbered p.states.items p.kind_of.items p.firsts.items p.kinds.keys rows
 
+-- so many classes are of kinds at each of the places
+abbrev pub AreNumberedFor : ℕ → List Place → Type 0
+AreNumberedFor n places = (rows : List Row) × (length rows ≡ n) × ((j : ℕ) (p : Place) → j < length places → get_or places j p ≡ p → IsNumbered rows p)
+
 -- the list is as it was, or the next class is put behind it
 abbrev pub IsLonger : List ℕ → List ℕ → List ℕ → Type 0
 IsLonger classes old new = (new ≡ old) ⊎ (new ≡ old ++ length classes ∷ [])

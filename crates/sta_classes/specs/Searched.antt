@@ -1,5 +1,5 @@
 -- How far a search for classes is.
-use Rattle.std.specs.Prelude.{ℕ, ◌^◌, ◌≡◌, ◌<◌, ◌≤◌, ◌-◌, ◌↔◌, Bool, List, [], map, get_or, length, All, Contains, Vec}
+use Rattle.std.specs.Prelude.{ℕ, ◌^◌, ◌≡◌, ◌<◌, ◌≤◌, ◌↔◌, Bool, List, [], map, get_or, length, All, Contains, Vec}
 use Rattle.model_tree.specs.Label.{Label}
 use Rattle.model_sta.specs.Automaton.{Rule}
 use Rattle.model_sta.specs.Sets.{Row, rows_meet, step}
@@ -12,7 +12,7 @@ use Rattle.sta_classes.specs.Bits.{both}
 use Rattle.sta_classes.specs.Guards.{GuardsFit}
 use Rattle.sta_classes.specs.Rules.{plain_rules, meaning_of}
 use Rattle.sta_classes.specs.Splits.{AreMet, AreTold, AreAllTold}
-use Rattle.sta_classes.specs.Lists.{IsListWith}
+use Rattle.sta_classes.specs.Lists.{IsNewList}
 use Rattle.sta_classes.specs.Meant.{AreFound, AreAllFound, StopsClasses}
 use Rattle.sta_classes.specs.Rows.{found_of, founds, class_rows, class_rows_at, lists_of}
 use Rattle.sta_classes.specs.Places.{AreAsked, IsNumbered, IsNext}
@@ -109,13 +109,18 @@ module _ {A V W G : Type 0} {label_of : V → Label} {holds : A → Label → Bo
   abbrev pub HasOffered : List (Class V) → ℕ → List ℕ → Pending V → Type 0
   HasOffered found c ks s = IsOpened ranks M.has M.keeps (meaning_of holds (plain_rules rules)) label_of found s c ks
 
-  -- and so are those over all lists of kinds with the last class at the place, and at none before it
-  abbrev pub HasOfferedAt : {H : Type 0} → List (Class V) → List (Vec Place H) → ℕ → ℕ → Pending V → Type 0
-  HasOfferedAt found places c j s = (ks : List ℕ) → IsListWith (firsts_of (get_or (lists_of places) c [])) j (length found - 1) (get_or ranks c 0) ks → HasOffered found c ks s
+  -- and so are those over all lists of kinds for the places of constructors before this one that the last class stands in,
+  -- or over all lists before there are classes
+  abbrev pub HasNewBefore : {H : Type 0} → List (Class V) → List (Vec Place H) → ℕ → Pending V → Type 0
+  HasNewBefore found places n s = (c : ℕ) → c < n → (ks : List ℕ) → IsNewList (firsts_of (get_or (lists_of places) c [])) (length found) ks → HasOffered found c ks s
 
-  -- and so are those over all lists of kinds that are wanted
-  abbrev pub HasAllOffered : {H : Type 0} → List (Class V) → List (Vec Place H) → (ℕ → List ℕ → Type 0) → Pending V → Type 0
-  HasAllOffered found places W s = AreOpened ranks M.has M.keeps (meaning_of holds (plain_rules rules)) label_of found places s W
+  -- the same of all constructors
+  abbrev pub HasNewOffered : {H : Type 0} → List (Class V) → List (Vec Place H) → Pending V → Type 0
+  HasNewOffered found places s = HasNewBefore found places (length ranks) s
+
+  -- and so are those over all lists of kinds
+  abbrev pub HasAllOffered : {H : Type 0} → List (Class V) → List (Vec Place H) → Pending V → Type 0
+  HasAllOffered found places s = AreOpened ranks M.has M.keeps (meaning_of holds (plain_rules rules)) label_of found places s (λ c ks. (k : ℕ) → k ≡ k)
 
   module _ (own : List (Rules A)) (most : ℕ) where
     -- a search under way: what is found and what is pending is sound, what is known of the kinds and of the rules is right, and
@@ -137,10 +142,10 @@ module _ {A V W G : Type 0} {label_of : V → Label} {holds : A → Label → Bo
       pub none : course.known.classes.items ≡ []
       pub under : IsUnderway course.known course.offers
 
-    -- a search between its turns: all trees over lists of kinds are offered
+    -- a search between its turns: once the trees over the last class are offered, those over all lists of kinds are
     pub record IsGoing (course : Course V) : Type 0 where
       pub under : IsUnderway course.known course.offers
-      pub offered : HasAllOffered course.known.classes.items course.known.places.items (λ c ks. (k : ℕ) → k ≡ k) course.offers.pending
+      pub rest : (s : Pending V) → IsBetter course.offers.pending s → HasNewOffered course.known.classes.items course.known.places.items s → HasAllOffered course.known.classes.items course.known.places.items s
 
   -- a search that has come to its end: these are all classes, each with a least tree, and they are not too many
   pub record IsWhole (most : ℕ) (known : Known V) : Type 0 where

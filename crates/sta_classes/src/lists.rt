@@ -1,7 +1,8 @@
 //! Lists of classes, one of each kind for each place.
 
-ghost use Rattle.std.specs.Prelude.{◌≡◌, ◌++◌, ◌∷◌, ◌↔◌, [], ℕ, List, length, map, Contains, IfOk, Decides};
-ghost use Rattle.sta_classes.specs.Lists.{MayStand, IsListWith};
+ghost use Rattle.std.specs.Prelude.{◌≡◌, ◌<◌, ◌++◌, ◌∷◌, ◌↔◌, [], ℕ, List, length, map, get_or, Contains, IfOk, Decides};
+ghost use Rattle.sta_classes.specs.Lists.{MayStand, IsListWith, IsNewList};
+ghost use Rattle.sta_classes.specs.Places.{AreNumberedFor};
 ghost use Rattle.sta_classes.specs.Rows.{lists_of};
 
 use crate::place::Place;
@@ -52,7 +53,7 @@ fn empty_list(alloc: Global) -> Result<Vec<Vec<usize>>, Memory>
 }
 
 /// The lists of the first classes of kinds that have this class at this place, and at none before it.
-pub fn lists_with(
+fn lists_with(
     alloc: Global,
     places: &[Place],
     place: usize,
@@ -63,6 +64,25 @@ pub fn lists_with(
     let mut lists = empty_list(alloc)?;
     for j in 0..places.len() {
         lists = longer(alloc, &lists, &places[j].firsts, place, class, j)?;
+    }
+    Ok(lists)
+}
+
+/// The lists of the first classes of kinds that the last of so many classes stands in, or, where there are no classes yet,
+/// all of them: the empty one where there are no places.
+pub fn new_lists(alloc: Global, places: &[Place], classes: usize) -> Result<Vec<Vec<usize>>, Memory>
+    requires { AreNumberedFor classes places.now }
+    ensures { IfOk result (λ lists. (ks : List ℕ) → Contains (lists_of lists.items) ks ↔ IsNewList (map (λ p. p.firsts.items) places.now) classes ks) }
+{
+    if classes == 0 {
+        return lists_with(alloc, places, places.len(), 0);
+    }
+    let last = classes - 1;
+    let mut lists = Vec::new(alloc);
+    'places: for place in 0..places.len() {
+        if places[place].begins(last) {
+            lists.append(&mut lists_with(alloc, places, place, last)?)?;
+        }
     }
     Ok(lists)
 }

@@ -5,12 +5,12 @@
 
 ghost use Rattle.std.specs.Prelude.{ℕ, ◌≡◌, ◌<◌, ◌-◌, ◌++◌, ◌∷◌, [], Bool, List, length, get_or, Contains, IfOk, OnOk, MatchResult};
 ghost use Rattle.sta_classes.specs.Rows.{class_rows};
-ghost use Rattle.sta_classes.specs.Searched.{IsReady, IsOver, AreSplit, AreToldAt, HasOffered, HasOfferedAt, HasAllOffered, IsUnderway, GoesOn, IsBegun, IsWhole, StopsSearch};
+ghost use Rattle.sta_classes.specs.Searched.{IsReady, IsOver, AreSplit, AreToldAt, HasOffered, HasNewOffered, IsUnderway, GoesOn, IsBegun, IsWhole, StopsSearch};
 
 use crate::class::cost_over;
 use crate::keep::{both, kept};
 use crate::known::Known;
-use crate::lists::lists_with;
+use crate::lists::new_lists;
 use crate::pending::{Over, Pending};
 use crate::row::Row;
 use crate::rules::Rules;
@@ -100,64 +100,21 @@ impl<T: Theory> Search<'_, T> {
         Ok(())
     }
 
-    /// Offers the trees of no children.
-    fn open_leaves(
-        &self,
-        known: &Known<T::Value>,
-        offers: &mut Offers<T::Value>,
-    ) -> Result<(), ClassStop<T::Chain>>
-        requires ready { IsReady T.Atom.eq (T.atom_fits self.now.theory.now) self.now.ranks.now self.now.rules.now self.now.own.now }
-        requires none { known.now.classes.items ≡ [] }
-        requires under { IsUnderway (T.meaning self.now.theory.now) self.now.ranks.now self.now.rules.now self.now.own.now self.now.most known.now offers.old }
-        ensures { MatchResult result (λ _. GoesOn (T.meaning self.now.theory.now) self.now.ranks.now self.now.rules.now self.now.own.now self.now.most known.now offers.old offers.new (λ s. (c : ℕ) → c < length self.now.ranks.now → get_or self.now.ranks.now c 0 ≡ 0 → HasOffered (T.meaning self.now.theory.now) self.now.ranks.now self.now.rules.now known.now.classes.items c [] s)) (StopsSearch (T.meaning self.now.theory.now) self.now.ranks.now self.now.rules.now self.now.most) }
-    {
-        'constructors: for constructor in 0..self.ranks.len() {
-            if self.ranks[constructor] == 0 {
-                self.open(known, offers, constructor, &[])?;
-            }
-        }
-        Ok(())
-    }
-
-    /// Offers the trees over lists of kinds with the last class at this place, and at none before it.
-    fn open_place(
-        &self,
-        known: &Known<T::Value>,
-        offers: &mut Offers<T::Value>,
-        constructor: usize,
-        place: usize,
-    ) -> Result<(), ClassStop<T::Chain>>
-        requires ready { IsReady T.Atom.eq (T.atom_fits self.now.theory.now) self.now.ranks.now self.now.rules.now self.now.own.now }
-        requires some { 0 < length known.now.classes.items }
-        requires place { place < get_or self.now.ranks.now constructor 0 }
-        requires under { IsUnderway (T.meaning self.now.theory.now) self.now.ranks.now self.now.rules.now self.now.own.now self.now.most known.now offers.old }
-        ensures { MatchResult result (λ _. GoesOn (T.meaning self.now.theory.now) self.now.ranks.now self.now.rules.now self.now.own.now self.now.most known.now offers.old offers.new (HasOfferedAt (T.meaning self.now.theory.now) self.now.ranks.now self.now.rules.now known.now.classes.items known.now.places.items constructor place)) (StopsSearch (T.meaning self.now.theory.now) self.now.ranks.now self.now.rules.now self.now.most) }
-    {
-        let last = known.classes.len() - 1;
-        let lists = lists_with(self.alloc, &known.places[constructor], place, last)?;
-        'lists: for children in &lists {
-            self.open(known, offers, constructor, children)?;
-        }
-        Ok(())
-    }
-
-    /// Offers the trees over lists of kinds of which the last class is one.
+    /// Offers the trees over lists of kinds of which the last class is one, or before there are classes those of no children.
     fn open_new(
         &self,
         known: &Known<T::Value>,
         offers: &mut Offers<T::Value>,
     ) -> Result<(), ClassStop<T::Chain>>
         requires ready { IsReady T.Atom.eq (T.atom_fits self.now.theory.now) self.now.ranks.now self.now.rules.now self.now.own.now }
-        requires some { 0 < length known.now.classes.items }
         requires under { IsUnderway (T.meaning self.now.theory.now) self.now.ranks.now self.now.rules.now self.now.own.now self.now.most known.now offers.old }
-        ensures { MatchResult result (λ _. GoesOn (T.meaning self.now.theory.now) self.now.ranks.now self.now.rules.now self.now.own.now self.now.most known.now offers.old offers.new (HasAllOffered (T.meaning self.now.theory.now) self.now.ranks.now self.now.rules.now known.now.classes.items known.now.places.items (λ c ks. Contains ks (length known.now.classes.items - 1)))) (StopsSearch (T.meaning self.now.theory.now) self.now.ranks.now self.now.rules.now self.now.most) }
+        ensures { MatchResult result (λ _. GoesOn (T.meaning self.now.theory.now) self.now.ranks.now self.now.rules.now self.now.own.now self.now.most known.now offers.old offers.new (HasNewOffered (T.meaning self.now.theory.now) self.now.ranks.now self.now.rules.now known.now.classes.items known.now.places.items)) (StopsSearch (T.meaning self.now.theory.now) self.now.ranks.now self.now.rules.now self.now.most) }
     {
-        let last = known.classes.len() - 1;
         'constructors: for constructor in 0..self.ranks.len() {
-            'places: for place in 0..known.places[constructor].len() {
-                if known.places[constructor][place].begins(last) {
-                    self.open_place(known, offers, constructor, place)?;
-                }
+            let places = &known.places[constructor];
+            let lists = new_lists(self.alloc, places, known.classes.len())?;
+            'lists: for children in &lists {
+                self.open(known, offers, constructor, children)?;
             }
         }
         Ok(())
@@ -192,20 +149,21 @@ impl<T: Theory> Search<'_, T> {
         Ok(Course { known, offers })
     }
 
-    /// Offers the trees of no children, and takes turns until no candidate is left. A turn makes the candidate that it takes
-    /// one more class, and offers the trees over it.
+    /// Takes turns until no candidate is left: each offers the trees over the last class, those of no children at first, and
+    /// makes the candidate that it takes one more class.
     fn go_on(&self, course: &mut Course<T::Value>) -> Result<(), ClassStop<T::Chain>>
         requires ready { IsReady T.Atom.eq (T.atom_fits self.now.theory.now) self.now.ranks.now self.now.rules.now self.now.own.now }
         requires begun { IsBegun (T.meaning self.now.theory.now) self.now.ranks.now self.now.rules.now self.now.own.now self.now.most course.old }
         ensures { MatchResult result (λ _. IsWhole (T.meaning self.now.theory.now) self.now.ranks.now self.now.rules.now self.now.most course.new.known) (StopsSearch (T.meaning self.now.theory.now) self.now.ranks.now self.now.rules.now self.now.most) }
     {
-        self.open_leaves(&course.known, &mut course.offers)?;
-        'turns: while let Some(class) = course.offers.pending.take() {
+        'turns: loop {
+            self.open_new(&course.known, &mut course.offers)?;
+            let Some(class) = course.offers.pending.take() else {
+                return Ok(());
+            };
             let told = self.add_to_splits(&mut course.offers.splits, &class.row);
             course.known.add(self.alloc, kept(class, (), told)?)?;
-            self.open_new(&course.known, &mut course.offers)?;
         }
-        Ok(())
     }
 
     /// All classes, where there are not more than `most`.
