@@ -9,9 +9,10 @@ use Rattle.label_core.specs.Meaning.{Meaning}
 use Rattle.sta_core.specs.Machine.{plain_rule}
 use Rattle.sta_classes.specs.Applying.{meets_at}
 use Rattle.sta_classes.specs.Bits.{both}
-use Rattle.sta_classes.specs.Rows.{lists_of}
-use Rattle.sta_classes.specs.Searched.{AreSplit, IsTold}
-use Rattle.sta_classes.specs.Splits.{IsMetBy, AreMet, AreTold, AreAllTold}
+use Rattle.sta_classes.specs.Rows.{class_rows, lists_of}
+use Rattle.sta_classes.specs.Searched.{AreSplit, IsTold, AreToldAt}
+use Rattle.sta_classes.specs.Splits.{IsMetBy, AreMet, AreTold, AreAllTold, IsUnder}
+use Rattle.sta_classes.specs.declared.class.Class.{Class}
 use Rattle.sta_classes.specs.declared.rules.Owned.{Owned}
 use Rattle.sta_classes.specs.declared.rules.Rules.{Rules}
 use Rattle.sta_classes.specs.declared.splits.Splits.{Splits}
@@ -182,6 +183,21 @@ module _ {A V W : Type 0} {label_of : V → Label} {holds : A → Label → Bool
   told_found rows splits c ks R R' s s' key n own_low of low at is told =
       subst (λ r. (n < length s'.told.items) × IsTold M r (map (λ k. get_or rows k []) ks) key (get_or (lists_of s'.told.items) n [])) (same_default own c R R' own_low ∙ of)
       (subst (λ z. (n < length z.told.items) × IsTold M (get_or own c R) (map (λ k. get_or rows k []) ks) key (get_or (lists_of z.told.items) n [])) (sym (get_or-set_same splits c s s' low) ∙ at) (told.0, (is, told.1)))
+
+  -- where these are the rules whose demands children meet, and labels that tell their guards apart are under this number
+  pub told_at : (found : List (Class V)) (splits : List (Splits V)) → AreSplit M ranks own (class_rows found) splits → (c : ℕ) (R : Rules A) (s s' : Splits V) (ks : List ℕ) (key : Row) (n : ℕ) → c < length own → c < length splits → s ≡ get_or splits c s → length ks ≡ get_or ranks c 0
+      → ((rows : List Row) → AreMet (get_or own c R).list.items (length ks) rows s.met.items → key ≡ map (λ x. rows_meet (map (λ k. get_or rows k []) ks) (plain_rule x.rule.now).demands) (get_or own c R).list.items)
+      → IsUnder M (get_or own c R).list.items (both (get_or own c R).guarded key) s s' n → AreToldAt M ranks own found c ks (set splits c s') key n
+  told_at found splits h c R s s' ks key n own_low low at wide key_is under = record {
+    splits = split_set (class_rows found) (class_rows found) splits c s' low (λ m Q t m_low other of is. h.met m Q t m_low of is)
+        (λ Q of.
+        let same : get_or own c R ≡ Q = same_default own c R Q own_low ∙ of in (
+          subst (λ z. AreMet Q.list.items (get_or ranks c 0) (class_rows found) z.items) (sym under.met) (h.met c Q s low of (sym at)),
+          subst (λ z. AreAllTold M z.list.items s') same under.all,
+        ))
+        h;
+    told = λ Q t of is. told_found (class_rows found) splits c ks R Q s' t key n own_low of low is (key_is (class_rows found) (met_at (class_rows found) splits h c R s own_low low at (length ks) wide)) (under.low, under.told);
+  }
 
   -- before there are classes
   pub split_none : (splits : List (Splits V)) → length splits ≡ length ranks → ((c : ℕ) (s : Splits V) → c < length splits → get_or splits c s ≡ s → (s.met.items ≡ []) × ((s.sets.keys ≡ []) × (s.told.items ≡ []))) → AreSplit M ranks own [] splits

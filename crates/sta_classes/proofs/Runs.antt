@@ -12,7 +12,7 @@ use Rattle.sta_classes.specs.Rules.{plain_rules, meaning_of}
 use Rattle.sta_classes.specs.Rows.{founds, class_rows, lists_of}
 use Rattle.sta_classes.specs.Lists.{IsNewList}
 use Rattle.sta_classes.specs.Pending.{AreKept, IsBetter, IsTaken, IsDone}
-use Rattle.sta_classes.specs.Searched.{firsts_of, listed_at, AreKinds, NextPlaces, IsSound, IsOpened, AreSplit, HasOffered, HasNewBefore, HasNewOffered, HasAllOffered, IsUnderway, GoesOn}
+use Rattle.sta_classes.specs.Searched.{firsts_of, listed_at, AreKinds, NextPlaces, IsSound, AreSplit, HasOffered, HasNewBefore, HasNewOffered, HasAllOffered, IsUnderway, GoesOn}
 use Rattle.sta_classes.specs.declared.class.Class.{Class}
 use Rattle.sta_classes.specs.declared.known.Known.{Known}
 use Rattle.sta_classes.specs.declared.place.Place.{Place}

@@ -5,10 +5,10 @@
 
 ghost use Rattle.std.specs.Prelude.{ℕ, ◌≡◌, ◌<◌, ◌-◌, ◌++◌, ◌∷◌, [], Bool, List, length, get_or, Contains, IfOk, OnOk, MatchResult};
 ghost use Rattle.sta_classes.specs.Rows.{class_rows};
-ghost use Rattle.sta_classes.specs.Searched.{IsReady, IsOver, AreSplit, AreToldAt, HasOffered, HasNewOffered, IsUnderway, GoesOn, IsBegun, IsWhole, StopsSearch};
+ghost use Rattle.sta_classes.specs.Searched.{IsReady, IsOver, AreSplit, HasOffered, HasNewOffered, IsUnderway, GoesOn, IsBegun, IsWhole, StopsSearch};
 
 use crate::class::cost_over;
-use crate::keep::{both, kept};
+use crate::keep::kept;
 use crate::known::Known;
 use crate::lists::new_lists;
 use crate::pending::{Over, Pending};
@@ -48,25 +48,6 @@ pub struct Course<V> {
 }
 
 impl<T: Theory> Search<'_, T> {
-    /// The rules whose demands the children meet, and the number of the labels that tell the guards of these apart.
-    fn told(
-        &self,
-        known: &Known<T::Value>,
-        splits: &mut Vec<Splits<T::Value>>,
-        over: &Over<'_>,
-    ) -> Result<(Row, usize), ClassStop<T::Chain>>
-        requires ready { IsReady T.Atom.eq (T.atom_fits self.now.theory.now) self.now.ranks.now self.now.rules.now self.now.own.now }
-        requires over { IsOver T.label_of self.now.ranks.now known.now.classes.items over.now.constructor over.now.children.now }
-        requires splits { AreSplit (T.meaning self.now.theory.now) self.now.ranks.now self.now.own.now (class_rows known.now.classes.items) splits.old.items }
-        ensures { MatchResult result (λ r. AreToldAt (T.meaning self.now.theory.now) self.now.ranks.now self.now.own.now known.now.classes.items over.now.constructor over.now.children.now splits.new.items r.0 r.1) (StopsSearch (T.meaning self.now.theory.now) self.now.ranks.now self.now.rules.now self.now.most) }
-    {
-        let own = &self.own[over.constructor as usize];
-        let split = &mut splits[over.constructor as usize];
-        let key = split.key(self.alloc, own, over.children)?;
-        let number = split.number(self.theory, self.alloc, own, &key);
-        both(Ok(key), number)
-    }
-
     /// Offers the trees over these children with labels that tell the guards apart which the children leave open, and sees
     /// whether there are too many sets then.
     fn open(
@@ -81,14 +62,16 @@ impl<T: Theory> Search<'_, T> {
         requires under { IsUnderway (T.meaning self.now.theory.now) self.now.ranks.now self.now.rules.now self.now.own.now self.now.most known.now offers.old }
         ensures { MatchResult result (λ _. GoesOn (T.meaning self.now.theory.now) self.now.ranks.now self.now.rules.now self.now.own.now self.now.most known.now offers.old offers.new (HasOffered (T.meaning self.now.theory.now) self.now.ranks.now self.now.rules.now known.now.classes.items constructor children.now)) (StopsSearch (T.meaning self.now.theory.now) self.now.ranks.now self.now.rules.now self.now.most) }
     {
+        let own = &self.own[constructor];
+        let split = &mut offers.splits[constructor];
+        let key = split.key(self.alloc, own, children)?;
+        let number = split.number(self.theory, self.alloc, own, &key)?;
         let nodes = cost_over(&known.classes, children);
         let over = Over {
             constructor: constructor as u32,
             nodes,
             children,
         };
-        let (key, number) = self.told(known, &mut offers.splits, &over)?;
-        let own = &self.own[constructor];
         let pending = &mut offers.pending;
         'labels: for label in &offers.splits[constructor].told[number] {
             let row = own.set(self.alloc, self.rules.len(), &key, &label.holds)?;

@@ -1,7 +1,7 @@
-use Rattle.std.proofs.Common.{◌<◌, ◌≤◌, All, length, get_or, sym, subst, arith, ℕ, ◌≡◌, ◌∙◌, ◌↔◌, true, inl, inr, Contains, ap}
+use Rattle.std.proofs.Common.{◌<◌, ◌≤◌, All, length, get_or, sym, subst, arith, ℕ, ◌≡◌, ◌∙◌, ◌↔◌, true, inl, inr, Contains, ap, map}
 use Rattle.model_sta.specs.Least.{counts_of, rows_at}
 use Rattle.sta_classes.specs.Rules.{plain_rules, meaning_of}
-use Rattle.sta_classes.specs.Rows.{founds, class_rows_at}
+use Rattle.sta_classes.specs.Rows.{founds, class_rows_at, class_rows}
 use Rattle.sta_classes.specs.Searched.{IsTold}
 use Rattle.sta_classes.proofs.Applying.{element, states_low}
 use Rattle.sta_classes.proofs.Keeping.{stopped}
@@ -12,13 +12,17 @@ use Rattle.std.proofs.lemmas.Bool.{cases_lt}
 use Rattle.std.proofs.lemmas.List.{length-map}
 use Rattle.model_sta.specs.Sets.{has, step}
 use Rattle.model_sta.proofs.Reached.{same_default}
-use Rattle.sta_classes.specs.Applying.{IsRules, IsFired}
+use Rattle.sta_classes.specs.Applying.{IsRules, IsFired, guards_in, AreLike}
 use Rattle.sta_classes.specs.Bits.{both}
 use Rattle.sta_classes.specs.Pending.{IsMet}
+use Rattle.model_tree.specs.Formula.{EveryAtom}
+use Rattle.sta_core.specs.Machine.{plain_rule}
+use Rattle.sta_classes.specs.Guards.{all_guards}
+use Rattle.sta_classes.specs.Meant.{HasMoreClasses}
+use Rattle.sta_classes.specs.Stop.{ClassStopsFor}
+use Rattle.sta_classes.proofs.Keys.{met_at, all_told_at, told_at}
+use Rattle.sta_classes.proofs.Told.{guards_fit, guards_of_all, stop_within}
 use Rattle.sta_classes.proofs.search.Search.open.Goals as goal
-
-pub told-requires : goal.told-requires
-told-requires g c = record { ready = c.requires.ready; over = c.requires.over; splits = c.requires.under.splits }
 
 pub cost_over-nodes-requires : goal.cost_over-nodes-requires
 cost_over-nodes-requires g c = subst (λ z. All (λ k. k < length z) c.args.children.now) (sym c.deref.ensures.value) c.requires.over.children
@@ -27,18 +31,18 @@ pub set-requires : goal.set-requires
 set-requires g c = record {
   low = let is : IsRules g.T.Atom.PartialEq.eq c.args.self.now.rules.now c.args.constructor c.index-self-constructor.result = c.requires.ready.own_are c.args.constructor c.index-self-constructor.result (omega (arith, c.requires.over.low, c.requires.ready.many)) (sym c.index-self-constructor.is) in
       subst (λ R. All (λ x. x.state < length c.args.self.now.rules.now) R.list.items) c.index-self-constructor.is (states_low c.args.self.now.rules.now c.args.constructor c.index-self-constructor.result.list.items is.owned);
-  met = ap length ((let found = c.in_ok-key.ensures.told c.index-self-constructor.result c.index.result.now (sym c.index-self-constructor.is) (sym c.index.ensures) in
-      subst (IsTold (g.T.Theory.meaning c.args.self.now.theory.now) c.index-self-constructor.result (class_rows_at c.args.known.now.classes.items c.args.children.now) c.in_ok-key.key) (sym (list_at c.index.result.now.told.items c.in_ok-key.number c.index-2.result.now c.deref-label-items.result.now found.0 c.index-2.ensures c.deref-label-items.ensures.value)) found.1)).0 ∙ length-map c.index-self-constructor.result.list.items _ ∙ ap (λ R. length R.list.items) c.index-self-constructor.is;
-  held = let (key_is, are) = (let found = c.in_ok-key.ensures.told c.index-self-constructor.result c.index.result.now (sym c.index-self-constructor.is) (sym c.index.ensures) in
-      subst (IsTold (g.T.Theory.meaning c.args.self.now.theory.now) c.index-self-constructor.result (class_rows_at c.args.known.now.classes.items c.args.children.now) c.in_ok-key.key) (sym (list_at c.index.result.now.told.items c.in_ok-key.number c.index-2.result.now c.deref-label-items.result.now found.0 c.index-2.ensures c.deref-label-items.ensures.value)) found.1) in
+  met = ap length ((let found = (told_at (g.T.Theory.meaning c.args.self.now.theory.now) c.args.self.now.ranks.now c.args.self.now.own.now c.args.known.now.classes.items c.args.offers.now.splits.items c.requires.under.splits c.args.constructor c.index-self-constructor.result c.index_mut-split.result.now c.number.new.self c.args.children.now c.in_ok-key.key c.in_ok-number.number (omega (arith, c.requires.over.low, c.requires.ready.many)) (omega (arith, c.requires.over.low, c.requires.under.splits.many)) c.index_mut-split.ensures.value c.requires.over.wide c.in_ok-key.ensures c.in_ok-number.ensures).told c.index-self-constructor.result c.index.result.now (sym c.index-self-constructor.is) (sym c.index.ensures) in
+      subst (IsTold (g.T.Theory.meaning c.args.self.now.theory.now) c.index-self-constructor.result (class_rows_at c.args.known.now.classes.items c.args.children.now) c.in_ok-key.key) (sym (list_at c.index.result.now.told.items c.in_ok-number.number c.index-2.result.now c.deref-label-items.result.now found.0 c.index-2.ensures c.deref-label-items.ensures.value)) found.1)).0 ∙ length-map c.index-self-constructor.result.list.items _ ∙ ap (λ R. length R.list.items) c.index-self-constructor.is;
+  held = let (key_is, are) = (let found = (told_at (g.T.Theory.meaning c.args.self.now.theory.now) c.args.self.now.ranks.now c.args.self.now.own.now c.args.known.now.classes.items c.args.offers.now.splits.items c.requires.under.splits c.args.constructor c.index-self-constructor.result c.index_mut-split.result.now c.number.new.self c.args.children.now c.in_ok-key.key c.in_ok-number.number (omega (arith, c.requires.over.low, c.requires.ready.many)) (omega (arith, c.requires.over.low, c.requires.under.splits.many)) c.index_mut-split.ensures.value c.requires.over.wide c.in_ok-key.ensures c.in_ok-number.ensures).told c.index-self-constructor.result c.index.result.now (sym c.index-self-constructor.is) (sym c.index.ensures) in
+      subst (IsTold (g.T.Theory.meaning c.args.self.now.theory.now) c.index-self-constructor.result (class_rows_at c.args.known.now.classes.items c.args.children.now) c.in_ok-key.key) (sym (list_at c.index.result.now.told.items c.in_ok-number.number c.index-2.result.now c.deref-label-items.result.now found.0 c.index-2.ensures c.deref-label-items.ensures.value)) found.1) in
       ap (λ t. length t.holds) c.label-item.is ∙ ap length (are.held c.labels.label-index c.label-item.result c.labels-test.true) ∙ length-map c.index-self-constructor.result.list.items _ ∙ sym (ap length key_is ∙ length-map c.index-self-constructor.result.list.items _);
 }
 
 pub labels-preserved : goal.labels-preserved
 labels-preserved g c =
     let is : IsRules g.T.Atom.PartialEq.eq c.args.self.now.rules.now c.args.constructor c.index-self-constructor.result = c.requires.ready.own_are c.args.constructor c.index-self-constructor.result (omega (arith, c.requires.over.low, c.requires.ready.many)) (sym c.index-self-constructor.is) in
-    let are = (let found = c.in_ok-key.ensures.told c.index-self-constructor.result c.index.result.now (sym c.index-self-constructor.is) (sym c.index.ensures) in
-    subst (IsTold (g.T.Theory.meaning c.args.self.now.theory.now) c.index-self-constructor.result (class_rows_at c.args.known.now.classes.items c.args.children.now) c.in_ok-key.key) (sym (list_at c.index.result.now.told.items c.in_ok-key.number c.index-2.result.now c.deref-label-items.result.now found.0 c.index-2.ensures c.deref-label-items.ensures.value)) found.1) in
+    let are = (let found = (told_at (g.T.Theory.meaning c.args.self.now.theory.now) c.args.self.now.ranks.now c.args.self.now.own.now c.args.known.now.classes.items c.args.offers.now.splits.items c.requires.under.splits c.args.constructor c.index-self-constructor.result c.index_mut-split.result.now c.number.new.self c.args.children.now c.in_ok-key.key c.in_ok-number.number (omega (arith, c.requires.over.low, c.requires.ready.many)) (omega (arith, c.requires.over.low, c.requires.under.splits.many)) c.index_mut-split.ensures.value c.requires.over.wide c.in_ok-key.ensures c.in_ok-number.ensures).told c.index-self-constructor.result c.index.result.now (sym c.index-self-constructor.is) (sym c.index.ensures) in
+    subst (IsTold (g.T.Theory.meaning c.args.self.now.theory.now) c.index-self-constructor.result (class_rows_at c.args.known.now.classes.items c.args.children.now) c.in_ok-key.key) (sym (list_at c.index.result.now.told.items c.in_ok-number.number c.index-2.result.now c.deref-label-items.result.now found.0 c.index-2.ensures c.deref-label-items.ensures.value)) found.1) in
     let there : Contains c.deref-label-items.result.now c.label-item.result = (c.labels.label-index, c.labels-test.true, sym c.label-item.is) in
     let fired : (s : ℕ) → has c.in_ok-row.row s ≡ true ↔ IsFired c.index-self-constructor.result.list.items (both c.in_ok-key.key c.label-item.result.holds) s =
     subst (λ R. (s : ℕ) → has c.in_ok-row.row s ≡ true ↔ IsFired R.list.items (both c.in_ok-key.key c.label-item.result.holds) s) (sym c.index-self-constructor.is) c.in_ok-row.ensures.fired in
@@ -68,12 +72,12 @@ bounds-self-constructor g c = omega (arith, c.requires.over.low, c.requires.read
 
 pub returns : goal.returns
 returns g c = record {
-  under = record { sound = c.labels.invariant.sound; kinds = c.requires.under.kinds; splits = c.in_ok-key.ensures.splits; few = omega (arith, c.if-len-self.false, c.len.ensures.len) };
+  under = record { sound = c.labels.invariant.sound; kinds = c.requires.under.kinds; splits = (told_at (g.T.Theory.meaning c.args.self.now.theory.now) c.args.self.now.ranks.now c.args.self.now.own.now c.args.known.now.classes.items c.args.offers.now.splits.items c.requires.under.splits c.args.constructor c.index-self-constructor.result c.index_mut-split.result.now c.number.new.self c.args.children.now c.in_ok-key.key c.in_ok-number.number (omega (arith, c.requires.over.low, c.requires.ready.many)) (omega (arith, c.requires.over.low, c.requires.under.splits.many)) c.index_mut-split.ensures.value c.requires.over.wide c.in_ok-key.ensures c.in_ok-number.ensures).splits; few = omega (arith, c.if-len-self.false, c.len.ensures.len) };
   better = c.labels.invariant.better;
   offered =
       let is : IsRules g.T.Atom.PartialEq.eq c.args.self.now.rules.now c.args.constructor c.index-self-constructor.result = c.requires.ready.own_are c.args.constructor c.index-self-constructor.result (omega (arith, c.requires.over.low, c.requires.ready.many)) (sym c.index-self-constructor.is) in
-      opened_by (g.T.Theory.meaning c.args.self.now.theory.now) c.args.self.now.ranks.now c.args.self.now.rules.now c.args.known.now.classes.items c.args.constructor c.index-self-constructor.result is c.args.children.now c.in_ok-key.key c.deref-label-items.result.now ((let found = c.in_ok-key.ensures.told c.index-self-constructor.result c.index.result.now (sym c.index-self-constructor.is) (sym c.index.ensures) in
-      subst (IsTold (g.T.Theory.meaning c.args.self.now.theory.now) c.index-self-constructor.result (class_rows_at c.args.known.now.classes.items c.args.children.now) c.in_ok-key.key) (sym (list_at c.index.result.now.told.items c.in_ok-key.number c.index-2.result.now c.deref-label-items.result.now found.0 c.index-2.ensures c.deref-label-items.ensures.value)) found.1)) c.labels.pending c.cost_over-nodes.result (counts_as g.T.Theory.label_of c.args.known.now.classes.items c.deref.result.now c.args.children.now c.cost_over-nodes.result c.deref.ensures.value c.cost_over-nodes.ensures)
+      opened_by (g.T.Theory.meaning c.args.self.now.theory.now) c.args.self.now.ranks.now c.args.self.now.rules.now c.args.known.now.classes.items c.args.constructor c.index-self-constructor.result is c.args.children.now c.in_ok-key.key c.deref-label-items.result.now ((let found = (told_at (g.T.Theory.meaning c.args.self.now.theory.now) c.args.self.now.ranks.now c.args.self.now.own.now c.args.known.now.classes.items c.args.offers.now.splits.items c.requires.under.splits c.args.constructor c.index-self-constructor.result c.index_mut-split.result.now c.number.new.self c.args.children.now c.in_ok-key.key c.in_ok-number.number (omega (arith, c.requires.over.low, c.requires.ready.many)) (omega (arith, c.requires.over.low, c.requires.under.splits.many)) c.index_mut-split.ensures.value c.requires.over.wide c.in_ok-key.ensures c.in_ok-number.ensures).told c.index-self-constructor.result c.index.result.now (sym c.index-self-constructor.is) (sym c.index.ensures) in
+      subst (IsTold (g.T.Theory.meaning c.args.self.now.theory.now) c.index-self-constructor.result (class_rows_at c.args.known.now.classes.items c.args.children.now) c.in_ok-key.key) (sym (list_at c.index.result.now.told.items c.in_ok-number.number c.index-2.result.now c.deref-label-items.result.now found.0 c.index-2.ensures c.deref-label-items.ensures.value)) found.1)) c.labels.pending c.cost_over-nodes.result (counts_as g.T.Theory.label_of c.args.known.now.classes.items c.deref.result.now c.args.children.now c.cost_over-nodes.result c.deref.ensures.value c.cost_over-nodes.ensures)
       (λ i t low at. c.labels.invariant.met i t (omega (arith, low, c.labels-test.false)) low at);
 }
 
@@ -81,7 +85,41 @@ pub returns-then-len-self : goal.returns-then-len-self
 returns-then-len-self g c = more_sets c.args.self.now.ranks.now (g.T.Theory.meaning c.args.self.now.theory.now).has (g.T.Theory.meaning c.args.self.now.theory.now).keeps (meaning_of g.T.Theory.atom_holds (plain_rules c.args.self.now.rules.now)) g.T.Theory.label_of c.args.known.now.classes.items c.labels.pending c.labels.pending c.labels.invariant.sound c.args.self.now.most (omega (arith, c.if-len-self.true, c.len.ensures.len))
 
 pub returns-in_err-key : goal.returns-in_err-key
-returns-in_err-key g c = stopped c.from_residual.result _ _ c.in_err-key.field-0.0 c.from_residual.ensures.1 c.in_err-key.ensures
+returns-in_err-key g c = stopped c.from_residual.result _ _ _ c.from_residual.ensures.1 tt
+
+pub number-requires : goal.number-requires
+number-requires g c = record {
+  fit = let is : IsRules g.T.Atom.PartialEq.eq c.args.self.now.rules.now c.args.constructor c.index-self-constructor.result = c.requires.ready.own_are c.args.constructor c.index-self-constructor.result (omega (arith, c.requires.over.low, c.requires.ready.many)) (sym c.index-self-constructor.is) in
+      record {
+        fit = subst (λ R. All (λ x. EveryAtom (g.T.Theory.atom_fits c.args.self.now.theory.now) (plain_rule x.rule.now).guard) R.list.items) c.index-self-constructor.is
+            (guards_fit c.args.self.now.rules.now c.args.constructor c.index-self-constructor.result.list.items is.owned (g.T.Theory.atom_fits c.args.self.now.theory.now) c.requires.ready.fit);
+        guarded = subst (λ R. length R.guarded ≡ length R.list.items) c.index-self-constructor.is (ap length is.guarded_are ∙ length-map _ _);
+        likes = subst (λ R. AreLike g.T.Atom.PartialEq.eq R.list.items R.likes.items) c.index-self-constructor.is is.alike;
+      };
+  many = let is : IsRules g.T.Atom.PartialEq.eq c.args.self.now.rules.now c.args.constructor c.index-self-constructor.result = c.requires.ready.own_are c.args.constructor c.index-self-constructor.result (omega (arith, c.requires.over.low, c.requires.ready.many)) (sym c.index-self-constructor.is) in
+      let met = met_at (g.T.Theory.meaning c.args.self.now.theory.now) c.args.self.now.ranks.now c.args.self.now.own.now (class_rows c.args.known.now.classes.items) c.args.offers.now.splits.items c.requires.under.splits c.args.constructor c.index-self-constructor.result c.index_mut-split.result.now (omega (arith, c.requires.over.low, c.requires.ready.many)) (omega (arith, c.requires.over.low, c.requires.under.splits.many)) c.index_mut-split.ensures.value (length c.args.children.now) c.requires.over.wide in
+      ap length (c.in_ok-key.ensures (class_rows c.args.known.now.classes.items) met) ∙ length-map _ _ ∙ sym (subst (λ R. length R.guarded ≡ length R.list.items) c.index-self-constructor.is (ap length is.guarded_are ∙ length-map _ _));
+  told = all_told_at (g.T.Theory.meaning c.args.self.now.theory.now) c.args.self.now.ranks.now c.args.self.now.own.now (class_rows c.args.known.now.classes.items) c.args.offers.now.splits.items c.requires.under.splits c.args.constructor c.index-self-constructor.result c.index_mut-split.result.now (omega (arith, c.requires.over.low, c.requires.ready.many)) (omega (arith, c.requires.over.low, c.requires.under.splits.many)) c.index_mut-split.ensures.value;
+}
+
+pub key-requires : goal.key-requires
+key-requires g c = record {
+  all = let is : IsRules g.T.Atom.PartialEq.eq c.args.self.now.rules.now c.args.constructor c.index-self-constructor.result = c.requires.ready.own_are c.args.constructor c.index-self-constructor.result (omega (arith, c.requires.over.low, c.requires.ready.many)) (sym c.index-self-constructor.is) in
+      subst (λ R. R.all ≡ map (λ x. true) R.list.items) c.index-self-constructor.is is.all_are;
+  known = let met = met_at (g.T.Theory.meaning c.args.self.now.theory.now) c.args.self.now.ranks.now c.args.self.now.own.now (class_rows c.args.known.now.classes.items) c.args.offers.now.splits.items c.requires.under.splits c.args.constructor c.index-self-constructor.result c.index_mut-split.result.now (omega (arith, c.requires.over.low, c.requires.ready.many)) (omega (arith, c.requires.over.low, c.requires.under.splits.many)) c.index_mut-split.ensures.value (length c.args.children.now) c.requires.over.wide in
+      subst (λ n. All (λ k. k < n) c.args.children.now) (sym (met.many ∙ length-map c.args.known.now.classes.items (λ z. z.row))) c.requires.over.children;
+  met = (class_rows c.args.known.now.classes.items, met_at (g.T.Theory.meaning c.args.self.now.theory.now) c.args.self.now.ranks.now c.args.self.now.own.now (class_rows c.args.known.now.classes.items) c.args.offers.now.splits.items c.requires.under.splits c.args.constructor c.index-self-constructor.result c.index_mut-split.result.now (omega (arith, c.requires.over.low, c.requires.ready.many)) (omega (arith, c.requires.over.low, c.requires.under.splits.many)) c.index_mut-split.ensures.value (length c.args.children.now) c.requires.over.wide);
+}
+
+pub index_mut-split-requires : goal.index_mut-split-requires
+index_mut-split-requires g c = omega (arith, c.requires.over.low, c.requires.under.splits.many, c.args.offers.now.splits.ok.0)
+
+pub returns-in_err-number : goal.returns-in_err-number
+returns-in_err-number g c =
+    let is : IsRules g.T.Atom.PartialEq.eq c.args.self.now.rules.now c.args.constructor c.index-self-constructor.result = c.requires.ready.own_are c.args.constructor c.index-self-constructor.result (omega (arith, c.requires.over.low, c.requires.ready.many)) (sym c.index-self-constructor.is) in
+    stopped c.from_residual-in_err-number.result _ _ c.in_err-number.field-0.0 c.from_residual-in_err-number.ensures.1
+    (stop_within (guards_in c.index-self-constructor.result.list.items) (all_guards (plain_rules c.args.self.now.rules.now)) (λ P h. guards_of_all c.args.self.now.rules.now c.args.constructor c.index-self-constructor.result.list.items is.owned P h) (g.T.Theory.meaning c.args.self.now.theory.now) g.T.Atom.PartialEq.eq (g.met.T.Theory.equal_is_own c.args.self.now.theory.now) g.met.T.Atom.Eq.laws (HasMoreClasses (g.T.Theory.meaning c.args.self.now.theory.now) (record { ranks = c.args.self.now.ranks.now; rules = plain_rules c.args.self.now.rules.now }) c.args.self.now.most) c.in_err-number.field-0.0
+    (subst (λ R. ClassStopsFor (g.T.Theory.meaning c.args.self.now.theory.now) ⊥ (guards_in R.list.items) c.in_err-number.field-0.0) (sym c.index-self-constructor.is) c.in_err-number.ensures))
 
 pub returns-in_err-row : goal.returns-in_err-row
 returns-in_err-row g c = stopped c.from_residual-in_err-row.result _ _ _ c.from_residual-in_err-row.ensures.1 tt
@@ -90,9 +128,9 @@ pub returns-in_err-offer : goal.returns-in_err-offer
 returns-in_err-offer g c = stopped c.from_residual-in_err-offer.result _ _ _ c.from_residual-in_err-offer.ensures.1 tt
 
 pub index-requires : goal.index-requires
-index-requires g c = omega (arith, c.requires.over.low, c.in_ok-key.ensures.splits.many, c.told.new.splits.ok.0)
+index-requires g c = omega (arith, c.requires.over.low, (told_at (g.T.Theory.meaning c.args.self.now.theory.now) c.args.self.now.ranks.now c.args.self.now.own.now c.args.known.now.classes.items c.args.offers.now.splits.items c.requires.under.splits c.args.constructor c.index-self-constructor.result c.index_mut-split.result.now c.number.new.self c.args.children.now c.in_ok-key.key c.in_ok-number.number (omega (arith, c.requires.over.low, c.requires.ready.many)) (omega (arith, c.requires.over.low, c.requires.under.splits.many)) c.index_mut-split.ensures.value c.requires.over.wide c.in_ok-key.ensures c.in_ok-number.ensures).splits.many, c.args.offers.now.splits.ok.0)
 
 pub index-requires-2 : goal.index-requires-2
 index-requires-2 g c =
     let (own, at) = element c.args.self.now.own.now c.args.constructor (omega (arith, c.requires.over.low, c.requires.ready.many)) in
-    omega (arith, (c.in_ok-key.ensures.told own c.index.result.now at (sym c.index.ensures)).0, c.index.result.now.told.ok)
+    omega (arith, ((told_at (g.T.Theory.meaning c.args.self.now.theory.now) c.args.self.now.ranks.now c.args.self.now.own.now c.args.known.now.classes.items c.args.offers.now.splits.items c.requires.under.splits c.args.constructor c.index-self-constructor.result c.index_mut-split.result.now c.number.new.self c.args.children.now c.in_ok-key.key c.in_ok-number.number (omega (arith, c.requires.over.low, c.requires.ready.many)) (omega (arith, c.requires.over.low, c.requires.under.splits.many)) c.index_mut-split.ensures.value c.requires.over.wide c.in_ok-key.ensures c.in_ok-number.ensures).told own c.index.result.now at (sym c.index.ensures)).0, c.index.result.now.told.ok)
