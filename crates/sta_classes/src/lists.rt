@@ -1,6 +1,6 @@
 //! Lists of classes, one of each kind for each place.
 
-ghost use Rattle.std.specs.Prelude.{◌≡◌, ◌<◌, ◌++◌, ◌∷◌, ◌↔◌, [], ℕ, List, length, map, get_or, Contains, IfOk, Decides};
+ghost use Rattle.std.specs.Prelude.{◌≡◌, ◌++◌, ◌∷◌, ◌↔◌, [], ℕ, List, length, map, Contains, IfOk, Decides};
 ghost use Rattle.sta_classes.specs.Lists.{MayStand, IsListWith, IsNewList};
 ghost use Rattle.sta_classes.specs.Places.{AreNumberedFor};
 ghost use Rattle.sta_classes.specs.Rows.{lists_of};

@@ -3,8 +3,7 @@
 //! Each turn takes a candidate with the fewest nodes. It is a least tree of its class, since each other tree with a new
 //! set is over trees of classes that come later. Then come the candidates over lists of kinds of which one is new.
 
-ghost use Rattle.std.specs.Prelude.{ℕ, ◌≡◌, ◌<◌, ◌-◌, ◌++◌, ◌∷◌, [], Bool, List, length, get_or, Contains, IfOk, OnOk, MatchResult};
-ghost use Rattle.sta_classes.specs.Rows.{class_rows};
+ghost use Rattle.std.specs.Prelude.{◌≡◌, ◌++◌, ◌∷◌, [], Bool, List, length, OnOk, MatchResult};
 ghost use Rattle.sta_classes.specs.Searched.{IsReady, IsOver, AreSplit, HasOffered, HasNewOffered, IsUnderway, GoesOn, IsBegun, IsWhole, StopsSearch};
 
 use crate::class::cost_over;
@@ -117,21 +116,6 @@ impl<T: Theory> Search<'_, T> {
         Ok(())
     }
 
-    /// No class is found yet, no tree is offered, and nothing is known of the rules of each constructor.
-    fn begin(&self) -> Result<Course<T::Value>, Memory>
-        requires ready { IsReady T.Atom.eq (T.atom_fits self.now.theory.now) self.now.ranks.now self.now.rules.now self.now.own.now }
-        ensures { IfOk result (λ course. IsBegun (T.meaning self.now.theory.now) self.now.ranks.now self.now.rules.now self.now.own.now self.now.most course) }
-    {
-        let mut splits = Vec::new(self.alloc);
-        'constructors: for _ in 0..self.ranks.len() {
-            splits.push(Splits::new(self.alloc))?;
-        }
-        let known = Known::new(self.alloc, self.ranks, self.rules)?;
-        let pending = Pending::new(self.alloc);
-        let offers = Offers { pending, splits };
-        Ok(Course { known, offers })
-    }
-
     /// Takes turns until no candidate is left: each offers the trees over the last class, those of no children at first, and
     /// makes the candidate that it takes one more class.
     fn go_on(&self, course: &mut Course<T::Value>) -> Result<(), ClassStop<T::Chain>>
@@ -154,7 +138,14 @@ impl<T: Theory> Search<'_, T> {
         requires ready { IsReady T.Atom.eq (T.atom_fits self.now.theory.now) self.now.ranks.now self.now.rules.now self.now.own.now }
         ensures { MatchResult result (IsWhole (T.meaning self.now.theory.now) self.now.ranks.now self.now.rules.now self.now.most) (StopsSearch (T.meaning self.now.theory.now) self.now.ranks.now self.now.rules.now self.now.most) }
     {
-        let mut course = self.begin()?;
+        let mut splits = Vec::new(self.alloc);
+        'constructors: for _ in 0..self.ranks.len() {
+            splits.push(Splits::new(self.alloc))?;
+        }
+        let known = Known::new(self.alloc, self.ranks, self.rules)?;
+        let pending = Pending::new(self.alloc);
+        let offers = Offers { pending, splits };
+        let mut course = Course { known, offers };
         let ended = self.go_on(&mut course);
         kept(course.known, course.offers, ended)
     }

@@ -1,6 +1,6 @@
 use Rattle.std.proofs.Common.{ℕ, ◌≡◌, ◌<◌, [], length, get_or}
 use Rattle.sta_classes.specs.declared.splits.Splits.{Splits}
-use Rattle.sta_classes.proofs.search.Search.begin.Given as goal
+use Rattle.sta_classes.proofs.search.Search.run.Given as goal
 
 abbrev pub invariant-constructors : goal.invariant-constructors
 invariant-constructors g l = record {
