@@ -72,6 +72,9 @@ next_in w (suc n) (t ∷ ts) is_next =
     let one_more : suc (n + 1) ≡ suc n + 1 = omega arith in
     (e.0, e.1 ∙ ap (λ m. e.0 ∷ lexemes (drop m (t ∷ ts))) one_more, e.2)
 
+pub next_taken : {w : Word} {rest : List Lexeme} (r : Reader) → IsNext w (left r) → rest ≡ behind r → (t : Lexeme) × (left r ≡ t ∷ rest) × (t.word ≡ w)
+next_taken {w} r is_next is = let e = next_in w r.place r.tokens.now is_next in (e.0, e.1 ∙ ap (λ l. e.0 ∷ l) (sym is), e.2)
+
 pub sign_next : {w : Word} {rest : List Lexeme} (r : Reader) → IsNext w (left r) → rest ≡ behind r → IsRead (IsSign w) closed (left r) tt rest
 sign_next {w} {rest} r is_next is =
     let e = next_in w r.place r.tokens.now is_next in

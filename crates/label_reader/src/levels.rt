@@ -1,20 +1,21 @@
 //! Label expressions, from the loosest level to the tightest.
 
 ghost use Rattle.std.specs.Prelude.{◌≡◌, ◌∷◌, true, false, MatchOption, MatchResult};
-ghost use Rattle.model_program.specs.declared.Word.TheVariants.{RoundOpen, Minus};
+ghost use Rattle.model_program.specs.Lexeme.{Lexeme};
+ghost use Rattle.model_program.specs.declared.Word.TheVariants.{RoundOpen};
 ghost use Rattle.model_program.specs.Joined.{IsOther};
 ghost use Rattle.read_forms.specs.Reads.{closed};
 ghost use Rattle.model_grammar.specs.declared.Chain.TheVariants.{Product};
 ghost use Rattle.model_grammar.specs.declared.Level.TheVariants.{Neg, Cmp, Unary, Prim};
-ghost use Rattle.model_grammar.specs.Operators.{IsMany};
 ghost use Rattle.model_grammar.specs.Expressions.{IsExpr};
 ghost use Rattle.model_grammar.specs.Syntax.{compare, chain, part, no_parts};
 ghost use Rattle.model_grammar.specs.Printed.{chain_level};
-ghost use Rattle.fast_lex.specs.Tokens.{lexeme};
 ghost use Rattle.fast_syntax.specs.Plain.{plain_expr};
 ghost use Rattle.label_reader.specs.Results.{left, behind, Reads, IfMade};
 ghost use Rattle.label_reader.specs.Operands.{prefixed};
 ghost use Rattle.label_reader.specs.Levels.{GoesOn};
+ghost use Rattle.label_reader.specs.Openings.{IsOperator, IsOpening};
+ghost use Rattle.label_reader.specs.declared.operators.Opening.TheVariants.{Minus};
 ghost use Rattle.label_reader.specs.Constants.{NoNumeral, IsNumeralNext};
 ghost use Rattle.label_reader.specs.Inside.{IsInside, IsBehindFirst, AreTwo, IsUnsigned, IsWhole};
 
@@ -22,12 +23,12 @@ use crate::constants::{numeral_next, read_numeral, read_string};
 use crate::keep::{kept, to_close};
 use crate::operands::Operands;
 use crate::operators::{
-    Prefix, is_marking, many_next, operand, rel_next, sign_next, starts_primary,
+    Opening, Prefix, is_marking, opens_by, operand, rel_next, sign_next, starts_primary,
 };
 use crate::reader::Reader;
 use crate::stop::Stop;
 use fast_fault::Pos;
-use fast_lex::{Token, Word};
+use fast_lex::Word;
 use fast_syntax::Text;
 use fast_syntax::expressions::{Expr, Node};
 use model_grammar::{Chain, Level, Rel};
@@ -165,9 +166,9 @@ fn read_unary(reader: &mut Reader) -> Result<Expr, Stop>
 fn read_primary(reader: &mut Reader) -> Result<Expr, Stop>
     ensures { Reads (IsExpr Prim) closed (left reader.old) (left reader.new) plain_expr result }
 {
-    let Some(_open) = reader.peek_if(Word::RoundOpen) else {
+    if !reader.is_next(Word::RoundOpen) {
         return read_leaf(reader);
-    };
+    }
     reader.advance();
     read_inside(reader)
 }
@@ -213,36 +214,35 @@ fn read_leaf(reader: &mut Reader) -> Result<Expr, Stop>
 fn read_inside(reader: &mut Reader) -> Result<Expr, Stop>
     ensures { Reads IsInside closed (left reader.old) (left reader.new) plain_expr result }
 {
-    if let Some(sign) = reader.peek_if(Word::Minus) {
-        return read_behind_minus(reader, sign);
+    match opens_by(reader) {
+        Opening::Minus(place) => read_behind_minus(reader, place),
+        Opening::Many(place, kind) => {
+            reader.advance();
+            let first = read_primary(reader)?;
+            read_further(reader, kind, place, false, first)
+        }
+        Opening::Percent(place) => {
+            reader.advance();
+            remainder(reader.alloc, place, read_two(reader))
+        }
+        Opening::Compare(place, rel) => {
+            reader.advance();
+            compared(reader.alloc, place, rel, read_two(reader))
+        }
+        Opening::Inside => to_close(read_level(reader, Level::E), reader),
     }
-    if let Some((op, kind)) = many_next(reader) {
-        reader.advance();
-        let first = read_primary(reader)?;
-        return read_further(reader, kind, op, first);
-    }
-    if let Some(op) = reader.peek_if(Word::Percent) {
-        reader.advance();
-        return remainder(reader.alloc, op.place, read_two(reader));
-    }
-    if let Some((op, rel)) = rel_next(reader) {
-        reader.advance();
-        return compared(reader.alloc, op.place, rel, read_two(reader));
-    }
-    to_close(read_level(reader, Level::E), reader)
 }
 
 /// Behind `(` and `-` either an expression goes on, or the operands follow that are subtracted.
 #[cycle(expression)]
-fn read_behind_minus<'t>(reader: &mut Reader<'t>, sign: Token<'t>) -> Result<Expr, Stop>
-    requires here { left reader.old ≡ lexeme sign ∷ behind reader.old }
-    requires minus { sign.word ≡ Minus }
+fn read_behind_minus(reader: &mut Reader, place: Pos) -> Result<Expr, Stop>
+    requires { IsOpening (left reader.old) (behind reader.old) (Minus place) }
     ensures { Reads IsInside closed (left reader.old) (left reader.new) plain_expr result }
 {
     let before = *reader;
     let whole = read_level(reader, Level::E)?;
     match unsigned(whole, &before, reader) {
-        Ok(first) => read_further(reader, Chain::Sum, sign, first),
+        Ok(first) => read_further(reader, Chain::Sum, place, true, first),
         Err(inside) => to_close(Ok(inside), reader),
     }
 }
@@ -282,23 +282,21 @@ fn numeral_behind(before: &Reader) -> Option<(Pos, i128)>
 
 /// The operands behind the first one, and the closing parenthesis.
 #[cycle(expression)]
-fn read_further<'t>(
-    reader: &mut Reader<'t>,
+fn read_further(
+    reader: &mut Reader,
     kind: Chain,
-    op: Token<'t>,
+    place: Pos,
+    mark: bool,
     first: Expr,
 ) -> Result<Expr, Stop>
-    requires { IsMany kind op.word }
-    ensures { Reads (IsBehindFirst kind (lexeme op.entry) (plain_expr first)) closed (left reader.old) (left reader.new) plain_expr result }
+    ensures { (op : Lexeme) → IsOperator kind mark place op.word op.place → Reads (IsBehindFirst kind op (plain_expr first)) closed (left reader.old) (left reader.new) plain_expr result }
 {
-    let mark = is_marking(op.word);
     let both = kept(first, read_primary(reader));
     let mut parts = Operands::two(reader.alloc, kind, mark, both)?;
     'parts: while !reader.is_next(Word::RoundClose) {
         parts = parts.with(mark, read_primary(reader))?;
     }
     reader.advance();
-    let place = op.place;
     let node = parts.into_node();
     Ok(Expr { place, node })
 }

@@ -77,7 +77,7 @@ fn read_some_to<L: Items>(
 {
     let mut all = pushed(Vec::new(reader.alloc), L::read_item(reader))?;
     'items: loop {
-        if let Some(_close) = reader.peek_if(close) {
+        if reader.is_next(close) {
             reader.advance();
             return Ok(all);
         }
@@ -95,7 +95,7 @@ pub fn read_to<L: Items>(
     requires { IsItem between close L.spelled L.goes_on }
     ensures { Reads (AnyTo between L.spelled close) closed (left reader.old) (left reader.new) (λ x. map L.plain x.items) result }
 {
-    if let Some(_close) = reader.peek_if(close) {
+    if reader.is_next(close) {
         reader.advance();
         return Ok(Vec::new(reader.alloc));
     }

@@ -1,16 +1,18 @@
 //! Operators: whether one comes next, and which one, exactly as the grammar has them.
 
 ghost use Rattle.std.specs.Prelude.{◌≡◌, ◌∷◌, true, false, MatchOption};
-ghost use Rattle.model_grammar.specs.Operators.{IsSignOf, IsMany, rel_word, is_marking};
+ghost use Rattle.model_grammar.specs.Operators.{IsSignOf, rel_word, is_marking};
 ghost use Rattle.model_grammar.specs.Expressions.{operand};
 ghost use Rattle.read_forms.specs.Reads.{Stops};
 ghost use Rattle.model_grammar.specs.declared.Level.TheVariants.{Prim};
 ghost use Rattle.fast_lex.specs.Tokens.{lexeme};
 ghost use Rattle.label_reader.specs.Results.{left, behind};
-ghost use Rattle.label_reader.specs.Levels.{BeginsAt, NoSign, IsNoRel, NoRel, IsNoMany, NoMany};
+ghost use Rattle.label_reader.specs.Levels.{BeginsAt, NoSign, IsNoRel, NoRel};
+ghost use Rattle.label_reader.specs.Openings.{IsOpeningOf, IsOpening};
 ghost use Rattle.label_reader.specs.Inside.{StartsPrimary};
 
 use crate::reader::{Reader, is_same};
+use fast_fault::Pos;
 use fast_lex::{Token, Word};
 use model_grammar::{Chain, Level, Rel};
 
@@ -89,28 +91,44 @@ pub(crate) fn rel_next<'t>(reader: &Reader<'t>) -> Option<(Token<'t>, Rel)>
     }
 }
 
-fn many_of(word: Word) -> Option<Chain>
-    ensures { MatchOption result (IsNoMany word) (λ kind. IsMany kind word) }
+/// What stands first in parentheses: an operator, with its place, or the expression.
+#[derive(Clone, Copy)]
+pub(crate) enum Opening {
+    Minus(Pos),
+    /// Another operator of any number of operands.
+    Many(Pos, Chain),
+    Percent(Pos),
+    Compare(Pos, Rel),
+    Inside,
+}
+
+fn opened_by(word: Word, place: Pos) -> Opening
+    ensures { IsOpeningOf word place result }
 {
     match word {
-        Word::Or => Some(Chain::Disjunction),
-        Word::And => Some(Chain::Conjunction),
-        Word::Plus => Some(Chain::Sum),
-        Word::Star => Some(Chain::Product),
-        _ => None,
+        Word::Minus => Opening::Minus(place),
+        Word::Or => Opening::Many(place, Chain::Disjunction),
+        Word::And => Opening::Many(place, Chain::Conjunction),
+        Word::Plus => Opening::Many(place, Chain::Sum),
+        Word::Star => Opening::Many(place, Chain::Product),
+        Word::Percent => Opening::Percent(place),
+        Word::Equal => Opening::Compare(place, Rel::Equal),
+        Word::NotEqual => Opening::Compare(place, Rel::NotEqual),
+        Word::Less => Opening::Compare(place, Rel::Less),
+        Word::AtMost => Opening::Compare(place, Rel::AtMost),
+        Word::Greater => Opening::Compare(place, Rel::Greater),
+        Word::AtLeast => Opening::Compare(place, Rel::AtLeast),
+        _ => Opening::Inside,
     }
 }
 
-/// The next token, where it is an operator, other than `-`, of any number of operands.
-pub(crate) fn many_next<'t>(reader: &Reader<'t>) -> Option<(Token<'t>, Chain)>
-    ensures { MatchOption result (NoMany (left reader.now)) (λ x. (left reader.now ≡ lexeme x.0 ∷ behind reader.now) × IsMany x.1 x.0.word) }
+/// What comes next, behind an opening parenthesis.
+pub(crate) fn opens_by(reader: &Reader) -> Opening
+    ensures { IsOpening (left reader.now) (behind reader.now) result }
 {
-    let Some(token) = reader.peek() else {
-        return None;
-    };
-    match many_of(token.word) {
-        Some(kind) => Some((token, kind)),
-        None => None,
+    match reader.peek() {
+        Some(token) => opened_by(token.word, token.place),
+        None => Opening::Inside,
     }
 }
 

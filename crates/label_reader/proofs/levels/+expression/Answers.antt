@@ -1,24 +1,25 @@
-use Rattle.std.proofs.Common.{sym, ap, ◌∙◌, arith, refl, inr, false, ◌∷◌, []}
+use Rattle.std.proofs.Common.{sym, ap, ◌∙◌, arith, refl, false, ◌∷◌, []}
 use Rattle.model_program.specs.declared.Word.TheVariants.{Not, Minus, Percent, RoundOpen, RoundClose}
 use Rattle.read_forms.proofs.Forms.{as_read, as_fails, then_read, then_fails, first_fails, ends_closed, closed_read, closed_fails, read_at, chained_read, chained_fails, chained_first_fails}
 use Rattle.read_forms.proofs.Words.{word_read, next_of, sample_sign}
 use Rattle.model_grammar.specs.declared.Level.TheVariants.{Unary, Prim}
 use Rattle.model_grammar.specs.declared.Chain.TheVariants.{Product}
 use Rattle.model_grammar.specs.Operators.{is_marking}
-use Rattle.model_grammar.specs.Syntax.{number, chain, part, no_parts}
+use Rattle.model_grammar.specs.Syntax.{number, chain, compare, part, no_parts}
 use Rattle.model_grammar.specs.Printed.{rank}
 use Rattle.fast_syntax.specs.Plain.{plain_expr}
 use Rattle.label_reader.specs.Levels.{GoesOn, BeginsAt}
 use Rattle.label_reader.specs.Operands.{marked, mark_in, parts_from}
 use Rattle.label_reader.proofs.Digits.{negated_number_is}
 use Rattle.label_reader.proofs.ByToken.{numeral_of, numeral_fails}
-use Rattle.label_reader.proofs.Exits.{stepped, exit, reads_as, reads_wider, shorter, not_longer, taken, sign_next}
+use Rattle.label_reader.proofs.Exits.{stepped, exit, reads_as, reads_wider, shorter, not_longer, taken, next_taken, sign_next}
 use Rattle.label_reader.proofs.Keeping.{told_read, reads_whole, reads_kept, reads_closed, reads_to_close, told_kept, passes_kept, made_of_kept, made_reads, made_fails}
 use Rattle.label_reader.proofs.Joins.{without_read, without_fails}
 use Rattle.label_reader.proofs.LevelForms.{tighter, level_begins, sample_prim, wider_read, wider_fails, first_operand_fails, one_operand, chain_fails, negated_makes, not_negated_makes, cmp_in_neg, left_fails, left_alone, right_fails, both_read, rel_read}
 use Rattle.label_reader.proofs.Gathered.{chaining_starts, chaining_more, chaining_ends, operand_fails, operand_read}
 use Rattle.label_reader.proofs.Primaries.{minus_makes, no_minus_makes, negated_number, negated_other, sample_without, closed_by, open_makes}
 use Rattle.label_reader.proofs.Insides.{further_fails, two_makes, many_makes, many_read, sample_behind_first, percent_makes, rel_makes, nested_makes, ends_e, minus_whole_fails, minus_further_fails, minus_further_read, minus_close_fails, minus_close_read}
+use Rattle.label_reader.proofs.Openings.{told_opening, not_minus, minus_operator}
 use Rattle.label_reader.proofs.Further.{further_begins, further_goes_on, further_next_fails, further_ends}
 use Rattle.label_reader.proofs.levels.+expression.Goals as goal
 
@@ -106,9 +107,9 @@ read_unary-returns t c = let e = stepped _ c.in-Some.ensures c.advance.ensures i
 -- Parentheses.
 
 pub read_primary-returns : goal.read_primary-returns
-read_primary-returns t c = let e = stepped _ c.in-Some.ensures c.advance.ensures in reads_whole _ _ _ _ _ _ c.read_inside.ensures
-    (λ x read. as_read (open_makes _ (next_of RoundOpen _ _ _ e.0 e.1)) (then_read (ends_closed _ _) (word_read RoundOpen _ _ _ e.0 e.1) read))
-    (λ bad fails. as_fails _ (open_makes _ (next_of RoundOpen _ _ _ e.0 e.1)) (then_fails _ (ends_closed _ _) (word_read RoundOpen _ _ _ e.0 e.1) fails))
+read_primary-returns t c = let e = (next_taken c.args.reader.now (c.is_next.ensures.yes c.if-not-is_next.false) c.advance.ensures) in reads_whole _ _ _ _ _ _ c.read_inside.ensures
+    (λ x read. as_read (open_makes _ (next_of RoundOpen _ _ _ e.1 e.2)) (then_read (ends_closed _ _) (word_read RoundOpen _ _ _ e.1 e.2) read))
+    (λ bad fails. as_fails _ (open_makes _ (next_of RoundOpen _ _ _ e.1 e.2)) (then_fails _ (ends_closed _ _) (word_read RoundOpen _ _ _ e.1 e.2) fails))
 
 pub read_two-returns-in_err-left : goal.read_two-returns-in_err-left
 read_two-returns-in_err-left t c = exit _ _ _ _ c.from_residual.result c.from_residual.ensures.1 (as_fails _ (two_makes _) (first_fails _ (ends_closed _ _) (sample_sign RoundClose) (first_fails _ (ends_closed _ _) sample_prim c.in_err-left.ensures)))
@@ -122,79 +123,87 @@ read_two-returns t c = reads_to_close _ _ _ _ _ (λ x. (plain_expr x.0, plain_ex
     c.to_close.ensures (ends_closed _ _) (two_makes _)
 
 pub read_further-returns-in_err-parts : goal.read_further-returns-in_err-parts
-read_further-returns-in_err-parts t c = exit _ _ _ _ c.from_residual.result c.from_residual.ensures.1 (made_fails _ _ _ plain_expr _ _ c.read_primary.ensures (passes_kept _ _ _ _ c.kept-both.ensures c.in_err-parts.ensures) (λ bad fails. further_fails _ _ _ _ _ fails))
+read_further-returns-in_err-parts t c = λ op is. exit _ _ _ _ c.from_residual.result c.from_residual.ensures.1 (made_fails _ _ _ plain_expr _ _ c.read_primary.ensures (passes_kept _ _ _ _ c.kept-both.ensures c.in_err-parts.ensures) (λ bad fails. further_fails _ _ _ _ _ fails))
 
 pub read_further-parts-init : goal.read_further-parts-init
-read_further-parts-init t c = let e = c.in_ok-parts.ensures in let k = told_kept _ _ c.kept-both.ensures e.1 in (
-  further_begins _ _ _ _ _ _ [] _ _ _ _ _ c.requires (told_read _ _ plain_expr k.1 c.read_primary.ensures) refl refl c.is_marking-mark.ensures refl (e.2.1 ∙ ap (λ x. (mark_in c.args.kind false, plain_expr x) ∷ (mark_in c.args.kind c.is_marking-mark.result, plain_expr e.0.1) ∷ []) k.0),
+read_further-parts-init t c = let e = c.in_ok-parts.ensures in let k = told_kept _ _ c.kept-both.ensures e.1 in let read = told_read _ _ plain_expr k.1 c.read_primary.ensures in (
+  λ op is. further_begins _ _ _ _ _ _ [] _ _ _ _ _ is.many read refl refl is.marks refl (e.2.1 ∙ ap (λ x. (mark_in c.args.kind false, plain_expr x) ∷ (mark_in c.args.kind c.args.mark, plain_expr e.0.1) ∷ []) k.0),
   e.2.0,
-  c.is_marking-mark.ensures,
+  not_longer _ _ read,
 )
 
 pub read_further-returns-in_err-parts-2 : goal.read_further-returns-in_err-parts-2
-read_further-returns-in_err-parts-2 t c = exit _ _ _ _ c.from_residual-in_err-parts-2.result c.from_residual-in_err-parts-2.ensures.1 (made_fails _ _ _ plain_expr _ _ c.read_primary-in-parts.ensures c.in_err-parts-2.ensures (λ bad fails. further_next_fails _ _ _ _ _ _ _ c.parts.invariant.0 (c.is_next.ensures.no c.parts-test.true) fails))
+read_further-returns-in_err-parts-2 t c = λ op is. exit _ _ _ _ c.from_residual-in_err-parts-2.result c.from_residual-in_err-parts-2.ensures.1 (made_fails _ _ _ plain_expr _ _ c.read_primary-in-parts.ensures c.in_err-parts-2.ensures (λ bad fails. further_next_fails _ _ _ _ _ _ _ (c.parts.invariant.0 op is) (c.is_next.ensures.no c.parts-test.true) fails))
 
 pub read_further-parts-smaller : goal.read_further-parts-smaller
 read_further-parts-smaller t c = shorter (BeginsAt Prim) _ _ (level_begins Prim) (told_read _ _ plain_expr c.in_ok-parts-2.ensures.1 c.read_primary-in-parts.ensures)
 
 pub read_further-parts-preserved : goal.read_further-parts-preserved
-read_further-parts-preserved t c = let k = c.in_ok-parts-2.ensures in (
-  further_goes_on _ _ _ _ _ _ _ _ _ _ _ c.requires c.parts.invariant.0 (c.is_next.ensures.no c.parts-test.true) (told_read _ _ plain_expr k.1 c.read_primary-in-parts.ensures) c.parts.invariant.2 c.parts.invariant.1 k.2.1,
+read_further-parts-preserved t c = let k = c.in_ok-parts-2.ensures in let read = told_read _ _ plain_expr k.1 c.read_primary-in-parts.ensures in (
+  λ op is. further_goes_on _ _ _ _ _ _ _ _ _ _ _ is.many (c.parts.invariant.0 op is) (c.is_next.ensures.no c.parts-test.true) read is.marks c.parts.invariant.1 k.2.1,
   k.2.0 ∙ c.parts.invariant.1,
-  c.parts.invariant.2,
+  (let a = not_longer _ _ read in let b = c.parts.invariant.2 in omega (arith, a, b)),
 )
 
 pub read_further-returns : goal.read_further-returns
-read_further-returns t c =
-    let place = c.args.op.place in let next = c.is_next.ensures.yes c.parts-test.false in
-    further_ends _ _ _ _ _ _ _ _ c.parts.invariant.0 next (sign_next c.parts.reader next c.advance.ensures)
-    (c.into_node-node.ensures place ∙ ap (λ k. chain k place (parts_from (marked c.parts.parts))) c.parts.invariant.1)
+read_further-returns t c = λ op is.
+    let place = c.args.place in let next = c.is_next.ensures.yes c.parts-test.false in
+    further_ends _ _ _ _ _ _ _ _ (c.parts.invariant.0 op is) next (sign_next c.parts.reader next c.advance.ensures)
+    (c.into_node-node.ensures place ∙ ap (λ k. chain k place (parts_from (marked c.parts.parts))) c.parts.invariant.1 ∙ ap (λ p. chain c.args.kind p (parts_from (marked c.parts.parts))) is.is_at)
 
-pub read_inside-returns-in_err-first : goal.read_inside-returns-in_err-first
-read_inside-returns-in_err-first t c = let e = stepped _ c.in-Some-many_next.ensures c.advance.ensures in
-    exit _ _ _ _ c.from_residual.result c.from_residual.ensures.1 (as_fails _ (many_makes _ _ _ _ e.0 e.1 c.in_default.ensures) (chained_fails _ (λ x. ends_closed _ _) (many_read _ _ _ _ e.0 e.1) (chained_first_fails _ (λ x. ends_closed _ _) (λ x. sample_behind_first _ _ x) c.in_err-first.ensures)))
+pub read_inside-read_behind_minus-requires : goal.read_inside-read_behind_minus-requires
+read_inside-read_behind_minus-requires t c = (omega (arith, c.decreases), told_opening _ _ _ c.in-Minus.is c.opens_by.ensures)
+
+pub read_inside-returns-in-Minus : goal.read_inside-returns-in-Minus
+read_inside-returns-in-Minus t c = c.read_behind_minus.ensures
+
+pub read_inside-returns-in_err-first-in-Many : goal.read_inside-returns-in_err-first-in-Many
+read_inside-returns-in_err-first-in-Many t c = let o = told_opening _ _ _ c.in-Many.is c.opens_by.ensures in let e = stepped _ (o.here, o.is) c.advance.ensures in
+    exit _ _ _ _ c.from_residual.result c.from_residual.ensures.1 (as_fails _ (many_makes _ _ _ _ e.0 e.1.many (not_minus _ e.0 e.1)) (chained_fails _ (λ x. ends_closed _ _) (many_read _ _ _ _ e.0 e.1.many) (chained_first_fails _ (λ x. ends_closed _ _) (λ x. sample_behind_first _ _ x) c.in_err-first-in-Many.ensures)))
 
 pub read_inside-read_further-requires : goal.read_inside-read_further-requires
-read_inside-read_further-requires t c = let e = stepped _ c.in-Some-many_next.ensures c.advance.ensures in let a = not_longer _ _ c.in_ok-first.ensures in let b = taken _ _ _ e.0 in (omega (arith, a, b, c.decreases), e.1)
+read_inside-read_further-requires t c = let o = told_opening _ _ _ c.in-Many.is c.opens_by.ensures in let a = not_longer _ _ c.in_ok-first-in-Many.ensures in let b = taken _ _ _ (stepped _ (o.here, o.is) c.advance.ensures).0 in (omega (arith, a, b, c.decreases), tt)
 
-pub read_inside-returns-in-Some-many_next : goal.read_inside-returns-in-Some-many_next
-read_inside-returns-in-Some-many_next t c = let e = stepped _ c.in-Some-many_next.ensures c.advance.ensures in reads_whole _ _ _ _ _ _ c.read_further.ensures
-    (λ x read. as_read (many_makes _ _ _ _ e.0 e.1 c.in_default.ensures) (chained_read (λ x. ends_closed _ _) (many_read _ _ _ _ e.0 e.1) (chained_read (λ x. ends_closed _ _) c.in_ok-first.ensures read)))
-    (λ bad fails. as_fails _ (many_makes _ _ _ _ e.0 e.1 c.in_default.ensures) (chained_fails _ (λ x. ends_closed _ _) (many_read _ _ _ _ e.0 e.1) (chained_fails _ (λ x. ends_closed _ _) c.in_ok-first.ensures fails)))
+pub read_inside-returns-in_ok-first-in-Many : goal.read_inside-returns-in_ok-first-in-Many
+read_inside-returns-in_ok-first-in-Many t c = let o = told_opening _ _ _ c.in-Many.is c.opens_by.ensures in let e = stepped _ (o.here, o.is) c.advance.ensures in let makes = many_makes _ _ _ _ e.0 e.1.many (not_minus _ e.0 e.1) in
+    reads_whole _ _ _ _ _ _ (c.read_further.ensures o.token e.1)
+    (λ x read. as_read makes (chained_read (λ x. ends_closed _ _) (many_read _ _ _ _ e.0 e.1.many) (chained_read (λ x. ends_closed _ _) c.in_ok-first-in-Many.ensures read)))
+    (λ bad fails. as_fails _ makes (chained_fails _ (λ x. ends_closed _ _) (many_read _ _ _ _ e.0 e.1.many) (chained_fails _ (λ x. ends_closed _ _) c.in_ok-first-in-Many.ensures fails)))
 
-pub read_inside-returns-in-Some-peek_if : goal.read_inside-returns-in-Some-peek_if
-read_inside-returns-in-Some-peek_if t c = let e = stepped _ c.in-Some-peek_if.ensures c.advance-in-Some-peek_if.ensures in let makes = percent_makes _ (next_of Percent _ _ _ e.0 e.1) in
-    let place = c.in-Some-peek_if.op.place in
+pub read_inside-returns-in-Percent : goal.read_inside-returns-in-Percent
+read_inside-returns-in-Percent t c = let o = told_opening _ _ _ c.in-Percent.is c.opens_by.ensures in let e = stepped _ (o.here, o.is.0) c.advance-in-Percent.ensures in let makes = percent_makes _ (next_of Percent _ _ _ e.0 e.1) in
+    let at = sym o.is.1 in
     made_reads _ _ _ (λ x. (plain_expr x.0, plain_expr x.1)) plain_expr _ _ _ c.read_two.ensures c.remainder.ensures
-    (λ x y is read. read_at (ap (λ w. chain Product place (part false (plain_expr x.0) (part (is_marking w) (plain_expr x.1) no_parts))) e.1 ∙ sym is) (as_read makes (then_read (ends_closed _ _) (word_read Percent _ _ _ e.0 e.1) read)))
+    (λ x y is read. read_at ((λ i. chain Product (at i) (part false (plain_expr x.0) (part (is_marking (e.1 i)) (plain_expr x.1) no_parts))) ∙ sym is) (as_read makes (then_read (ends_closed _ _) (word_read Percent _ _ _ e.0 e.1) read)))
     (λ bad fails. as_fails _ makes (then_fails _ (ends_closed _ _) (word_read Percent _ _ _ e.0 e.1) fails))
 
-pub read_inside-returns-in-Some-rel_next : goal.read_inside-returns-in-Some-rel_next
-read_inside-returns-in-Some-rel_next t c = let e = stepped _ c.in-Some-rel_next.ensures c.advance-in-Some-rel_next.ensures in
-    made_reads _ _ _ (λ x. (plain_expr x.0, plain_expr x.1)) plain_expr _ _ _ c.read_two-in-Some-rel_next.ensures c.compared.ensures
-    (λ x y is read. read_at (sym is) (as_read (rel_makes _ _ _ _ e.0 e.1) (then_read (ends_closed _ _) (rel_read _ _ _ _ e.0 e.1) read)))
+pub read_inside-returns-in-Compare : goal.read_inside-returns-in-Compare
+read_inside-returns-in-Compare t c = let o = told_opening _ _ _ c.in-Compare.is c.opens_by.ensures in let e = stepped _ (o.here, o.is.0) c.advance-in-Compare.ensures in
+    let at = sym o.is.1 in
+    made_reads _ _ _ (λ x. (plain_expr x.0, plain_expr x.1)) plain_expr _ _ _ c.read_two-in-Compare.ensures c.compared.ensures
+    (λ x y is read. read_at (ap (λ p. compare p c.in-Compare.rel (plain_expr x.0) (plain_expr x.1)) at ∙ sym is) (as_read (rel_makes _ _ _ _ e.0 e.1) (then_read (ends_closed _ _) (rel_read _ _ _ _ e.0 e.1) read)))
     (λ bad fails. as_fails _ (rel_makes _ _ _ _ e.0 e.1) (then_fails _ (ends_closed _ _) (rel_read _ _ _ _ e.0 e.1) fails))
 
-pub read_inside-returns : goal.read_inside-returns
-read_inside-returns t c = reads_to_close _ _ _ _ _ plain_expr _ c.to_close.result c.read_level.ensures c.to_close.ensures ends_e (nested_makes _ c.in_default.ensures c.in_default-many_next.ensures c.in_default-peek_if.ensures c.in_default-rel_next.ensures)
+pub read_inside-returns-in-Inside : goal.read_inside-returns-in-Inside
+read_inside-returns-in-Inside t c = let o = told_opening _ _ _ c.in-Inside.is c.opens_by.ensures in reads_to_close _ _ _ _ _ plain_expr _ c.to_close.result c.read_level.ensures c.to_close.ensures ends_e (nested_makes _ o.0 o.1 o.2 o.3)
 
 -- Parentheses that begin with `-`.
 
 pub read_behind_minus-returns-in_err-whole : goal.read_behind_minus-returns-in_err-whole
-read_behind_minus-returns-in_err-whole t c = exit _ _ _ _ c.from_residual.result c.from_residual.ensures.1 (minus_whole_fails _ _ (next_of Minus _ _ _ c.requires.here c.requires.minus) c.in_err-whole.ensures)
+read_behind_minus-returns-in_err-whole t c = exit _ _ _ _ c.from_residual.result c.from_residual.ensures.1 (minus_whole_fails _ _ (next_of Minus _ _ _ c.requires.here c.requires.is.0) c.in_err-whole.ensures)
 
 pub read_behind_minus-read_further-requires : goal.read_behind_minus-read_further-requires
-read_behind_minus-read_further-requires t c = let a = not_longer _ _ c.in_ok-whole.ensures in (omega (arith, a, c.decreases), inr c.requires.minus)
+read_behind_minus-read_further-requires t c = let a = not_longer _ _ c.in_ok-whole.ensures in (omega (arith, a, c.decreases), tt)
 
 pub read_behind_minus-returns-in-Ok : goal.read_behind_minus-returns-in-Ok
-read_behind_minus-returns-in-Ok t c = reads_whole _ _ _ _ _ _ c.read_further.ensures
-    (λ x read. minus_further_read (record { read = c.in_ok-whole.ensures; here = c.requires.here; word = c.requires.minus }) c.in-Ok.ensures read)
-    (λ bad fails. minus_further_fails _ (record { read = c.in_ok-whole.ensures; here = c.requires.here; word = c.requires.minus }) c.in-Ok.ensures fails)
+read_behind_minus-returns-in-Ok t c = let o = c.requires in reads_whole _ _ _ _ _ _ (c.read_further.ensures o.token (minus_operator o.is))
+    (λ x read. minus_further_read (record { read = c.in_ok-whole.ensures; here = o.here; word = o.is.0 }) c.in-Ok.ensures read)
+    (λ bad fails. minus_further_fails _ (record { read = c.in_ok-whole.ensures; here = o.here; word = o.is.0 }) c.in-Ok.ensures fails)
 
 pub read_behind_minus-returns-in-Err : goal.read_behind_minus-returns-in-Err
-read_behind_minus-returns-in-Err t c = reads_closed _ _ _ plain_expr _ c.to_close.ensures
-    (λ read. minus_close_read (record { read = c.in_ok-whole.ensures; here = c.requires.here; word = c.requires.minus }) c.in-Err.ensures read)
-    (λ bad fails. minus_close_fails _ (record { read = c.in_ok-whole.ensures; here = c.requires.here; word = c.requires.minus }) c.in-Err.ensures fails)
+read_behind_minus-returns-in-Err t c = let o = c.requires in reads_closed _ _ _ plain_expr _ c.to_close.ensures
+    (λ read. minus_close_read (record { read = c.in_ok-whole.ensures; here = o.here; word = o.is.0 }) c.in-Err.ensures read)
+    (λ bad fails. minus_close_fails _ (record { read = c.in_ok-whole.ensures; here = o.here; word = o.is.0 }) c.in-Err.ensures fails)
 
 -- Measures.
 
@@ -247,16 +256,16 @@ pub read_unary-read_primary-requires-2 : goal.read_unary-read_primary-requires-2
 read_unary-read_primary-requires-2 t c = let a = taken _ _ _ (stepped _ c.in-Some.ensures c.advance.ensures).0 in (omega (arith, a, c.decreases), tt)
 
 pub read_primary-read_inside-requires : goal.read_primary-read_inside-requires
-read_primary-read_inside-requires t c = let a = taken _ _ _ (stepped _ c.in-Some.ensures c.advance.ensures).0 in (omega (arith, a, c.decreases), tt)
+read_primary-read_inside-requires t c = let a = taken _ _ _ (next_taken c.args.reader.now (c.is_next.ensures.yes c.if-not-is_next.false) c.advance.ensures).1 in (omega (arith, a, c.decreases), tt)
 
 pub read_inside-read_primary-requires : goal.read_inside-read_primary-requires
-read_inside-read_primary-requires t c = let a = taken _ _ _ (stepped _ c.in-Some-many_next.ensures c.advance.ensures).0 in (omega (arith, a, c.decreases), tt)
+read_inside-read_primary-requires t c = let a = taken _ _ _ (let o = told_opening _ _ _ c.in-Many.is c.opens_by.ensures in stepped _ (o.here, o.is) c.advance.ensures).0 in (omega (arith, a, c.decreases), tt)
 
 pub read_inside-read_two-requires : goal.read_inside-read_two-requires
-read_inside-read_two-requires t c = let a = taken _ _ _ (stepped _ c.in-Some-peek_if.ensures c.advance-in-Some-peek_if.ensures).0 in (omega (arith, a, c.decreases), tt)
+read_inside-read_two-requires t c = let a = taken _ _ _ (let o = told_opening _ _ _ c.in-Percent.is c.opens_by.ensures in stepped _ (o.here, o.is.0) c.advance-in-Percent.ensures).0 in (omega (arith, a, c.decreases), tt)
 
-pub read_inside-read_two-requires-in-Some-rel_next : goal.read_inside-read_two-requires-in-Some-rel_next
-read_inside-read_two-requires-in-Some-rel_next t c = let a = taken _ _ _ (stepped _ c.in-Some-rel_next.ensures c.advance-in-Some-rel_next.ensures).0 in (omega (arith, a, c.decreases), tt)
+pub read_inside-read_two-requires-in-Compare : goal.read_inside-read_two-requires-in-Compare
+read_inside-read_two-requires-in-Compare t c = let a = taken _ _ _ (let o = told_opening _ _ _ c.in-Compare.is c.opens_by.ensures in stepped _ (o.here, o.is.0) c.advance-in-Compare.ensures).0 in (omega (arith, a, c.decreases), tt)
 
 pub read_inside-read_level-requires : goal.read_inside-read_level-requires
 read_inside-read_level-requires t c = (omega (arith, c.decreases), tt)
@@ -268,7 +277,7 @@ pub read_further-read_primary-requires : goal.read_further-read_primary-requires
 read_further-read_primary-requires t c = (omega (arith, c.decreases), tt)
 
 pub read_further-read_primary-requires-in-parts : goal.read_further-read_primary-requires-in-parts
-read_further-read_primary-requires-in-parts t c = (omega (arith, c.parts.invariant.0.shorter, c.decreases), tt)
+read_further-read_primary-requires-in-parts t c = (omega (arith, c.parts.invariant.2, c.decreases), tt)
 
 pub read_two-read_primary-requires : goal.read_two-read_primary-requires
 read_two-read_primary-requires t c = (omega (arith, c.decreases), tt)

@@ -1,10 +1,11 @@
-use Rattle.std.proofs.Common.{◌≡◌, ◌+◌, ◌*◌, ◌-◌, length}
-use Rattle.model_grammar.specs.Operators.{is_marking}
+use Rattle.std.proofs.Common.{◌≡◌, ◌≤◌, ◌+◌, ◌*◌, ◌-◌, length}
+use Rattle.model_program.specs.Lexeme.{Lexeme}
 use Rattle.model_grammar.specs.Printed.{rank, chain_level}
 use Rattle.fast_lex.specs.Tokens.{lexeme}
 use Rattle.fast_syntax.specs.Plain.{plain_expr}
 use Rattle.label_reader.specs.Results.{left}
 use Rattle.label_reader.specs.Operands.{marked, kind_of}
+use Rattle.label_reader.specs.Openings.{IsOperator}
 use Rattle.label_reader.proofs.Gathered.{IsChaining}
 use Rattle.label_reader.proofs.Further.{IsFurther}
 use Rattle.label_reader.proofs.levels.+expression.Given as goal
@@ -46,7 +47,7 @@ abbrev pub decreases-read_chain-parts : goal.decreases-read_chain-parts
 decreases-read_chain-parts l = length (left l.reader)
 
 abbrev pub invariant-read_further-parts : goal.invariant-read_further-parts
-invariant-read_further-parts l = IsFurther l.fn.kind (lexeme l.fn.op) (plain_expr l.fn.first) (left l.fn.reader) (left l.reader) (marked l.parts) × (kind_of l.parts ≡ l.fn.kind) × (l.mark ≡ is_marking l.fn.op.word)
+invariant-read_further-parts l = ((op : Lexeme) → IsOperator l.fn.kind l.fn.mark l.fn.place op.word op.place → IsFurther l.fn.kind op (plain_expr l.fn.first) (left l.fn.reader) (left l.reader) (marked l.parts)) × (kind_of l.parts ≡ l.fn.kind) × (length (left l.reader) ≤ length (left l.fn.reader))
 
 abbrev pub decreases-read_further-parts : goal.decreases-read_further-parts
 decreases-read_further-parts l = length (left l.reader)
