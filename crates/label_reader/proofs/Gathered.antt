@@ -1,6 +1,7 @@
 -- The operands of a chain, gathered while they are read.
 use Rattle.std.proofs.Common.{◌≡◌, ◌≤◌, Bool, false, List, [], ◌∷◌, ◌++◌, length, refl, sym, ap, ◌∙◌, subst, arith, map, Option}
 use Rattle.std.proofs.lemmas.List.{length-append}
+use Rattle.fast_fault.specs.declared.place.Pos.{Pos}
 use Rattle.model_program.specs.declared.Word.{Word}
 use Rattle.model_program.specs.Lexeme.{Lexeme}
 use Rattle.read_forms.specs.Reads.{IsRead, Fails}
@@ -60,6 +61,13 @@ pub record IsChaining (k : Chain) (tokens rest : List Lexeme) (s : Lexeme) (part
   pub first_sign : IsFirstSign s more rest
   pub shorter : length rest ≤ length tokens
   pub part_way : IsPartWay (IsExpr (chain_level k)) (AreMore k) (GoesOn (chain_level k)) (λ later. chain_of k first (more ++ later)) tokens rest
+
+-- the same, by the place of the first sign
+pub record IsChainAt (k : Chain) (tokens rest : List Lexeme) (place : Pos) (parts : List (Bool × Expr)) : Type 0 where
+  pub sign : Lexeme
+  pub is_at : place ≡ sign.place
+  pub is_sign : IsSignOf k sign.word
+  pub so_far : IsChaining k tokens rest sign parts
 
 shorter_of : {A : Type 0} {form : A → List Lexeme → Type 0} {goes_on : Word → Type 0} {tokens rest : List Lexeme} {a : A} → IsRead form goes_on tokens a rest → length rest ≤ length tokens
 shorter_of read = omega (arith, simp length-append at (ap length read.split))

@@ -23,7 +23,7 @@ use crate::constants::{numeral_next, read_numeral, read_string};
 use crate::keep::{kept, to_close};
 use crate::operands::Operands;
 use crate::operators::{
-    Opening, Prefix, is_marking, opens_by, operand, rel_next, sign_next, starts_primary,
+    Opening, Prefix, opens_by, operand, rel_next, sign_next, starts_primary,
 };
 use crate::reader::Reader;
 use crate::stop::Stop;
@@ -57,15 +57,14 @@ fn read_chain(reader: &mut Reader, kind: Chain) -> Result<Expr, Stop>
     ensures { Reads (IsExpr (chain_level kind)) (GoesOn (chain_level kind)) (left reader.old) (left reader.new) plain_expr result }
 {
     let first = read_level(reader, operand(kind))?;
-    let Some(sign) = sign_next(reader, kind) else {
+    let Some((place, _mark)) = sign_next(reader, kind) else {
         return Ok(first);
     };
     let mut parts = Operands::new(reader.alloc, kind).with(false, Ok(first))?;
-    'parts: while let Some(next) = sign_next(reader, kind) {
+    'parts: while let Some((_place, mark)) = sign_next(reader, kind) {
         reader.advance();
-        parts = parts.with(is_marking(next.word), read_level(reader, operand(kind)))?;
+        parts = parts.with(mark, read_level(reader, operand(kind)))?;
     }
-    let place = sign.place;
     let node = parts.into_node();
     Ok(Expr { place, node })
 }

@@ -8,7 +8,7 @@ ghost use Rattle.model_grammar.specs.declared.Level.TheVariants.{Prim};
 ghost use Rattle.fast_lex.specs.Tokens.{lexeme};
 ghost use Rattle.label_reader.specs.Results.{left, behind};
 ghost use Rattle.label_reader.specs.Levels.{BeginsAt, NoSign, IsNoRel, NoRel};
-ghost use Rattle.label_reader.specs.Openings.{IsOpeningOf, IsOpening};
+ghost use Rattle.label_reader.specs.Openings.{IsOpeningOf, IsOpening, IsSigned};
 ghost use Rattle.label_reader.specs.Inside.{StartsPrimary};
 
 use crate::reader::{Reader, is_same};
@@ -36,7 +36,7 @@ pub(crate) fn operand(kind: Chain) -> Level
 }
 
 /// Whether the operand behind the sign is subtracted, or the remainder by it is taken.
-pub(crate) fn is_marking(sign: Word) -> bool
+fn is_marking(sign: Word) -> bool
     ensures { result ≡ is_marking sign }
 {
     matches!(sign, Word::Minus | Word::Percent)
@@ -54,12 +54,14 @@ fn is_sign_of(kind: Chain, word: Word) -> bool
     }
 }
 
-/// The next token, where it is a sign between operands of the chain.
-pub(crate) fn sign_next<'t>(reader: &Reader<'t>, kind: Chain) -> Option<Token<'t>>
-    ensures { MatchOption result (NoSign kind (left reader.now)) (λ t. (left reader.now ≡ lexeme t ∷ behind reader.now) × IsSignOf kind t.word) }
+/// Where the next token is a sign between operands of the chain: its place, and whether it marks the operand behind it.
+pub(crate) fn sign_next(reader: &Reader, kind: Chain) -> Option<(Pos, bool)>
+    ensures { MatchOption result (NoSign kind (left reader.now)) (λ x. IsSigned kind (left reader.now) (behind reader.now) x.0 x.1) }
 {
     match reader.peek() {
-        Some(token) if is_sign_of(kind, token.word) => Some(token),
+        Some(token) if is_sign_of(kind, token.word) => {
+            Some((token.place, is_marking(token.word)))
+        }
         _ => None,
     }
 }

@@ -35,29 +35,40 @@ pub read_chain-returns-in_err-parts : goal.read_chain-returns-in_err-parts
 read_chain-returns-in_err-parts t c = exit _ _ _ _ c.from_residual-in_err-parts.result c.from_residual-in_err-parts.ensures.1 (made_fails _ _ _ plain_expr _ _ c.in_ok-first.ensures c.in_err-parts.ensures (λ bad fails. first_operand_fails _ _ _ (operand_fails _ _ _ _ c.operand.ensures fails)))
 
 pub read_chain-parts-init : goal.read_chain-parts-init
-read_chain-parts-init t c = let e = c.in_ok-parts.ensures in (
-  chaining_starts _ _ _ _ _ _ _ _ _ c.new.ensures.kind c.new.ensures.none e.2.1 (operand_read _ _ c.operand.ensures (told_read _ _ plain_expr e.1 c.in_ok-first.ensures)) c.in-Some.ensures.0,
+read_chain-parts-init t c = let e = c.in_ok-parts.ensures in let o = c.in-Some.ensures in (
+  record {
+    sign = o.token;
+    is_at = o.is_at;
+    is_sign = o.sign;
+    so_far = chaining_starts _ _ _ _ _ _ _ _ _ c.new.ensures.kind c.new.ensures.none e.2.1 (operand_read _ _ c.operand.ensures (told_read _ _ plain_expr e.1 c.in_ok-first.ensures)) o.here;
+  },
   e.2.0 ∙ c.new.ensures.kind,
 )
 
 pub read_chain-returns-in_err-parts-2 : goal.read_chain-returns-in_err-parts-2
-read_chain-returns-in_err-parts-2 t c = let e = stepped _ c.in-Some-sign_next.ensures c.advance.ensures in
+read_chain-returns-in_err-parts-2 t c = let o = c.in-Some-sign_next.ensures in let e = stepped _ (o.here, o.sign) c.advance.ensures in
     exit _ _ _ _ c.from_residual-in_err-parts-2.result c.from_residual-in_err-parts-2.ensures.1 (made_fails _ _ _ plain_expr _ _ c.read_level-in-Some-sign_next.ensures c.in_err-parts-2.ensures
-    (λ bad fails. chain_fails _ _ _ _ _ _ _ c.parts.invariant.0.part_way e.0 e.1 (operand_fails _ _ _ _ c.operand-in-Some-sign_next.ensures fails)))
+    (λ bad fails. chain_fails _ _ _ _ _ _ _ c.parts.invariant.0.so_far.part_way e.0 e.1 (operand_fails _ _ _ _ c.operand-in-Some-sign_next.ensures fails)))
 
 pub read_chain-parts-smaller : goal.read_chain-parts-smaller
-read_chain-parts-smaller t c = let a = taken _ _ _ (stepped _ c.in-Some-sign_next.ensures c.advance.ensures).0 in let b = not_longer _ _ (told_read _ _ _ c.in_ok-parts-2.ensures.1 c.read_level-in-Some-sign_next.ensures) in omega (arith, a, b)
+read_chain-parts-smaller t c = let o = c.in-Some-sign_next.ensures in let a = taken _ _ _ (stepped _ (o.here, o.sign) c.advance.ensures).0 in let b = not_longer _ _ (told_read _ _ _ c.in_ok-parts-2.ensures.1 c.read_level-in-Some-sign_next.ensures) in omega (arith, a, b)
 
 pub read_chain-parts-preserved : goal.read_chain-parts-preserved
-read_chain-parts-preserved t c = let e = stepped _ c.in-Some-sign_next.ensures c.advance.ensures in let k = c.in_ok-parts-2.ensures in (
-  chaining_more _ _ _ _ _ _ _ _ _ _ c.parts.invariant.0 e.0 e.1 (operand_read _ _ c.operand-in-Some-sign_next.ensures (told_read _ _ plain_expr k.1 c.read_level-in-Some-sign_next.ensures)) _ c.parts.invariant.1 _ c.is_marking.ensures k.2.1,
+read_chain-parts-preserved t c = let o = c.in-Some-sign_next.ensures in let e = stepped _ (o.here, o.sign) c.advance.ensures in let k = c.in_ok-parts-2.ensures in let so_far = c.parts.invariant.0 in (
+  record {
+    sign = so_far.sign;
+    is_at = so_far.is_at;
+    is_sign = so_far.is_sign;
+    so_far = chaining_more _ _ _ _ _ _ _ _ _ _ so_far.so_far e.0 e.1 (operand_read _ _ c.operand-in-Some-sign_next.ensures (told_read _ _ plain_expr k.1 c.read_level-in-Some-sign_next.ensures)) _ c.parts.invariant.1 _ o.marks k.2.1;
+  },
   k.2.0 ∙ c.parts.invariant.1,
 )
 
 pub read_chain-returns : goal.read_chain-returns
 read_chain-returns t c =
-    let place = c.in-Some.sign.place in
-    chaining_ends _ _ _ _ _ _ c.parts.invariant.0 c.in-Some.ensures.1 c.in_default-sign_next.ensures (c.into_node-node.ensures place ∙ ap (λ k. chain k place (parts_from (marked c.parts.parts))) c.parts.invariant.1)
+    let place = c.in-Some.place in let so_far = c.parts.invariant.0 in
+    chaining_ends _ _ _ _ _ _ so_far.so_far so_far.is_sign c.in_default-sign_next.ensures
+    (c.into_node-node.ensures place ∙ ap (λ k. chain k place (parts_from (marked c.parts.parts))) c.parts.invariant.1 ∙ ap (λ p. chain c.args.kind p (parts_from (marked c.parts.parts))) so_far.is_at)
 
 -- Negations.
 
@@ -235,7 +246,7 @@ pub read_chain-read_level-requires : goal.read_chain-read_level-requires
 read_chain-read_level-requires t c = (omega (arith, ap rank c.operand.ensures, tighter c.args.kind, c.decreases), tt)
 
 pub read_chain-read_level-requires-in-Some-sign_next : goal.read_chain-read_level-requires-in-Some-sign_next
-read_chain-read_level-requires-in-Some-sign_next t c = let a = taken _ _ _ (stepped _ c.in-Some-sign_next.ensures c.advance.ensures).0 in (omega (arith, a, c.parts.invariant.0.shorter, c.decreases), tt)
+read_chain-read_level-requires-in-Some-sign_next t c = let o = c.in-Some-sign_next.ensures in let a = taken _ _ _ (stepped _ (o.here, o.sign) c.advance.ensures).0 in (omega (arith, a, c.parts.invariant.0.so_far.shorter, c.decreases), tt)
 
 pub read_negation-read_level-requires : goal.read_negation-read_level-requires
 read_negation-read_level-requires t c = (omega (arith, c.decreases), tt)

@@ -1,12 +1,11 @@
 use Rattle.std.proofs.Common.{◌≡◌, ◌≤◌, ◌+◌, ◌*◌, ◌-◌, length}
 use Rattle.model_program.specs.Lexeme.{Lexeme}
 use Rattle.model_grammar.specs.Printed.{rank, chain_level}
-use Rattle.fast_lex.specs.Tokens.{lexeme}
 use Rattle.fast_syntax.specs.Plain.{plain_expr}
 use Rattle.label_reader.specs.Results.{left}
 use Rattle.label_reader.specs.Operands.{marked, kind_of}
 use Rattle.label_reader.specs.Openings.{IsOperator}
-use Rattle.label_reader.proofs.Gathered.{IsChaining}
+use Rattle.label_reader.proofs.Gathered.{IsChainAt}
 use Rattle.label_reader.proofs.Further.{IsFurther}
 use Rattle.label_reader.proofs.levels.+expression.Given as goal
 
@@ -41,7 +40,7 @@ abbrev pub decreases-read_two : goal.decreases-read_two
 decreases-read_two l = 20 * length (left l.reader.now) + 2
 
 abbrev pub invariant-read_chain-parts : goal.invariant-read_chain-parts
-invariant-read_chain-parts l = IsChaining l.fn.kind (left l.fn.reader) (left l.reader) (lexeme l.sign) (marked l.parts) × (kind_of l.parts ≡ l.fn.kind)
+invariant-read_chain-parts l = IsChainAt l.fn.kind (left l.fn.reader) (left l.reader) l.place (marked l.parts) × (kind_of l.parts ≡ l.fn.kind)
 
 abbrev pub decreases-read_chain-parts : goal.decreases-read_chain-parts
 decreases-read_chain-parts l = length (left l.reader)
