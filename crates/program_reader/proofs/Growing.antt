@@ -1,5 +1,5 @@
 -- Of what expressions are made, node by node.
-use Rattle.std.proofs.Common.{◌≡◌, ◌≤◌, ◌<◌, List, [], ◌∷◌, ◌++◌, ◌∙◌, ◌+◌, length, reverse, refl, ap, sym, subst, arith, Option, Some, Result, Ok, Err}
+use Rattle.std.proofs.Common.{◌≡◌, ◌≤◌, ◌<◌, List, [], ◌∷◌, ◌++◌, ◌∙◌, ◌+◌, length, reverse, refl, ap, sym, subst, arith, Option, Result, Ok, Err}
 use Rattle.std.proofs.lemmas.List.{length-append, reverse-append}
 use Rattle.std.specs.Prelude.{IsErrAnd, IfOk}
 use Rattle.std.proofs.lemmas.Result.{err_from_is_err_and}
@@ -13,8 +13,8 @@ use Rattle.model_program.specs.Grammar.{IsSign}
 use Rattle.read_forms.specs.Reads.{IsRead, Fails, closed}
 use Rattle.read_forms.specs.Fronts.{Leaves, Done, Made, Through}
 use Rattle.read_forms.specs.Parts.{HasSample}
-use Rattle.read_forms.proofs.Forms.{as_read, as_fails, first_fails, ends_closed, sample_pair}
-use Rattle.read_forms.proofs.Words.{sample_sign, word_refused}
+use Rattle.read_forms.proofs.Forms.{as_read, as_fails, ends_closed}
+use Rattle.read_forms.proofs.Words.{sample_sign}
 use Rattle.read_forms.proofs.Fronts.{left_leaves, left_as, left_made, first_left, before_none, Around, around_begins, around_begins_fails, around_resumes, around_resumes_fails, around_ends, made_through, made_makes, none_left}
 use Rattle.model_grammar.specs.declared.Op1.{Op1}
 use Rattle.model_grammar.specs.declared.Op2.{Op2}
@@ -23,9 +23,11 @@ use Rattle.model_grammar.specs.Syntax.{Expr, X, one, two, literal, xs_of}
 use Rattle.model_grammar.specs.Terms.{AreLabels, IsX}
 use Rattle.model_program.specs.Grammar.{IsName}
 use Rattle.label_reader.proofs.Closings.{row_ends, row_goes_on}
-use Rattle.label_reader.proofs.Names.{name_makes}
-use Rattle.program_reader.proofs.RowForms.{sample_labels}
-use Rattle.program_reader.specs.Operations.{IsNoOp1, IsNoOp2, NoOp1, NoOp2}
+use Rattle.program_reader.specs.declared.operations.Front.{Front}
+use Rattle.program_reader.specs.declared.operations.Front.TheVariants as front
+use Rattle.program_reader.specs.Operations.{NoOp1, NoOp2, IsFrontOf, IsFront}
+use Rattle.fast_fault.specs.declared.place.Pos.{Pos}
+use Rattle.label_reader.proofs.Exits.{stepped}
 use Rattle.program_reader.specs.Nodes.{IsXInside}
 use Rattle.program_reader.specs.Growing.{Closes, IsRow, IsGrown, IsLeft, Begins}
 use Rattle.program_reader.specs.declared.terms.Begun.{Begun}
@@ -52,17 +54,28 @@ two_goes_on op place x tokens = made_through (λ v. two op place x v.0) IsX (IsS
 pub literal_begins : {tokens middle rest : List Lexeme} {n : syntax.Name} {labels : List Expr} → NoOp1 tokens → NoOp2 tokens → IsRead IsName closed tokens n middle → IsRead AreLabels closed middle labels rest → Leaves IsXInside (IsRow n labels []) closed tokens rest
 literal_begins {tokens} no_one no_two named labelled = left_leaves (left_made (literal_makes tokens no_one no_two)) (left_leaves (first_left (ends_closed _ closed) named) (first_left (ends_closed _ closed) labelled))
 
--- a word that is no operation comes next
-pub no_op1 : (t : Lexeme) {tokens rest : List Lexeme} → tokens ≡ t ∷ rest → IsNoOp1 t.word → NoOp1 tokens
-no_op1 t here none = subst (λ (l : List Lexeme). NoOp1 l) (sym here) none
+-- what comes next
+pub front_at : (f : Front) (t : Lexeme) {tokens behind : List Lexeme} → tokens ≡ t ∷ behind → IsFrontOf t.word t.place f → IsFront tokens behind f
+front_at (front.One op place) t here is = record { token = t; here = here; is = is }
+front_at (front.Two op place) t here is = record { token = t; here = here; is = is }
+front_at front.Tree t {tokens} {behind} here is = subst (λ (l : List Lexeme). IsFront l behind front.Tree) (sym here) is
 
-pub no_op2 : (t : Lexeme) {tokens rest : List Lexeme} → tokens ≡ t ∷ rest → IsNoOp2 t.word → NoOp2 tokens
-no_op2 t here none = subst (λ (l : List Lexeme). NoOp2 l) (sym here) none
+pub front_ended : {tokens : List Lexeme} (behind : List Lexeme) → tokens ≡ [] → IsFront tokens behind front.Tree
+front_ended behind none = subst (λ (l : List Lexeme). IsFront l behind front.Tree) (sym none) (tt, tt)
 
--- no token comes next
-pub x_inside_ended : (tokens : List Lexeme) → tokens ≡ [] → Fails IsXInside closed tokens (Some tokens)
-x_inside_ended tokens ended = subst (λ (l : List Lexeme). Fails IsXInside closed l (Some l)) (sym ended)
-    (as_fails _ (literal_makes [] tt tt) (first_fails _ (ends_closed _ _) (sample_pair sample_labels sample_xs) (as_fails _ (name_makes closed []) (record { why = word_refused Id [] tt }))))
+-- it is known what was found
+pub told_front : (tokens behind : List Lexeme) (f : Front) {g : Front} → f ≡ g → IsFront tokens behind f → IsFront tokens behind g
+told_front tokens behind f is found = subst (λ (h : Front). IsFront tokens behind h) is found
+
+pub one_found : {tokens behind rest : List Lexeme} {op : Op1} {place : Pos} → IsFront tokens behind (front.One op place) → rest ≡ behind → Leaves IsXInside (Through IsX (λ x. Closes (one op place x))) closed tokens rest
+one_found {tokens} {behind} {rest} {op} {place} found is =
+    let e = stepped found.token (found.here, found.is.0) is in
+    subst (λ (p : Pos). Leaves IsXInside (Through IsX (λ x. Closes (one op p x))) closed tokens rest) (sym found.is.1) (one_begins tokens rest found.token op e.0 e.1)
+
+pub two_found : {tokens behind rest : List Lexeme} {op : Op2} {place : Pos} → IsFront tokens behind (front.Two op place) → rest ≡ behind → Leaves IsXInside (Through IsX (λ x. Made (λ v. two op place x v.0) (IsX ⊗ IsSign RoundClose))) closed tokens rest
+two_found {tokens} {behind} {rest} {op} {place} found is =
+    let e = stepped found.token (found.here, found.is.0) is in
+    subst (λ (p : Pos). Leaves IsXInside (Through IsX (λ x. Made (λ v. two op p x v.0) (IsX ⊗ IsSign RoundClose))) closed tokens rest) (sym found.is.1) (two_begins tokens rest found.token op e.0 e.1)
 
 -- the closing parenthesis of a tree
 pub row_closes : (n : syntax.Name) (labels : List Expr) (xs : List X) {tokens rest : List Lexeme} → IsNext RoundClose tokens → IsRead (IsSign RoundClose) closed tokens tt rest → Leaves (IsRow n labels xs) (Done (literal n labels (xs_of xs))) closed tokens rest

@@ -1,38 +1,46 @@
 //! Operations: whether a word is one, and which one, exactly as the grammar has them.
 
-ghost use Rattle.std.specs.Prelude.{◌≡◌, MatchOption};
-ghost use Rattle.model_grammar.specs.Operators.{op1_word, op2_word};
-ghost use Rattle.program_reader.specs.Operations.{IsNoOp1, IsNoOp2};
+ghost use Rattle.label_reader.specs.Results.{left, behind};
+ghost use Rattle.program_reader.specs.Operations.{IsFrontOf, IsFront};
 
 use fast_lex::Word;
-use fast_syntax::{Op1, Op2};
+use fast_syntax::{Op1, Op2, Pos};
+use label_reader::Reader;
 
-/// The operation on one operand that the word is.
-pub(crate) fn op1_of(word: Word) -> Option<Op1>
-    ensures { MatchOption result (IsNoOp1 word) (λ op. word ≡ op1_word op) }
+/// What stands first in the parentheses of an expression: an operation on one or two operands, with its place, or a tree.
+#[derive(Clone, Copy)]
+pub(crate) enum Front {
+    One(Op1, Pos),
+    Two(Op2, Pos),
+    Tree,
+}
+
+fn front_of(word: Word, place: Pos) -> Front
+    ensures { IsFrontOf word place result }
 {
     match word {
-        Word::Complement => Some(Op1::Complement),
-        Word::Minimize => Some(Op1::Minimize),
-        Word::Domain => Some(Op1::Domain),
-        Word::GetWitness => Some(Op1::GetWitness),
-        _ => None,
+        Word::Complement => Front::One(Op1::Complement, place),
+        Word::Minimize => Front::One(Op1::Minimize, place),
+        Word::Domain => Front::One(Op1::Domain, place),
+        Word::GetWitness => Front::One(Op1::GetWitness, place),
+        Word::Intersect => Front::Two(Op2::Intersect, place),
+        Word::Union => Front::Two(Op2::Union, place),
+        Word::Difference => Front::Two(Op2::Difference, place),
+        Word::PreImage => Front::Two(Op2::PreImage, place),
+        Word::Compose => Front::Two(Op2::Compose, place),
+        Word::Restrict => Front::Two(Op2::Restrict, place),
+        Word::RestrictOut => Front::Two(Op2::RestrictOut, place),
+        Word::Apply => Front::Two(Op2::Apply, place),
+        _ => Front::Tree,
     }
 }
 
-/// The operation on two operands that the word is.
-pub(crate) fn op2_of(word: Word) -> Option<Op2>
-    ensures { MatchOption result (IsNoOp2 word) (λ op. word ≡ op2_word op) }
+/// What comes next, behind an opening parenthesis.
+pub(crate) fn front_next(reader: &Reader) -> Front
+    ensures { IsFront (left reader.now) (behind reader.now) result }
 {
-    match word {
-        Word::Intersect => Some(Op2::Intersect),
-        Word::Union => Some(Op2::Union),
-        Word::Difference => Some(Op2::Difference),
-        Word::PreImage => Some(Op2::PreImage),
-        Word::Compose => Some(Op2::Compose),
-        Word::Restrict => Some(Op2::Restrict),
-        Word::RestrictOut => Some(Op2::RestrictOut),
-        Word::Apply => Some(Op2::Apply),
-        _ => None,
+    match reader.peek() {
+        Some(token) => front_of(token.word, token.place),
+        None => Front::Tree,
     }
 }

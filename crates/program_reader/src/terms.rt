@@ -14,7 +14,7 @@ ghost use Rattle.program_reader.specs.Nodes.{IsXInside, AreXsToClose};
 ghost use Rattle.program_reader.specs.Growing.{Closes, IsRow, IsGrown, IsLeft, Begins};
 
 use crate::labels::read_labels;
-use crate::operations::{op1_of, op2_of};
+use crate::operations::{Front, front_next};
 use fast_fault::Memory;
 use fast_lex::Word;
 use fast_syntax::expressions::Expr;
@@ -88,21 +88,22 @@ fn begin_x(reader: &mut Reader) -> Result<Begun, Stop>
 fn begin_x_inside(reader: &mut Reader) -> Result<Begun, Stop>
     ensures { Begins IsXInside (left reader.old) (left reader.new) result }
 {
-    let Some(first) = reader.peek() else {
-        return Err(Stop::Wrong);
-    };
-    if let Some(op) = op1_of(first.word) {
-        reader.advance();
-        return Ok(Begun::Part(Open::One(op, first.place)));
+    match front_next(reader) {
+        Front::One(op, place) => {
+            reader.advance();
+            Ok(Begun::Part(Open::One(op, place)))
+        }
+        Front::Two(op, place) => {
+            reader.advance();
+            Ok(Begun::Part(Open::First(op, place)))
+        }
+        Front::Tree => {
+            let name = reader.name()?;
+            let (name, labels) = kept(name, read_labels(reader))?;
+            let none = Vec::new(reader.alloc);
+            Ok(begin_child(reader, name, labels, none))
+        }
     }
-    if let Some(op) = op2_of(first.word) {
-        reader.advance();
-        return Ok(Begun::Part(Open::First(op, first.place)));
-    }
-    let name = reader.name()?;
-    let (name, labels) = kept(name, read_labels(reader))?;
-    let none = Vec::new(reader.alloc);
-    Ok(begin_child(reader, name, labels, none))
 }
 
 /// Behind some children of a node, its closing parenthesis or its next child.

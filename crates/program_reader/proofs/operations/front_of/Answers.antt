@@ -1,0 +1,42 @@
+use Rattle.std.proofs.Common.{refl}
+use Rattle.program_reader.proofs.NoOperations.{no_op1, no_op2}
+use Rattle.program_reader.proofs.operations.front_of.Goals as goal
+
+pub returns-in-Complement : goal.returns-in-Complement
+returns-in-Complement c = (c.in-Complement.is, refl)
+
+pub returns-in-Minimize : goal.returns-in-Minimize
+returns-in-Minimize c = (c.in-Minimize.is, refl)
+
+pub returns-in-Domain : goal.returns-in-Domain
+returns-in-Domain c = (c.in-Domain.is, refl)
+
+pub returns-in-GetWitness : goal.returns-in-GetWitness
+returns-in-GetWitness c = (c.in-GetWitness.is, refl)
+
+pub returns-in-Intersect : goal.returns-in-Intersect
+returns-in-Intersect c = (c.in-Intersect.is, refl)
+
+pub returns-in-Union : goal.returns-in-Union
+returns-in-Union c = (c.in-Union.is, refl)
+
+pub returns-in-Difference : goal.returns-in-Difference
+returns-in-Difference c = (c.in-Difference.is, refl)
+
+pub returns-in-PreImage : goal.returns-in-PreImage
+returns-in-PreImage c = (c.in-PreImage.is, refl)
+
+pub returns-in-Compose : goal.returns-in-Compose
+returns-in-Compose c = (c.in-Compose.is, refl)
+
+pub returns-in-Restrict : goal.returns-in-Restrict
+returns-in-Restrict c = (c.in-Restrict.is, refl)
+
+pub returns-in-RestrictOut : goal.returns-in-RestrictOut
+returns-in-RestrictOut c = (c.in-RestrictOut.is, refl)
+
+pub returns-in-Apply : goal.returns-in-Apply
+returns-in-Apply c = (c.in-Apply.is, refl)
+
+pub returns-in_default : goal.returns-in_default
+returns-in_default c = let d = c.in_default in (no_op1 _ d.not-Complement d.not-Minimize d.not-Domain d.not-GetWitness, no_op2 _ d.not-Intersect d.not-Union d.not-Difference d.not-PreImage d.not-Compose d.not-Restrict d.not-RestrictOut d.not-Apply)
