@@ -47,6 +47,7 @@ pub trait Items {
 }
 
 /// What stands between two items is read.
+#[tactic(auto, using(crate::proofs::Exits::next_taken))]
 fn skip_between(reader: &mut Reader, between: Between) -> Result<(), Stop>
     ensures { Skips between (left reader.old) (left reader.new) result }
 {
@@ -55,7 +56,7 @@ fn skip_between(reader: &mut Reader, between: Between) -> Result<(), Stop>
         Between::Comma | Between::LabelComma => Word::Comma,
         Between::Bar => Word::Bar,
     };
-    if let Some(_sign) = reader.peek_if(word) {
+    if reader.is_next(word) {
         reader.advance();
         return Ok(());
     }
