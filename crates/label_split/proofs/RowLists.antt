@@ -325,6 +325,11 @@ pub stops_by : {X S : Type 0} (P : X → Type 0) (Q : S → Type 0) (r : Result 
 stops_by P Q (Ok x) stop is h = absurd is
 stops_by P Q (Err e) stop is h = subst Q (sym is) h
 
+-- what is so of each way out
+pub both_ways : {X S : Type 0} (P : X → Type 0) (Q : S → Type 0) (r : Result X S) → IfOk r P → IfErr r Q → MatchResult r P Q
+both_ways P Q (Ok x) p q = p
+both_ways P Q (Err e) p q = q
+
 pub on_ok : {X S : Type 0} (P : Type 0) → P → (r : Result X S) → OnOk r P
 on_ok P p (Ok x) = p
 on_ok P p (Err e) = tt

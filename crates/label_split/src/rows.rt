@@ -114,8 +114,7 @@ fn start<T: Theory>(
     alloc: Global,
     atoms: &[T::Atom],
 ) -> Result<Vec<Noted<T::Value>>, SplitStop<T::Chain>>
-    ensures rows { IfOk result (λ rows. SplitsInto (T.meaning theory.now) (λ _. []) (rows_of rows.items)) }
-    ensures stop { IfErr result (Stops (T.meaning theory.now) ⊥ (λ _. []) atoms.now) }
+    ensures { MatchResult result (λ rows. SplitsInto (T.meaning theory.now) (λ _. []) (rows_of rows.items)) (Stops (T.meaning theory.now) ⊥ (λ _. []) atoms.now) }
 {
     match decide_any(theory, alloc)? {
         Verdict::Unsat => Ok(Vec::new(alloc)),
@@ -213,8 +212,7 @@ fn copy_of<T: Theory>(
     alloc: Global,
     found: &Noted<T::Value>,
 ) -> Result<Noted<T::Value>, Memory>
-    ensures signs { IfOk result (λ copy. copy.row.signs.items ≡ found.now.row.signs.items) }
-    ensures value { IfOk result (λ copy. T.label_of copy.row.value ≡ T.label_of found.now.row.value) }
+    ensures { IfOk result (λ copy. (copy.row.signs.items ≡ found.now.row.signs.items) × (T.label_of copy.row.value ≡ T.label_of found.now.row.value)) }
 {
     let signs = Vec::from_slice(alloc, &found.row.signs)?;
     let active = Vec::from_slice(alloc, &found.active)?;
@@ -274,8 +272,7 @@ fn row_with<T: Theory>(
     requires fit { All (T.atom_fits theory.now) atoms.now }
     requires some { 0 < length formulas.now }
     requires lengths { length signs.items ≡ length formulas.now }
-    ensures row { IfOk result (λ found. MatchOption found ((l : Label) → (T.meaning theory.now).has l → ¬ ((signs_at (number_holds T.atom_holds atoms.now) formulas.now) l ≡ signs.items)) (λ noted. IsRow (T.meaning theory.now) (signs_at (number_holds T.atom_holds atoms.now) formulas.now) noted.row × (noted.row.signs.items ≡ signs.items))) }
-    ensures stop { IfErr result (Stops (T.meaning theory.now) ⊥ (signs_at (number_holds T.atom_holds atoms.now) formulas.now) atoms.now) }
+    ensures { MatchResult result (λ found. MatchOption found ((l : Label) → (T.meaning theory.now).has l → ¬ ((signs_at (number_holds T.atom_holds atoms.now) formulas.now) l ≡ signs.items)) (λ noted. IsRow (T.meaning theory.now) (signs_at (number_holds T.atom_holds atoms.now) formulas.now) noted.row × (noted.row.signs.items ≡ signs.items))) (Stops (T.meaning theory.now) ⊥ (signs_at (number_holds T.atom_holds atoms.now) formulas.now) atoms.now) }
 {
     let last = formulas.len() - 1;
     let mut tried = with_last(alloc, active, last)?;
@@ -300,8 +297,7 @@ fn longer_row<T: Theory>(
     requires fit { All (T.atom_fits theory.now) atoms.now }
     requires lengths { length row.old.row.signs.items + 1 ≡ length last.now.formulas.now }
     requires samples { (s : Bool) → IsSample (T.meaning theory.now) (signs_at (number_holds T.atom_holds atoms.now) last.now.formulas.now) s (cond s last.now.on last.now.off) }
-    ensures row { IfOk result (λ found. MatchOption found ((l : Label) → (T.meaning theory.now).has l → ¬ ((signs_at (number_holds T.atom_holds atoms.now) last.now.formulas.now) l ≡ row.old.row.signs.items ++ sign ∷ [])) (λ noted. IsRow (T.meaning theory.now) (signs_at (number_holds T.atom_holds atoms.now) last.now.formulas.now) noted.row × (noted.row.signs.items ≡ row.old.row.signs.items ++ sign ∷ []))) }
-    ensures stop { IfErr result (Stops (T.meaning theory.now) ⊥ (signs_at (number_holds T.atom_holds atoms.now) last.now.formulas.now) atoms.now) }
+    ensures found { MatchResult result (λ found. MatchOption found ((l : Label) → (T.meaning theory.now).has l → ¬ ((signs_at (number_holds T.atom_holds atoms.now) last.now.formulas.now) l ≡ row.old.row.signs.items ++ sign ∷ [])) (λ noted. IsRow (T.meaning theory.now) (signs_at (number_holds T.atom_holds atoms.now) last.now.formulas.now) noted.row × (noted.row.signs.items ≡ row.old.row.signs.items ++ sign ∷ []))) (Stops (T.meaning theory.now) ⊥ (signs_at (number_holds T.atom_holds atoms.now) last.now.formulas.now) atoms.now) }
     ensures kept { OnOk result (row.new.row ≡ row.old.row) }
 {
     let signs = with_last(alloc, &row.row.signs, sign)?;
@@ -317,8 +313,7 @@ fn longer_row<T: Theory>(
 /// The row with one more sign, and the fewest numbers that tell it from others: its own, or those of the sample, if that
 /// has its signs.
 fn lengthen<V: Drop>(row: &mut Noted<V>, sign: bool, sample: &Sample<V>) -> Result<(), Memory>
-    ensures value { OnOk result (row.new.row.value ≡ row.old.row.value) }
-    ensures signs { OnOk result (row.new.row.signs.items ≡ row.old.row.signs.items ++ sign ∷ []) }
+    ensures { OnOk result ((row.new.row.value ≡ row.old.row.value) × (row.new.row.signs.items ≡ row.old.row.signs.items ++ sign ∷ [])) }
 {
     row.row.signs.push(sign)?;
     if let Sample::At(found) = sample {
@@ -369,8 +364,7 @@ fn extend<T: Theory>(
     requires some { 0 < length last.now.formulas.now }
     requires samples { (s : Bool) → IsSample (T.meaning theory.now) (signs_at (number_holds T.atom_holds atoms.now) last.now.formulas.now) s (cond s last.now.on last.now.off) }
     requires row { IsRow (T.meaning theory.now) (signs_at (number_holds T.atom_holds atoms.now) (take (length last.now.formulas.now - 1) last.now.formulas.now)) row.row }
-    ensures added { OnOk result (Extends (T.meaning theory.now) (signs_at (number_holds T.atom_holds atoms.now) (take (length last.now.formulas.now - 1) last.now.formulas.now)) (signs_at (number_holds T.atom_holds atoms.now) last.now.formulas.now) row.row (rows_of rows.old.items) (rows_of rows.new.items)) }
-    ensures stop { IfErr result (Stops (T.meaning theory.now) ⊥ (signs_at (number_holds T.atom_holds atoms.now) last.now.formulas.now) atoms.now) }
+    ensures { MatchResult result (λ _. Extends (T.meaning theory.now) (signs_at (number_holds T.atom_holds atoms.now) (take (length last.now.formulas.now - 1) last.now.formulas.now)) (signs_at (number_holds T.atom_holds atoms.now) last.now.formulas.now) row.row (rows_of rows.old.items) (rows_of rows.new.items)) (Stops (T.meaning theory.now) ⊥ (signs_at (number_holds T.atom_holds atoms.now) last.now.formulas.now) atoms.now) }
 {
     let number = last.formulas.len() - 1;
     let holds = holds_of(theory, atoms, &last.formulas[number], &row.row.value);
@@ -390,8 +384,7 @@ fn refine<T: Theory>(
     requires fit { All (T.atom_fits theory.now) atoms.now }
     requires some { 0 < length formulas.now }
     requires rows { SplitsInto (T.meaning theory.now) (signs_at (number_holds T.atom_holds atoms.now) (take (length formulas.now - 1) formulas.now)) (rows_of rows.items) }
-    ensures rows { IfOk result (λ refined. SplitsInto (T.meaning theory.now) (signs_at (number_holds T.atom_holds atoms.now) formulas.now) (rows_of refined.items)) }
-    ensures stop { IfErr result (Stops (T.meaning theory.now) ⊥ (signs_at (number_holds T.atom_holds atoms.now) formulas.now) atoms.now) }
+    ensures { MatchResult result (λ refined. SplitsInto (T.meaning theory.now) (signs_at (number_holds T.atom_holds atoms.now) formulas.now) (rows_of refined.items)) (Stops (T.meaning theory.now) ⊥ (signs_at (number_holds T.atom_holds atoms.now) formulas.now) atoms.now) }
 {
     let on = find_sample(theory, alloc, atoms, formulas, true)?;
     let off = find_sample(theory, alloc, atoms, formulas, false)?;

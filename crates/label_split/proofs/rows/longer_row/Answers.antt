@@ -22,34 +22,29 @@ row_with-requires-clause-lengths g c =
     let many = ap length are ∙ length-append c.args.row.now.row.signs.items (c.args.sign ∷ []) in
     omega (arith, many, c.requires.lengths)
 
-pub returns-in_default-clause-row : goal.returns-in_default-clause-row
-returns-in_default-clause-row g c =
+pub returns-in_default-clause-found : goal.returns-in_default-clause-found
+returns-in_default-clause-found g c =
     let are : c.in_ok-signs.signs.items ≡ c.args.row.now.row.signs.items ++ c.args.sign ∷ [] = c.in_ok-signs.ensures {u = tt} ∙ ap (λ signs. signs ++ c.args.sign ∷ []) c.deref.ensures.value in
-    rw are at c.row_with.ensures.row
+    rw are at c.row_with.ensures
 
 pub returns-in_err-signs : goal.returns-in_err-signs
 returns-in_err-signs g c = record {
-  row = IfOk-from_err c.from_residual.result _ c.from_residual.ensures.0;
-  stop = stops_by _ _ c.from_residual.result Memory c.from_residual.ensures.1 tt;
+  found = stops_by _ _ c.from_residual.result Memory c.from_residual.ensures.1 tt;
   kept = IfOk-from_err c.from_residual.result _ c.from_residual.ensures.0;
 }
 
-pub returns-in_default-clause-stop : goal.returns-in_default-clause-stop
-returns-in_default-clause-stop g c = c.row_with.ensures.stop
+pub returns-in-Nowhere-clause-found : goal.returns-in-Nowhere-clause-found
+returns-in-Nowhere-clause-found g c = nowhere_shown (g.T.Theory.meaning c.args.theory.now) (signs_at (number_holds g.T.Theory.atom_holds c.args.atoms.now) c.args.last.now.formulas.now) c.args.sign (cond c.args.sign c.args.last.now.on c.args.last.now.off) (c.requires.samples c.args.sign) (sym c.of.ensures ∙ c.in-Nowhere.is) c.args.row.now.row.signs.items
 
-pub returns-in-Nowhere-clause-row : goal.returns-in-Nowhere-clause-row
-returns-in-Nowhere-clause-row g c = nowhere_shown (g.T.Theory.meaning c.args.theory.now) (signs_at (number_holds g.T.Theory.atom_holds c.args.atoms.now) c.args.last.now.formulas.now) c.args.sign (cond c.args.sign c.args.last.now.on c.args.last.now.off) (c.requires.samples c.args.sign) (sym c.of.ensures ∙ c.in-Nowhere.is) c.args.row.now.row.signs.items
-
-pub returns-in_ok-copy_of-in-At-clause-row : goal.returns-in_ok-copy_of-in-At-clause-row
-returns-in_ok-copy_of-in-At-clause-row g c =
+pub returns-in_ok-copy_of-in-At-clause-found : goal.returns-in_ok-copy_of-in-At-clause-found
+returns-in_ok-copy_of-in-At-clause-found g c =
     let are : c.in_ok-signs.signs.items ≡ c.args.row.now.row.signs.items ++ c.args.sign ∷ [] = c.in_ok-signs.ensures {u = tt} ∙ ap (λ signs. signs ++ c.args.sign ∷ []) c.deref.ensures.value in
     let same : c.in-At.found.row.signs.items ≡ c.in_ok-signs.signs.items = search (rules, c.are_same.ensures c.if-are_same.true) in
-    copy_shown (g.T.Theory.meaning c.args.theory.now) (signs_at (number_holds g.T.Theory.atom_holds c.args.atoms.now) c.args.last.now.formulas.now) c.args.sign (cond c.args.sign c.args.last.now.on c.args.last.now.off) (c.requires.samples c.args.sign) c.in-At.found c.in_ok-copy_of-in-At.field-0 (sym c.of.ensures ∙ c.in-At.is) (c.args.row.now.row.signs.items ++ c.args.sign ∷ []) (same ∙ are) c.in_ok-copy_of-in-At.ensures.signs c.in_ok-copy_of-in-At.ensures.value
+    copy_shown (g.T.Theory.meaning c.args.theory.now) (signs_at (number_holds g.T.Theory.atom_holds c.args.atoms.now) c.args.last.now.formulas.now) c.args.sign (cond c.args.sign c.args.last.now.on c.args.last.now.off) (c.requires.samples c.args.sign) c.in-At.found c.in_ok-copy_of-in-At.field-0 (sym c.of.ensures ∙ c.in-At.is) (c.args.row.now.row.signs.items ++ c.args.sign ∷ []) (same ∙ are) c.in_ok-copy_of-in-At.ensures.0 c.in_ok-copy_of-in-At.ensures.1
 
 pub returns-in_err-copy_of-in-At : goal.returns-in_err-copy_of-in-At
 returns-in_err-copy_of-in-At g c = record {
-  row = IfOk-from_err c.from_residual-in_err-copy_of-in-At.result _ c.from_residual-in_err-copy_of-in-At.ensures.0;
-  stop = stops_by _ _ c.from_residual-in_err-copy_of-in-At.result Memory c.from_residual-in_err-copy_of-in-At.ensures.1 tt;
+  found = stops_by _ _ c.from_residual-in_err-copy_of-in-At.result Memory c.from_residual-in_err-copy_of-in-At.ensures.1 tt;
   kept = IfOk-from_err c.from_residual-in_err-copy_of-in-At.result _ c.from_residual-in_err-copy_of-in-At.ensures.0;
 }
 

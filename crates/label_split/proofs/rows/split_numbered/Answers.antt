@@ -22,7 +22,7 @@ pub returns-in_err-rows : goal.returns-in_err-rows
 returns-in_err-rows g c = record {
   rows = IfOk-from_err c.from_residual.result _ c.from_residual.ensures.0;
   few = IfOk-from_err c.from_residual.result _ c.from_residual.ensures.0;
-  stop = stops_by _ _ c.from_residual.result c.in_err-rows.field-0.0 c.from_residual.ensures.1 (stop_by_part (g.T.Theory.meaning c.args.theory.now) (λ _. []) (signs_at (number_holds g.T.Theory.atom_holds c.args.atoms.now) c.args.formulas.now) (λ _. []) (λ l. refl) c.args.atoms.now c.args.atoms.now (λ w over. over) (HasMoreRows (g.T.Theory.meaning c.args.theory.now) (signs_at (number_holds g.T.Theory.atom_holds c.args.atoms.now) c.args.formulas.now) c.args.most) c.in_err-rows.field-0.0 c.in_err-rows.ensures.stop);
+  stop = stops_by _ _ c.from_residual.result c.in_err-rows.field-0.0 c.from_residual.ensures.1 (stop_by_part (g.T.Theory.meaning c.args.theory.now) (λ _. []) (signs_at (number_holds g.T.Theory.atom_holds c.args.atoms.now) c.args.formulas.now) (λ _. []) (λ l. refl) c.args.atoms.now c.args.atoms.now (λ w over. over) (HasMoreRows (g.T.Theory.meaning c.args.theory.now) (signs_at (number_holds g.T.Theory.atom_holds c.args.atoms.now) c.args.formulas.now) c.args.most) c.in_err-rows.field-0.0 c.in_err-rows.ensures);
 }
 
 pub refine-requires-clause-rows : goal.refine-requires-clause-rows
@@ -32,7 +32,7 @@ pub returns-in_err-rows-2 : goal.returns-in_err-rows-2
 returns-in_err-rows-2 g c = record {
   rows = IfOk-from_err c.from_residual-in_err-rows-2.result _ c.from_residual-in_err-rows-2.ensures.0;
   few = IfOk-from_err c.from_residual-in_err-rows-2.result _ c.from_residual-in_err-rows-2.ensures.0;
-  stop = stops_by _ _ c.from_residual-in_err-rows-2.result c.in_err-rows-2.field-0.0 c.from_residual-in_err-rows-2.ensures.1 (stop_by_part (g.T.Theory.meaning c.args.theory.now) (signs_at (number_holds g.T.Theory.atom_holds c.args.atoms.now) (take (c.loop-i.i + 1) c.args.formulas.now)) (signs_at (number_holds g.T.Theory.atom_holds c.args.atoms.now) c.args.formulas.now) (take (c.loop-i.i + 1)) (signs_taken (number_holds g.T.Theory.atom_holds c.args.atoms.now) c.args.formulas.now (c.loop-i.i + 1)) c.args.atoms.now c.args.atoms.now (λ w over. over) (HasMoreRows (g.T.Theory.meaning c.args.theory.now) (signs_at (number_holds g.T.Theory.atom_holds c.args.atoms.now) c.args.formulas.now) c.args.most) c.in_err-rows-2.field-0.0 c.in_err-rows-2.ensures.stop);
+  stop = stops_by _ _ c.from_residual-in_err-rows-2.result c.in_err-rows-2.field-0.0 c.from_residual-in_err-rows-2.ensures.1 (stop_by_part (g.T.Theory.meaning c.args.theory.now) (signs_at (number_holds g.T.Theory.atom_holds c.args.atoms.now) (take (c.loop-i.i + 1) c.args.formulas.now)) (signs_at (number_holds g.T.Theory.atom_holds c.args.atoms.now) c.args.formulas.now) (take (c.loop-i.i + 1)) (signs_taken (number_holds g.T.Theory.atom_holds c.args.atoms.now) c.args.formulas.now (c.loop-i.i + 1)) c.args.atoms.now c.args.atoms.now (λ w over. over) (HasMoreRows (g.T.Theory.meaning c.args.theory.now) (signs_at (number_holds g.T.Theory.atom_holds c.args.atoms.now) c.args.formulas.now) c.args.most) c.in_err-rows-2.field-0.0 c.in_err-rows-2.ensures);
 }
 
 pub returns-in_err-without_notes : goal.returns-in_err-without_notes
@@ -49,13 +49,13 @@ returns-clause-stop g c =
     (more_rows (g.T.Theory.meaning c.args.theory.now) (signs_at (number_holds g.T.Theory.atom_holds c.args.atoms.now) (take c.loop-i.i c.args.formulas.now)) (rows_of c.loop-i.rows.items) c.args.most c.loop-i.invariant (long_rows c.args.most c.loop-i.rows.items long))
 
 pub loop-i-preserved : goal.loop-i-preserved
-loop-i-preserved g c = c.in_ok-rows-2.ensures.rows
+loop-i-preserved g c = c.in_ok-rows-2.ensures
 
 pub returns-then-len-most-2-clause-rows : goal.returns-then-len-most-2-clause-rows
 returns-then-len-most-2-clause-rows g c = subst (λ rows. SplitsInto (g.T.Theory.meaning c.args.theory.now) (signs_at (number_holds g.T.Theory.atom_holds c.args.atoms.now) c.args.formulas.now) rows) (sym c.in_ok-without_notes.ensures) (subst (λ fs. SplitsInto (g.T.Theory.meaning c.args.theory.now) (signs_at (number_holds g.T.Theory.atom_holds c.args.atoms.now) fs) (rows_of c.loop-i.rows.items)) (take_all c.loop-i.i c.args.formulas.now (omega (arith, c.loop-i-test.false))) c.loop-i.invariant)
 
 pub loop-i-init : goal.loop-i-init
-loop-i-init g c = c.in_ok-rows.ensures.rows
+loop-i-init g c = c.in_ok-rows.ensures
 
 pub refine-requires-clause-within : goal.refine-requires-clause-within
 refine-requires-clause-within g c = All-take (IsWithin (length c.args.atoms.now)) (c.loop-i.i + 1) c.args.formulas.now c.requires.within
