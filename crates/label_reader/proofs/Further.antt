@@ -1,6 +1,5 @@
 -- The operands of an operator that stands before them, gathered while they are read.
-use Rattle.std.proofs.Common.{◌≡◌, ◌≤◌, Bool, false, List, [], ◌∷◌, ◌++◌, length, refl, sym, ap, ◌∙◌, subst, arith, Option}
-use Rattle.std.proofs.lemmas.List.{length-append}
+use Rattle.std.proofs.Common.{◌≡◌, Bool, false, List, [], ◌∷◌, ◌++◌, refl, sym, ap, ◌∙◌, subst, Option}
 use Rattle.model_program.specs.declared.Word.TheVariants.{RoundClose}
 use Rattle.model_program.specs.Lexeme.{Lexeme}
 use Rattle.model_program.specs.Joined.{IsNext, IsOther}
@@ -23,11 +22,7 @@ pub record IsFurther (k : Chain) (op : Lexeme) (first : Expr) (tokens rest : Lis
   pub second : Expr
   pub others : List Expr
   pub gathered : parts ≡ (false, first) ∷ marks_of (signed op (second ∷ others))
-  pub shorter : length rest ≤ length tokens
   pub part_way : IsPartWay (IsBehindFirst k op first) (closing_of (IsExpr Prim) RoundClose) closed (λ v. prefix_of k op first ((second ∷ others) ++ v.0)) tokens rest
-
-shorter_of : {A : Type 0} {form : A → List Lexeme → Type 0} {tokens rest : List Lexeme} {a : A} → IsRead form closed tokens a rest → length rest ≤ length tokens
-shorter_of read = omega (arith, simp length-append at (ap length read.split))
 
 pub further_begins : (k : Chain) (op : Lexeme) (first second : Expr) (tokens rest : List Lexeme) (none one two : List (Bool × Expr)) (mark : Bool) (own same : Chain) → IsMany k op.word → IsRead (IsExpr Prim) closed tokens second rest → none ≡ [] → one ≡ none ++ (mark_in own false, first) ∷ [] → mark ≡ is_marking op.word → same ≡ k → two ≡ one ++ (mark_in same mark, second) ∷ []
     → IsFurther k op first tokens rest two
@@ -35,7 +30,6 @@ further_begins k op first second tokens rest none one two mark own same many rea
   second = second;
   others = [];
   gathered = two_gathered k op first second none one two mark own same many is_none is_one is_mark is_same is_two;
-  shorter = shorter_of read;
   part_way = further_starts k op first second tokens rest read;
 }
 
@@ -45,7 +39,6 @@ further_goes_on k op first x tokens rest after parts new mark own many so_far ot
   second = so_far.second;
   others = so_far.others ++ x ∷ [];
   gathered = more_gathered k op first x (so_far.second ∷ so_far.others) parts new mark own many so_far.gathered is_mark is_own is_new;
-  shorter = let a = shorter_of read in let b = so_far.shorter in omega arith;
   part_way = closing_more (IsExpr Prim) RoundClose (prefix_of k op first) (so_far.second ∷ so_far.others) ((so_far.second ∷ so_far.others) ++ x ∷ []) prims_closable so_far.part_way other read refl;
 }
 

@@ -1,6 +1,6 @@
 //! Label expressions, from the loosest level to the tightest.
 
-ghost use Rattle.std.specs.Prelude.{◌≡◌, ◌∷◌, true, false, MatchOption, MatchResult};
+ghost use Rattle.std.specs.Prelude.{◌≡◌, true, false, MatchOption, MatchResult};
 ghost use Rattle.model_program.specs.Lexeme.{Lexeme};
 ghost use Rattle.model_program.specs.declared.Word.TheVariants.{RoundOpen};
 ghost use Rattle.model_program.specs.Joined.{IsOther};
@@ -22,9 +22,7 @@ ghost use Rattle.label_reader.specs.Inside.{IsInside, IsBehindFirst, AreTwo, IsU
 use crate::constants::{numeral_next, read_numeral, read_string};
 use crate::keep::{kept, to_close};
 use crate::operands::Operands;
-use crate::operators::{
-    Opening, Prefix, opens_by, operand, rel_next, sign_next, starts_primary,
-};
+use crate::operators::{Opening, Prefix, opens_by, operand, rel_next, sign_next, starts_primary};
 use crate::reader::Reader;
 use crate::stop::Stop;
 use fast_fault::Pos;
