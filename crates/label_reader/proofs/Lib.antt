@@ -13,4 +13,4 @@ pub mod Insides
 pub mod Further
 pub mod Listed
 pub mod NoOperators
-pub mod Openings
+pub mod Found

@@ -4,4 +4,4 @@ pub mod Operands
 pub mod Inside
 pub mod Constants
 pub mod Lists
-pub mod Openings
+pub mod Found

@@ -14,15 +14,15 @@ ghost use Rattle.fast_syntax.specs.Plain.{plain_expr};
 ghost use Rattle.label_reader.specs.Results.{left, behind, Reads, IfMade};
 ghost use Rattle.label_reader.specs.Operands.{prefixed};
 ghost use Rattle.label_reader.specs.Levels.{GoesOn};
-ghost use Rattle.label_reader.specs.Openings.{IsOperator, IsOpening};
-ghost use Rattle.label_reader.specs.declared.operators.Opening.TheVariants.{Minus};
+ghost use Rattle.label_reader.specs.Found.{IsOperator, IsFoundNext};
+ghost use Rattle.label_reader.specs.declared.operators.Operator.TheVariants.{Minus};
 ghost use Rattle.label_reader.specs.Constants.{NoNumeral, IsNumeralNext};
 ghost use Rattle.label_reader.specs.Inside.{IsInside, IsBehindFirst, AreTwo, IsUnsigned, IsWhole};
 
 use crate::constants::{numeral_next, read_numeral, read_string};
 use crate::keep::{kept, to_close};
 use crate::operands::Operands;
-use crate::operators::{Opening, Prefix, opens_by, operand, rel_next, sign_next, starts_primary};
+use crate::operators::{Operator, Prefix, operand, operator_next, sign_next, starts_primary};
 use crate::reader::Reader;
 use crate::stop::Stop;
 use fast_fault::Pos;
@@ -105,12 +105,12 @@ fn read_comparison(reader: &mut Reader) -> Result<Expr, Stop>
     ensures { Reads (IsExpr Cmp) (GoesOn Cmp) (left reader.old) (left reader.new) plain_expr result }
 {
     let left = read_level(reader, Level::Sum)?;
-    let Some((sign, rel)) = rel_next(reader) else {
+    let Operator::Compare(place, rel) = operator_next(reader) else {
         return Ok(left);
     };
     reader.advance();
     let both = kept(left, read_level(reader, Level::Sum));
-    compared(reader.alloc, sign.place, rel, both)
+    compared(reader.alloc, place, rel, both)
 }
 
 fn compared(
@@ -141,22 +141,16 @@ fn remainder(alloc: Global, place: Pos, read: Result<(Expr, Expr), Stop>) -> Res
 fn read_unary(reader: &mut Reader) -> Result<Expr, Stop>
     ensures { Reads (IsExpr Unary) (GoesOn Unary) (left reader.old) (left reader.new) plain_expr result }
 {
-    let Some(sign) = reader.peek_if(Word::Minus) else {
+    let Operator::Minus(place) = operator_next(reader) else {
         return read_primary(reader);
     };
     reader.advance();
     if reader.is_next(Word::Number) {
         let number = read_numeral(reader)?;
-        let place = sign.place;
         let node = Node::Num(-number);
         return Ok(Expr { place, node });
     }
-    prefixed(
-        reader.alloc,
-        sign.place,
-        Prefix::Minus,
-        read_primary(reader),
-    )
+    prefixed(reader.alloc, place, Prefix::Minus, read_primary(reader))
 }
 
 #[cycle(expression)]
@@ -211,29 +205,29 @@ fn read_leaf(reader: &mut Reader) -> Result<Expr, Stop>
 fn read_inside(reader: &mut Reader) -> Result<Expr, Stop>
     ensures { Reads IsInside closed (left reader.old) (left reader.new) plain_expr result }
 {
-    match opens_by(reader) {
-        Opening::Minus(place) => read_behind_minus(reader, place),
-        Opening::Many(place, kind) => {
+    match operator_next(reader) {
+        Operator::Minus(place) => read_behind_minus(reader, place),
+        Operator::Many(place, kind) => {
             reader.advance();
             let first = read_primary(reader)?;
             read_further(reader, kind, place, false, first)
         }
-        Opening::Percent(place) => {
+        Operator::Percent(place) => {
             reader.advance();
             remainder(reader.alloc, place, read_two(reader))
         }
-        Opening::Compare(place, rel) => {
+        Operator::Compare(place, rel) => {
             reader.advance();
             compared(reader.alloc, place, rel, read_two(reader))
         }
-        Opening::Inside => to_close(read_level(reader, Level::E), reader),
+        Operator::Other => to_close(read_level(reader, Level::E), reader),
     }
 }
 
 /// Behind `(` and `-` either an expression goes on, or the operands follow that are subtracted.
 #[cycle(expression)]
 fn read_behind_minus(reader: &mut Reader, place: Pos) -> Result<Expr, Stop>
-    requires { IsOpening (left reader.old) (behind reader.old) (Minus place) }
+    requires { IsFoundNext (left reader.old) (behind reader.old) (Minus place) }
     ensures { Reads IsInside closed (left reader.old) (left reader.new) plain_expr result }
 {
     let before = *reader;

@@ -1,19 +1,18 @@
 //! Operators: whether one comes next, and which one, exactly as the grammar has them.
 
-ghost use Rattle.std.specs.Prelude.{◌≡◌, ◌∷◌, true, false, MatchOption};
-ghost use Rattle.model_grammar.specs.Operators.{IsSignOf, rel_word, is_marking};
+ghost use Rattle.std.specs.Prelude.{◌≡◌, true, false, MatchOption};
+ghost use Rattle.model_grammar.specs.Operators.{IsSignOf, is_marking};
 ghost use Rattle.model_grammar.specs.Expressions.{operand};
 ghost use Rattle.read_forms.specs.Reads.{Stops};
 ghost use Rattle.model_grammar.specs.declared.Level.TheVariants.{Prim};
-ghost use Rattle.fast_lex.specs.Tokens.{lexeme};
 ghost use Rattle.label_reader.specs.Results.{left, behind};
-ghost use Rattle.label_reader.specs.Levels.{BeginsAt, NoSign, IsNoRel, NoRel};
-ghost use Rattle.label_reader.specs.Openings.{IsOpeningOf, IsOpening, IsSigned};
+ghost use Rattle.label_reader.specs.Levels.{BeginsAt, NoSign};
+ghost use Rattle.label_reader.specs.Found.{IsFoundNext, IsSigned};
 ghost use Rattle.label_reader.specs.Inside.{StartsPrimary};
 
 use crate::reader::{Reader, is_same};
 use fast_fault::Pos;
-use fast_lex::{Token, Word};
+use fast_lex::Word;
 use model_grammar::{Chain, Level, Rel};
 
 /// An operator that stands before its one operand.
@@ -66,71 +65,39 @@ pub(crate) fn sign_next(reader: &Reader, kind: Chain) -> Option<(Pos, bool)>
     }
 }
 
-fn rel_of(word: Word) -> Option<Rel>
-    ensures { MatchOption result (IsNoRel word) (λ rel. word ≡ rel_word rel) }
-{
-    match word {
-        Word::Equal => Some(Rel::Equal),
-        Word::NotEqual => Some(Rel::NotEqual),
-        Word::Less => Some(Rel::Less),
-        Word::AtMost => Some(Rel::AtMost),
-        Word::Greater => Some(Rel::Greater),
-        Word::AtLeast => Some(Rel::AtLeast),
-        _ => None,
-    }
-}
-
-/// The next token, where it is a comparison.
-pub(crate) fn rel_next<'t>(reader: &Reader<'t>) -> Option<(Token<'t>, Rel)>
-    ensures { MatchOption result (NoRel (left reader.now)) (λ x. (left reader.now ≡ lexeme x.0 ∷ behind reader.now) × (x.0.word ≡ rel_word x.1)) }
-{
-    let Some(token) = reader.peek() else {
-        return None;
-    };
-    match rel_of(token.word) {
-        Some(rel) => Some((token, rel)),
-        None => None,
-    }
-}
-
-/// What stands first in parentheses: an operator, with its place, or the expression.
+/// The operator that comes next, and its place.
 #[derive(Clone, Copy)]
-pub(crate) enum Opening {
+pub(crate) enum Operator {
     Minus(Pos),
-    /// Another operator of any number of operands.
+    /// Another one that may stand before any number of operands.
     Many(Pos, Chain),
     Percent(Pos),
     Compare(Pos, Rel),
-    Inside,
+    /// None of them comes next.
+    Other,
 }
 
-fn opened_by(word: Word, place: Pos) -> Opening
-    ensures { IsOpeningOf word place result }
+pub(crate) fn operator_next(reader: &Reader) -> Operator
+    ensures { IsFoundNext (left reader.now) (behind reader.now) result }
 {
-    match word {
-        Word::Minus => Opening::Minus(place),
-        Word::Or => Opening::Many(place, Chain::Disjunction),
-        Word::And => Opening::Many(place, Chain::Conjunction),
-        Word::Plus => Opening::Many(place, Chain::Sum),
-        Word::Star => Opening::Many(place, Chain::Product),
-        Word::Percent => Opening::Percent(place),
-        Word::Equal => Opening::Compare(place, Rel::Equal),
-        Word::NotEqual => Opening::Compare(place, Rel::NotEqual),
-        Word::Less => Opening::Compare(place, Rel::Less),
-        Word::AtMost => Opening::Compare(place, Rel::AtMost),
-        Word::Greater => Opening::Compare(place, Rel::Greater),
-        Word::AtLeast => Opening::Compare(place, Rel::AtLeast),
-        _ => Opening::Inside,
-    }
-}
-
-/// What comes next, behind an opening parenthesis.
-pub(crate) fn opens_by(reader: &Reader) -> Opening
-    ensures { IsOpening (left reader.now) (behind reader.now) result }
-{
-    match reader.peek() {
-        Some(token) => opened_by(token.word, token.place),
-        None => Opening::Inside,
+    let Some(token) = reader.peek() else {
+        return Operator::Other;
+    };
+    let place = token.place;
+    match token.word {
+        Word::Minus => Operator::Minus(place),
+        Word::Or => Operator::Many(place, Chain::Disjunction),
+        Word::And => Operator::Many(place, Chain::Conjunction),
+        Word::Plus => Operator::Many(place, Chain::Sum),
+        Word::Star => Operator::Many(place, Chain::Product),
+        Word::Percent => Operator::Percent(place),
+        Word::Equal => Operator::Compare(place, Rel::Equal),
+        Word::NotEqual => Operator::Compare(place, Rel::NotEqual),
+        Word::Less => Operator::Compare(place, Rel::Less),
+        Word::AtMost => Operator::Compare(place, Rel::AtMost),
+        Word::Greater => Operator::Compare(place, Rel::Greater),
+        Word::AtLeast => Operator::Compare(place, Rel::AtLeast),
+        _ => Operator::Other,
     }
 }
 

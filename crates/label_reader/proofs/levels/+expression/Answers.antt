@@ -5,7 +5,7 @@ use Rattle.read_forms.proofs.Words.{word_read, next_of, sample_sign}
 use Rattle.model_grammar.specs.declared.Level.TheVariants.{Unary, Prim}
 use Rattle.model_grammar.specs.declared.Chain.TheVariants.{Product}
 use Rattle.model_grammar.specs.Operators.{is_marking}
-use Rattle.model_grammar.specs.Syntax.{number, chain, compare, part, no_parts}
+use Rattle.model_grammar.specs.Syntax.{number, minus, chain, compare, part, no_parts}
 use Rattle.model_grammar.specs.Printed.{rank}
 use Rattle.fast_syntax.specs.Plain.{plain_expr}
 use Rattle.label_reader.specs.Levels.{GoesOn, BeginsAt}
@@ -19,7 +19,7 @@ use Rattle.label_reader.proofs.LevelForms.{tighter, level_begins, sample_prim, w
 use Rattle.label_reader.proofs.Gathered.{chaining_starts, chaining_more, chaining_ends, operand_fails, operand_read}
 use Rattle.label_reader.proofs.Primaries.{minus_makes, no_minus_makes, negated_number, negated_other, sample_without, closed_by, open_makes}
 use Rattle.label_reader.proofs.Insides.{further_fails, two_makes, many_makes, many_read, sample_behind_first, percent_makes, rel_makes, nested_makes, ends_e, minus_whole_fails, minus_further_fails, minus_further_read, minus_close_fails, minus_close_read}
-use Rattle.label_reader.proofs.Openings.{told_opening, not_minus, minus_operator}
+use Rattle.label_reader.proofs.Found.{told_found, not_minus, minus_operator, not_compared, not_subtracted}
 use Rattle.label_reader.proofs.Further.{further_begins, further_goes_on, further_next_fails, further_ends}
 use Rattle.label_reader.proofs.levels.+expression.Goals as goal
 
@@ -87,32 +87,33 @@ pub read_comparison-returns-in_err-left : goal.read_comparison-returns-in_err-le
 read_comparison-returns-in_err-left t c = exit _ _ _ _ c.from_residual.result c.from_residual.ensures.1 (left_fails _ _ c.in_err-left.ensures)
 
 pub read_comparison-returns-in_default : goal.read_comparison-returns-in_default
-read_comparison-returns-in_default t c = left_alone _ _ _ c.in_ok-left.ensures c.in_default.ensures
+read_comparison-returns-in_default t c = left_alone _ _ _ c.in_ok-left.ensures (not_compared _ _ _ c.in_default.not-Compare c.operator_next.ensures)
 
 pub read_comparison-returns : goal.read_comparison-returns
-read_comparison-returns t c = let e = stepped _ c.in-Some.ensures c.advance.ensures in
+read_comparison-returns t c = let o = told_found _ _ _ c.in-Compare.is c.operator_next.ensures in let e = stepped _ (o.here, o.is.0) c.advance.ensures in
     made_reads _ _ _ plain_expr plain_expr _ _ _ c.read_level-2.ensures (made_of_kept _ _ _ _ _ c.kept-both.ensures c.compared.ensures)
-    (λ x y is read. read_at (sym is) (both_read _ _ _ _ _ _ _ _ c.in_ok-left.ensures e.0 e.1 read))
+    (λ x y is read. read_at (ap (λ p. compare p c.in-Compare.rel (plain_expr c.in_ok-left.left) (plain_expr x)) (sym o.is.1) ∙ sym is) (both_read _ _ _ _ _ _ _ _ c.in_ok-left.ensures e.0 e.1 read))
     (λ bad fails. right_fails _ _ _ _ _ _ _ c.in_ok-left.ensures e.0 e.1 fails)
 
 -- Minus.
 
 pub read_unary-returns-in_default : goal.read_unary-returns-in_default
-read_unary-returns-in_default t c = reads_as _ _ _ _ (no_minus_makes _ c.in_default.ensures) (reads_wider _ _ _ _ _ _ _ (closed_by (GoesOn Unary)) c.read_primary.ensures)
+read_unary-returns-in_default t c = reads_as _ _ _ _ (no_minus_makes _ (not_subtracted _ _ _ c.in_default.not-Minus c.operator_next.ensures)) (reads_wider _ _ _ _ _ _ _ (closed_by (GoesOn Unary)) c.read_primary.ensures)
 
 pub read_unary-returns-in_err-number : goal.read_unary-returns-in_err-number
-read_unary-returns-in_err-number t c = let e = stepped _ c.in-Some.ensures c.advance.ensures in
+read_unary-returns-in_err-number t c = let o = told_found _ _ _ c.in-Minus.is c.operator_next.ensures in let e = stepped _ (o.here, o.is.0) c.advance.ensures in
     exit _ _ _ _ c.from_residual.result c.from_residual.ensures.1 (as_fails _ (minus_makes _ (next_of Minus _ _ _ e.0 e.1)) (then_fails _ (ends_closed _ _) (word_read Minus _ _ _ e.0 e.1) (as_fails _ (negated_number _ _ (c.is_next.ensures.yes c.if-is_next.true)) (closed_fails _ (numeral_fails _ c.in_err-number.ensures)))))
 
 pub read_unary-returns-then-is_next : goal.read_unary-returns-then-is_next
-read_unary-returns-then-is_next t c = let e = stepped _ c.in-Some.ensures c.advance.ensures in let of = numeral_of c.in_ok-number.ensures in
-    read_at (ap (λ n. number c.in-Some.sign.place n) (sym (negated_number_is _ _ of.3 of.2.spelled.1)))
+read_unary-returns-then-is_next t c = let o = told_found _ _ _ c.in-Minus.is c.operator_next.ensures in let e = stepped _ (o.here, o.is.0) c.advance.ensures in let of = numeral_of c.in_ok-number.ensures in
+    let at = sym o.is.1 in let negated = sym (negated_number_is _ _ of.3 of.2.spelled.1) in
+    read_at (λ i. number (at i) (negated i))
     (as_read (minus_makes _ (next_of Minus _ _ _ e.0 e.1)) (then_read (ends_closed _ _) (word_read Minus _ _ _ e.0 e.1) (as_read (negated_number _ _ (c.is_next.ensures.yes c.if-is_next.true)) (closed_read of.2))))
 
 pub read_unary-returns : goal.read_unary-returns
-read_unary-returns t c = let e = stepped _ c.in-Some.ensures c.advance.ensures in let other = c.is_next.ensures.no c.if-is_next.false in let makes = minus_makes _ (next_of Minus _ _ _ e.0 e.1) in
+read_unary-returns t c = let o = told_found _ _ _ c.in-Minus.is c.operator_next.ensures in let e = stepped _ (o.here, o.is.0) c.advance.ensures in let other = c.is_next.ensures.no c.if-is_next.false in let makes = minus_makes _ (next_of Minus _ _ _ e.0 e.1) in
     made_reads _ _ _ plain_expr plain_expr _ _ _ c.read_primary-2.ensures c.prefixed.ensures
-    (λ x y is read. read_at (sym is) (as_read makes (then_read (ends_closed _ _) (word_read Minus _ _ _ e.0 e.1) (as_read (negated_other _ _ other) (without_read _ other (closed_read read))))))
+    (λ x y is read. read_at (ap (λ p. minus p (plain_expr x)) (sym o.is.1) ∙ sym is) (as_read makes (then_read (ends_closed _ _) (word_read Minus _ _ _ e.0 e.1) (as_read (negated_other _ _ other) (without_read _ other (closed_read read))))))
     (λ bad fails. as_fails _ makes (then_fails _ (ends_closed _ _) (word_read Minus _ _ _ e.0 e.1) (as_fails _ (negated_other _ _ other) (without_fails _ _ sample_without other (closed_fails _ fails)))))
 
 -- Parentheses.
@@ -163,40 +164,40 @@ read_further-returns t c = λ op is.
     (c.into_node-node.ensures place ∙ ap (λ k. chain k place (parts_from (marked c.parts.parts))) c.parts.invariant.1 ∙ ap (λ p. chain c.args.kind p (parts_from (marked c.parts.parts))) is.is_at)
 
 pub read_inside-read_behind_minus-requires : goal.read_inside-read_behind_minus-requires
-read_inside-read_behind_minus-requires t c = (omega (arith, c.decreases), told_opening _ _ _ c.in-Minus.is c.opens_by.ensures)
+read_inside-read_behind_minus-requires t c = (omega (arith, c.decreases), told_found _ _ _ c.in-Minus.is c.operator_next.ensures)
 
 pub read_inside-returns-in-Minus : goal.read_inside-returns-in-Minus
 read_inside-returns-in-Minus t c = c.read_behind_minus.ensures
 
 pub read_inside-returns-in_err-first-in-Many : goal.read_inside-returns-in_err-first-in-Many
-read_inside-returns-in_err-first-in-Many t c = let o = told_opening _ _ _ c.in-Many.is c.opens_by.ensures in let e = stepped _ (o.here, o.is) c.advance.ensures in
+read_inside-returns-in_err-first-in-Many t c = let o = told_found _ _ _ c.in-Many.is c.operator_next.ensures in let e = stepped _ (o.here, o.is) c.advance.ensures in
     exit _ _ _ _ c.from_residual.result c.from_residual.ensures.1 (as_fails _ (many_makes _ _ _ _ e.0 e.1.many (not_minus _ e.0 e.1)) (chained_fails _ (λ x. ends_closed _ _) (many_read _ _ _ _ e.0 e.1.many) (chained_first_fails _ (λ x. ends_closed _ _) (λ x. sample_behind_first _ _ x) c.in_err-first-in-Many.ensures)))
 
 pub read_inside-read_further-requires : goal.read_inside-read_further-requires
-read_inside-read_further-requires t c = let o = told_opening _ _ _ c.in-Many.is c.opens_by.ensures in let a = not_longer _ _ c.in_ok-first-in-Many.ensures in let b = taken _ _ _ (stepped _ (o.here, o.is) c.advance.ensures).0 in (omega (arith, a, b, c.decreases), tt)
+read_inside-read_further-requires t c = let o = told_found _ _ _ c.in-Many.is c.operator_next.ensures in let a = not_longer _ _ c.in_ok-first-in-Many.ensures in let b = taken _ _ _ (stepped _ (o.here, o.is) c.advance.ensures).0 in (omega (arith, a, b, c.decreases), tt)
 
 pub read_inside-returns-in_ok-first-in-Many : goal.read_inside-returns-in_ok-first-in-Many
-read_inside-returns-in_ok-first-in-Many t c = let o = told_opening _ _ _ c.in-Many.is c.opens_by.ensures in let e = stepped _ (o.here, o.is) c.advance.ensures in let makes = many_makes _ _ _ _ e.0 e.1.many (not_minus _ e.0 e.1) in
+read_inside-returns-in_ok-first-in-Many t c = let o = told_found _ _ _ c.in-Many.is c.operator_next.ensures in let e = stepped _ (o.here, o.is) c.advance.ensures in let makes = many_makes _ _ _ _ e.0 e.1.many (not_minus _ e.0 e.1) in
     reads_whole _ _ _ _ _ _ (c.read_further.ensures o.token e.1)
     (λ x read. as_read makes (chained_read (λ x. ends_closed _ _) (many_read _ _ _ _ e.0 e.1.many) (chained_read (λ x. ends_closed _ _) c.in_ok-first-in-Many.ensures read)))
     (λ bad fails. as_fails _ makes (chained_fails _ (λ x. ends_closed _ _) (many_read _ _ _ _ e.0 e.1.many) (chained_fails _ (λ x. ends_closed _ _) c.in_ok-first-in-Many.ensures fails)))
 
 pub read_inside-returns-in-Percent : goal.read_inside-returns-in-Percent
-read_inside-returns-in-Percent t c = let o = told_opening _ _ _ c.in-Percent.is c.opens_by.ensures in let e = stepped _ (o.here, o.is.0) c.advance-in-Percent.ensures in let makes = percent_makes _ (next_of Percent _ _ _ e.0 e.1) in
+read_inside-returns-in-Percent t c = let o = told_found _ _ _ c.in-Percent.is c.operator_next.ensures in let e = stepped _ (o.here, o.is.0) c.advance-in-Percent.ensures in let makes = percent_makes _ (next_of Percent _ _ _ e.0 e.1) in
     let at = sym o.is.1 in
     made_reads _ _ _ (λ x. (plain_expr x.0, plain_expr x.1)) plain_expr _ _ _ c.read_two.ensures c.remainder.ensures
     (λ x y is read. read_at ((λ i. chain Product (at i) (part false (plain_expr x.0) (part (is_marking (e.1 i)) (plain_expr x.1) no_parts))) ∙ sym is) (as_read makes (then_read (ends_closed _ _) (word_read Percent _ _ _ e.0 e.1) read)))
     (λ bad fails. as_fails _ makes (then_fails _ (ends_closed _ _) (word_read Percent _ _ _ e.0 e.1) fails))
 
 pub read_inside-returns-in-Compare : goal.read_inside-returns-in-Compare
-read_inside-returns-in-Compare t c = let o = told_opening _ _ _ c.in-Compare.is c.opens_by.ensures in let e = stepped _ (o.here, o.is.0) c.advance-in-Compare.ensures in
+read_inside-returns-in-Compare t c = let o = told_found _ _ _ c.in-Compare.is c.operator_next.ensures in let e = stepped _ (o.here, o.is.0) c.advance-in-Compare.ensures in
     let at = sym o.is.1 in
     made_reads _ _ _ (λ x. (plain_expr x.0, plain_expr x.1)) plain_expr _ _ _ c.read_two-in-Compare.ensures c.compared.ensures
     (λ x y is read. read_at (ap (λ p. compare p c.in-Compare.rel (plain_expr x.0) (plain_expr x.1)) at ∙ sym is) (as_read (rel_makes _ _ _ _ e.0 e.1) (then_read (ends_closed _ _) (rel_read _ _ _ _ e.0 e.1) read)))
     (λ bad fails. as_fails _ (rel_makes _ _ _ _ e.0 e.1) (then_fails _ (ends_closed _ _) (rel_read _ _ _ _ e.0 e.1) fails))
 
-pub read_inside-returns-in-Inside : goal.read_inside-returns-in-Inside
-read_inside-returns-in-Inside t c = let o = told_opening _ _ _ c.in-Inside.is c.opens_by.ensures in reads_to_close _ _ _ _ _ plain_expr _ c.to_close.result c.read_level.ensures c.to_close.ensures ends_e (nested_makes _ o.0 o.1 o.2 o.3)
+pub read_inside-returns-in-Other : goal.read_inside-returns-in-Other
+read_inside-returns-in-Other t c = let o = told_found _ _ _ c.in-Other.is c.operator_next.ensures in reads_to_close _ _ _ _ _ plain_expr _ c.to_close.result c.read_level.ensures c.to_close.ensures ends_e (nested_makes _ o.0 o.1 o.2 o.3)
 
 -- Parentheses that begin with `-`.
 
@@ -258,25 +259,25 @@ pub read_comparison-read_level-requires : goal.read_comparison-read_level-requir
 read_comparison-read_level-requires t c = (omega (arith, c.decreases), tt)
 
 pub read_comparison-read_level-requires-2 : goal.read_comparison-read_level-requires-2
-read_comparison-read_level-requires-2 t c = let a = taken _ _ _ (stepped _ c.in-Some.ensures c.advance.ensures).0 in let b = not_longer _ _ c.in_ok-left.ensures in (omega (arith, a, b, c.decreases), tt)
+read_comparison-read_level-requires-2 t c = let o = told_found _ _ _ c.in-Compare.is c.operator_next.ensures in let a = taken _ _ _ (stepped _ (o.here, o.is) c.advance.ensures).0 in let b = not_longer _ _ c.in_ok-left.ensures in (omega (arith, a, b, c.decreases), tt)
 
 pub read_unary-read_primary-requires : goal.read_unary-read_primary-requires
 read_unary-read_primary-requires t c = (omega (arith, c.decreases), tt)
 
 pub read_unary-read_primary-requires-2 : goal.read_unary-read_primary-requires-2
-read_unary-read_primary-requires-2 t c = let a = taken _ _ _ (stepped _ c.in-Some.ensures c.advance.ensures).0 in (omega (arith, a, c.decreases), tt)
+read_unary-read_primary-requires-2 t c = let o = told_found _ _ _ c.in-Minus.is c.operator_next.ensures in let a = taken _ _ _ (stepped _ (o.here, o.is) c.advance.ensures).0 in (omega (arith, a, c.decreases), tt)
 
 pub read_primary-read_inside-requires : goal.read_primary-read_inside-requires
 read_primary-read_inside-requires t c = let a = taken _ _ _ (next_taken c.args.reader.now (c.is_next.ensures.yes c.if-not-is_next.false) c.advance.ensures).1 in (omega (arith, a, c.decreases), tt)
 
 pub read_inside-read_primary-requires : goal.read_inside-read_primary-requires
-read_inside-read_primary-requires t c = let a = taken _ _ _ (let o = told_opening _ _ _ c.in-Many.is c.opens_by.ensures in stepped _ (o.here, o.is) c.advance.ensures).0 in (omega (arith, a, c.decreases), tt)
+read_inside-read_primary-requires t c = let a = taken _ _ _ (let o = told_found _ _ _ c.in-Many.is c.operator_next.ensures in stepped _ (o.here, o.is) c.advance.ensures).0 in (omega (arith, a, c.decreases), tt)
 
 pub read_inside-read_two-requires : goal.read_inside-read_two-requires
-read_inside-read_two-requires t c = let a = taken _ _ _ (let o = told_opening _ _ _ c.in-Percent.is c.opens_by.ensures in stepped _ (o.here, o.is.0) c.advance-in-Percent.ensures).0 in (omega (arith, a, c.decreases), tt)
+read_inside-read_two-requires t c = let a = taken _ _ _ (let o = told_found _ _ _ c.in-Percent.is c.operator_next.ensures in stepped _ (o.here, o.is.0) c.advance-in-Percent.ensures).0 in (omega (arith, a, c.decreases), tt)
 
 pub read_inside-read_two-requires-in-Compare : goal.read_inside-read_two-requires-in-Compare
-read_inside-read_two-requires-in-Compare t c = let a = taken _ _ _ (let o = told_opening _ _ _ c.in-Compare.is c.opens_by.ensures in stepped _ (o.here, o.is.0) c.advance-in-Compare.ensures).0 in (omega (arith, a, c.decreases), tt)
+read_inside-read_two-requires-in-Compare t c = let a = taken _ _ _ (let o = told_found _ _ _ c.in-Compare.is c.operator_next.ensures in stepped _ (o.here, o.is.0) c.advance-in-Compare.ensures).0 in (omega (arith, a, c.decreases), tt)
 
 pub read_inside-read_level-requires : goal.read_inside-read_level-requires
 read_inside-read_level-requires t c = (omega (arith, c.decreases), tt)

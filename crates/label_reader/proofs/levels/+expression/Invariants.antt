@@ -4,7 +4,7 @@ use Rattle.model_grammar.specs.Printed.{rank, chain_level}
 use Rattle.fast_syntax.specs.Plain.{plain_expr}
 use Rattle.label_reader.specs.Results.{left}
 use Rattle.label_reader.specs.Operands.{marked, kind_of}
-use Rattle.label_reader.specs.Openings.{IsOperator}
+use Rattle.label_reader.specs.Found.{IsOperator}
 use Rattle.label_reader.proofs.Gathered.{IsChainAt}
 use Rattle.label_reader.proofs.Further.{IsFurther}
 use Rattle.label_reader.proofs.levels.+expression.Given as goal
