@@ -14,8 +14,7 @@ ghost use Rattle.fast_syntax.specs.Plain.{plain_expr};
 ghost use Rattle.label_reader.specs.Results.{left, behind, Reads, IfMade};
 ghost use Rattle.label_reader.specs.Operands.{prefixed};
 ghost use Rattle.label_reader.specs.Levels.{GoesOn};
-ghost use Rattle.label_reader.specs.Found.{IsOperator, IsFoundNext};
-ghost use Rattle.label_reader.specs.declared.operators.Operator.TheVariants.{Minus};
+ghost use Rattle.label_reader.specs.Found.{IsOperator};
 ghost use Rattle.label_reader.specs.Constants.{NoNumeral, IsNumeralNext};
 ghost use Rattle.label_reader.specs.Inside.{IsInside, IsBehindFirst, AreTwo, IsUnsigned, IsWhole};
 
@@ -206,7 +205,15 @@ fn read_inside(reader: &mut Reader) -> Result<Expr, Stop>
     ensures { Reads IsInside closed (left reader.old) (left reader.new) plain_expr result }
 {
     match operator_next(reader) {
-        Operator::Minus(place) => read_behind_minus(reader, place),
+        // Behind the `-` either an expression goes on, or the operands follow that are subtracted.
+        Operator::Minus(place) => {
+            let before = *reader;
+            let whole = read_level(reader, Level::E)?;
+            match unsigned(whole, &before, reader) {
+                Ok(first) => read_further(reader, Chain::Sum, place, true, first),
+                Err(inside) => to_close(Ok(inside), reader),
+            }
+        }
         Operator::Many(place, kind) => {
             reader.advance();
             let first = read_primary(reader)?;
@@ -221,20 +228,6 @@ fn read_inside(reader: &mut Reader) -> Result<Expr, Stop>
             compared(reader.alloc, place, rel, read_two(reader))
         }
         Operator::Other => to_close(read_level(reader, Level::E), reader),
-    }
-}
-
-/// Behind `(` and `-` either an expression goes on, or the operands follow that are subtracted.
-#[cycle(expression)]
-fn read_behind_minus(reader: &mut Reader, place: Pos) -> Result<Expr, Stop>
-    requires { IsFoundNext (left reader.old) (behind reader.old) (Minus place) }
-    ensures { Reads IsInside closed (left reader.old) (left reader.new) plain_expr result }
-{
-    let before = *reader;
-    let whole = read_level(reader, Level::E)?;
-    match unsigned(whole, &before, reader) {
-        Ok(first) => read_further(reader, Chain::Sum, place, true, first),
-        Err(inside) => to_close(Ok(inside), reader),
     }
 }
 

@@ -163,22 +163,16 @@ read_further-returns t c = λ op is.
     further_ends _ _ _ _ _ _ _ _ (c.parts.invariant.0 op is) next (sign_next c.parts.reader next c.advance.ensures)
     (c.into_node-node.ensures place ∙ ap (λ k. chain k place (parts_from (marked c.parts.parts))) c.parts.invariant.1 ∙ ap (λ p. chain c.args.kind p (parts_from (marked c.parts.parts))) is.is_at)
 
-pub read_inside-read_behind_minus-requires : goal.read_inside-read_behind_minus-requires
-read_inside-read_behind_minus-requires t c = (omega (arith, c.decreases), told_found _ _ _ c.in-Minus.is c.operator_next.ensures)
-
-pub read_inside-returns-in-Minus : goal.read_inside-returns-in-Minus
-read_inside-returns-in-Minus t c = c.read_behind_minus.ensures
-
 pub read_inside-returns-in_err-first-in-Many : goal.read_inside-returns-in_err-first-in-Many
 read_inside-returns-in_err-first-in-Many t c = let o = told_found _ _ _ c.in-Many.is c.operator_next.ensures in let e = stepped _ (o.here, o.is) c.advance.ensures in
-    exit _ _ _ _ c.from_residual.result c.from_residual.ensures.1 (as_fails _ (many_makes _ _ _ _ e.0 e.1.many (not_minus _ e.0 e.1)) (chained_fails _ (λ x. ends_closed _ _) (many_read _ _ _ _ e.0 e.1.many) (chained_first_fails _ (λ x. ends_closed _ _) (λ x. sample_behind_first _ _ x) c.in_err-first-in-Many.ensures)))
+    exit _ _ _ _ c.from_residual-in_err-first-in-Many.result c.from_residual-in_err-first-in-Many.ensures.1 (as_fails _ (many_makes _ _ _ _ e.0 e.1.many (not_minus _ e.0 e.1)) (chained_fails _ (λ x. ends_closed _ _) (many_read _ _ _ _ e.0 e.1.many) (chained_first_fails _ (λ x. ends_closed _ _) (λ x. sample_behind_first _ _ x) c.in_err-first-in-Many.ensures)))
 
-pub read_inside-read_further-requires : goal.read_inside-read_further-requires
-read_inside-read_further-requires t c = let o = told_found _ _ _ c.in-Many.is c.operator_next.ensures in let a = not_longer _ _ c.in_ok-first-in-Many.ensures in let b = taken _ _ _ (stepped _ (o.here, o.is) c.advance.ensures).0 in (omega (arith, a, b, c.decreases), tt)
+pub read_inside-read_further-requires-in-Many : goal.read_inside-read_further-requires-in-Many
+read_inside-read_further-requires-in-Many t c = let o = told_found _ _ _ c.in-Many.is c.operator_next.ensures in let a = not_longer _ _ c.in_ok-first-in-Many.ensures in let b = taken _ _ _ (stepped _ (o.here, o.is) c.advance.ensures).0 in (omega (arith, a, b, c.decreases), tt)
 
 pub read_inside-returns-in_ok-first-in-Many : goal.read_inside-returns-in_ok-first-in-Many
 read_inside-returns-in_ok-first-in-Many t c = let o = told_found _ _ _ c.in-Many.is c.operator_next.ensures in let e = stepped _ (o.here, o.is) c.advance.ensures in let makes = many_makes _ _ _ _ e.0 e.1.many (not_minus _ e.0 e.1) in
-    reads_whole _ _ _ _ _ _ (c.read_further.ensures o.token e.1)
+    reads_whole _ _ _ _ _ _ (c.read_further-in-Many.ensures o.token e.1)
     (λ x read. as_read makes (chained_read (λ x. ends_closed _ _) (many_read _ _ _ _ e.0 e.1.many) (chained_read (λ x. ends_closed _ _) c.in_ok-first-in-Many.ensures read)))
     (λ bad fails. as_fails _ makes (chained_fails _ (λ x. ends_closed _ _) (many_read _ _ _ _ e.0 e.1.many) (chained_fails _ (λ x. ends_closed _ _) c.in_ok-first-in-Many.ensures fails)))
 
@@ -197,25 +191,25 @@ read_inside-returns-in-Compare t c = let o = told_found _ _ _ c.in-Compare.is c.
     (λ bad fails. as_fails _ (rel_makes _ _ _ _ e.0 e.1) (then_fails _ (ends_closed _ _) (rel_read _ _ _ _ e.0 e.1) fails))
 
 pub read_inside-returns-in-Other : goal.read_inside-returns-in-Other
-read_inside-returns-in-Other t c = let o = told_found _ _ _ c.in-Other.is c.operator_next.ensures in reads_to_close _ _ _ _ _ plain_expr _ c.to_close.result c.read_level.ensures c.to_close.ensures ends_e (nested_makes _ o.0 o.1 o.2 o.3)
+read_inside-returns-in-Other t c = let o = told_found _ _ _ c.in-Other.is c.operator_next.ensures in reads_to_close _ _ _ _ _ plain_expr _ c.to_close-in-Other.result c.read_level-in-Other.ensures c.to_close-in-Other.ensures ends_e (nested_makes _ o.0 o.1 o.2 o.3)
 
 -- Parentheses that begin with `-`.
 
-pub read_behind_minus-returns-in_err-whole : goal.read_behind_minus-returns-in_err-whole
-read_behind_minus-returns-in_err-whole t c = exit _ _ _ _ c.from_residual.result c.from_residual.ensures.1 (minus_whole_fails _ _ (next_of Minus _ _ _ c.requires.here c.requires.is.0) c.in_err-whole.ensures)
+pub read_inside-returns-in_err-whole-in-Minus : goal.read_inside-returns-in_err-whole-in-Minus
+read_inside-returns-in_err-whole-in-Minus t c = let o = told_found _ _ _ c.in-Minus.is c.operator_next.ensures in exit _ _ _ _ c.from_residual.result c.from_residual.ensures.1 (minus_whole_fails _ _ (next_of Minus _ _ _ o.here o.is.0) c.in_err-whole-in-Minus.ensures)
 
-pub read_behind_minus-read_further-requires : goal.read_behind_minus-read_further-requires
-read_behind_minus-read_further-requires t c = let a = not_longer _ _ c.in_ok-whole.ensures in (omega (arith, a, c.decreases), tt)
+pub read_inside-read_further-requires : goal.read_inside-read_further-requires
+read_inside-read_further-requires t c = let a = not_longer _ _ c.in_ok-whole-in-Minus.ensures in (omega (arith, a, c.decreases), tt)
 
-pub read_behind_minus-returns-in-Ok : goal.read_behind_minus-returns-in-Ok
-read_behind_minus-returns-in-Ok t c = let o = c.requires in reads_whole _ _ _ _ _ _ (c.read_further.ensures o.token (minus_operator o.is))
-    (λ x read. minus_further_read (record { read = c.in_ok-whole.ensures; here = o.here; word = o.is.0 }) c.in-Ok.ensures read)
-    (λ bad fails. minus_further_fails _ (record { read = c.in_ok-whole.ensures; here = o.here; word = o.is.0 }) c.in-Ok.ensures fails)
+pub read_inside-returns-in-Ok : goal.read_inside-returns-in-Ok
+read_inside-returns-in-Ok t c = let o = told_found _ _ _ c.in-Minus.is c.operator_next.ensures in reads_whole _ _ _ _ _ _ (c.read_further.ensures o.token (minus_operator o.is))
+    (λ x read. minus_further_read (record { read = c.in_ok-whole-in-Minus.ensures; here = o.here; word = o.is.0 }) c.in-Ok.ensures read)
+    (λ bad fails. minus_further_fails _ (record { read = c.in_ok-whole-in-Minus.ensures; here = o.here; word = o.is.0 }) c.in-Ok.ensures fails)
 
-pub read_behind_minus-returns-in-Err : goal.read_behind_minus-returns-in-Err
-read_behind_minus-returns-in-Err t c = let o = c.requires in reads_closed _ _ _ plain_expr _ c.to_close.ensures
-    (λ read. minus_close_read (record { read = c.in_ok-whole.ensures; here = o.here; word = o.is.0 }) c.in-Err.ensures read)
-    (λ bad fails. minus_close_fails _ (record { read = c.in_ok-whole.ensures; here = o.here; word = o.is.0 }) c.in-Err.ensures fails)
+pub read_inside-returns-in-Err : goal.read_inside-returns-in-Err
+read_inside-returns-in-Err t c = let o = told_found _ _ _ c.in-Minus.is c.operator_next.ensures in reads_closed _ _ _ plain_expr _ c.to_close.ensures
+    (λ read. minus_close_read (record { read = c.in_ok-whole-in-Minus.ensures; here = o.here; word = o.is.0 }) c.in-Err.ensures read)
+    (λ bad fails. minus_close_fails _ (record { read = c.in_ok-whole-in-Minus.ensures; here = o.here; word = o.is.0 }) c.in-Err.ensures fails)
 
 -- Measures.
 
@@ -279,11 +273,11 @@ read_inside-read_two-requires t c = let a = taken _ _ _ (let o = told_found _ _ 
 pub read_inside-read_two-requires-in-Compare : goal.read_inside-read_two-requires-in-Compare
 read_inside-read_two-requires-in-Compare t c = let a = taken _ _ _ (let o = told_found _ _ _ c.in-Compare.is c.operator_next.ensures in stepped _ (o.here, o.is.0) c.advance-in-Compare.ensures).0 in (omega (arith, a, c.decreases), tt)
 
+pub read_inside-read_level-requires-in-Other : goal.read_inside-read_level-requires-in-Other
+read_inside-read_level-requires-in-Other t c = (omega (arith, c.decreases), tt)
+
 pub read_inside-read_level-requires : goal.read_inside-read_level-requires
 read_inside-read_level-requires t c = (omega (arith, c.decreases), tt)
-
-pub read_behind_minus-read_level-requires : goal.read_behind_minus-read_level-requires
-read_behind_minus-read_level-requires t c = (omega (arith, c.decreases), tt)
 
 pub read_further-read_primary-requires : goal.read_further-read_primary-requires
 read_further-read_primary-requires t c = (omega (arith, c.decreases), tt)

@@ -30,9 +30,6 @@ decreases-read_primary l = 20 * length (left l.reader.now) + 1
 abbrev pub decreases-read_inside : goal.decreases-read_inside
 decreases-read_inside l = 20 * length (left l.reader.now) + 18
 
-abbrev pub decreases-read_behind_minus : goal.decreases-read_behind_minus
-decreases-read_behind_minus l = 20 * length (left l.reader.now) + 17
-
 abbrev pub decreases-read_further : goal.decreases-read_further
 decreases-read_further l = 20 * length (left l.reader.now) + 2
 
