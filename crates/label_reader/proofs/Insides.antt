@@ -1,5 +1,5 @@
 -- What stands in parentheses.
-use Rattle.std.proofs.Common.{◌≡◌, ℕ, pos, ◌<◌, List, [], ◌∷◌, ◌++◌, refl, sym, ap, ◌∙◌, subst, append_assoc, append-nil, arith, Option, Some, None, ◌⊎◌, inl, inr}
+use Rattle.std.proofs.Common.{◌≡◌, ℕ, pos, ◌<◌, List, [], ◌∷◌, ◌++◌, refl, sym, ap, ◌∙◌, subst, append_assoc, append-nil, arith, Option, Some, None, Result, ◌⊎◌, inl, inr}
 use Rattle.std.specs.Str.Parse.{digits_value}
 use Rattle.model_program.specs.declared.Word.{Word}
 use Rattle.model_program.specs.declared.Word.TheVariants.{And, Or, True, False, Id, Number, Quoted, RoundOpen, RoundClose, Equal, NotEqual, AtMost, AtLeast, Less, Greater, Plus, Minus, Star, Percent}
@@ -9,7 +9,7 @@ use Rattle.read_forms.specs.Reads.{GoesOnAs, Stops, IsRead, Fails, StartsIn, clo
 use Rattle.model_program.specs.Grammar.{IsWord, IsSign, sign, Many}
 use Rattle.read_forms.specs.Parts.{Ends, HasSample, other_than}
 use Rattle.read_forms.proofs.Forms.{Makes, as_read, as_fails, then_read, then_fails, first_fails, ends_closed, ends_starting, sample_as, sample_pair, starts_append, starts_wider, starts_joined, starts_as, starts_stops, stops_of, stops_other_than, alternative, remade, Chained, chained_read, chained_fails, chained_first_fails}
-use Rattle.read_forms.proofs.Words.{sign_starts, next_of, sample_sign}
+use Rattle.read_forms.proofs.Words.{word_read, sign_starts, next_of, sample_sign}
 use Rattle.read_forms.proofs.Lists.{IsPartWay, to_left, to_right}
 use Rattle.model_grammar.specs.declared.Chain.{Chain}
 use Rattle.model_grammar.specs.declared.Chain.TheVariants.{Disjunction, Conjunction, Product}
@@ -24,6 +24,8 @@ use Rattle.model_grammar.specs.Expressions.{IsExpr, IsE, disjunction, conjunctio
 use Rattle.model_grammar.specs.Printed.{rank}
 use Rattle.model_grammar.proofs.Levels.{loosest}
 use Rattle.label_reader.specs.Levels.{strength, GoesOn, reach, BeginsAt, IsNoRel, NoRel, NoMany}
+use Rattle.label_reader.specs.declared.stop.Stop.{Stop}
+use Rattle.label_reader.specs.Results.{Reads}
 use Rattle.label_reader.specs.Inside.{IsInside, nested, many, remainder, AreTwo, AreOperands, IsBehindFirst, IsBare, IsUnsigned, IsWhole, StartsPrimary}
 use Rattle.label_reader.specs.Inside.{compared as inside_compared}
 use Rattle.label_reader.proofs.LevelForms.{level_begins, sample_prim, IsRelAt, rel_strength}
@@ -31,6 +33,8 @@ use Rattle.label_reader.proofs.Joins.{Spelled, spelled_read, spelled_fails}
 use Rattle.label_reader.specs.Lists.{closing_of}
 use Rattle.label_reader.proofs.Closings.{IsClosable, sample_closing}
 use Rattle.label_reader.proofs.Gathered.{signed}
+use Rattle.label_reader.proofs.Primaries.{open_makes}
+use Rattle.label_reader.proofs.Keeping.{reads_whole}
 
 -- Operators before their operands.
 
@@ -588,3 +592,9 @@ minus_close_fails {tokens = tokens} bad from whole fails = as_fails bad (behind_
 
 pub minus_close_read : {e same : Expr} {tokens behind rest end : List Lexeme} {s : Lexeme} → IsFromMinus e tokens behind rest s → IsWhole e behind same rest → IsRead (IsSign RoundClose) closed rest tt end → IsRead IsInside closed tokens same end
 minus_close_read {e} {same} {tokens} {end = end} from whole read = subst (λ (x : Expr). IsRead IsInside closed tokens x end) (sym whole.is) (as_read (behind_minus_makes tokens (minus_next from)) (chained_read ends_minus (spelled_read from.read) (as_read (close_behind from whole) read)))
+
+-- The opening parenthesis before them is read, too.
+pub in_brackets : {X : Type 0} (tokens middle rest : List Lexeme) (t : Lexeme) (view : X → Expr) (r : Result X Stop) → tokens ≡ t ∷ middle → t.word ≡ RoundOpen → Reads IsInside closed middle rest view r → Reads (IsExpr Prim) closed tokens rest view r
+in_brackets tokens middle rest t view r here is reads =
+    let makes = open_makes tokens (next_of RoundOpen t tokens middle here is) in let read = word_read RoundOpen t tokens middle here is in
+    reads_whole tokens middle rest view view r reads (λ x inside. as_read makes (then_read (ends_closed _ _) read inside)) (λ bad fails. as_fails bad makes (then_fails bad (ends_closed _ _) read fails))

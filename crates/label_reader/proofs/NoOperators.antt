@@ -1,13 +1,13 @@
 -- Words that are no operators.
-use Rattle.std.proofs.Common.{◌≡◌, refl, sym, ap, ◌∙◌, inl, inr, arith}
+use Rattle.std.proofs.Common.{◌≡◌, sym, ap, ◌∙◌, inl, inr, arith}
 use Rattle.model_program.specs.declared.Word.{Word}
 use Rattle.model_program.specs.declared.Word.TheVariants as word
 use Rattle.model_grammar.specs.declared.Chain.{Chain}
 use Rattle.model_grammar.specs.declared.Chain.TheVariants.{Disjunction, Conjunction, Sum, Product}
-use Rattle.model_grammar.specs.declared.Rel.{Rel}
 use Rattle.model_grammar.specs.declared.Rel.TheVariants.{Equal, NotEqual, Less, AtMost, Greater, AtLeast}
-use Rattle.model_grammar.specs.Operators.{IsMany, rel_word}
+use Rattle.model_grammar.specs.Operators.{IsMany}
 use Rattle.label_reader.specs.Levels.{strength, IsNoRel, IsNoMany}
+use Rattle.label_reader.proofs.LevelForms.{rel_strength}
 
 pub no_rel : (w : Word) → (w ≡ word.Equal → ⊥) → (w ≡ word.NotEqual → ⊥) → (w ≡ word.Less → ⊥) → (w ≡ word.AtMost → ⊥) → (w ≡ word.Greater → ⊥) → (w ≡ word.AtLeast → ⊥) → IsNoRel w
 no_rel w a b c d e f Equal is = a is
@@ -25,14 +25,6 @@ no_many w a b c d Sum (inr is) = is
 no_many w a b c d Product is = absurd (d is)
 
 -- by how tightly they bind
-rel_strength : (r : Rel) → strength (rel_word r) ≡ 4
-rel_strength Equal = refl
-rel_strength NotEqual = refl
-rel_strength Less = refl
-rel_strength AtMost = refl
-rel_strength Greater = refl
-rel_strength AtLeast = refl
-
 pub not_rel : {w : Word} (other : Word) → w ≡ other → (strength other ≡ 4 → ⊥) → IsNoRel w
 not_rel other is none r is_rel = none (ap strength (sym is ∙ is_rel) ∙ rel_strength r)
 

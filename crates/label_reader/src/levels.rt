@@ -16,7 +16,7 @@ ghost use Rattle.label_reader.specs.Operands.{prefixed};
 ghost use Rattle.label_reader.specs.Levels.{GoesOn};
 ghost use Rattle.label_reader.specs.Found.{IsOperator};
 ghost use Rattle.label_reader.specs.Constants.{NoNumeral, IsNumeralNext};
-ghost use Rattle.label_reader.specs.Inside.{IsInside, IsBehindFirst, AreTwo, IsUnsigned, IsWhole};
+ghost use Rattle.label_reader.specs.Inside.{IsBehindFirst, AreTwo, IsUnsigned, IsWhole};
 
 use crate::constants::{numeral_next, read_numeral, read_string};
 use crate::keep::{kept, to_close};
@@ -152,6 +152,7 @@ fn read_unary(reader: &mut Reader) -> Result<Expr, Stop>
     prefixed(reader.alloc, place, Prefix::Minus, read_primary(reader))
 }
 
+/// A name or a constant, or what parentheses hold: an expression, or an operator before its operands.
 #[cycle(expression)]
 fn read_primary(reader: &mut Reader) -> Result<Expr, Stop>
     ensures { Reads (IsExpr Prim) closed (left reader.old) (left reader.new) plain_expr result }
@@ -160,7 +161,31 @@ fn read_primary(reader: &mut Reader) -> Result<Expr, Stop>
         return read_leaf(reader);
     }
     reader.advance();
-    read_inside(reader)
+    match operator_next(reader) {
+        // Behind the `-` either an expression goes on, or the operands follow that are subtracted.
+        Operator::Minus(place) => {
+            let before = *reader;
+            let whole = read_level(reader, Level::E)?;
+            match unsigned(whole, &before, reader) {
+                Ok(first) => read_further(reader, Chain::Sum, place, true, first),
+                Err(inside) => to_close(Ok(inside), reader),
+            }
+        }
+        Operator::Many(place, kind) => {
+            reader.advance();
+            let first = read_primary(reader)?;
+            read_further(reader, kind, place, false, first)
+        }
+        Operator::Percent(place) => {
+            reader.advance();
+            remainder(reader.alloc, place, read_two(reader))
+        }
+        Operator::Compare(place, rel) => {
+            reader.advance();
+            compared(reader.alloc, place, rel, read_two(reader))
+        }
+        Operator::Other => to_close(read_level(reader, Level::E), reader),
+    }
 }
 
 /// A name or a constant.
@@ -196,38 +221,6 @@ fn read_leaf(reader: &mut Reader) -> Result<Expr, Stop>
             let node = Node::Num(read_numeral(reader)?);
             Ok(Expr { place, node })
         }
-    }
-}
-
-/// What stands behind an opening parenthesis: an expression, or an operator before its operands.
-#[cycle(expression)]
-fn read_inside(reader: &mut Reader) -> Result<Expr, Stop>
-    ensures { Reads IsInside closed (left reader.old) (left reader.new) plain_expr result }
-{
-    match operator_next(reader) {
-        // Behind the `-` either an expression goes on, or the operands follow that are subtracted.
-        Operator::Minus(place) => {
-            let before = *reader;
-            let whole = read_level(reader, Level::E)?;
-            match unsigned(whole, &before, reader) {
-                Ok(first) => read_further(reader, Chain::Sum, place, true, first),
-                Err(inside) => to_close(Ok(inside), reader),
-            }
-        }
-        Operator::Many(place, kind) => {
-            reader.advance();
-            let first = read_primary(reader)?;
-            read_further(reader, kind, place, false, first)
-        }
-        Operator::Percent(place) => {
-            reader.advance();
-            remainder(reader.alloc, place, read_two(reader))
-        }
-        Operator::Compare(place, rel) => {
-            reader.advance();
-            compared(reader.alloc, place, rel, read_two(reader))
-        }
-        Operator::Other => to_close(read_level(reader, Level::E), reader),
     }
 }
 

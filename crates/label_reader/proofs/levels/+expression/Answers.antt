@@ -1,5 +1,5 @@
 use Rattle.std.proofs.Common.{sym, ap, ◌∙◌, arith, refl, false, ◌∷◌, []}
-use Rattle.model_program.specs.declared.Word.TheVariants.{Not, Minus, Percent, RoundOpen, RoundClose}
+use Rattle.model_program.specs.declared.Word.TheVariants.{Not, Minus, Percent, RoundClose}
 use Rattle.read_forms.proofs.Forms.{as_read, as_fails, then_read, then_fails, first_fails, ends_closed, closed_read, closed_fails, read_at, chained_read, chained_fails, chained_first_fails}
 use Rattle.read_forms.proofs.Words.{word_read, next_of, sample_sign}
 use Rattle.model_grammar.specs.declared.Level.TheVariants.{Unary, Prim}
@@ -17,8 +17,8 @@ use Rattle.label_reader.proofs.Keeping.{told_read, reads_whole, reads_kept, read
 use Rattle.label_reader.proofs.Joins.{without_read, without_fails}
 use Rattle.label_reader.proofs.LevelForms.{tighter, level_begins, sample_prim, wider_read, wider_fails, first_operand_fails, one_operand, chain_fails, negated_makes, not_negated_makes, cmp_in_neg, left_fails, left_alone, right_fails, both_read, rel_read}
 use Rattle.label_reader.proofs.Gathered.{chaining_starts, chaining_more, chaining_ends, operand_fails, operand_read}
-use Rattle.label_reader.proofs.Primaries.{minus_makes, no_minus_makes, negated_number, negated_other, sample_without, closed_by, open_makes}
-use Rattle.label_reader.proofs.Insides.{further_fails, two_makes, many_makes, many_read, sample_behind_first, percent_makes, rel_makes, nested_makes, ends_e, minus_whole_fails, minus_further_fails, minus_further_read, minus_close_fails, minus_close_read}
+use Rattle.label_reader.proofs.Primaries.{minus_makes, no_minus_makes, negated_number, negated_other, sample_without, closed_by}
+use Rattle.label_reader.proofs.Insides.{further_fails, two_makes, many_makes, many_read, sample_behind_first, percent_makes, rel_makes, nested_makes, ends_e, minus_whole_fails, minus_further_fails, minus_further_read, minus_close_fails, minus_close_read, in_brackets}
 use Rattle.label_reader.proofs.Found.{told_found, not_minus, minus_operator, not_compared, not_subtracted}
 use Rattle.label_reader.proofs.Further.{further_begins, further_goes_on, further_next_fails, further_ends}
 use Rattle.label_reader.proofs.levels.+expression.Goals as goal
@@ -118,11 +118,6 @@ read_unary-returns t c = let o = told_found _ _ _ c.in-Minus.is c.operator_next.
 
 -- Parentheses.
 
-pub read_primary-returns : goal.read_primary-returns
-read_primary-returns t c = let e = (next_taken c.args.reader.now (c.is_next.ensures.yes c.if-not-is_next.false) c.advance.ensures) in reads_whole _ _ _ _ _ _ c.read_inside.ensures
-    (λ x read. as_read (open_makes _ (next_of RoundOpen _ _ _ e.1 e.2)) (then_read (ends_closed _ _) (word_read RoundOpen _ _ _ e.1 e.2) read))
-    (λ bad fails. as_fails _ (open_makes _ (next_of RoundOpen _ _ _ e.1 e.2)) (then_fails _ (ends_closed _ _) (word_read RoundOpen _ _ _ e.1 e.2) fails))
-
 pub read_two-returns-in_err-left : goal.read_two-returns-in_err-left
 read_two-returns-in_err-left t c = exit _ _ _ _ c.from_residual.result c.from_residual.ensures.1 (as_fails _ (two_makes _) (first_fails _ (ends_closed _ _) (sample_sign RoundClose) (first_fails _ (ends_closed _ _) sample_prim c.in_err-left.ensures)))
 
@@ -163,53 +158,53 @@ read_further-returns t c = λ op is.
     further_ends _ _ _ _ _ _ _ _ (c.parts.invariant.0 op is) next (sign_next c.parts.reader next c.advance.ensures)
     (c.into_node-node.ensures place ∙ ap (λ k. chain k place (parts_from (marked c.parts.parts))) c.parts.invariant.1 ∙ ap (λ p. chain c.args.kind p (parts_from (marked c.parts.parts))) is.is_at)
 
-pub read_inside-returns-in_err-first-in-Many : goal.read_inside-returns-in_err-first-in-Many
-read_inside-returns-in_err-first-in-Many t c = let o = told_found _ _ _ c.in-Many.is c.operator_next.ensures in let e = stepped _ (o.here, o.is) c.advance.ensures in
-    exit _ _ _ _ c.from_residual-in_err-first-in-Many.result c.from_residual-in_err-first-in-Many.ensures.1 (as_fails _ (many_makes _ _ _ _ e.0 e.1.many (not_minus _ e.0 e.1)) (chained_fails _ (λ x. ends_closed _ _) (many_read _ _ _ _ e.0 e.1.many) (chained_first_fails _ (λ x. ends_closed _ _) (λ x. sample_behind_first _ _ x) c.in_err-first-in-Many.ensures)))
+pub read_primary-returns-in_err-first-in-Many : goal.read_primary-returns-in_err-first-in-Many
+read_primary-returns-in_err-first-in-Many t c = let p = next_taken c.args.reader.now (c.is_next.ensures.yes c.if-not-is_next.false) c.advance.ensures in let o = told_found _ _ _ c.in-Many.is c.operator_next.ensures in let e = stepped _ (o.here, o.is) c.advance-in-Many.ensures in
+    in_brackets _ _ _ p.0 plain_expr c.from_residual-in_err-first-in-Many.result p.1 p.2 (exit _ _ _ _ c.from_residual-in_err-first-in-Many.result c.from_residual-in_err-first-in-Many.ensures.1 (as_fails _ (many_makes _ _ _ _ e.0 e.1.many (not_minus _ e.0 e.1)) (chained_fails _ (λ x. ends_closed _ _) (many_read _ _ _ _ e.0 e.1.many) (chained_first_fails _ (λ x. ends_closed _ _) (λ x. sample_behind_first _ _ x) c.in_err-first-in-Many.ensures))))
 
-pub read_inside-read_further-requires-in-Many : goal.read_inside-read_further-requires-in-Many
-read_inside-read_further-requires-in-Many t c = let o = told_found _ _ _ c.in-Many.is c.operator_next.ensures in let a = not_longer _ _ c.in_ok-first-in-Many.ensures in let b = taken _ _ _ (stepped _ (o.here, o.is) c.advance.ensures).0 in (omega (arith, a, b, c.decreases), tt)
+pub read_primary-read_further-requires-in-Many : goal.read_primary-read_further-requires-in-Many
+read_primary-read_further-requires-in-Many t c = let p = next_taken c.args.reader.now (c.is_next.ensures.yes c.if-not-is_next.false) c.advance.ensures in let first = taken _ _ _ p.1 in let o = told_found _ _ _ c.in-Many.is c.operator_next.ensures in let a = not_longer _ _ c.in_ok-first-in-Many.ensures in let b = taken _ _ _ (stepped _ (o.here, o.is) c.advance-in-Many.ensures).0 in (omega (arith, first, a, b, c.decreases), tt)
 
-pub read_inside-returns-in_ok-first-in-Many : goal.read_inside-returns-in_ok-first-in-Many
-read_inside-returns-in_ok-first-in-Many t c = let o = told_found _ _ _ c.in-Many.is c.operator_next.ensures in let e = stepped _ (o.here, o.is) c.advance.ensures in let makes = many_makes _ _ _ _ e.0 e.1.many (not_minus _ e.0 e.1) in
-    reads_whole _ _ _ _ _ _ (c.read_further-in-Many.ensures o.token e.1)
+pub read_primary-returns-in_ok-first-in-Many : goal.read_primary-returns-in_ok-first-in-Many
+read_primary-returns-in_ok-first-in-Many t c = let p = next_taken c.args.reader.now (c.is_next.ensures.yes c.if-not-is_next.false) c.advance.ensures in let o = told_found _ _ _ c.in-Many.is c.operator_next.ensures in let e = stepped _ (o.here, o.is) c.advance-in-Many.ensures in let makes = many_makes _ _ _ _ e.0 e.1.many (not_minus _ e.0 e.1) in
+    in_brackets _ _ _ p.0 plain_expr _ p.1 p.2 (reads_whole _ _ _ _ _ _ (c.read_further-in-Many.ensures o.token e.1)
     (λ x read. as_read makes (chained_read (λ x. ends_closed _ _) (many_read _ _ _ _ e.0 e.1.many) (chained_read (λ x. ends_closed _ _) c.in_ok-first-in-Many.ensures read)))
-    (λ bad fails. as_fails _ makes (chained_fails _ (λ x. ends_closed _ _) (many_read _ _ _ _ e.0 e.1.many) (chained_fails _ (λ x. ends_closed _ _) c.in_ok-first-in-Many.ensures fails)))
+    (λ bad fails. as_fails _ makes (chained_fails _ (λ x. ends_closed _ _) (many_read _ _ _ _ e.0 e.1.many) (chained_fails _ (λ x. ends_closed _ _) c.in_ok-first-in-Many.ensures fails))))
 
-pub read_inside-returns-in-Percent : goal.read_inside-returns-in-Percent
-read_inside-returns-in-Percent t c = let o = told_found _ _ _ c.in-Percent.is c.operator_next.ensures in let e = stepped _ (o.here, o.is.0) c.advance-in-Percent.ensures in let makes = percent_makes _ (next_of Percent _ _ _ e.0 e.1) in
+pub read_primary-returns-in-Percent : goal.read_primary-returns-in-Percent
+read_primary-returns-in-Percent t c = let p = next_taken c.args.reader.now (c.is_next.ensures.yes c.if-not-is_next.false) c.advance.ensures in let o = told_found _ _ _ c.in-Percent.is c.operator_next.ensures in let e = stepped _ (o.here, o.is.0) c.advance-in-Percent.ensures in let makes = percent_makes _ (next_of Percent _ _ _ e.0 e.1) in
     let at = sym o.is.1 in
-    made_reads _ _ _ (λ x. (plain_expr x.0, plain_expr x.1)) plain_expr _ _ _ c.read_two.ensures c.remainder.ensures
+    in_brackets _ _ _ p.0 plain_expr _ p.1 p.2 (made_reads _ _ _ (λ x. (plain_expr x.0, plain_expr x.1)) plain_expr _ _ _ c.read_two.ensures c.remainder.ensures
     (λ x y is read. read_at ((λ i. chain Product (at i) (part false (plain_expr x.0) (part (is_marking (e.1 i)) (plain_expr x.1) no_parts))) ∙ sym is) (as_read makes (then_read (ends_closed _ _) (word_read Percent _ _ _ e.0 e.1) read)))
-    (λ bad fails. as_fails _ makes (then_fails _ (ends_closed _ _) (word_read Percent _ _ _ e.0 e.1) fails))
+    (λ bad fails. as_fails _ makes (then_fails _ (ends_closed _ _) (word_read Percent _ _ _ e.0 e.1) fails)))
 
-pub read_inside-returns-in-Compare : goal.read_inside-returns-in-Compare
-read_inside-returns-in-Compare t c = let o = told_found _ _ _ c.in-Compare.is c.operator_next.ensures in let e = stepped _ (o.here, o.is.0) c.advance-in-Compare.ensures in
+pub read_primary-returns-in-Compare : goal.read_primary-returns-in-Compare
+read_primary-returns-in-Compare t c = let p = next_taken c.args.reader.now (c.is_next.ensures.yes c.if-not-is_next.false) c.advance.ensures in let o = told_found _ _ _ c.in-Compare.is c.operator_next.ensures in let e = stepped _ (o.here, o.is.0) c.advance-in-Compare.ensures in
     let at = sym o.is.1 in
-    made_reads _ _ _ (λ x. (plain_expr x.0, plain_expr x.1)) plain_expr _ _ _ c.read_two-in-Compare.ensures c.compared.ensures
+    in_brackets _ _ _ p.0 plain_expr _ p.1 p.2 (made_reads _ _ _ (λ x. (plain_expr x.0, plain_expr x.1)) plain_expr _ _ _ c.read_two-in-Compare.ensures c.compared.ensures
     (λ x y is read. read_at (ap (λ p. compare p c.in-Compare.rel (plain_expr x.0) (plain_expr x.1)) at ∙ sym is) (as_read (rel_makes _ _ _ _ e.0 e.1) (then_read (ends_closed _ _) (rel_read _ _ _ _ e.0 e.1) read)))
-    (λ bad fails. as_fails _ (rel_makes _ _ _ _ e.0 e.1) (then_fails _ (ends_closed _ _) (rel_read _ _ _ _ e.0 e.1) fails))
+    (λ bad fails. as_fails _ (rel_makes _ _ _ _ e.0 e.1) (then_fails _ (ends_closed _ _) (rel_read _ _ _ _ e.0 e.1) fails)))
 
-pub read_inside-returns-in-Other : goal.read_inside-returns-in-Other
-read_inside-returns-in-Other t c = let o = told_found _ _ _ c.in-Other.is c.operator_next.ensures in reads_to_close _ _ _ _ _ plain_expr _ c.to_close-in-Other.result c.read_level-in-Other.ensures c.to_close-in-Other.ensures ends_e (nested_makes _ o.0 o.1 o.2 o.3)
+pub read_primary-returns-in-Other : goal.read_primary-returns-in-Other
+read_primary-returns-in-Other t c = let p = next_taken c.args.reader.now (c.is_next.ensures.yes c.if-not-is_next.false) c.advance.ensures in let o = told_found _ _ _ c.in-Other.is c.operator_next.ensures in in_brackets _ _ _ p.0 plain_expr _ p.1 p.2 (reads_to_close _ _ _ _ _ plain_expr _ c.to_close-in-Other.result c.read_level-in-Other.ensures c.to_close-in-Other.ensures ends_e (nested_makes _ o.0 o.1 o.2 o.3))
 
 -- Parentheses that begin with `-`.
 
-pub read_inside-returns-in_err-whole-in-Minus : goal.read_inside-returns-in_err-whole-in-Minus
-read_inside-returns-in_err-whole-in-Minus t c = let o = told_found _ _ _ c.in-Minus.is c.operator_next.ensures in exit _ _ _ _ c.from_residual.result c.from_residual.ensures.1 (minus_whole_fails _ _ (next_of Minus _ _ _ o.here o.is.0) c.in_err-whole-in-Minus.ensures)
+pub read_primary-returns-in_err-whole-in-Minus : goal.read_primary-returns-in_err-whole-in-Minus
+read_primary-returns-in_err-whole-in-Minus t c = let p = next_taken c.args.reader.now (c.is_next.ensures.yes c.if-not-is_next.false) c.advance.ensures in let o = told_found _ _ _ c.in-Minus.is c.operator_next.ensures in in_brackets _ _ _ p.0 plain_expr c.from_residual.result p.1 p.2 (exit _ _ _ _ c.from_residual.result c.from_residual.ensures.1 (minus_whole_fails _ _ (next_of Minus _ _ _ o.here o.is.0) c.in_err-whole-in-Minus.ensures))
 
-pub read_inside-read_further-requires : goal.read_inside-read_further-requires
-read_inside-read_further-requires t c = let a = not_longer _ _ c.in_ok-whole-in-Minus.ensures in (omega (arith, a, c.decreases), tt)
+pub read_primary-read_further-requires : goal.read_primary-read_further-requires
+read_primary-read_further-requires t c = let p = next_taken c.args.reader.now (c.is_next.ensures.yes c.if-not-is_next.false) c.advance.ensures in let first = taken _ _ _ p.1 in let a = not_longer _ _ c.in_ok-whole-in-Minus.ensures in (omega (arith, first, a, c.decreases), tt)
 
-pub read_inside-returns-in-Ok : goal.read_inside-returns-in-Ok
-read_inside-returns-in-Ok t c = let o = told_found _ _ _ c.in-Minus.is c.operator_next.ensures in reads_whole _ _ _ _ _ _ (c.read_further.ensures o.token (minus_operator o.is))
+pub read_primary-returns-in-Ok : goal.read_primary-returns-in-Ok
+read_primary-returns-in-Ok t c = let p = next_taken c.args.reader.now (c.is_next.ensures.yes c.if-not-is_next.false) c.advance.ensures in let o = told_found _ _ _ c.in-Minus.is c.operator_next.ensures in in_brackets _ _ _ p.0 plain_expr _ p.1 p.2 (reads_whole _ _ _ _ _ _ (c.read_further.ensures o.token (minus_operator o.is))
     (λ x read. minus_further_read (record { read = c.in_ok-whole-in-Minus.ensures; here = o.here; word = o.is.0 }) c.in-Ok.ensures read)
-    (λ bad fails. minus_further_fails _ (record { read = c.in_ok-whole-in-Minus.ensures; here = o.here; word = o.is.0 }) c.in-Ok.ensures fails)
+    (λ bad fails. minus_further_fails _ (record { read = c.in_ok-whole-in-Minus.ensures; here = o.here; word = o.is.0 }) c.in-Ok.ensures fails))
 
-pub read_inside-returns-in-Err : goal.read_inside-returns-in-Err
-read_inside-returns-in-Err t c = let o = told_found _ _ _ c.in-Minus.is c.operator_next.ensures in reads_closed _ _ _ plain_expr _ c.to_close.ensures
+pub read_primary-returns-in-Err : goal.read_primary-returns-in-Err
+read_primary-returns-in-Err t c = let p = next_taken c.args.reader.now (c.is_next.ensures.yes c.if-not-is_next.false) c.advance.ensures in let o = told_found _ _ _ c.in-Minus.is c.operator_next.ensures in in_brackets _ _ _ p.0 plain_expr _ p.1 p.2 (reads_closed _ _ _ plain_expr _ c.to_close.ensures
     (λ read. minus_close_read (record { read = c.in_ok-whole-in-Minus.ensures; here = o.here; word = o.is.0 }) c.in-Err.ensures read)
-    (λ bad fails. minus_close_fails _ (record { read = c.in_ok-whole-in-Minus.ensures; here = o.here; word = o.is.0 }) c.in-Err.ensures fails)
+    (λ bad fails. minus_close_fails _ (record { read = c.in_ok-whole-in-Minus.ensures; here = o.here; word = o.is.0 }) c.in-Err.ensures fails))
 
 -- Measures.
 
@@ -261,23 +256,20 @@ read_unary-read_primary-requires t c = (omega (arith, c.decreases), tt)
 pub read_unary-read_primary-requires-2 : goal.read_unary-read_primary-requires-2
 read_unary-read_primary-requires-2 t c = let o = told_found _ _ _ c.in-Minus.is c.operator_next.ensures in let a = taken _ _ _ (stepped _ (o.here, o.is) c.advance.ensures).0 in (omega (arith, a, c.decreases), tt)
 
-pub read_primary-read_inside-requires : goal.read_primary-read_inside-requires
-read_primary-read_inside-requires t c = let a = taken _ _ _ (next_taken c.args.reader.now (c.is_next.ensures.yes c.if-not-is_next.false) c.advance.ensures).1 in (omega (arith, a, c.decreases), tt)
+pub read_primary-read_primary-requires : goal.read_primary-read_primary-requires
+read_primary-read_primary-requires t c = let p = next_taken c.args.reader.now (c.is_next.ensures.yes c.if-not-is_next.false) c.advance.ensures in let first = taken _ _ _ p.1 in let a = taken _ _ _ (let o = told_found _ _ _ c.in-Many.is c.operator_next.ensures in stepped _ (o.here, o.is) c.advance-in-Many.ensures).0 in (omega (arith, first, a, c.decreases), tt)
 
-pub read_inside-read_primary-requires : goal.read_inside-read_primary-requires
-read_inside-read_primary-requires t c = let a = taken _ _ _ (let o = told_found _ _ _ c.in-Many.is c.operator_next.ensures in stepped _ (o.here, o.is) c.advance.ensures).0 in (omega (arith, a, c.decreases), tt)
+pub read_primary-read_two-requires : goal.read_primary-read_two-requires
+read_primary-read_two-requires t c = let p = next_taken c.args.reader.now (c.is_next.ensures.yes c.if-not-is_next.false) c.advance.ensures in let first = taken _ _ _ p.1 in let a = taken _ _ _ (let o = told_found _ _ _ c.in-Percent.is c.operator_next.ensures in stepped _ (o.here, o.is.0) c.advance-in-Percent.ensures).0 in (omega (arith, first, a, c.decreases), tt)
 
-pub read_inside-read_two-requires : goal.read_inside-read_two-requires
-read_inside-read_two-requires t c = let a = taken _ _ _ (let o = told_found _ _ _ c.in-Percent.is c.operator_next.ensures in stepped _ (o.here, o.is.0) c.advance-in-Percent.ensures).0 in (omega (arith, a, c.decreases), tt)
+pub read_primary-read_two-requires-in-Compare : goal.read_primary-read_two-requires-in-Compare
+read_primary-read_two-requires-in-Compare t c = let p = next_taken c.args.reader.now (c.is_next.ensures.yes c.if-not-is_next.false) c.advance.ensures in let first = taken _ _ _ p.1 in let a = taken _ _ _ (let o = told_found _ _ _ c.in-Compare.is c.operator_next.ensures in stepped _ (o.here, o.is.0) c.advance-in-Compare.ensures).0 in (omega (arith, first, a, c.decreases), tt)
 
-pub read_inside-read_two-requires-in-Compare : goal.read_inside-read_two-requires-in-Compare
-read_inside-read_two-requires-in-Compare t c = let a = taken _ _ _ (let o = told_found _ _ _ c.in-Compare.is c.operator_next.ensures in stepped _ (o.here, o.is.0) c.advance-in-Compare.ensures).0 in (omega (arith, a, c.decreases), tt)
+pub read_primary-read_level-requires-in-Other : goal.read_primary-read_level-requires-in-Other
+read_primary-read_level-requires-in-Other t c = let p = next_taken c.args.reader.now (c.is_next.ensures.yes c.if-not-is_next.false) c.advance.ensures in let first = taken _ _ _ p.1 in (omega (arith, first, c.decreases), tt)
 
-pub read_inside-read_level-requires-in-Other : goal.read_inside-read_level-requires-in-Other
-read_inside-read_level-requires-in-Other t c = (omega (arith, c.decreases), tt)
-
-pub read_inside-read_level-requires : goal.read_inside-read_level-requires
-read_inside-read_level-requires t c = (omega (arith, c.decreases), tt)
+pub read_primary-read_level-requires : goal.read_primary-read_level-requires
+read_primary-read_level-requires t c = let p = next_taken c.args.reader.now (c.is_next.ensures.yes c.if-not-is_next.false) c.advance.ensures in let first = taken _ _ _ p.1 in (omega (arith, first, c.decreases), tt)
 
 pub read_further-read_primary-requires : goal.read_further-read_primary-requires
 read_further-read_primary-requires t c = (omega (arith, c.decreases), tt)

@@ -27,9 +27,6 @@ decreases-read_unary l = 20 * length (left l.reader.now) + 3
 abbrev pub decreases-read_primary : goal.decreases-read_primary
 decreases-read_primary l = 20 * length (left l.reader.now) + 1
 
-abbrev pub decreases-read_inside : goal.decreases-read_inside
-decreases-read_inside l = 20 * length (left l.reader.now) + 18
-
 abbrev pub decreases-read_further : goal.decreases-read_further
 decreases-read_further l = 20 * length (left l.reader.now) + 2
 
