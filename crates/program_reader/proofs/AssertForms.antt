@@ -1,5 +1,5 @@
 -- Of what assertions are made.
-use Rattle.std.proofs.Common.{◌≡◌, Bool, true, false, List, ◌++◌, refl, sym, ap, ◌∙◌, subst, ◌⊎◌, inl, inr}
+use Rattle.std.proofs.Common.{◌≡◌, Bool, true, false, List, ◌++◌, refl, sym, ap, ◌∙◌, subst, Result, Ok, Err, ◌⊎◌, inl, inr}
 use Rattle.model_program.specs.declared.Word.TheVariants.{Id, In, Same, Element, IsEmpty, TypeCheck, RoundOpen, RoundClose, SquareOpen}
 use Rattle.model_program.specs.Lexeme.{Lexeme}
 use Rattle.model_program.specs.Syntax.{Name}
@@ -9,11 +9,13 @@ use Rattle.read_forms.specs.Fronts.{Leaves, Made}
 use Rattle.read_forms.proofs.Fronts.{left_leaves, left_made, first_left, makes_of_made, made_makes}
 use Rattle.model_program.specs.Grammar.{IsSign, sign, IsName}
 use Rattle.read_forms.specs.Parts.{HasSample, other_than}
-use Rattle.read_forms.proofs.Forms.{Makes, sample_as, sample_pair, remade, alternative, ends_closed, starts_joined, starts_append, starts_wider, stops_other, stops_other_than, stops_both}
+use Rattle.read_forms.proofs.Forms.{Makes, as_read, as_fails, then_read, then_fails, sample_as, sample_pair, remade, alternative, ends_closed, starts_joined, starts_append, starts_wider, stops_other, stops_other_than, stops_both}
 use Rattle.read_forms.proofs.Words.{sign_starts, sample_sign, word_other}
 use Rattle.model_grammar.specs.Syntax.{Expr, X, named, literal, xs_of, Claim, equal, member, empty, type_check}
 use Rattle.model_grammar.specs.Terms.{IsX, name, AreLabels}
 use Rattle.model_grammar.specs.Grammar.{IsIn, IsA, IsB}
+use Rattle.label_reader.specs.declared.stop.Stop.{Stop}
+use Rattle.label_reader.specs.Results.{Reads}
 use Rattle.label_reader.proofs.Names.{name_starts}
 use Rattle.read_forms.proofs.Lists.{to_left, to_right}
 use Rattle.label_reader.proofs.Listed.{front_as}
@@ -57,6 +59,10 @@ relation_starts false ts (inr is) = word_other SquareOpen Element is.0 ts (λ e.
 
 pub right_makes : (tokens : List Lexeme) → Makes (IsRelation ⊗ IsX) IsRight (λ v. v) closed tokens
 right_makes tokens = remade (λ v ts spelled. spelled) (λ v ts spelled. (v, spelled, refl))
+
+-- behind a left side that is known
+pub compare_makes : (x : X) (tokens : List Lexeme) → Makes (IsRelation ⊗ IsX) (Made (related x) IsRight) (λ v. related x v) closed tokens
+compare_makes x tokens = makes_of_made (right_makes tokens) (made_makes (related x) IsRight)
 
 sample_relation : HasSample IsRelation
 sample_relation = sample_as (λ _. true) (λ _ ts spelled. spelled) (sample_sign Same)
@@ -167,6 +173,11 @@ a_open_makes tokens is_next = alternative (other_than RoundOpen) tokens (λ v ts
     back c ts (inl b) = cases c ts (b_cases c ts b)
     back c ts (inr joined) = inr ((tt, c), joined_as (sign RoundOpen) (IsB c ⌢ sign RoundClose) (IsAInside c) ts (λ l j. inr j) joined, refl)
 
+-- behind its opening parenthesis
+pub a_opened : {Y : Type 0} (tokens middle rest : List Lexeme) (view : Y → Claim) (r : Result Y Stop) → IsNext RoundOpen tokens → IsRead (IsSign RoundOpen) closed tokens tt middle → Reads IsAInside closed middle rest view r → Reads IsA closed tokens rest view r
+a_opened tokens middle rest view (Ok c) is_next opens read = as_read (a_open_makes _ is_next) (then_read (ends_closed _ _) opens read)
+a_opened tokens middle rest view (Err e) is_next opens fails = as_fails _ (a_open_makes _ is_next) (then_fails _ (ends_closed _ _) opens fails)
+
 pub a_plain_makes : (tokens : List Lexeme) → IsOther RoundOpen tokens → Makes IsB IsA (λ c. c) closed tokens
 a_plain_makes tokens is_other = alternative (λ w. w ≡ RoundOpen) tokens (λ c ts spelled. inl spelled) (λ c ts spelled. back c ts spelled) (stops_other RoundOpen tokens is_other)
   where
@@ -244,8 +255,8 @@ tree_makes tokens is_next = alternative (other_than SquareOpen) tokens (λ v ts 
     back (inl v) ts spelled = inr (v, spelled, refl)
     back (inr v) ts spelled = inl (starts_joined (other_than SquareOpen) _ _ ts (λ l j. starts_joined (other_than SquareOpen) _ _ l (relation_starts v.0) j) spelled)
 
-pub compare_makes : (tokens : List Lexeme) → IsOther SquareOpen tokens → Makes (IsRight ⊗ IsSign RoundClose) IsBehindName (λ v. inr v.0) closed tokens
-compare_makes tokens is_other = alternative (λ w. w ≡ SquareOpen) tokens (λ v ts spelled. spelled) (λ m ts spelled. back m ts spelled) (stops_other SquareOpen tokens is_other)
+pub compare_named_makes : (tokens : List Lexeme) → IsOther SquareOpen tokens → Makes (IsRight ⊗ IsSign RoundClose) IsBehindName (λ v. inr v.0) closed tokens
+compare_named_makes tokens is_other = alternative (λ w. w ≡ SquareOpen) tokens (λ v ts spelled. spelled) (λ m ts spelled. back m ts spelled) (stops_other SquareOpen tokens is_other)
   where
     back : (m : (List Expr × (List X × (Bool × X))) ⊎ (Bool × X)) (ts : List Lexeme) → IsBehindName m ts → StartsIn (λ w. w ≡ SquareOpen) ts ⊎ ((v : (Bool × X) × Unit {0}) × (IsRight ⊗ IsSign RoundClose) v ts × (m ≡ inr v.0))
     back (inl v) ts spelled = inl (starts_joined (λ w. w ≡ SquareOpen) _ _ ts (λ l j. starts_joined (λ w. w ≡ SquareOpen) _ _ l ((sign_starts SquareOpen).starts tt) j) spelled)
@@ -266,7 +277,7 @@ pub behind_makes : (n : Name) (tokens : List Lexeme) → IsOther SquareOpen toke
 behind_makes n tokens is_other = record {
   into = λ v ts spelled. let made = spelled.at_front in record { of = inr made.of; spelled = record { front = spelled.front; back = spelled.back; split = spelled.split; at_front = made.spelled; at_back = spelled.at_back }; is = made.is };
   back = λ c other after goes made stops.
-      let was = (compare_makes tokens is_other).back made.of other after goes made.spelled stops in let spelled = was.1 in
+      let was = (compare_named_makes tokens is_other).back made.of other after goes made.spelled stops in let spelled = was.1 in
       ((c, tt), record { front = spelled.front; back = spelled.back; split = spelled.split; at_front = record { of = was.0.0; spelled = spelled.at_front; is = made.is ∙ ap (λ m. named_claim n m) was.2 }; at_back = spelled.at_back }, refl);
 }
 

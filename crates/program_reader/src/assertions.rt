@@ -31,18 +31,12 @@ fn read_relation(reader: &mut Reader) -> Result<bool, Stop>
     Ok(false)
 }
 
-fn read_right(reader: &mut Reader) -> Result<(bool, X), Stop>
-    ensures { Reads IsRight closed (left reader.old) (left reader.new) (λ x. (x.0, plain_x x.1)) result }
-{
-    let equal = read_relation(reader)?;
-    kept(equal, read_x(reader))
-}
-
 /// The comparison with a left side that has been read.
 fn read_compared(reader: &mut Reader, side: X) -> Result<Claim, Stop>
     ensures { Reads (Made (related (plain_x side)) IsRight) closed (left reader.old) (left reader.new) plain_claim result }
 {
-    let (left, (equal, right)) = kept(side, read_right(reader))?;
+    let (left, equal) = kept(side, read_relation(reader))?;
+    let (left, right) = kept(left, read_x(reader))?;
     if equal {
         Ok(Claim::Equal(left, right))
     } else {
@@ -50,35 +44,21 @@ fn read_compared(reader: &mut Reader, side: X) -> Result<Claim, Stop>
     }
 }
 
-fn read_empty(reader: &mut Reader) -> Result<Claim, Stop>
-    requires { IsNext word.IsEmpty (left reader.old) }
-    ensures { Reads IsBInside closed (left reader.old) (left reader.new) plain_claim result }
-{
-    reader.advance();
-    let x = read_x(reader)?;
-    kept_if(Claim::Empty(x), reader.sign(Word::RoundClose))
-}
-
-fn read_type_check(reader: &mut Reader) -> Result<Claim, Stop>
-    requires { IsNext word.TypeCheck (left reader.old) }
-    ensures { Reads IsBInside closed (left reader.old) (left reader.new) plain_claim result }
-{
-    reader.advance();
-    let x = read_x(reader)?;
-    let two = kept(x, read_x(reader))?;
-    let ((x, y), z) = kept(two, read_x(reader))?;
-    kept_if(Claim::TypeCheck(x, y, z), reader.sign(Word::RoundClose))
-}
-
 /// What stands behind the first parenthesis of an assertion that has none of its own around it.
 fn read_b_inside(reader: &mut Reader) -> Result<Claim, Stop>
     ensures { Reads IsBInside closed (left reader.old) (left reader.new) plain_claim result }
 {
     if reader.is_next(Word::IsEmpty) {
-        return read_empty(reader);
+        reader.advance();
+        let x = read_x(reader)?;
+        return kept_if(Claim::Empty(x), reader.sign(Word::RoundClose));
     }
     if reader.is_next(Word::TypeCheck) {
-        return read_type_check(reader);
+        reader.advance();
+        let x = read_x(reader)?;
+        let two = kept(x, read_x(reader))?;
+        let ((x, y), z) = kept(two, read_x(reader))?;
+        return kept_if(Claim::TypeCheck(x, y, z), reader.sign(Word::RoundClose));
     }
     let left = read_x_inside(reader)?;
     read_compared(reader, left)
@@ -109,10 +89,13 @@ fn read_named(reader: &mut Reader) -> Result<Claim, Stop>
     to_close(read_compared(reader, X::Named(name)), reader)
 }
 
-/// What stands behind the first parenthesis of an assertion.
-fn read_a_inside(reader: &mut Reader) -> Result<Claim, Stop>
-    ensures { Reads IsAInside closed (left reader.old) (left reader.new) plain_claim result }
+pub(crate) fn read_a(reader: &mut Reader) -> Result<Claim, Stop>
+    ensures { Reads IsA closed (left reader.old) (left reader.new) plain_claim result }
 {
+    if !reader.is_next(Word::RoundOpen) {
+        return read_b(reader);
+    }
+    reader.advance();
     if reader.is_next(Word::RoundOpen) {
         return to_close(read_b(reader), reader);
     }
@@ -120,14 +103,4 @@ fn read_a_inside(reader: &mut Reader) -> Result<Claim, Stop>
         return read_named(reader);
     }
     read_b_inside(reader)
-}
-
-pub(crate) fn read_a(reader: &mut Reader) -> Result<Claim, Stop>
-    ensures { Reads IsA closed (left reader.old) (left reader.new) plain_claim result }
-{
-    if reader.is_next(Word::RoundOpen) {
-        reader.advance();
-        return read_a_inside(reader);
-    }
-    read_b(reader)
 }
