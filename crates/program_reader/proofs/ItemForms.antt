@@ -4,7 +4,7 @@ use Rattle.fast_fault.specs.declared.place.Pos.{Pos}
 use Rattle.model_program.specs.declared.Word.{Word}
 use Rattle.model_program.specs.declared.Word.TheVariants.{TypeWord, Tree, Lang, Trans, Def, AssertTrue, AssertFalse, Arrow, Assign, Colon}
 use Rattle.model_program.specs.Lexeme.{Lexeme}
-use Rattle.model_program.specs.Syntax.{Name}
+use Rattle.model_program.specs.Syntax.{Name, TypeItem}
 use Rattle.model_program.specs.Joined.{◌⌢◌, IsNext, IsOther, ◌⊗◌}
 use Rattle.read_forms.specs.Reads.{Stops, IsRead, Fails, StartsIn, closed, anything}
 use Rattle.model_program.specs.Grammar.{IsAt, IsName, Many, IsTypeItem, assert_word, sign}
@@ -147,6 +147,13 @@ item_makes tokens = remade (λ v ts spelled. into_item v.0 v.0.word v.1 ts refl 
 pub item_reads : {Y : Type 0} (t : Lexeme) (w : Word) (tokens middle rest : List Lexeme) (view : Y → Item) (r : Result Y Stop) → tokens ≡ t ∷ middle → t.word ≡ w → Reads (IsBehind w t.place) closed middle rest view r → Reads IsItem closed tokens rest view r
 item_reads t w tokens middle rest view (Ok x) here is read = as_read (item_makes _) (chained_read (λ v. ends_closed _ _) (token_read t _ _ here) (subst (λ (v : Word). IsRead (IsBehind v t.place) closed middle (view x) rest) (sym is) read))
 item_reads t w tokens middle rest view (Err e) here is fails = as_fails _ (item_makes _) (chained_fails _ (λ v. ends_closed _ _) (token_read t _ _ here) (subst (λ (v : Word). Fails (IsBehind v t.place) closed middle (bad_of e rest)) (sym is) fails))
+
+-- a type behind its first word
+pub type_read : (t : Lexeme) (tokens middle rest : List Lexeme) (v : TypeItem) → tokens ≡ t ∷ middle → t.word ≡ TypeWord → IsRead IsTypeItem closed middle v rest → IsRead IsItem closed tokens (item_at t.place (sorts v)) rest
+type_read t tokens middle rest v here is read = item_reads t TypeWord tokens middle rest (λ u. item_at t.place (sorts u)) (Ok v) here is (as_read (made_makes (λ u. item_at t.place (sorts u)) IsTypeItem) read)
+
+pub type_fails : (t : Lexeme) (tokens middle rest : List Lexeme) (e : Stop) → tokens ≡ t ∷ middle → t.word ≡ TypeWord → Fails IsTypeItem closed middle (bad_of e rest) → Fails IsItem closed tokens (bad_of e rest)
+type_fails t tokens middle rest e here is fails = item_reads {Y = TypeItem} t TypeWord tokens middle rest (λ u. item_at t.place (sorts u)) (Err e) here is (as_fails _ (made_makes (λ u. item_at t.place (sorts u)) IsTypeItem) fails)
 
 -- the words with which items begin
 abbrev pub IsItemWord : Word → Type 0

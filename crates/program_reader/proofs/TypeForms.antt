@@ -1,6 +1,6 @@
 -- Of what types are made.
 use Rattle.std.specs.Str.Parse.{digits_value}
-use Rattle.std.proofs.Common.{◌≡◌, ℤ, pos, List, [], refl, sym, ◌∙◌, ◌⊎◌, inl, inr}
+use Rattle.std.proofs.Common.{◌≡◌, ℤ, pos, List, [], refl, sym, ◌∙◌, Result, Ok, Err, ◌⊎◌, inl, inr}
 use Rattle.model_program.specs.declared.Word.{Word}
 use Rattle.model_program.specs.declared.Word.TheVariants.{Id, RoundOpen, RoundClose, SquareOpen, SquareClose, CurlyOpen, CurlyClose, Colon}
 use Rattle.model_program.specs.Lexeme.{Lexeme}
@@ -9,11 +9,13 @@ use Rattle.model_program.specs.Joined.{IsNext, IsOther, ◌⊗◌}
 use Rattle.read_forms.specs.Reads.{IsRead, StartsIn, closed}
 use Rattle.model_program.specs.Grammar.{IsWord, IsSign, sign, IsName, IsNumber, IsCtor, sort_text, IsSort, IsField, AreFields, AreFieldsOrNone, square_word, AreCtors, IsTypeItem}
 use Rattle.read_forms.specs.Parts.{Ends, HasSample, AllStartIn}
-use Rattle.read_forms.proofs.Forms.{Makes, sample_pair, sample_as, remade, stands, left_out, ends_closed, ends_starting, starts_joined, starts_next, stops_other}
+use Rattle.read_forms.proofs.Forms.{Makes, as_read, as_fails, closed_read, closed_fails, sample_pair, sample_as, remade, stands, left_out, ends_closed, ends_starting, starts_joined, starts_next, stops_other}
 use Rattle.read_forms.proofs.Words.{sample_word, sample_sign, sign_starts}
 use Rattle.read_forms.proofs.Lists.{to_left, to_right}
 use Rattle.label_reader.specs.declared.lists.Between.TheVariants.{Comma}
 use Rattle.label_reader.specs.Lists.{IsItem}
+use Rattle.label_reader.specs.declared.stop.Stop.{Stop}
+use Rattle.label_reader.specs.Results.{Reads}
 use Rattle.label_reader.proofs.Listed.{named_item, sample_some_to}
 use Rattle.label_reader.proofs.Names.{sample_name, name_starts}
 use Rattle.label_reader.proofs.Primaries.{sample_numeral}
@@ -88,6 +90,11 @@ fields_start fs ts (inr spelled) = inr (starts_joined square_word _ _ ts ((sign_
 
 pub fields_none : (tokens : List Lexeme) → IsOther SquareOpen tokens → IsRead AreFieldsOrNone square_word tokens [] tokens
 fields_none tokens is_other = left_out square_word tokens [] (inl (refl, refl)) fields_start (stops_other SquareOpen tokens is_other)
+
+-- fields that are there
+pub fields_read : {Y : Type 0} (tokens rest : List Lexeme) (view : Y → List FieldItem) (r : Result Y Stop) → IsNext SquareOpen tokens → Reads AreFields closed tokens rest view r → Reads AreFieldsOrNone square_word tokens rest view r
+fields_read tokens rest view (Ok x) is_next read = as_read (fields_make _ is_next) (closed_read read)
+fields_read tokens rest view (Err e) is_next fails = as_fails _ (fields_make _ is_next) (closed_fails _ fails)
 
 pub sample_fields : HasSample AreFieldsOrNone
 sample_fields = record { value = []; tokens = []; spelled = inl (refl, refl) }

@@ -41,16 +41,7 @@ fn read_assigned(reader: &mut Reader) -> Result<X, Stop>
     read_x(reader)
 }
 
-/// A type, behind its first word, which stands at the place.
-fn read_type_item(reader: &mut Reader, place: Pos) -> Result<Item, Stop>
-    ensures { Reads (IsBehind word.TypeWord place) closed (left reader.old) (left reader.new) plain_item result }
-{
-    let item = read_type(reader)?;
-    let body = Body::Sorts(item);
-    Ok(Item { place, body })
-}
-
-/// A tree, likewise.
+/// A tree, behind its first word, which stands at the place.
 fn read_tree_item(reader: &mut Reader, place: Pos) -> Result<Item, Stop>
     ensures { Reads (IsBehind word.Tree place) closed (left reader.old) (left reader.new) plain_item result }
 {
@@ -134,7 +125,12 @@ fn read_item(reader: &mut Reader) -> Result<Item, Stop>
     let before = *reader;
     reader.advance();
     match first.word {
-        Word::TypeWord => read_type_item(reader, first.place),
+        Word::TypeWord => {
+            let item = read_type(reader)?;
+            let place = first.place;
+            let body = Body::Sorts(item);
+            Ok(Item { place, body })
+        }
         Word::Tree => read_tree_item(reader, first.place),
         Word::Lang => read_lang_item(reader, first.place),
         Word::Trans => read_trans_item(reader, first.place),

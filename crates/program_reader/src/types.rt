@@ -1,11 +1,11 @@
 //! Types of trees. A sort has its name with a capital, however it is written.
 
-ghost use Rattle.std.specs.Prelude.{◌≡◌, map};
+ghost use Rattle.std.specs.Prelude.{◌≡◌};
 ghost use Rattle.std.specs.Str.{chars};
 ghost use Rattle.read_forms.specs.Reads.{closed};
-ghost use Rattle.model_program.specs.Grammar.{IsSort, AreFieldsOrNone, IsTypeItem, square_word, sort_text};
+ghost use Rattle.model_program.specs.Grammar.{IsSort, IsTypeItem, sort_text};
 ghost use Rattle.label_reader.specs.Results.{left, Reads};
-ghost use Rattle.fast_syntax.specs.View.{plain_name, plain_field, plain_type};
+ghost use Rattle.fast_syntax.specs.View.{plain_name, plain_type};
 
 use crate::names::read_name_to;
 use fast_lex::Word;
@@ -29,7 +29,10 @@ fn sort_name<'t>(text: &'t str) -> &'t str
 fn read_sort(reader: &mut Reader) -> Result<Name, Stop>
     ensures { Reads IsSort closed (left reader.old) (left reader.new) plain_name result }
 {
-    let id = reader.word(Word::Id)?;
+    let Some(id) = reader.peek_if(Word::Id) else {
+        return Err(Stop::Wrong);
+    };
+    reader.advance();
     let text = Text::of(reader.alloc, sort_name(id.text))?;
     let place = id.place;
     Ok(Name { text, place })
@@ -59,15 +62,6 @@ impl Items for Fields {
         let (name, sort) = kept(name, read_sort(reader))?;
         Ok(FieldItem { name, sort })
     }
-}
-
-fn read_fields_or_none(reader: &mut Reader) -> Result<Vec<FieldItem>, Stop>
-    ensures { Reads AreFieldsOrNone square_word (left reader.old) (left reader.new) (λ x. map plain_field x.items) result }
-{
-    if !reader.is_next(Word::SquareOpen) {
-        return Ok(Vec::new(reader.alloc));
-    }
-    read_any::<Fields>(reader, Word::SquareOpen, Between::Comma, Word::SquareClose)
 }
 
 /// The constructors of a type.
@@ -100,7 +94,12 @@ pub(crate) fn read_type(reader: &mut Reader) -> Result<TypeItem, Stop>
     ensures { Reads IsTypeItem closed (left reader.old) (left reader.new) plain_type result }
 {
     let name = reader.name()?;
-    let head = kept(name, read_fields_or_none(reader))?;
+    let fields = if reader.is_next(Word::SquareOpen) {
+        read_any::<Fields>(reader, Word::SquareOpen, Between::Comma, Word::SquareClose)
+    } else {
+        Ok(Vec::new(reader.alloc))
+    };
+    let head = kept(name, fields)?;
     let ctors = read_some::<Ctors>(reader, Word::CurlyOpen, Between::Comma, Word::CurlyClose);
     let ((name, fields), ctors) = kept(head, ctors)?;
     Ok(TypeItem {

@@ -1,13 +1,17 @@
 use Rattle.model_program.specs.declared.Word.TheVariants as word
+use Rattle.label_reader.proofs.Exits.{exit}
 use Rattle.program_reader.proofs.Steps.{token_taken}
-use Rattle.program_reader.proofs.ItemForms.{item_reads, item_refused, no_item_word, stops_at_end, stops_at_first}
+use Rattle.program_reader.proofs.ItemForms.{item_reads, type_read, type_fails, item_refused, no_item_word, stops_at_end, stops_at_first}
 use Rattle.program_reader.proofs.items.read_item.Goals as goal
 
 pub returns-in_default : goal.returns-in_default
 returns-in_default c = item_refused _ (stops_at_end _ c.in_default.ensures)
 
-pub returns-in-TypeWord : goal.returns-in-TypeWord
-returns-in-TypeWord c = item_reads _ word.TypeWord _ _ _ _ c.read_type_item.result (token_taken c.in-Some.ensures c.advance.ensures) c.in-TypeWord.is c.read_type_item.ensures
+pub returns-in_err-item-in-TypeWord : goal.returns-in_err-item-in-TypeWord
+returns-in_err-item-in-TypeWord c = exit _ _ _ _ c.from_residual.result c.from_residual.ensures.1 (type_fails _ _ _ _ _ (token_taken c.in-Some.ensures c.advance.ensures) c.in-TypeWord.is c.in_err-item-in-TypeWord.ensures)
+
+pub returns-in_ok-item-in-TypeWord : goal.returns-in_ok-item-in-TypeWord
+returns-in_ok-item-in-TypeWord c = type_read _ _ _ _ _ (token_taken c.in-Some.ensures c.advance.ensures) c.in-TypeWord.is c.in_ok-item-in-TypeWord.ensures
 
 pub returns-in-Tree : goal.returns-in-Tree
 returns-in-Tree c = item_reads _ word.Tree _ _ _ _ c.read_tree_item.result (token_taken c.in-Some.ensures c.advance.ensures) c.in-Tree.is c.read_tree_item.ensures
