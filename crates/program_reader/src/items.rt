@@ -3,13 +3,12 @@
 ghost use Rattle.std.specs.Prelude.{◌≡◌, [], List, IfOk};
 ghost use Rattle.read_forms.specs.Reads.{closed, anything};
 ghost use Rattle.model_program.specs.declared.Word.TheVariants as word;
-ghost use Rattle.model_grammar.specs.Grammar.{IsInto, IsItem, IsProgram};
+ghost use Rattle.model_grammar.specs.Grammar.{IsItem, IsProgram};
 ghost use Rattle.model_grammar.specs.Wrong.{IsFirstWrong};
 ghost use Rattle.model_grammar.specs.Syntax as plain;
 ghost use Rattle.fast_syntax.specs.View.{plain_name};
-ghost use Rattle.fast_syntax.specs.Plain.{plain_x, plain_into, plain_item, plain_program};
+ghost use Rattle.fast_syntax.specs.Plain.{plain_x, plain_item, plain_program};
 ghost use Rattle.label_reader.specs.Results.{lexemes, left, Reads, IfWrong};
-ghost use Rattle.program_reader.specs.Goings.{arrow_word};
 ghost use Rattle.program_reader.specs.Items.{IsTyped, IsAssigned, IsAsserted, IsBehind};
 
 use crate::assertions::read_a;
@@ -79,24 +78,17 @@ fn read_trans_item(reader: &mut Reader, place: Pos) -> Result<Item, Stop>
     Ok(Item { place, body })
 }
 
-/// An output type, where there is one.
-fn read_into(reader: &mut Reader) -> Result<Option<Name>, Stop>
-    ensures { Reads IsInto arrow_word (left reader.old) (left reader.new) plain_into result }
-{
-    if !reader.is_next(Word::Arrow) {
-        return Ok(None);
-    }
-    reader.advance();
-    let into = reader.name()?;
-    Ok(Some(into))
-}
-
-/// A definition, behind its first word, which stands at the place.
+/// A definition, likewise. It has an output type, or none.
 fn read_def_item(reader: &mut Reader, place: Pos) -> Result<Item, Stop>
     ensures { Reads (IsBehind word.Def place) closed (left reader.old) (left reader.new) plain_item result }
 {
     let names = read_typed(reader)?;
-    let head = kept(names, read_into(reader))?;
+    let head = if reader.is_next(Word::Arrow) {
+        let (names, into) = kept(names, read_name_behind(reader, Word::Arrow))?;
+        (names, Some(into))
+    } else {
+        (names, None)
+    };
     let (((name, from), into), value) = kept(head, read_assigned(reader))?;
     let body = Body::Def(DefItem {
         name,

@@ -3,16 +3,13 @@
 ghost use Rattle.std.specs.Prelude.{map};
 ghost use Rattle.read_forms.specs.Reads.{closed};
 ghost use Rattle.model_program.specs.Grammar.{IsDemand, IsGiven};
-ghost use Rattle.model_grammar.specs.Grammar.{IsGuard};
 ghost use Rattle.fast_syntax.specs.View.{plain_demand};
-ghost use Rattle.fast_syntax.specs.Plain.{plain_guard};
 ghost use Rattle.label_reader.specs.Results.{left, Reads};
-ghost use Rattle.program_reader.specs.Goings.{guard_words, given_words};
+ghost use Rattle.program_reader.specs.Goings.{given_words};
 
 use crate::names::{read_name_behind, read_name_to};
 use crate::outputs::read_out;
 use fast_lex::Word;
-use fast_syntax::expressions::Expr;
 use fast_syntax::items::{OutRule, Rule};
 use fast_syntax::{Demand, Name};
 use label_reader::{Between, Items, Reader, Stop, kept, kept_if, pushed, read_any, read_level};
@@ -48,17 +45,6 @@ impl Items for Variables {
     fn read_item(reader: &mut Reader) -> Result<Name, Stop> {
         reader.name()
     }
-}
-
-fn read_guard(reader: &mut Reader) -> Result<Option<Expr>, Stop>
-    ensures { Reads IsGuard guard_words (left reader.old) (left reader.new) plain_guard result }
-{
-    if !reader.is_next(Word::Where) {
-        return Ok(None);
-    }
-    reader.advance();
-    let guard = read_level(reader, Level::E)?;
-    Ok(Some(guard))
 }
 
 fn read_given(reader: &mut Reader) -> Result<Vec<Demand>, Stop>
@@ -100,7 +86,13 @@ impl Items for Rules {
         let ctor = reader.name()?;
         let vars = read_any::<Variables>(reader, Word::RoundOpen, Between::Comma, Word::RoundClose);
         let head = kept(ctor, vars)?;
-        let guarded = kept(head, read_guard(reader))?;
+        let guarded = if reader.is_next(Word::Where) {
+            reader.advance();
+            let (head, guard) = kept(head, read_level(reader, Level::E))?;
+            (head, Some(guard))
+        } else {
+            (head, None)
+        };
         let (((ctor, vars), guard), given) = kept(guarded, read_given(reader))?;
         Ok(Rule {
             ctor,
