@@ -112,14 +112,14 @@ pub begins_behind : {p q : X → List Lexeme → Type 0} (tokens middle rest : L
 begins_behind tokens middle rest (Ok begun) leaves failed more = left_leaves leaves more
 begins_behind tokens middle rest (Err e) leaves failed fails = failed _ fails
 
--- the same of a node that is known
-pub grown_begins : {node given : Open} (x : X) (tokens rest : List Lexeme) (r : Result Begun Stop) → node ≡ given → Begins (IsGrown given x) tokens rest r → Begins (IsGrown node x) tokens rest r
-grown_begins {node} {given} x tokens rest r is_node begun = subst (λ (n : Open). Begins (IsGrown n x) tokens rest r) (sym is_node) begun
+-- of a node that is known nothing but its closing parenthesis is left
+pub one_closes : {node : Open} {op : Op1} {place : Pos} {x b : X} (fact : (X → List Lexeme → Type 0) → Type 0) → node ≡ One op place → one op place x ≡ b → fact (Closes b) → fact (IsGrown node x)
+one_closes {x = x} fact is_node same known = subst (λ (n : Open). fact (IsGrown n x)) (sym is_node) (subst (λ (y : X). fact (Closes y)) (sym same) known)
 
--- and of a value
-pub closes_as : {a b : X} (tokens rest : List Lexeme) (r : Result Begun Stop) → a ≡ b → Begins (Closes a) tokens rest r → Begins (Closes b) tokens rest r
-closes_as tokens rest r same begun = subst (λ (x : X). Begins (Closes x) tokens rest r) same begun
+pub two_closes : {node : Open} {op : Op2} {place : Pos} {first : code.X} {x b : X} (fact : (X → List Lexeme → Type 0) → Type 0) → node ≡ Second op place first → two op place (plain_x first) x ≡ b → fact (Closes b) → fact (IsGrown node x)
+two_closes {x = x} fact is_node same known = subst (λ (n : Open). fact (IsGrown n x)) (sym is_node) (subst (λ (y : X). fact (Closes y)) (sym same) known)
 
+-- and of any other, what is left of it
 pub grown_as : {node given : Open} (x : X) {left : X → List Lexeme → Type 0} {tokens rest : List Lexeme} → node ≡ given → Leaves (IsGrown given x) left closed tokens rest → Leaves (IsGrown node x) left closed tokens rest
 grown_as x {left} {tokens} {rest} is_node leaves = subst (λ (n : Open). Leaves (IsGrown n x) left closed tokens rest) (sym is_node) leaves
 

@@ -11,7 +11,7 @@ ghost use Rattle.fast_syntax.specs.View.{plain_name};
 ghost use Rattle.fast_syntax.specs.Plain.{plain_expr, plain_x};
 ghost use Rattle.label_reader.specs.Results.{left, Reads};
 ghost use Rattle.program_reader.specs.Nodes.{IsXInside, AreXsToClose};
-ghost use Rattle.program_reader.specs.Growing.{Closes, IsRow, IsGrown, IsLeft, Begins};
+ghost use Rattle.program_reader.specs.Growing.{IsRow, IsGrown, IsLeft, Begins};
 
 use crate::labels::read_labels;
 use crate::operations::{Front, front_next};
@@ -117,14 +117,6 @@ fn begin_child(reader: &mut Reader, name: Name, labels: Vec<Expr>, children: Vec
     Begun::Part(Open::Inner(name, labels, children))
 }
 
-/// The closing parenthesis of a node whose children have been read.
-fn close(reader: &mut Reader, x: X) -> Result<Begun, Stop>
-    ensures { Begins (Closes (plain_x x)) (left reader.old) (left reader.new) result }
-{
-    let x = kept_if(x, reader.sign(Word::RoundClose))?;
-    Ok(Begun::Whole(x))
-}
-
 /// The operation on two expressions.
 fn on_two(alloc: Global, op: Op2, place: Pos, first: X, second: X) -> Result<X, Memory>
     ensures { IfOk result (λ x. plain_x x ≡ two op place (plain_x first) (plain_x second)) }
@@ -138,22 +130,21 @@ fn on_two(alloc: Global, op: Op2, place: Pos, first: X, second: X) -> Result<X, 
 fn resume_x(reader: &mut Reader, node: Open, x: X) -> Result<Begun, Stop>
     ensures { Begins (IsGrown node (plain_x x)) (left reader.old) (left reader.new) result }
 {
-    match node {
+    let whole = match node {
         Open::One(op, place) => {
             let x = Box::new(reader.alloc, x)?;
-            close(reader, X::One(op, place, x))
+            X::One(op, place, x)
         }
-        Open::First(op, place) => Ok(Begun::Part(Open::Second(op, place, x))),
-        Open::Second(op, place, first) => {
-            let both = on_two(reader.alloc, op, place, first, x)?;
-            close(reader, both)
-        }
+        Open::First(op, place) => return Ok(Begun::Part(Open::Second(op, place, x))),
+        Open::Second(op, place, first) => on_two(reader.alloc, op, place, first, x)?,
         Open::Inner(name, labels, children) => {
             let mut all = children;
             all.push(x)?;
-            Ok(begin_child(reader, name, labels, all))
+            return Ok(begin_child(reader, name, labels, all));
         }
-    }
+    };
+    let whole = kept_if(whole, reader.sign(Word::RoundClose))?;
+    Ok(Begun::Whole(whole))
 }
 
 /// The children of a tree.
