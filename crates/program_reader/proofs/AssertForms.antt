@@ -1,5 +1,6 @@
 -- Of what assertions are made.
 use Rattle.std.proofs.Common.{◌≡◌, Bool, true, false, List, ◌++◌, refl, sym, ap, ◌∙◌, subst, Result, Ok, Err, ◌⊎◌, inl, inr}
+use Rattle.model_program.specs.declared.Word.{Word}
 use Rattle.model_program.specs.declared.Word.TheVariants.{Id, In, Same, Element, IsEmpty, TypeCheck, RoundOpen, RoundClose, SquareOpen}
 use Rattle.model_program.specs.Lexeme.{Lexeme}
 use Rattle.model_program.specs.Syntax.{Name}
@@ -51,6 +52,10 @@ element_makes tokens no_same no_in = alternative (λ w. (w ≡ Same) ⊎ (w ≡ 
     back true ts is = inl (starts_wider (λ w. w ≡ Same) (λ w. (w ≡ Same) ⊎ (w ≡ In)) ts (λ w a. inl a) ((sign_starts Same).starts tt ts is))
     back false ts (inl is) = inl (starts_wider (λ w. w ≡ In) (λ w. (w ≡ Same) ⊎ (w ≡ In)) ts (λ w a. inr a) ((sign_starts In).starts tt ts is))
     back false ts (inr is) = inr (tt, is, refl)
+
+-- which of the signs is to be read is known, and so is what it says
+pub relation_known : {sign_word given : Word} {b known : Bool} {tokens : List Lexeme} → sign_word ≡ given → b ≡ known → Makes (IsSign given) IsRelation (λ _. known) closed tokens → Makes (IsSign sign_word) IsRelation (λ _. b) closed tokens
+relation_known {sign_word} {given} {b} {known} {tokens} is_sign is_known makes = subst (λ (w : Word). Makes (IsSign w) IsRelation (λ _. b) closed tokens) (sym is_sign) (subst (λ (a : Bool). Makes (IsSign given) IsRelation (λ _. a) closed tokens) (sym is_known) makes)
 
 relation_starts : (b : Bool) (ts : List Lexeme) → IsRelation b ts → StartsIn (other_than SquareOpen) ts
 relation_starts true ts is = word_other SquareOpen Same is.0 ts (λ e. cc) is.1

@@ -7,7 +7,7 @@ ghost use Rattle.read_forms.specs.Fronts.{Made};
 ghost use Rattle.model_grammar.specs.Grammar.{IsA, IsB};
 ghost use Rattle.fast_syntax.specs.Plain.{plain_x, plain_claim};
 ghost use Rattle.label_reader.specs.Results.{left, Reads};
-ghost use Rattle.program_reader.specs.Assertions.{IsRelation, IsRight, IsBInside, IsAInside, related};
+ghost use Rattle.program_reader.specs.Assertions.{IsRight, IsBInside, IsAInside, related};
 
 use crate::labels::read_labels;
 use crate::terms::{read_x, read_x_inside, read_xs};
@@ -15,27 +15,19 @@ use fast_lex::Word;
 use fast_syntax::items::{Claim, X};
 use label_reader::{Reader, Stop, kept, kept_if, to_close};
 
-/// `==`, for which it answers true, or `in`.
-fn read_relation(reader: &mut Reader) -> Result<bool, Stop>
-    ensures { Reads IsRelation closed (left reader.old) (left reader.new) (λ equal. equal) result }
-{
-    if reader.is_next(Word::Same) {
-        reader.advance();
-        return Ok(true);
-    }
-    if reader.is_next(Word::In) {
-        reader.advance();
-        return Ok(false);
-    }
-    reader.sign(Word::Element)?;
-    Ok(false)
-}
-
 /// The comparison with a left side that has been read.
 fn read_compared(reader: &mut Reader, side: X) -> Result<Claim, Stop>
     ensures { Reads (Made (related (plain_x side)) IsRight) closed (left reader.old) (left reader.new) plain_claim result }
 {
-    let (left, equal) = kept(side, read_relation(reader))?;
+    let equal = reader.is_next(Word::Same);
+    let sign = if equal {
+        Word::Same
+    } else if reader.is_next(Word::In) {
+        Word::In
+    } else {
+        Word::Element
+    };
+    let left = kept_if(side, reader.sign(sign))?;
     let (left, right) = kept(left, read_x(reader))?;
     if equal {
         Ok(Claim::Equal(left, right))
