@@ -3,9 +3,9 @@
 ghost use Rattle.std.specs.Prelude.{◌≡◌};
 ghost use Rattle.std.specs.Str.{chars};
 ghost use Rattle.read_forms.specs.Reads.{closed};
-ghost use Rattle.model_program.specs.Grammar.{IsSort, IsTypeItem, sort_text};
+ghost use Rattle.model_program.specs.Grammar.{IsTypeItem, sort_text};
 ghost use Rattle.label_reader.specs.Results.{left, Reads};
-ghost use Rattle.fast_syntax.specs.View.{plain_name, plain_type};
+ghost use Rattle.fast_syntax.specs.View.{plain_type};
 
 use crate::names::read_name_to;
 use fast_lex::Word;
@@ -24,18 +24,6 @@ fn sort_name<'t>(text: &'t str) -> &'t str
         "string" => "String",
         _ => text,
     }
-}
-
-fn read_sort(reader: &mut Reader) -> Result<Name, Stop>
-    ensures { Reads IsSort closed (left reader.old) (left reader.new) plain_name result }
-{
-    let Some(id) = reader.peek_if(Word::Id) else {
-        return Err(Stop::Wrong);
-    };
-    reader.advance();
-    let text = Text::of(reader.alloc, sort_name(id.text))?;
-    let place = id.place;
-    Ok(Name { text, place })
 }
 
 /// The fields of the labels of a type.
@@ -59,7 +47,13 @@ impl Items for Fields {
 
     fn read_item(reader: &mut Reader) -> Result<FieldItem, Stop> {
         let name = read_name_to(reader, Word::Colon)?;
-        let (name, sort) = kept(name, read_sort(reader))?;
+        let Some(id) = reader.peek_if(Word::Id) else {
+            return Err(Stop::Wrong);
+        };
+        reader.advance();
+        let (name, text) = kept(name, Text::of(reader.alloc, sort_name(id.text)))?;
+        let place = id.place;
+        let sort = Name { text, place };
         Ok(FieldItem { name, sort })
     }
 }
