@@ -123,6 +123,11 @@ b_open_makes tokens is_next = alternative (other_than RoundOpen) tokens (λ v ts
     back b ts (inl starts) = inl starts
     back b ts (inr spelled) = inr ((tt, b), spelled, refl)
 
+-- behind its opening parenthesis
+pub b_open_reads : {Y : Type 0} (tokens middle rest : List Lexeme) (view : Y → Claim) (r : Result Y Stop) → IsNext RoundOpen tokens → IsRead (IsSign RoundOpen) closed tokens tt middle → Reads IsBInside closed middle rest view r → Reads IsB closed tokens rest view r
+b_open_reads tokens middle rest view (Ok c) is_next opens read = as_read (b_open_makes _ is_next) (then_read (ends_closed _ _) opens read)
+b_open_reads tokens middle rest view (Err e) is_next opens fails = as_fails _ (b_open_makes _ is_next) (then_fails _ (ends_closed _ _) opens fails)
+
 abbrev pub empty_parts : Unit {0} × (X × Unit {0}) → List Lexeme → Type 0
 empty_parts = IsSign IsEmpty ⊗ (IsX ⊗ IsSign RoundClose)
 
@@ -179,9 +184,9 @@ a_open_makes tokens is_next = alternative (other_than RoundOpen) tokens (λ v ts
     back c ts (inr joined) = inr ((tt, c), joined_as (sign RoundOpen) (IsB c ⌢ sign RoundClose) (IsAInside c) ts (λ l j. inr j) joined, refl)
 
 -- behind its opening parenthesis
-pub a_opened : {Y : Type 0} (tokens middle rest : List Lexeme) (view : Y → Claim) (r : Result Y Stop) → IsNext RoundOpen tokens → IsRead (IsSign RoundOpen) closed tokens tt middle → Reads IsAInside closed middle rest view r → Reads IsA closed tokens rest view r
-a_opened tokens middle rest view (Ok c) is_next opens read = as_read (a_open_makes _ is_next) (then_read (ends_closed _ _) opens read)
-a_opened tokens middle rest view (Err e) is_next opens fails = as_fails _ (a_open_makes _ is_next) (then_fails _ (ends_closed _ _) opens fails)
+pub a_open_reads : {Y : Type 0} (tokens middle rest : List Lexeme) (view : Y → Claim) (r : Result Y Stop) → IsNext RoundOpen tokens → IsRead (IsSign RoundOpen) closed tokens tt middle → Reads IsAInside closed middle rest view r → Reads IsA closed tokens rest view r
+a_open_reads tokens middle rest view (Ok c) is_next opens read = as_read (a_open_makes _ is_next) (then_read (ends_closed _ _) opens read)
+a_open_reads tokens middle rest view (Err e) is_next opens fails = as_fails _ (a_open_makes _ is_next) (then_fails _ (ends_closed _ _) opens fails)
 
 pub a_plain_makes : (tokens : List Lexeme) → IsOther RoundOpen tokens → Makes IsB IsA (λ c. c) closed tokens
 a_plain_makes tokens is_other = alternative (λ w. w ≡ RoundOpen) tokens (λ c ts spelled. inl spelled) (λ c ts spelled. back c ts spelled) (stops_other RoundOpen tokens is_other)

@@ -4,7 +4,7 @@ ghost use Rattle.model_program.specs.declared.Word.TheVariants as word;
 ghost use Rattle.model_program.specs.Joined.{IsNext};
 ghost use Rattle.read_forms.specs.Reads.{closed};
 ghost use Rattle.read_forms.specs.Fronts.{Made};
-ghost use Rattle.model_grammar.specs.Grammar.{IsA, IsB};
+ghost use Rattle.model_grammar.specs.Grammar.{IsA};
 ghost use Rattle.fast_syntax.specs.Plain.{plain_x, plain_claim};
 ghost use Rattle.label_reader.specs.Results.{left, Reads};
 ghost use Rattle.program_reader.specs.Assertions.{IsRight, IsBInside, IsAInside, related};
@@ -56,17 +56,6 @@ fn read_b_inside(reader: &mut Reader) -> Result<Claim, Stop>
     read_compared(reader, left)
 }
 
-fn read_b(reader: &mut Reader) -> Result<Claim, Stop>
-    ensures { Reads IsB closed (left reader.old) (left reader.new) plain_claim result }
-{
-    if reader.is_next(Word::RoundOpen) {
-        reader.advance();
-        return read_b_inside(reader);
-    }
-    let left = read_x(reader)?;
-    read_compared(reader, left)
-}
-
 /// Behind a parenthesis and a name either a tree goes on, or a comparison in parentheses.
 fn read_named(reader: &mut Reader) -> Result<Claim, Stop>
     requires { IsNext word.Id (left reader.old) }
@@ -85,11 +74,13 @@ pub(crate) fn read_a(reader: &mut Reader) -> Result<Claim, Stop>
     ensures { Reads IsA closed (left reader.old) (left reader.new) plain_claim result }
 {
     if !reader.is_next(Word::RoundOpen) {
-        return read_b(reader);
+        let left = read_x(reader)?;
+        return read_compared(reader, left);
     }
     reader.advance();
     if reader.is_next(Word::RoundOpen) {
-        return to_close(read_b(reader), reader);
+        reader.advance();
+        return to_close(read_b_inside(reader), reader);
     }
     if reader.is_next(Word::Id) {
         return read_named(reader);
