@@ -4,14 +4,25 @@ use mir.Val.{to_z, of_z}
 use Rattle.std.proofs.Math.IntN.{◌-ℤ◌}
 use Rattle.std.proofs.lemmas.Int.{to_z-of_z, ints}
 use Rattle.model_grammar.specs.Expressions.{negative}
-use Rattle.std.proofs.Common.{◌≡◌, ℕ, zero, suc, ℤ, pos, FitsSigned, ◌+◌, ◌*◌, ◌^◌, ◌<◌, ◌≤◌, List, [], ◌∷◌, length, refl, sym, ap, ◌∙◌, subst, add-one, arith}
-use Rattle.std.specs.Char.{digit_value}
+use Rattle.std.proofs.Common.{◌≡◌, ℕ, zero, suc, ℤ, pos, FitsSigned, ◌+◌, ◌*◌, ◌^◌, ◌<◌, ◌≤◌, List, [], ◌∷◌, ◌++◌, length, refl, sym, ap, ◌∙◌, subst, add-one, arith}
+use Rattle.std.specs.Char.{digit_value, encode_utf8}
+use Rattle.std.specs.Str.{IsUtf8, chars}
+use Rattle.std.proofs.lemmas.Str.{IsUtf8-past_char, chars_past_char}
 use Rattle.std.specs.Str.Parse.{AllDigits, digits_value, digits_value_after}
 use Rattle.std.proofs.Math.Nat.{pow-suc, pow-succ', pow-le-pow_right, mul-le-mul_right, mul_assoc}
 use Rattle.model_program.specs.Lexeme.{Lexeme}
 use Rattle.read_forms.specs.Reads.{IsRead, closed}
 use Rattle.model_program.specs.Grammar.{IsDigits, IsNumber}
 use Rattle.model_grammar.proofs.Constants.{digits_small}
+
+-- the first character of a text is taken
+pub char_taken : (before after : List ℕ) (c : ℕ) → IsUtf8 before → before ≡ encode_utf8 c ++ after → IsUtf8 after × (chars before ≡ c ∷ chars after)
+char_taken before after c text e = (IsUtf8-past_char before after c text e, chars_past_char before after c text e)
+
+pub chars_ended : (bs : List ℕ) → length bs ≡ 0 → chars bs ≡ []
+unfolding chars
+chars_ended [] ended = refl
+chars_ended (b ∷ bs) ended = absurd (omega (arith, ended))
 
 -- so many of the characters are digits, and write the value; the rest are left
 pub record IsCounting (all rest : List ℕ) (value count : ℕ) : Type 0 where
@@ -21,6 +32,9 @@ pub record IsCounting (all rest : List ℕ) (value count : ℕ) : Type 0 where
   pub back : AllDigits 10 all → AllDigits 10 rest
   pub below : value < 10 ^ count
   pub few : count ≤ 38
+
+pub left_smaller : (before rest : List ℕ) (c : ℕ) → before ≡ c ∷ rest → length rest < length before
+left_smaller before rest c here = let e : length before ≡ length (c ∷ rest) = ap length here in omega arith
 
 pub counting_starts : (all : List ℕ) → IsCounting all all 0 0
 counting_starts all = record { same = refl; counted = omega arith; into = λ h. h; back = λ h. h; below = omega arith; few = omega arith }

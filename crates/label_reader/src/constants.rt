@@ -1,6 +1,6 @@
 //! Numbers and texts: each is read with the value that it stands for, and a number with more than 38 digits is refused.
 
-ghost use Rattle.std.specs.Prelude.{◌≡◌, ◌∷◌, [], MatchOption, pos, ◌<◌, ◌^◌, Some, None};
+ghost use Rattle.std.specs.Prelude.{◌≡◌, MatchOption, pos, ◌<◌, ◌^◌, Some, None};
 ghost use Rattle.std.specs.Str.{chars};
 ghost use Rattle.std.specs.Str.Parse.{digits_value};
 ghost use Rattle.read_forms.specs.Reads.{closed};
@@ -14,30 +14,20 @@ use fast_fault::Pos;
 use fast_lex::{Word, is_quoted, quoted_value};
 use fast_syntax::Text;
 
-/// The first character, and what follows it.
-fn next_char<'t>(text: &'t str) -> Option<(char, &'t str)>
-    ensures { MatchOption result (chars text.now ≡ []) (λ x. chars text.now ≡ x.0 ∷ chars x.1.now) }
-{
-    let mut chars = text.chars();
-    let first = chars.next()?;
-    Some((first, chars.as_str()))
-}
-
 /// The number that the text writes, where it is 1 to 38 digits.
 fn number_of(text: &str) -> Option<i128>
     ensures { MatchOption result (¬ (IsDigits (chars text.now))) (λ n. IsDigits (chars text.now) × (n ≡ pos (digits_value 10 (chars text.now))) × (digits_value 10 (chars text.now) < 10 ^ 38)) }
 {
     let mut value = 0u128;
     let mut count = 0u32;
-    let mut rest = text;
-    'digits: while let Some((first, others)) = next_char(rest) {
+    let mut rest = text.chars();
+    'digits: while let Some(first) = rest.next() {
         if count == 38 {
             return None;
         }
         let digit = first.to_digit(10)?;
         value = value * 10 + u128::from(digit);
         count += 1;
-        rest = others;
     }
     if count == 0 {
         return None;

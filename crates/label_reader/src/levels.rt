@@ -234,27 +234,22 @@ fn unsigned(whole: Expr, before: &Reader, rest: &Reader) -> Result<Expr, Expr>
     let Expr { place, node } = whole;
     match node {
         Node::Minus(operand) => Ok(Box::into_inner(operand)),
-        Node::Num(number) => match numeral_behind(before) {
-            Some((place, number)) => Ok(Expr {
-                place,
-                node: Node::Num(number),
-            }),
-            None => Err(Expr {
-                place,
-                node: Node::Num(number),
-            }),
-        },
+        Node::Num(number) => {
+            let mut behind = *before;
+            behind.advance();
+            match numeral_next(&behind) {
+                Some((place, number)) => Ok(Expr {
+                    place,
+                    node: Node::Num(number),
+                }),
+                None => Err(Expr {
+                    place,
+                    node: Node::Num(number),
+                }),
+            }
+        }
         other => Err(Expr { place, node: other }),
     }
-}
-
-/// The number behind the next token, and its place.
-fn numeral_behind(before: &Reader) -> Option<(Pos, i128)>
-    ensures { MatchOption result (NoNumeral (behind before.now)) (λ x. IsNumeralNext (behind before.now) x.0 x.1) }
-{
-    let mut at_number = *before;
-    at_number.advance();
-    numeral_next(&at_number)
 }
 
 /// The operands behind the first one, and the closing parenthesis.

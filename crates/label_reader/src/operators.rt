@@ -1,7 +1,6 @@
 //! Operators: whether one comes next, and which one, exactly as the grammar has them.
 
 ghost use Rattle.std.specs.Prelude.{◌≡◌, true, false, MatchOption};
-ghost use Rattle.model_grammar.specs.Operators.{IsSignOf, is_marking};
 ghost use Rattle.model_grammar.specs.Expressions.{operand};
 ghost use Rattle.read_forms.specs.Reads.{Stops};
 ghost use Rattle.model_grammar.specs.declared.Level.TheVariants.{Prim};
@@ -10,7 +9,7 @@ ghost use Rattle.label_reader.specs.Levels.{BeginsAt, NoSign};
 ghost use Rattle.label_reader.specs.Found.{IsFoundNext, IsSigned};
 ghost use Rattle.label_reader.specs.Inside.{StartsPrimary};
 
-use crate::reader::{Reader, is_same};
+use crate::reader::Reader;
 use fast_fault::Pos;
 use fast_lex::Word;
 use model_grammar::{Chain, Level, Rel};
@@ -34,35 +33,23 @@ pub(crate) fn operand(kind: Chain) -> Level
     }
 }
 
-/// Whether the operand behind the sign is subtracted, or the remainder by it is taken.
-fn is_marking(sign: Word) -> bool
-    ensures { result ≡ is_marking sign }
-{
-    matches!(sign, Word::Minus | Word::Percent)
-}
-
-fn is_sign_of(kind: Chain, word: Word) -> bool
-    ensures yes { result ≡ true → IsSignOf kind word }
-    ensures no { result ≡ false → IsSignOf kind word → ⊥ }
-{
-    match kind {
-        Chain::Disjunction => is_same(word, Word::Or),
-        Chain::Conjunction => is_same(word, Word::And),
-        Chain::Sum => is_same(word, Word::Plus) || is_same(word, Word::Minus),
-        Chain::Product => is_same(word, Word::Star) || is_same(word, Word::Percent),
-    }
-}
-
 /// Where the next token is a sign between operands of the chain: its place, and whether it marks the operand behind it.
 pub(crate) fn sign_next(reader: &Reader, kind: Chain) -> Option<(Pos, bool)>
     ensures { MatchOption result (NoSign kind (left reader.now)) (λ x. IsSigned kind (left reader.now) (behind reader.now) x.0 x.1) }
 {
-    match reader.peek() {
-        Some(token) if is_sign_of(kind, token.word) => {
-            Some((token.place, is_marking(token.word)))
-        }
-        _ => None,
-    }
+    let Some(token) = reader.peek() else {
+        return None;
+    };
+    let mark = match (kind, token.word) {
+        (Chain::Disjunction, Word::Or) => false,
+        (Chain::Conjunction, Word::And) => false,
+        (Chain::Sum, Word::Plus) => false,
+        (Chain::Sum, Word::Minus) => true,
+        (Chain::Product, Word::Star) => false,
+        (Chain::Product, Word::Percent) => true,
+        _ => return None,
+    };
+    Some((token.place, mark))
 }
 
 /// The operator that comes next, and its place.

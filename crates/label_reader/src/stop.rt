@@ -13,7 +13,7 @@ pub enum Stop {
 }
 
 /// Why the tokens as a whole weren't read: the first wrong one, by the number of the tokens before it, or want of memory.
-#[derive(Debug, Drop)]
+#[derive(Drop)]
 pub enum ReadTokensStop {
     Wrong(usize),
     Memory,
