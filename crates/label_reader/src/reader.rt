@@ -4,7 +4,7 @@
 ghost use Rattle.std.specs.Prelude.{◌≡◌, ◌∷◌, [], true, false, length, MatchOption};
 ghost use Rattle.model_program.specs.Joined.{IsNext, IsOther};
 ghost use Rattle.read_forms.specs.Reads.{closed};
-ghost use Rattle.model_program.specs.Grammar.{IsWord, IsSign, IsName};
+ghost use Rattle.model_program.specs.Grammar.{IsSign, IsName};
 ghost use Rattle.fast_lex.specs.Tokens.{lexeme};
 ghost use Rattle.label_reader.specs.Results.{lexemes, left, behind, Reads};
 ghost use Rattle.fast_syntax.specs.View.{plain_name};
@@ -94,31 +94,25 @@ impl<'t> Reader<'t> {
         }
     }
 
-    pub fn word(&mut self, word: Word) -> Result<Token<'t>, Stop>
-        ensures { Reads (IsWord word) closed (left self.old) (left self.new) lexeme result }
-    {
-        let Some(token) = self.peek_if(word) else {
-            return Err(Stop::Wrong);
-        };
-        self.advance();
-        Ok(token)
-    }
-
     pub fn sign(&mut self, word: Word) -> Result<(), Stop>
         ensures { Reads (IsSign word) closed (left self.old) (left self.new) (λ _. tt) result }
     {
-        self.word(word)?;
+        if !self.is_next(word) {
+            return Err(Stop::Wrong);
+        }
+        self.advance();
         Ok(())
     }
 
     pub fn name(&mut self) -> Result<Name, Stop>
         ensures { Reads IsName closed (left self.old) (left self.new) plain_name result }
     {
-        let id = self.word(Word::Id)?;
+        let Some(id) = self.peek_if(Word::Id) else {
+            return Err(Stop::Wrong);
+        };
+        self.advance();
         let text = Text::of(self.alloc, id.text)?;
-        Ok(Name {
-            text,
-            place: id.place,
-        })
+        let place = id.place;
+        Ok(Name { text, place })
     }
 }

@@ -33,7 +33,10 @@ fn open_tree(reader: &mut Reader) -> Result<OpenTree, Stop>
     ensures opens { Opens (left reader.old) (left reader.new) result }
     ensures shorter { IfOk result (λ _. length (left reader.new) < length (left reader.old)) }
 {
-    let left = reader.word(Word::RoundOpen)?;
+    let Some(left) = reader.peek_if(Word::RoundOpen) else {
+        return Err(Stop::Wrong);
+    };
+    reader.advance();
     let name = reader.name()?;
     let (name, labels) = kept(name, read_constants(reader))?;
     let (place, children) = (left.place, Vec::new(reader.alloc));
