@@ -10,10 +10,10 @@ ghost use Rattle.label_reader.specs.Results.{left, Reads};
 ghost use Rattle.program_reader.specs.Assertions.{IsRight, IsBInside, IsAInside, related};
 
 use crate::labels::read_labels;
-use crate::terms::{read_x, read_x_inside, read_xs};
+use crate::terms::{Children, read_x, read_x_inside};
 use fast_lex::Word;
 use fast_syntax::items::{Claim, X};
-use label_reader::{Reader, Stop, kept, kept_if, to_close};
+use label_reader::{Between, Reader, Stop, kept, kept_if, read_to, to_close};
 
 /// The comparison with a left side that has been read.
 fn read_compared(reader: &mut Reader, side: X) -> Result<Claim, Stop>
@@ -64,7 +64,8 @@ fn read_named(reader: &mut Reader) -> Result<Claim, Stop>
     let name = reader.name()?;
     if reader.is_next(Word::SquareOpen) {
         let head = kept(name, read_labels(reader))?;
-        let ((name, labels), children) = kept(head, read_xs(reader))?;
+        let children = read_to::<Children>(reader, Between::Nothing, Word::RoundClose);
+        let ((name, labels), children) = kept(head, children)?;
         return read_compared(reader, X::Literal(name, labels, children));
     }
     to_close(read_compared(reader, X::Named(name)), reader)

@@ -1,7 +1,7 @@
 //! Operations: whether a word is one, and which one, exactly as the grammar has them.
 
 ghost use Rattle.label_reader.specs.Results.{left, behind};
-ghost use Rattle.program_reader.specs.Operations.{IsFrontOf, IsFront};
+ghost use Rattle.program_reader.specs.Operations.{IsFront};
 
 use fast_lex::Word;
 use fast_syntax::{Op1, Op2, Pos};
@@ -15,10 +15,15 @@ pub(crate) enum Front {
     Tree,
 }
 
-fn front_of(word: Word, place: Pos) -> Front
-    ensures { IsFrontOf word place result }
+/// What comes next, behind an opening parenthesis.
+pub(crate) fn front_next(reader: &Reader) -> Front
+    ensures { IsFront (left reader.now) (behind reader.now) result }
 {
-    match word {
+    let Some(token) = reader.peek() else {
+        return Front::Tree;
+    };
+    let place = token.place;
+    match token.word {
         Word::Complement => Front::One(Op1::Complement, place),
         Word::Minimize => Front::One(Op1::Minimize, place),
         Word::Domain => Front::One(Op1::Domain, place),
@@ -32,15 +37,5 @@ fn front_of(word: Word, place: Pos) -> Front
         Word::RestrictOut => Front::Two(Op2::RestrictOut, place),
         Word::Apply => Front::Two(Op2::Apply, place),
         _ => Front::Tree,
-    }
-}
-
-/// What comes next, behind an opening parenthesis.
-pub(crate) fn front_next(reader: &Reader) -> Front
-    ensures { IsFront (left reader.now) (behind reader.now) result }
-{
-    match reader.peek() {
-        Some(token) => front_of(token.word, token.place),
-        None => Front::Tree,
     }
 }

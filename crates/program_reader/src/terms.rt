@@ -10,7 +10,7 @@ ghost use Rattle.model_grammar.specs.Terms.{IsX};
 ghost use Rattle.fast_syntax.specs.View.{plain_name};
 ghost use Rattle.fast_syntax.specs.Plain.{plain_expr, plain_x};
 ghost use Rattle.label_reader.specs.Results.{left, Reads};
-ghost use Rattle.program_reader.specs.Nodes.{IsXInside, AreXsToClose};
+ghost use Rattle.program_reader.specs.Nodes.{IsXInside};
 ghost use Rattle.program_reader.specs.Growing.{IsRow, IsGrown, IsLeft, Begins};
 
 use crate::labels::read_labels;
@@ -20,7 +20,7 @@ use fast_lex::Word;
 use fast_syntax::expressions::Expr;
 use fast_syntax::items::X;
 use fast_syntax::{Name, Op1, Op2, Pos};
-use label_reader::{Between, Items, Reader, Stop, kept, kept_if, read_to};
+use label_reader::{Items, Reader, Stop, kept, kept_if};
 use std::alloc::Global;
 
 /// A node whose next child is to be read, and what stands before that child.
@@ -148,7 +148,7 @@ fn resume_x(reader: &mut Reader, node: Open, x: X) -> Result<Begun, Stop>
 }
 
 /// The children of a tree.
-struct Children;
+pub(crate) struct Children;
 
 impl Items for Children {
     ghost use Rattle.model_grammar.specs.Syntax as plain;
@@ -169,11 +169,4 @@ impl Items for Children {
     fn read_item(reader: &mut Reader) -> Result<X, Stop> {
         read_x(reader)
     }
-}
-
-/// The children of a tree, and the closing parenthesis.
-pub(crate) fn read_xs(reader: &mut Reader) -> Result<Vec<X>, Stop>
-    ensures { Reads AreXsToClose closed (left reader.old) (left reader.new) (λ x. map plain_x x.items) result }
-{
-    read_to::<Children>(reader, Between::Nothing, Word::RoundClose)
 }
