@@ -4,6 +4,7 @@ ghost use Rattle.std.specs.Prelude.{◌≡◌, IfOk};
 ghost use Rattle.label_core.specs.Formula.{plain_formula, joined};
 
 use crate::formula::{DEEPEST, Formula, joined, negation};
+use crate::made::added;
 use fast_fault::Memory;
 use std::alloc::Global;
 
@@ -53,7 +54,7 @@ fn copy_each<A: Duplicate + Drop>(
 {
     let mut copies = Vec::new(alloc);
     for part in parts {
-        copies.push(part.copy_within(alloc, most)?)?;
+        added(&mut copies, part.copy_within(alloc, most))?;
     }
     Ok(joined(every, copies))
 }

@@ -7,6 +7,7 @@
 mod copies;
 mod formula;
 mod labels;
+mod made;
 mod pair;
 mod puts;
 mod same;
@@ -15,6 +16,7 @@ mod theory;
 pub use copies::Duplicate;
 pub use formula::{DEEPEST, Formula, conjunction, disjunction, negation};
 pub use labels::{Applied, Labels, Put, PutMap};
+pub use made::{added, both};
 pub use pair::{Pair, PairAtom, PairChain, PairValue};
 pub use puts::put_formula;
 pub use theory::{Lit, Theory, Verdict};

@@ -1,11 +1,11 @@
 //! Two theories side by side: a label has a part of each.
 
-ghost use Rattle.std.specs.Prelude.{◌≡◌, IfOk};
-ghost use Rattle.label_core.specs.Lit.{LitsFit};
-ghost use Rattle.label_core.specs.Pair.{OfAtom, left_lits, right_lits, pair_meaning};
+ghost use Rattle.std.specs.Prelude.{◌≡◌, ◌++◌, ◌∷◌, [], IfOk, OnOk};
+ghost use Rattle.label_core.specs.Pair.{left_lits, right_lits, pair_meaning};
 ghost use Rattle.label_core.specs.Verdict.{DecidesAll};
 
 use crate::copies::Duplicate;
+use crate::made::both;
 use crate::theory::{Lit, Theory, Verdict};
 use fast_fault::Memory;
 use std::alloc::Global;
@@ -57,75 +57,38 @@ impl<A, B> Pair<A, B> {
     }
 }
 
-/// The literals that speak of the left part.
-fn left_literals<P: Duplicate + Drop, Q>(
+/// Puts a copy of the atom, with the sign, behind the literals.
+fn add_literal<P: Duplicate + Drop>(
     alloc: Global,
-    literals: &[Lit<PairAtom<P, Q>>],
-) -> Result<Vec<Lit<P>>, Memory>
-    ensures { IfOk result (λ lefts. lefts.items ≡ left_lits literals.now) }
+    atom: &P,
+    sign: bool,
+    literals: &mut Vec<Lit<P>>,
+) -> Result<(), Memory>
+    ensures { OnOk result (literals.new.items ≡ literals.old.items ++ record { atom = atom.now; sign = sign } ∷ []) }
 {
-    let mut lefts = Vec::new(alloc);
-    for literal in literals {
-        match &literal.atom {
-            PairAtom::Left(inner) => {
-                let atom = inner.duplicate(alloc)?;
-                let sign = literal.sign;
-                lefts.push(Lit { atom, sign })?;
-            }
-            PairAtom::Right(_) => {}
-        }
-    }
-    Ok(lefts)
+    let atom = atom.duplicate(alloc)?;
+    Ok(literals.push(Lit { atom, sign })?)
 }
 
-/// The literals that speak of the right part.
-fn right_literals<P, Q: Duplicate + Drop>(
+/// The literals that speak of the left part, and those that speak of the right part.
+fn parted<P: Duplicate + Drop, Q: Duplicate + Drop>(
     alloc: Global,
     literals: &[Lit<PairAtom<P, Q>>],
-) -> Result<Vec<Lit<Q>>, Memory>
-    ensures { IfOk result (λ rights. rights.items ≡ right_lits literals.now) }
+) -> Result<(Vec<Lit<P>>, Vec<Lit<Q>>), Memory>
+    ensures { IfOk result (λ parted. (parted.0.items ≡ left_lits literals.now) × (parted.1.items ≡ right_lits literals.now)) }
 {
+    let mut lefts = Vec::new(alloc);
     let mut rights = Vec::new(alloc);
     for literal in literals {
         match &literal.atom {
-            PairAtom::Right(inner) => {
-                let atom = inner.duplicate(alloc)?;
-                let sign = literal.sign;
-                rights.push(Lit { atom, sign })?;
-            }
-            PairAtom::Left(_) => {}
+            PairAtom::Left(inner) => add_literal(alloc, inner, literal.sign, &mut lefts)?,
+            PairAtom::Right(inner) => add_literal(alloc, inner, literal.sign, &mut rights)?,
         }
     }
-    Ok(rights)
+    Ok((lefts, rights))
 }
 
 impl<A: Theory, B: Theory> Pair<A, B> {
-    /// The verdict on what the literals say of the left part.
-    fn decide_left(
-        &self,
-        alloc: Global,
-        literals: &[Lit<PairAtom<A::Atom, B::Atom>>],
-    ) -> Result<Verdict<A::Value, A::Chain>, Memory>
-        requires { LitsFit (OfAtom (A.atom_fits self.now.left) (B.atom_fits self.now.right)) literals.now }
-        ensures { IfOk result (DecidesAll (A.meaning self.now.left) (left_lits literals.now)) }
-    {
-        let lefts = left_literals(alloc, literals)?;
-        self.left.decide(alloc, &lefts)
-    }
-
-    /// The verdict on what the literals say of the right part.
-    fn decide_right(
-        &self,
-        alloc: Global,
-        literals: &[Lit<PairAtom<A::Atom, B::Atom>>],
-    ) -> Result<Verdict<B::Value, B::Chain>, Memory>
-        requires { LitsFit (OfAtom (A.atom_fits self.now.left) (B.atom_fits self.now.right)) literals.now }
-        ensures { IfOk result (DecidesAll (B.meaning self.now.right) (right_lits literals.now)) }
-    {
-        let rights = right_literals(alloc, literals)?;
-        self.right.decide(alloc, &rights)
-    }
-
     /// The verdict on the literals, from those on what they say of the two parts.
     fn joined(
         &self,
@@ -203,8 +166,11 @@ impl<A: Theory, B: Theory> Theory for Pair<A, B> {
         alloc: Global,
         literals: &[Lit<PairAtom<A::Atom, B::Atom>>],
     ) -> Result<Verdict<PairValue<A::Value, B::Value>, PairChain<A::Chain, B::Chain>>, Memory> {
-        let left = self.decide_left(alloc, literals)?;
-        let right = self.decide_right(alloc, literals)?;
+        let (lefts, rights) = parted(alloc, literals)?;
+        let (left, right) = both(
+            self.left.decide(alloc, &lefts),
+            self.right.decide(alloc, &rights),
+        )?;
         Ok(self.joined(literals, left, right))
     }
 

@@ -13,7 +13,8 @@ copies::copy_each-copy_within-requires g t c κs within =
 
 pub copies::copy_each-loop-part-preserved : goal.copies::copy_each-loop-part-preserved
 copies::copy_each-loop-part-preserved g t c =
-    made_more plain_formula plain_formula c.args.parts.now c.loop-part.part-index c.part-item.result c.loop-part-test.true c.part-item.is c.loop-part.copies.items c.push.new.self.items c.in_ok-copy_within.field-0 c.in_ok-push.ensures.items c.loop-part.invariant (c.in_ok-copy_within.ensures {u = tt})
+    let (copy, made, pushed) = c.in_ok-added.ensures {u = tt} in
+    made_more plain_formula plain_formula c.args.parts.now c.loop-part.part-index c.part-item.result c.loop-part-test.true c.part-item.is c.loop-part.copies.items c.added.new.list.items copy pushed c.loop-part.invariant (subst (λ r. IfOk r (λ f. plain_formula f ≡ plain_formula c.part-item.result)) made c.copy_within.ensures)
 
 pub copies::copy_each-returns : goal.copies::copy_each-returns
 copies::copy_each-returns g t c =
