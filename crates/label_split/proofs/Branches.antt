@@ -11,7 +11,7 @@ use Rattle.label_core.specs.declared.theory.Verdict.TheVariants.{Sat, Unsat, Wid
 use Rattle.label_split.specs.Known.{known_at, truth_at, Agrees, Follows, Forces}
 use Rattle.label_split.specs.Numbers.{truths_at}
 use Rattle.label_split.specs.declared.known.Known.{Known}
-use Rattle.label_split.specs.Search.{branch_lists, with_both_signs, Answers, Covers, IsFollowed, IsLeft, IsNearer, IsTaken, Looks, MayFollow}
+use Rattle.label_split.specs.Search.{branch_lists, with_both_signs, Answers, Covers, IsFollowed, IsLeft, IsLooked, IsNearer, IsTaken, Looks, MayFollow}
 use Rattle.label_split.specs.declared.search.Look.{Look}
 use Rattle.label_split.specs.declared.search.Look.TheVariants.{Found, Closed, TooWide, Again, Turn}
 use Rattle.label_split.specs.Weights.{count_open, open_weight, weight}
@@ -146,12 +146,12 @@ module _ {A V W : Type 0} {label_of : V → Label} {holds : A → Label → Bool
   abbrev At : Label → Type 0
   At l = P (truths_at holds atoms l)
 
-  pub may_follow : (old known : List (Option Bool)) (look : Look V W) → Looks M atoms At old known look → MayFollow known look
+  pub may_follow : (old known : List (Option Bool)) (look : Look V W) → IsLooked M atoms P old known look → MayFollow known look
   may_follow old known (Found v) h = tt
   may_follow old known Closed h = tt
   may_follow old known (TooWide w) h = tt
   may_follow old known (Again n a) h = tt
-  may_follow old known (Turn n a s) h = h.0
+  may_follow old known (Turn n a s) h = h.looks.0
 
   module _ (all xs : List (List (Option Bool))) (old known : List (Option Bool)) (e : all ≡ xs ++ old ∷ []) (many : All (λ k. length k ≡ length atoms) all) (f : Forces P old known) where
     was : weight all ≡ weight xs + open_weight old
@@ -208,11 +208,11 @@ module _ {A V W : Type 0} {label_of : V → Label} {holds : A → Label → Bool
 
   -- where a look may have failed
   pub taken_after : {E F : Type 0} (all xs : List (List (Option Bool))) (old known : List (Option Bool)) → all ≡ xs ++ old ∷ [] → All (λ k. length k ≡ length atoms) all
-      → (look : Result (Look V W) E) → OnOk look (Forces P old known) → IfOk look (Looks M atoms At old known) → (new : List (List (Option Bool))) (result : Result (Verdict V W) F)
+      → (look : Result (Look V W) E) → IfOk look (IsLooked M atoms P old known) → (new : List (List (Option Bool))) (result : Result (Verdict V W) F)
       → IfOk result (λ verdict. MatchResult look (λ found. IsFollowed known xs new found verdict) (λ _. ⊥)) → IfOk result (IsTaken M atoms At all new)
-  taken_after all xs old known e many look f h new (Err stop) is = is
-  taken_after all xs old known e many (Err stop) f h new (Ok verdict) is = absurd is
-  taken_after all xs old known e many (Ok found) f h new (Ok verdict) is = taken all xs old known e many f new found h verdict is
+  taken_after all xs old known e many look h new (Err stop) is = is
+  taken_after all xs old known e many (Err stop) h new (Ok verdict) is = absurd is
+  taken_after all xs old known e many (Ok found) h new (Ok verdict) is = taken all xs old known e many h.forces new found h.looks verdict is
 
 -- what a search has left after such a turn
 module _ {A V W : Type 0} {label_of : V → Label} {holds : A → Label → Bool} (M : Meaning label_of holds W) (kept : (l : Label) → M.keeps l → M.has l) (atoms : List A) (P : List Bool → Type 0) where

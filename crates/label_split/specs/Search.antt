@@ -8,7 +8,7 @@ use Rattle.label_core.specs.Verdict.{Decides, OnlyFar}
 use Rattle.label_core.specs.declared.formula.Formula.{Formula}
 use Rattle.label_core.specs.declared.theory.Verdict.{Verdict}
 use Rattle.label_core.specs.declared.theory.Verdict.TheVariants.{Sat, Unsat, Wide}
-use Rattle.label_split.specs.Known.{known_at, Follows}
+use Rattle.label_split.specs.Known.{known_at, Follows, Forces}
 use Rattle.label_split.specs.Numbers.{truths_at, HaveSigns}
 use Rattle.label_split.specs.Signs.{atoms_in_each}
 use Rattle.label_split.specs.Weights.{weight}
@@ -63,6 +63,11 @@ module _ {A V W : Type 0} {label_of : V → Label} {holds : A → Label → Bool
         pub less : weight new < weight old
         pub many : All (λ k. length k ≡ length atoms) new
         pub answers : Answers (λ l. Covers old (truths_at holds atoms l)) (λ l. Covers new (truths_at holds atoms l)) verdict
+
+    -- what is found in a branch, of whose atoms more is known then
+    pub record IsLooked (signs : List Bool → Type 0) (old known : List (Option Bool)) (look : Look V W) : Type 0 where
+      pub forces : Forces signs old known
+      pub looks : Looks (λ l. signs (truths_at holds atoms l)) old known look
 
 -- a branch for each sign of the atom, the given one last
 abbrev pub with_both_signs : List (List (Option Bool)) → List (Option Bool) → ℕ → Bool → List (List (Option Bool))

@@ -6,10 +6,9 @@ ghost use Rattle.std.specs.Prelude.{◌≡◌, ◌<◌, Bool, false, List, None,
 ghost use Rattle.model_tree.specs.Formula.{formula_holds};
 ghost use Rattle.label_core.specs.Formula.{joined};
 ghost use Rattle.label_core.specs.Meaning.{KeepsValue};
-ghost use Rattle.label_core.specs.declared.theory.Verdict.TheVariants.{Sat, Wide};
 ghost use Rattle.label_split.specs.Known.{Forces, Follows, known_at, truth_at, holds_at, settled};
 ghost use Rattle.label_split.specs.Numbers.{truths_at, AreAsked, HaveSigns, IsUnsettled, IsWrong};
-ghost use Rattle.label_split.specs.Search.{branch_lists, with_both_signs, DecidesKnown, DecidesSigns, IsFollowed, IsNearer, IsNext, IsTaken, Looks, MayFollow};
+ghost use Rattle.label_split.specs.Search.{branch_lists, with_both_signs, DecidesKnown, DecidesSigns, IsFollowed, IsLooked, IsNearer, IsNext, IsTaken, MayFollow};
 
 use crate::force::force;
 use crate::known::{Known, open_atom, settled};
@@ -190,58 +189,8 @@ fn decide_known<T: Theory>(
     theory.decide(alloc, &literals)
 }
 
-/// What is found where a value's label has what is known.
-fn look_at_value<T: Theory>(
-    theory: &T,
-    atoms: &[T::Atom],
-    asked: &Asked,
-    value: T::Value,
-    known: &mut Known,
-) -> Look<T::Value, T::Chain>
-    requires asked { AreAsked (length known.old.signs.items) asked.now.formulas.now asked.now.signs.now }
-    requires many { length known.old.signs.items ≡ length atoms.now }
-    requires fit { All (T.atom_fits theory.now) atoms.now }
-    requires value { DecidesKnown (T.meaning theory.now) atoms.now known.old.signs.items (Sat value) }
-    ensures forces { Forces (HaveSigns asked.now.formulas.now asked.now.signs.now) known.old.signs.items known.new.signs.items }
-    ensures looks { Looks (T.meaning theory.now) atoms.now (λ l. HaveSigns asked.now.formulas.now asked.now.signs.now (truths_at T.atom_holds atoms.now l)) known.old.signs.items known.new.signs.items result }
-{
-    let number = match wrong(theory, atoms, asked, &value) {
-        None => return Look::Found(value),
-        Some(number) => number,
-    };
-    match open_after(asked, number, known) {
-        None => Look::Closed,
-        Some(atom) => {
-            let sign = !theory.holds(&atoms[atom], &value);
-            go_on(number, atom, sign, known)
-        }
-    }
-}
-
-/// What is found where what is known is too wide to decide.
-fn look_at_chain<T: Theory>(
-    _theory: &T,
-    _atoms: &[T::Atom],
-    asked: &Asked,
-    chain: T::Chain,
-    known: &mut Known,
-) -> Look<T::Value, T::Chain>
-    requires asked { AreAsked (length known.old.signs.items) asked.now.formulas.now asked.now.signs.now }
-    requires chain { DecidesKnown (T.meaning _theory.now) _atoms.now known.old.signs.items (Wide chain) }
-    ensures forces { Forces (HaveSigns asked.now.formulas.now asked.now.signs.now) known.old.signs.items known.new.signs.items }
-    ensures looks { Looks (T.meaning _theory.now) _atoms.now (λ l. HaveSigns asked.now.formulas.now asked.now.signs.now (truths_at T.atom_holds _atoms.now l)) known.old.signs.items known.new.signs.items result }
-{
-    let number = match unsettled(asked, known) {
-        None => return Look::TooWide(chain),
-        Some(number) => number,
-    };
-    match open_after(asked, number, known) {
-        None => Look::Closed,
-        Some(atom) => go_on(number, atom, true, known),
-    }
-}
-
-/// What is found in a branch.
+/// What is found in a branch. A formula that has another sign at the value's label says more of atoms, or one that isn't
+/// settled where what is known is too wide to decide.
 fn look_at<T: Theory>(
     theory: &T,
     alloc: Global,
@@ -253,16 +202,30 @@ fn look_at<T: Theory>(
     requires asked { AreAsked (length known.old.signs.items) asked.now.formulas.now asked.now.signs.now }
     requires many { length known.old.signs.items ≡ length atoms.now }
     requires fit { All (T.atom_fits theory.now) atoms.now }
-    ensures forces { OnOk result (Forces (HaveSigns asked.now.formulas.now asked.now.signs.now) known.old.signs.items known.new.signs.items) }
-    ensures looks { IfOk result (Looks (T.meaning theory.now) atoms.now (λ l. HaveSigns asked.now.formulas.now asked.now.signs.now (truths_at T.atom_holds atoms.now l)) known.old.signs.items known.new.signs.items) }
+    ensures { IfOk result (IsLooked (T.meaning theory.now) atoms.now (HaveSigns asked.now.formulas.now asked.now.signs.now) known.old.signs.items known.new.signs.items) }
 {
     if !take_signs(asked, active, known) {
         return Ok(Look::Closed);
     }
     match decide_known(theory, alloc, atoms, known)? {
         Verdict::Unsat => Ok(Look::Closed),
-        Verdict::Sat(value) => Ok(look_at_value(theory, atoms, asked, value, known)),
-        Verdict::Wide(chain) => Ok(look_at_chain(theory, atoms, asked, chain, known)),
+        Verdict::Sat(value) => match wrong(theory, atoms, asked, &value) {
+            None => Ok(Look::Found(value)),
+            Some(number) => match open_after(asked, number, known) {
+                None => Ok(Look::Closed),
+                Some(atom) => {
+                    let sign = !theory.holds(&atoms[atom], &value);
+                    Ok(go_on(number, atom, sign, known))
+                }
+            }
+        }
+        Verdict::Wide(chain) => match unsettled(asked, known) {
+            None => Ok(Look::TooWide(chain)),
+            Some(number) => match open_after(asked, number, known) {
+                None => Ok(Look::Closed),
+                Some(atom) => Ok(go_on(number, atom, true, known)),
+            }
+        }
     }
 }
 

@@ -1,6 +1,6 @@
 use Rattle.std.proofs.Common.{◌≡◌, All, length, refl, sym, subst}
-use Rattle.label_split.specs.Numbers.{truths_at, AreAsked, HaveSigns}
-use Rattle.label_split.specs.Search.{branch_lists, Looks, MayFollow}
+use Rattle.label_split.specs.Numbers.{AreAsked, HaveSigns}
+use Rattle.label_split.specs.Search.{branch_lists, IsLooked, MayFollow}
 use Rattle.label_split.proofs.Branches.{many_last, may_follow, pushed, taken_after}
 use Rattle.label_split.proofs.Verdicts.{ok_as}
 use Rattle.label_split.proofs.search.take_branch.Goals as goal
@@ -23,11 +23,11 @@ pub follow-requires : goal.follow-requires
 follow-requires g c =
     let M = g.T.Theory.meaning c.args.theory.now in
     let P = HaveSigns c.args.asked.now.formulas.now c.args.asked.now.signs.now in
-    ok_as (Looks M c.args.atoms.now (λ l. P (truths_at g.T.Theory.atom_holds c.args.atoms.now l)) c.in-Some.known.signs.items c.look_at-look.new.known.signs.items) (MayFollow c.look_at-look.new.known.signs.items)
-    (may_follow M c.args.atoms.now P c.in-Some.known.signs.items c.look_at-look.new.known.signs.items) c.look_at-look.result c.look_at-look.ensures.looks
+    ok_as (IsLooked M c.args.atoms.now P c.in-Some.known.signs.items c.look_at-look.new.known.signs.items) (MayFollow c.look_at-look.new.known.signs.items)
+    (may_follow M c.args.atoms.now P c.in-Some.known.signs.items c.look_at-look.new.known.signs.items) c.look_at-look.result c.look_at-look.ensures
 
 pub returns-in-Some : goal.returns-in-Some
 returns-in-Some g c =
     let before = pushed c.pop.new.self.items c.args.branches.now.items c.in-Some.known c.in-Some.known.signs.items c.in-Some.ensures.items refl in
     taken_after (g.T.Theory.meaning c.args.theory.now) c.args.atoms.now (HaveSigns c.args.asked.now.formulas.now c.args.asked.now.signs.now) (branch_lists c.args.branches.now.items) (branch_lists c.pop.new.self.items) c.in-Some.known.signs.items c.look_at-look.new.known.signs.items before c.requires.many
-    c.look_at-look.result c.look_at-look.ensures.forces c.look_at-look.ensures.looks (branch_lists c.follow.new.branches.items) c.follow.result c.follow.ensures
+    c.look_at-look.result c.look_at-look.ensures (branch_lists c.follow.new.branches.items) c.follow.result c.follow.ensures
