@@ -92,11 +92,14 @@ pub pushed_two : (old mid new : List Known) (v w : Known) (x y : List (Option Bo
 pushed_two old mid new v w x y d e is at = pushed mid new w y e at ∙ ap (λ xs. xs ++ y ∷ []) (pushed old mid v x d is)
 
 -- of the branches so many atoms
-pub many_last : (n : ℕ) (xs : List (List (Option Bool))) (x : List (Option Bool)) → All (λ k. length k ≡ n) (xs ++ x ∷ []) → All (λ k. length k ≡ n) xs × (length x ≡ n)
+many_last : (n : ℕ) (xs : List (List (Option Bool))) (x : List (Option Bool)) → All (λ k. length k ≡ n) (xs ++ x ∷ []) → All (λ k. length k ≡ n) xs × (length x ≡ n)
 many_last n [] x h = (All-nil (λ k. length k ≡ n), h 0 x (omega arith))
 many_last n (y ∷ ys) x h =
     let rest = many_last n ys x (λ k d b. h (suc k) d (omega (arith, b))) in
     (All-cons (λ k. length k ≡ n) y ys (h 0 y (omega arith)) rest.0, rest.1)
+
+pub last_many : (n : ℕ) (all rest : List Known) (one : Known) → all ≡ rest ++ one ∷ [] → All (λ k. length k ≡ n) (branch_lists all) → length one.signs.items ≡ n
+last_many n all rest one e many = (many_last n (branch_lists rest) one.signs.items (subst (All (λ k. length k ≡ n)) (pushed rest all one one.signs.items e refl) many)).1
 
 pub many_more : (n : ℕ) (xs : List (List (Option Bool))) (x : List (Option Bool)) → All (λ k. length k ≡ n) xs → length x ≡ n → All (λ k. length k ≡ n) (xs ++ x ∷ [])
 many_more n xs x h e = All-append (λ k. length k ≡ n) xs (x ∷ []) h (All-cons (λ k. length k ≡ n) x [] e (All-nil (λ k. length k ≡ n)))
@@ -206,13 +209,12 @@ module _ {A V W : Type 0} {label_of : V → Label} {holds : A → Label → Bool
     taken new (Again n k) h verdict is = same_taken new (xs ++ known ∷ []) verdict Unsat is (taken_again n k h)
     taken new (Turn n k sign) h verdict is = same_taken new (with_both_signs xs known k sign) verdict Unsat is (taken_turn n k sign h)
 
-  -- where a look may have failed
-  pub taken_after : {E F : Type 0} (all xs : List (List (Option Bool))) (old known : List (Option Bool)) → all ≡ xs ++ old ∷ [] → All (λ k. length k ≡ length atoms) all
-      → (look : Result (Look V W) E) → IfOk look (IsLooked M atoms P old known) → (new : List (List (Option Bool))) (result : Result (Verdict V W) F)
-      → IfOk result (λ verdict. MatchResult look (λ found. IsFollowed known xs new found verdict) (λ _. ⊥)) → IfOk result (IsTaken M atoms At all new)
-  taken_after all xs old known e many look h new (Err stop) is = is
-  taken_after all xs old known e many (Err stop) h new (Ok verdict) is = absurd is
-  taken_after all xs old known e many (Ok found) h new (Ok verdict) is = taken all xs old known e many h.forces new found h.looks verdict is
+  -- the same in lists of branches, where a look may have failed
+  pub turned : {E : Type 0} (all rest : List Known) (one : Known) (known : List (Option Bool)) → all ≡ rest ++ one ∷ [] → All (λ k. length k ≡ length atoms) (branch_lists all)
+      → (look : Result (Look V W) E) → IfOk look (IsLooked M atoms P one.signs.items known) → (new : List Known) (verdict : Verdict V W)
+      → MatchResult look (λ found. IsFollowed known (branch_lists rest) (branch_lists new) found verdict) (λ _. ⊥) → IsTaken M atoms At (branch_lists all) (branch_lists new) verdict
+  turned all rest one known e many (Err stop) h new verdict is = absurd is
+  turned all rest one known e many (Ok found) h new verdict is = taken (branch_lists all) (branch_lists rest) one.signs.items known (pushed rest all one one.signs.items e refl) many h.forces (branch_lists new) found h.looks verdict is
 
 -- what a search has left after such a turn
 module _ {A V W : Type 0} {label_of : V → Label} {holds : A → Label → Bool} (M : Meaning label_of holds W) (kept : (l : Label) → M.keeps l → M.has l) (atoms : List A) (P : List Bool → Type 0) where
@@ -256,9 +258,6 @@ covers_all n lists e truths = subst (λ xs. Covers xs truths) (sym e) (inl (λ i
 pub many_in_one : (n : ℕ) (lists : List (List (Option Bool))) → lists ≡ replicate n None ∷ [] → All (λ k. length k ≡ n) lists
 many_in_one n lists e = subst (All (λ k. length k ≡ n)) (sym e) (All-cons (λ k. length k ≡ n) (replicate n None) [] (length-replicate n None) (All-nil (λ k. length k ≡ n)))
 
-pub some_branch : (branches : List Known) (n : ℕ) (b : Bool) → n ≡ length branches → b ≡ (n == 0) → b ≡ false → 0 < length branches
-some_branch branches n b many is e = let other : ¬ (n ≡ 0) = not_from_Decides b (Decides-at b (n == 0) is (Decides-eqb n 0)) e in omega arith
-
-pub no_branch : (branches : List Known) (n : ℕ) (b : Bool) → n ≡ length branches → b ≡ (n == 0) → b ≡ true → (truths : List Bool) → ¬ Covers (branch_lists branches) truths
-no_branch [] n b many is e truths = λ h. h
-no_branch (x ∷ branches) n b many is e truths = let none : n ≡ 0 = (Decides-at b (n == 0) is (Decides-eqb n 0)).0 e in absurd (omega arith)
+pub no_branch : (branches : List Known) → length branches ≡ 0 → (truths : List Bool) → ¬ Covers (branch_lists branches) truths
+no_branch [] e truths = λ h. h
+no_branch (x ∷ branches) e truths = absurd (omega arith)

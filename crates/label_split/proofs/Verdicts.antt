@@ -1,5 +1,5 @@
 -- How a verdict on one question answers another.
-use Rattle.std.proofs.Common.{Bool, Result, Ok, Err, IfOk}
+use Rattle.std.proofs.Common.{◌≡◌, Bool, Result, Ok, Err, IfOk, subst}
 use Rattle.model_tree.specs.Label.{Label}
 use Rattle.label_core.specs.declared.theory.Verdict.{Verdict}
 use Rattle.label_core.specs.declared.theory.Verdict.TheVariants.{Sat, Unsat, Wide}
@@ -19,3 +19,7 @@ module _ {A V W : Type 0} {label_of : V → Label} {holds : A → Label → Bool
 pub ok_as : {X E : Type 0} (P Q : X → Type 0) → ((x : X) → P x → Q x) → (r : Result X E) → IfOk r P → IfOk r Q
 ok_as P Q f (Ok x) h = f x h
 ok_as P Q f (Err e) h = h
+
+-- what is so of the verdict that there is
+pub found_is : {V W E : Type 0} (P : Verdict V W → Type 0) (r : Result (Verdict V W) E) (found is : Verdict V W) → r ≡ Ok found → found ≡ is → IfOk r P → P is
+found_is P r found is was same h = subst P same (subst (λ x. IfOk x P) was h)

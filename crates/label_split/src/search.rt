@@ -8,7 +8,7 @@ ghost use Rattle.label_core.specs.Formula.{joined};
 ghost use Rattle.label_core.specs.Meaning.{KeepsValue};
 ghost use Rattle.label_split.specs.Known.{Forces, Follows, known_at, truth_at, holds_at, settled};
 ghost use Rattle.label_split.specs.Numbers.{truths_at, AreAsked, HaveSigns, IsUnsettled, IsWrong};
-ghost use Rattle.label_split.specs.Search.{branch_lists, with_both_signs, DecidesKnown, DecidesSigns, IsFollowed, IsLooked, IsNearer, IsNext, IsTaken, MayFollow};
+ghost use Rattle.label_split.specs.Search.{branch_lists, with_both_signs, DecidesKnown, DecidesSigns, IsFollowed, IsLooked, IsNearer, IsNext, MayFollow};
 
 use crate::force::force;
 use crate::known::{Known, open_atom, settled};
@@ -282,30 +282,6 @@ fn follow<V: Drop, W: Drop>(
     }
 }
 
-/// Takes the last branch, and looks at it. The verdict is that on the branch, but for what it leaves among the branches.
-fn take_branch<T: Theory>(
-    theory: &T,
-    alloc: Global,
-    atoms: &[T::Atom],
-    asked: &Asked,
-    active: &mut Vec<usize>,
-    branches: &mut Vec<Known>,
-) -> Result<Verdict<T::Value, T::Chain>, Memory>
-    requires asked { AreAsked (length atoms.now) asked.now.formulas.now asked.now.signs.now }
-    requires fit { All (T.atom_fits theory.now) atoms.now }
-    requires many { All (λ k. length k ≡ length atoms.now) (branch_lists branches.old.items) }
-    requires some { 0 < length branches.old.items }
-    ensures { IfOk result (IsTaken (T.meaning theory.now) atoms.now (λ l. HaveSigns asked.now.formulas.now asked.now.signs.now (truths_at T.atom_holds atoms.now l)) (branch_lists branches.old.items) (branch_lists branches.new.items)) }
-{
-    match branches.pop() {
-        None => Ok(Verdict::Unsat),
-        Some(mut known) => {
-            let look = look_at(theory, alloc, atoms, asked, active, &mut known);
-            follow(alloc, look, known, active, branches)
-        }
-    }
-}
-
 /// Of two chains, where there are two, one that isn't far, if there is one.
 fn nearer<T: Theory>(theory: &T, first: Option<T::Chain>, second: T::Chain) -> T::Chain
     requires { IfSome first (T.meaning theory.now).passes }
@@ -332,8 +308,9 @@ pub fn search<T: Theory>(
 {
     let mut branches = Known::nothing(alloc, atoms.len())?;
     let mut wide = None;
-    'branches: while !branches.is_empty() {
-        match take_branch(theory, alloc, atoms, asked, active, &mut branches)? {
+    'branches: while let Some(mut known) = branches.pop() {
+        let look = look_at(theory, alloc, atoms, asked, active, &mut known);
+        match follow(alloc, look, known, active, &mut branches)? {
             Verdict::Unsat => {}
             Verdict::Sat(value) => return Ok(Verdict::Sat(value)),
             Verdict::Wide(chain) => wide = Some(nearer(theory, wide, chain)),
