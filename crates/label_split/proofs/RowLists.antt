@@ -1,5 +1,5 @@
 -- Facts on lists of rows of signs.
-use Rattle.std.proofs.Common.{◌≡◌, ◌⊎◌, inl, inr, Bool, true, false, not, List, [], ◌∷◌, ◌++◌, map, length, get_or, All, Contains, ℕ, zero, suc, ◌<◌, ◌≤◌, ◌+◌, ◌-◌, take, refl, sym, ap, ◌∙◌, subst, append_assoc, Option, Some, None, MatchOption, Result, Ok, Err, IfOk, IfErr, OnOk, MatchResult, cond, arith}
+use Rattle.std.proofs.Common.{◌≡◌, ◌⊎◌, inl, inr, Bool, true, false, not, List, [], ◌∷◌, ◌++◌, map, length, get_or, All, Contains, ℕ, zero, suc, ◌<◌, ◌≤◌, ◌+◌, ◌-◌, take, refl, sym, ap, ◌∙◌, subst, append_assoc, Option, Some, None, MatchOption, Result, Ok, Err, IfOk, IfErr, OnOk, MatchResult, cond, arith, Vec, Global}
 use Rattle.std.specs.List.{AllPairs}
 use Rattle.std.specs.Result.{IsErrAnd}
 use Rattle.std.proofs.lemmas.List.{length-append, length-map, length-take, map-append}
@@ -22,7 +22,7 @@ use Rattle.label_core.specs.declared.theory.Verdict.TheVariants.{Unsat}
 use Rattle.label_split.specs.Numbers.{number_holds}
 use Rattle.label_split.specs.Search.{DecidesSigns}
 use Rattle.label_split.specs.Signs.{signs_at}
-use Rattle.label_split.specs.Noted.{rows_of, IsFoundBy, IsSample, IsStopOf}
+use Rattle.label_split.specs.Noted.{rows_of, AreAdded, AreStarted, IsFoundBy, IsPassedOn, IsSample, IsStopOf}
 use Rattle.label_split.specs.Split.{IsRow, Stops, SplitsInto, HasMoreRows, HasUnkeptRow, AreLonger, Extends, IsPartly}
 
 -- the last of a list, and what comes before it
@@ -105,10 +105,10 @@ module _ {A V W : Type 0} {label_of : V → Label} {holds : A → Label → Bool
     }
 
   module _ (row kept : SignRow V) (b : Bool) (sound : IsRow M before row) (value_is : label_of kept.value ≡ label_of row.value) (b_is : b ≡ last (label_of row.value)) (signs_are : kept.signs.items ≡ row.signs.items ++ b ∷ []) (old mid new : List (SignRow V)) (pushed : new ≡ mid ++ kept ∷ []) where
-    pub extends_alone : mid ≡ old → ((l : Label) → M.has l → ¬ (after l ≡ row.signs.items ++ not b ∷ [])) → Extends M before after row old new
+    extends_alone : mid ≡ old → ((l : Label) → M.has l → ¬ (after l ≡ row.signs.items ++ not b ∷ [])) → Extends M before after row old new
     extends_alone is none = (kept ∷ [], pushed ∙ ap (λ rs. rs ++ kept ∷ []) is, longer_alone row kept b sound value_is b_is signs_are none)
 
-    pub extends_both : (other : SignRow V) → mid ≡ old ++ other ∷ [] → IsRow M after other → other.signs.items ≡ row.signs.items ++ not b ∷ [] → Extends M before after row old new
+    extends_both : (other : SignRow V) → mid ≡ old ++ other ∷ [] → IsRow M after other → other.signs.items ≡ row.signs.items ++ not b ∷ [] → Extends M before after row old new
     extends_both other is holds signs = (other ∷ kept ∷ [], pushed ∙ ap (λ rs. rs ++ kept ∷ []) is ∙ append_assoc old (other ∷ []) (kept ∷ []), longer_both row kept b sound value_is b_is signs_are other holds signs)
 
   module _ (row kept : SignRow V) (b : Bool) (sound : IsRow M before row) (value_is : label_of kept.value ≡ label_of row.value) (b_is : b ≡ last (label_of row.value)) (signs_are : kept.signs.items ≡ row.signs.items ++ b ∷ []) (old mid new : List (Noted V)) (n : Noted V) (n_is : n.row ≡ kept) (pushed : new ≡ mid ++ n ∷ []) where
@@ -116,10 +116,18 @@ module _ {A V W : Type 0} {label_of : V → Label} {holds : A → Label → Bool
     pushed_row = ap rows_of pushed ∙ map-append (λ n. n.row) mid (n ∷ []) ∙ ap (λ r. rows_of mid ++ r ∷ []) n_is
 
     -- the row, and one of the other sign, if there is one
-    pub extends_found : (found : Option (Noted V)) → MatchOption found (mid ≡ old) (λ other. mid ≡ old ++ other ∷ [])
+    extends_found : (found : Option (Noted V)) → MatchOption found (mid ≡ old) (λ other. mid ≡ old ++ other ∷ [])
         → MatchOption found ((l : Label) → M.has l → ¬ (after l ≡ row.signs.items ++ not b ∷ [])) (λ other. IsRow M after other.row × (other.row.signs.items ≡ row.signs.items ++ not b ∷ [])) → Extends M before after row (rows_of old) (rows_of new)
     extends_found None is none = extends_alone row kept b sound value_is b_is signs_are (rows_of old) (rows_of mid) (rows_of new) pushed_row (ap rows_of is) none
     extends_found (Some other) is found = extends_both row kept b sound value_is b_is signs_are (rows_of old) (rows_of mid) (rows_of new) pushed_row other.row (ap rows_of is ∙ map-append (λ n. n.row) old (other ∷ [])) found.0 found.1
+
+  -- the rows that were added behind others, of what was looked for
+  pub extends_added : (row kept : SignRow V) → kept ≡ row → (b : Bool) → IsRow M before row → b ≡ last (label_of row.value) → (old new : List (Noted V)) (other : Result (Option (Noted V)) (SplitStop W)) (Q : SplitStop W → Type 0)
+      → MatchResult other (λ found. MatchOption found ((l : Label) → M.has l → ¬ (after l ≡ row.signs.items ++ not b ∷ [])) (λ noted. IsRow M after noted.row × (noted.row.signs.items ≡ row.signs.items ++ not b ∷ []))) Q
+      → MatchResult other (λ found. AreAdded kept b found old new) (λ _. ⊥) → Extends M before after row (rows_of old) (rows_of new)
+  extends_added row kept same b sound b_is old new (Err stop) Q shown added = absurd added
+  extends_added row kept same b sound b_is old new (Ok found) Q shown added =
+      extends_found row added.longer.row b sound (ap label_of (added.value ∙ ap (λ r. r.value) same)) b_is (added.signs ∙ ap (λ r. r.signs.items ++ b ∷ []) same) old added.between new added.longer refl added.pushed found added.found shown
 
 module _ {X : Type 0} (R : X → X → Type 0) where
   pairs_head : (x : X) (xs : List X) → AllPairs R (x ∷ xs) → All (R x) xs
@@ -234,39 +242,46 @@ module _ {A V W : Type 0} {label_of : V → Label} {holds : A → Label → Bool
 
 module _ {A V W : Type 0} {label_of : V → Label} {holds : A → Label → Bool} (M : Meaning label_of holds W) where
   -- the one row of no signs
-  pub start_row : (row : SignRow V) → M.keeps (label_of row.value) → row.signs.items ≡ [] → SplitsInto M (λ _. []) (row ∷ [])
+  start_row : (row : SignRow V) → M.keeps (label_of row.value) → row.signs.items ≡ [] → SplitsInto M (λ _. []) (row ∷ [])
   start_row row k e = record {
     sound = all_first (IsRow M (λ _. [])) row (k, e);
     complete = λ l h. (row, first_of row [], e);
     apart = λ i j d less low. absurd (omega arith);
   }
 
-  pub start_alone : (value : V) → M.keeps (label_of value) → (rows : List (SignRow V)) → ((r : SignRow V) × (r.value ≡ value) × (r.signs.items ≡ []) × (rows ≡ r ∷ [])) → SplitsInto M (λ _. []) rows
-  start_alone value k rows (r, is, none, e) = subst (SplitsInto M (λ _. [])) (sym e) (start_row r (subst M.keeps (ap label_of (sym is)) k) none)
-
   -- there is no label
-  pub start_none : (v : Verdict V W) → v ≡ Unsat → DecidesAll M [] v → (rows : List (Noted V)) → rows ≡ [] → SplitsInto M (λ _. []) (rows_of rows)
-  start_none v is d rows none = subst (λ xs. SplitsInto M (λ _. []) (rows_of xs)) (sym none) (record {
+  start_none : DecidesAll M [] Unsat → SplitsInto M (λ _. []) []
+  start_none d = record {
     sound = All-nil (IsRow M (λ _. []));
-    complete = λ l has. absurd (subst (DecidesAll M []) is d l has (All-nil (λ x. holds x.atom l ≡ x.sign)));
+    complete = λ l has. absurd (d l has (All-nil (λ x. holds x.atom l ≡ x.sign)));
     apart = λ i j d less low. absurd (omega arith);
-  })
+  }
+
+  pub start_shown : {E : Type 0} (verdict : Result (Verdict V W) E) → IfOk verdict (DecidesAll M []) → (rows : List (SignRow V)) → AreStarted verdict rows → SplitsInto M (λ _. []) rows
+  start_shown verdict d rows (inl (is, none)) = subst (SplitsInto M (λ _. [])) (sym none) (start_none (subst (λ v. IfOk v (DecidesAll M [])) is d))
+  start_shown verdict d rows (inr (r, is, none, e)) = let found = subst (λ v. IfOk v (DecidesAll M [])) is d in subst (SplitsInto M (λ _. [])) (sym e) (start_row r found.0 none)
 
   -- whether there is a label is too wide
-  pub start_wide : (atoms : List A) (v : Verdict V W) (w : W) → v ≡ Verdicts.Wide w → DecidesAll M [] v → Stops M ⊥ (λ _. []) atoms (Wide w)
-  start_wide atoms v w is d =
-      let found = subst (DecidesAll M []) is d in
-      ((([], (λ k x low. absurd (omega arith)), found.0.0), found.0.1), λ far. let only = found.1 far in (only.0.0, only.0.1, λ m k e. only.1 m k (All-nil (λ x. holds x.atom m ≡ x.sign))))
+  start_wide : (atoms : List A) (w : W) → DecidesAll M [] (Verdicts.Wide w) → Stops M ⊥ (λ _. []) atoms (Wide w)
+  start_wide atoms w d = ((([], (λ k x low. absurd (omega arith)), d.0.0), d.0.1), λ far. let only = d.1 far in (only.0.0, only.0.1, λ m k e. only.1 m k (All-nil (λ x. holds x.atom m ≡ x.sign))))
+
+  pub start_stopped : {E : Type 0} (atoms : List A) (verdict : Result (Verdict V W) E) → IfOk verdict (DecidesAll M []) → (stop : SplitStop W) → IsStopOf verdict stop → Stops M ⊥ (λ _. []) atoms stop
+  start_stopped atoms verdict d TooMany is = is
+  start_stopped atoms verdict d (Wide w) is = start_wide atoms w (subst (λ v. IfOk v (DecidesAll M [])) is d)
+  start_stopped atoms verdict d Memory is = tt
 
   module _ (after : Label → List Bool) where
     -- what a sample says of the signs that end with its own
     pub nowhere_shown : (sign : Bool) (sample : Sample V) → IsSample M after sign sample → sample ≡ Nowhere → (before : List Bool) (l : Label) → M.has l → ¬ (after l ≡ before ++ sign ∷ [])
     nowhere_shown sign sample h is before l has = subst (IsSample M after sign) is h l has before
 
-    pub copy_shown : (sign : Bool) (sample : Sample V) → IsSample M after sign sample → (found copy : Noted V) → sample ≡ Sampled found → (signs : List Bool) → found.row.signs.items ≡ signs → copy.row.signs.items ≡ found.row.signs.items → label_of copy.row.value ≡ label_of found.row.value → IsRow M after copy.row × (copy.row.signs.items ≡ signs)
-    copy_shown sign sample h found copy is signs same s v =
+    pub copy_shown : (sign : Bool) (sample : Sample V) → IsSample M after sign sample → (found copy : Noted V) → sample ≡ Sampled found → {S : Type 0} (own : Result (Vec Bool Global) S) (held : Vec Bool Global) (signs : List Bool) → own ≡ Ok held → own ≡ Ok copy.row.signs → found.row.signs.items ≡ held.items → held.items ≡ signs → label_of copy.row.value ≡ label_of found.row.value → IsRow M after copy.row × (copy.row.signs.items ≡ signs)
+    copy_shown sign sample h found copy is own held signs was made same all v =
         let row = subst (IsSample M after sign) is h in
-        ((subst M.keeps (sym v) row.0, s ∙ row.1 ∙ ap after (sym v)), s ∙ same)
+        let kept : Ok copy.row.signs ≡ Ok held = sym made ∙ was in
+        let alike : copy.row.signs ≡ held = cc in
+        let s : copy.row.signs.items ≡ held.items = ap (λ x. x.items) alike in
+        ((subst M.keeps (sym v) row.0, s ∙ sym same ∙ row.1 ∙ ap after (sym v)), s ∙ all)
 
 module _ {A V W : Type 0} {label_of : V → Label} {holds : A → Label → Bool} (M : Meaning label_of holds W) (before signs : Label → List Bool) (part : List Bool → List Bool) (is_part : (l : Label) → before l ≡ part (signs l)) (some more : List A) (grows : (w : W) → IsChainOver M some w → IsChainOver M more w) (many : Type 0) where
   -- what stops the list of parts stops the list
@@ -330,9 +345,21 @@ pub both_ways : {X S : Type 0} (P : X → Type 0) (Q : S → Type 0) (r : Result
 both_ways P Q (Ok x) p q = p
 both_ways P Q (Err e) p q = q
 
-pub on_ok : {X S : Type 0} (P : Type 0) → P → (r : Result X S) → OnOk r P
-on_ok P p (Ok x) = p
-on_ok P p (Err e) = tt
+-- a value that is there
+pub ok_is : {X S : Type 0} (r : Result X S) (x : X) → r ≡ Ok x → (P : X → Type 0) → IfOk r P → P x
+ok_is r x is P h = subst (λ y. IfOk y P) is h
+
+pub ok_shown : {X S : Type 0} (r : Result X S) (x : X) → r ≡ Ok x → (P : Type 0) → OnOk r P → P
+ok_shown r x is P h = subst (λ y. OnOk y P) is h
+
+-- what was passed on stops as it does
+pub stops_passed : {X W : Type 0} (P : X → Type 0) (Q : SplitStop W → Type 0) → Q Memory → (made : Result X (SplitStop W)) → MatchResult made P Q → (stop : SplitStop W) → IsPassedOn made stop → Q stop
+stops_passed P Q want made h stop (inl is) = subst Q (sym is) want
+stops_passed P Q want made h stop (inr is) = subst (λ r. MatchResult r P Q) is h
+
+-- what was found for sure
+pub match_ok : {X S : Type 0} (P : X → Type 0) (r : Result X S) (x : X) → r ≡ Ok x → P x → MatchResult r P (λ _. ⊥)
+match_ok P r x is h = subst (λ y. MatchResult y P (λ _. ⊥)) (sym is) h
 
 pub both_made : {V : Type 0} (P : Bool → Sample V → Type 0) (on off : Sample V) → P true on → P false off → (s : Bool) → P s (cond s on off)
 both_made P on off p q true = p

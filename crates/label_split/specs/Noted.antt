@@ -1,5 +1,5 @@
 -- Rows with notes, and samples for the last of some formulas.
-use Rattle.std.specs.Prelude.{◌≡◌, Bool, Option, Some, None, Result, Ok, List, [], ◌∷◌, ◌++◌, map}
+use Rattle.std.specs.Prelude.{◌≡◌, Bool, Option, Some, None, Result, Ok, Err, ◌⊎◌, List, [], ◌∷◌, ◌++◌, map}
 use Rattle.std.specs.Option.{MatchOption}
 use Rattle.model_tree.specs.Label.{Label}
 use Rattle.label_core.specs.Meaning.{Meaning}
@@ -23,6 +23,10 @@ module _ {A V W : Type 0} {label_of : V → Label} {holds : A → Label → Bool
   IsSample signs sign (At noted) = IsRow M signs noted.row
   IsSample signs sign Unknown = Unit {0}
 
+-- the rows of no formulas: that of the verdict's value, or none where there is no label
+abbrev pub AreStarted : {V W E : Type 0} → Result (Verdict V W) E → List (SignRow V) → Type 0
+AreStarted {V} verdict rows = ((verdict ≡ Ok Unsat) × (rows ≡ [])) ⊎ ((r : SignRow V) × (verdict ≡ Ok (Sat r.value)) × (r.signs.items ≡ []) × (rows ≡ r ∷ []))
+
 -- the verdict is that no label has the signs, or shows the row
 abbrev pub IsFoundBy : {V W E : Type 0} → Result (Verdict V W) E → List Bool → Option (Noted V) → Type 0
 IsFoundBy verdict signs None = verdict ≡ Ok Unsat
@@ -33,6 +37,10 @@ abbrev pub IsStopOf : {V W E : Type 0} → Result (Verdict V W) E → SplitStop 
 IsStopOf verdict TooMany = ⊥
 IsStopOf verdict (Chain w) = verdict ≡ Ok (Wide w)
 IsStopOf verdict Memory = Unit {0}
+
+-- the stop is that of what was made, or memory ran out
+abbrev pub IsPassedOn : {X W : Type 0} → Result X (SplitStop W) → SplitStop W → Type 0
+IsPassedOn made stop = (stop ≡ Memory) ⊎ (made ≡ Err stop)
 
 -- the other row is added, if there is one, and then the row with one more sign
 pub record AreAdded {V : Type 0} (row : SignRow V) (sign : Bool) (other : Option (Noted V)) (old new : List (Noted V)) : Type 0 where

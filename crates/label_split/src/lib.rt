@@ -4,6 +4,7 @@
 //! has, each once. Both know nothing of labels but the laws of their theory.
 #![tactic(auto)]
 
+mod both;
 mod conjunction;
 mod force;
 mod known;

@@ -1,16 +1,16 @@
 //! The rows of signs that labels have.
 
-ghost use Rattle.std.specs.Prelude.{◌≡◌, ◌<◌, ◌≤◌, ◌-◌, ◌+◌, ◌++◌, [], ◌∷◌, true, false, All, IsTrue, length, take, IfOk, OnOk, IfErr, MatchOption, MatchResult, Bool, cond, drop};
+ghost use Rattle.std.specs.Prelude.{◌≡◌, ◌<◌, ◌≤◌, ◌-◌, ◌+◌, ◌++◌, [], ◌∷◌, true, false, All, IsTrue, length, take, IfOk, OnOk, IfErr, MatchOption, MatchResult, Bool, cond, Ok};
 ghost use Rattle.model_tree.specs.Label.{Label};
 ghost use Rattle.label_core.specs.Meaning.{KeepsValue};
 ghost use Rattle.label_core.specs.Verdict.{DecidesAll};
 ghost use Rattle.label_split.specs.Known.{IsWithin};
 ghost use Rattle.label_split.specs.Numbers.{number_holds};
-ghost use Rattle.label_split.specs.Search.{DecidesSigns};
 ghost use Rattle.label_split.specs.Signs.{FormulasFit, signs_at};
-ghost use Rattle.label_split.specs.Split.{SplitsInto, IsRow, Stops, StopsFor, HasMoreRows, Extends};
-ghost use Rattle.label_split.specs.Noted.{rows_of, IsSample, IsFoundBy, IsStopOf, AreAdded};
+ghost use Rattle.label_split.specs.Split.{SplitsInto, IsRow, Stops, StopsFor, HasMoreRows};
+ghost use Rattle.label_split.specs.Noted.{rows_of, IsSample, AreStarted, IsFoundBy, IsStopOf, IsPassedOn, AreAdded};
 
+use crate::both::both;
 use crate::numbers::number_all;
 use crate::search::{Asked, holds_of, note, search};
 use fast_fault::Memory;
@@ -85,19 +85,45 @@ impl<V> Sampled<'_, V> {
     }
 }
 
-/// The row of no signs with this value, alone.
-fn alone<V: Drop>(alloc: Global, value: V) -> Result<Vec<Noted<V>>, Memory>
-    ensures { IfOk result (λ rows. (r : SignRow V) × (r.value ≡ value) × (r.signs.items ≡ []) × (rows_of rows.items ≡ r ∷ [])) }
+/// A row with what was made for it, unless memory ran out.
+fn with_notes<V: Drop, E: Drop>(
+    signs: Result<Vec<bool>, Memory>,
+    value: Result<V, Memory>,
+    active: Result<Vec<usize>, E>,
+) -> Result<Noted<V>, Memory>
+    ensures { IfOk result (λ made. (signs ≡ Ok made.row.signs) × (value ≡ Ok made.row.value)) }
 {
-    let mut rows = Vec::new(alloc);
-    rows.push(Noted {
-        row: SignRow {
-            signs: Vec::new(alloc),
-            value,
-        },
-        active: Vec::new(alloc),
-    })?;
-    Ok(rows)
+    match (signs, value, active) {
+        (Ok(signs), Ok(value), Ok(active)) => {
+            let row = SignRow { signs, value };
+            Ok(Noted { row, active })
+        }
+        _ => Err(Memory),
+    }
+}
+
+/// The rows of no formulas: one with the verdict's value, if there is a label.
+fn started<V: Drop, W: Drop>(
+    alloc: Global,
+    verdict: Result<Verdict<V, W>, Memory>,
+) -> Result<Vec<Noted<V>>, SplitStop<W>>
+    ensures { MatchResult result (λ rows. AreStarted verdict (rows_of rows.items)) (IsStopOf verdict) }
+{
+    match verdict {
+        Ok(Verdict::Sat(value)) => {
+            let row = SignRow {
+                signs: Vec::new(alloc),
+                value,
+            };
+            let active = Vec::new(alloc);
+            let mut rows = Vec::new(alloc);
+            add_found(&mut rows, Some(Noted { row, active }))?;
+            Ok(rows)
+        }
+        Ok(Verdict::Unsat) => Ok(Vec::new(alloc)),
+        Ok(Verdict::Wide(chain)) => Err(SplitStop::Wide(chain)),
+        Err(_want) => Err(SplitStop::Memory),
+    }
 }
 
 /// The verdict on whether there is a label.
@@ -106,21 +132,6 @@ fn decide_any<T: Theory>(theory: &T, alloc: Global) -> Result<Verdict<T::Value, 
 {
     let literals = Vec::new(alloc);
     theory.decide(alloc, &literals)
-}
-
-/// The one row of no signs, if there is a label.
-fn start<T: Theory>(
-    theory: &T,
-    alloc: Global,
-    atoms: &[T::Atom],
-) -> Result<Vec<Noted<T::Value>>, SplitStop<T::Chain>>
-    ensures { MatchResult result (λ rows. SplitsInto (T.meaning theory.now) (λ _. []) (rows_of rows.items)) (Stops (T.meaning theory.now) ⊥ (λ _. []) atoms.now) }
-{
-    match decide_any(theory, alloc)? {
-        Verdict::Unsat => Ok(Vec::new(alloc)),
-        Verdict::Wide(chain) => Err(SplitStop::Wide(chain)),
-        Verdict::Sat(value) => Ok(alone(alloc, value)?),
-    }
 }
 
 /// The signs of the formulas at the value's label.
@@ -143,29 +154,6 @@ fn signs_of<T: Theory>(
     Ok(signs)
 }
 
-/// The verdict on whether some label gives the last formula the sign.
-fn search_last<T: Theory>(
-    theory: &T,
-    alloc: Global,
-    atoms: &[T::Atom],
-    formulas: &[Formula<usize>],
-    sign: bool,
-) -> Result<Verdict<T::Value, T::Chain>, Memory>
-    requires within { All (IsWithin (length atoms.now)) formulas.now }
-    requires fit { All (T.atom_fits theory.now) atoms.now }
-    requires some { 0 < length formulas.now }
-    ensures { IfOk result (DecidesSigns (T.meaning theory.now) atoms.now (drop (length formulas.now - 1) formulas.now) (sign ∷ [])) }
-{
-    let last = formulas.len() - 1;
-    let signs = [sign];
-    let asked = Asked {
-        formulas: &formulas[last..],
-        signs: &signs,
-    };
-    let mut active = vec![in alloc; 0; 1]?;
-    search(theory, alloc, atoms, &asked, &mut active)
-}
-
 /// A sample for the sign of the last formula.
 fn find_sample<T: Theory>(
     theory: &T,
@@ -179,15 +167,22 @@ fn find_sample<T: Theory>(
     requires some { 0 < length formulas.now }
     ensures { IfOk result (IsSample (T.meaning theory.now) (signs_at (number_holds T.atom_holds atoms.now) formulas.now) sign) }
 {
-    match search_last(theory, alloc, atoms, formulas, sign)? {
-        Verdict::Unsat => Ok(Sample::Nowhere),
-        Verdict::Wide(_) => Ok(Sample::Unknown),
-        Verdict::Sat(value) => {
-            let signs = signs_of(theory, alloc, atoms, formulas, &value)?;
-            let active = vec![in alloc; formulas.len() - 1; 1]?;
-            let row = SignRow { signs, value };
-            Ok(Sample::At(Noted { row, active }))
+    let last = formulas.len() - 1;
+    let signs = [sign];
+    let asked = Asked {
+        formulas: &formulas[last..],
+        signs: &signs,
+    };
+    let mut active = vec![in alloc; 0; 1]?;
+    match search(theory, alloc, atoms, &asked, &mut active) {
+        Ok(Verdict::Unsat) => Ok(Sample::Nowhere),
+        Ok(Verdict::Wide(_)) => Ok(Sample::Unknown),
+        Ok(Verdict::Sat(value)) => {
+            let signs = signs_of(theory, alloc, atoms, formulas, &value);
+            let active = vec![in alloc; last; 1];
+            Ok(Sample::At(with_notes(signs, Ok(value), active)?))
         }
+        Err(want) => Err(want),
     }
 }
 
@@ -204,21 +199,6 @@ fn are_same(signs: &[bool], others: &[bool]) -> bool
         }
     }
     true
-}
-
-/// A copy of the row and of the numbers that tell it from others.
-fn copy_of<T: Theory>(
-    theory: &T,
-    alloc: Global,
-    found: &Noted<T::Value>,
-) -> Result<Noted<T::Value>, Memory>
-    ensures { IfOk result (λ copy. (copy.row.signs.items ≡ found.now.row.signs.items) × (T.label_of copy.row.value ≡ T.label_of found.now.row.value)) }
-{
-    let signs = Vec::from_slice(alloc, &found.row.signs)?;
-    let active = Vec::from_slice(alloc, &found.active)?;
-    let value = theory.copy_value(alloc, &found.row.value)?;
-    let row = SignRow { signs, value };
-    Ok(Noted { row, active })
 }
 
 /// Adds the numbers, but for that of the last formula.
@@ -258,33 +238,8 @@ fn found_row<V: Drop, W: Drop>(
     }
 }
 
-/// A row with these signs, if some label has it. The active formulas are those that the search begins with; those that
-/// tell the row from its neighbours come to them.
-fn row_with<T: Theory>(
-    theory: &T,
-    alloc: Global,
-    atoms: &[T::Atom],
-    formulas: &[Formula<usize>],
-    signs: Vec<bool>,
-    active: &mut Vec<usize>,
-) -> Result<Option<Noted<T::Value>>, SplitStop<T::Chain>>
-    requires within { All (IsWithin (length atoms.now)) formulas.now }
-    requires fit { All (T.atom_fits theory.now) atoms.now }
-    requires some { 0 < length formulas.now }
-    requires lengths { length signs.items ≡ length formulas.now }
-    ensures { MatchResult result (λ found. MatchOption found ((l : Label) → (T.meaning theory.now).has l → ¬ ((signs_at (number_holds T.atom_holds atoms.now) formulas.now) l ≡ signs.items)) (λ noted. IsRow (T.meaning theory.now) (signs_at (number_holds T.atom_holds atoms.now) formulas.now) noted.row × (noted.row.signs.items ≡ signs.items))) (Stops (T.meaning theory.now) ⊥ (signs_at (number_holds T.atom_holds atoms.now) formulas.now) atoms.now) }
-{
-    let last = formulas.len() - 1;
-    let mut tried = with_last(alloc, active, last)?;
-    let asked = Asked {
-        formulas,
-        signs: &signs,
-    };
-    let verdict = search(theory, alloc, atoms, &asked, &mut tried);
-    found_row(verdict, signs, tried, active, last)
-}
-
-/// The row that has one sign more than this one, if some label has it.
+/// The row that has one sign more than this one, if some label has it. A search for it begins with the active formulas;
+/// those that tell the row from its neighbours come to them.
 fn longer_row<T: Theory>(
     theory: &T,
     alloc: Global,
@@ -298,15 +253,26 @@ fn longer_row<T: Theory>(
     requires lengths { length row.old.row.signs.items + 1 ≡ length last.now.formulas.now }
     requires samples { (s : Bool) → IsSample (T.meaning theory.now) (signs_at (number_holds T.atom_holds atoms.now) last.now.formulas.now) s (cond s last.now.on last.now.off) }
     ensures found { MatchResult result (λ found. MatchOption found ((l : Label) → (T.meaning theory.now).has l → ¬ ((signs_at (number_holds T.atom_holds atoms.now) last.now.formulas.now) l ≡ row.old.row.signs.items ++ sign ∷ [])) (λ noted. IsRow (T.meaning theory.now) (signs_at (number_holds T.atom_holds atoms.now) last.now.formulas.now) noted.row × (noted.row.signs.items ≡ row.old.row.signs.items ++ sign ∷ []))) (Stops (T.meaning theory.now) ⊥ (signs_at (number_holds T.atom_holds atoms.now) last.now.formulas.now) atoms.now) }
-    ensures kept { OnOk result (row.new.row ≡ row.old.row) }
+    ensures kept { row.new.row ≡ row.old.row }
 {
     let signs = with_last(alloc, &row.row.signs, sign)?;
     match last.of(sign) {
         Sample::Nowhere => Ok(None),
         Sample::At(found) if are_same(&found.row.signs, &signs) => {
-            Ok(Some(copy_of(theory, alloc, found)?))
+            let value = theory.copy_value(alloc, &found.row.value);
+            let active = Vec::from_slice(alloc, &found.active);
+            Ok(Some(with_notes(Ok(signs), value, active)?))
         }
-        _ => row_with(theory, alloc, atoms, last.formulas, signs, &mut row.active),
+        _ => {
+            let number = last.formulas.len() - 1;
+            let mut tried = with_last(alloc, &row.active, number)?;
+            let asked = Asked {
+                formulas: last.formulas,
+                signs: &signs,
+            };
+            let verdict = search(theory, alloc, atoms, &asked, &mut tried);
+            found_row(verdict, signs, tried, &mut row.active, number)
+        }
     }
 }
 
@@ -335,41 +301,23 @@ fn add_found<V: Drop>(rows: &mut Vec<Noted<V>>, found: Option<Noted<V>>) -> Resu
 }
 
 /// Adds the other row, if there is one, and the row with one more sign.
-fn add_rows<V: Drop>(
+fn add_rows<V: Drop, W: Drop>(
     rows: &mut Vec<Noted<V>>,
-    other: Option<Noted<V>>,
+    other: Result<Option<Noted<V>>, SplitStop<W>>,
     sample: &Sample<V>,
     mut row: Noted<V>,
     sign: bool,
-) -> Result<(), Memory>
-    ensures { OnOk result (AreAdded row.row sign other rows.old.items rows.new.items) }
+) -> Result<(), SplitStop<W>>
+    ensures { MatchResult result (λ _. MatchResult other (λ found. AreAdded row.row sign found rows.old.items rows.new.items) (λ _. ⊥)) (IsPassedOn other) }
 {
-    add_found(rows, other)?;
-    lengthen(&mut row, sign, sample)?;
-    rows.push(row)?;
-    Ok(())
-}
-
-/// Adds the rows of the formulas that begin with this row of all but the last formula.
-fn extend<T: Theory>(
-    theory: &T,
-    alloc: Global,
-    atoms: &[T::Atom],
-    last: &Sampled<T::Value>,
-    mut row: Noted<T::Value>,
-    rows: &mut Vec<Noted<T::Value>>,
-) -> Result<(), SplitStop<T::Chain>>
-    requires within { All (IsWithin (length atoms.now)) last.now.formulas.now }
-    requires fit { All (T.atom_fits theory.now) atoms.now }
-    requires some { 0 < length last.now.formulas.now }
-    requires samples { (s : Bool) → IsSample (T.meaning theory.now) (signs_at (number_holds T.atom_holds atoms.now) last.now.formulas.now) s (cond s last.now.on last.now.off) }
-    requires row { IsRow (T.meaning theory.now) (signs_at (number_holds T.atom_holds atoms.now) (take (length last.now.formulas.now - 1) last.now.formulas.now)) row.row }
-    ensures { MatchResult result (λ _. Extends (T.meaning theory.now) (signs_at (number_holds T.atom_holds atoms.now) (take (length last.now.formulas.now - 1) last.now.formulas.now)) (signs_at (number_holds T.atom_holds atoms.now) last.now.formulas.now) row.row (rows_of rows.old.items) (rows_of rows.new.items)) (Stops (T.meaning theory.now) ⊥ (signs_at (number_holds T.atom_holds atoms.now) last.now.formulas.now) atoms.now) }
-{
-    let number = last.formulas.len() - 1;
-    let holds = holds_of(theory, atoms, &last.formulas[number], &row.row.value);
-    let other = longer_row(theory, alloc, atoms, last, &mut row, !holds)?;
-    Ok(add_rows(rows, other, last.of(holds), row, holds)?)
+    match (other, lengthen(&mut row, sign, sample)) {
+        (Ok(other), Ok(())) => {
+            both(add_found(rows, other), add_found(rows, Some(row)))?;
+            Ok(())
+        }
+        (Err(stop), _) => Err(stop),
+        (Ok(_), Err(_want)) => Err(SplitStop::Memory),
+    }
 }
 
 /// The rows of the formulas, from those of all but the last.
@@ -386,12 +334,17 @@ fn refine<T: Theory>(
     requires rows { SplitsInto (T.meaning theory.now) (signs_at (number_holds T.atom_holds atoms.now) (take (length formulas.now - 1) formulas.now)) (rows_of rows.items) }
     ensures { MatchResult result (λ refined. SplitsInto (T.meaning theory.now) (signs_at (number_holds T.atom_holds atoms.now) formulas.now) (rows_of refined.items)) (Stops (T.meaning theory.now) ⊥ (signs_at (number_holds T.atom_holds atoms.now) formulas.now) atoms.now) }
 {
-    let on = find_sample(theory, alloc, atoms, formulas, true)?;
-    let off = find_sample(theory, alloc, atoms, formulas, false)?;
+    let number = formulas.len() - 1;
+    let (on, off) = both(
+        find_sample(theory, alloc, atoms, formulas, true),
+        find_sample(theory, alloc, atoms, formulas, false),
+    )?;
     let last = Sampled { formulas, on, off };
     let mut refined = Vec::new(alloc);
-    'rest: while let Some(row) = rows.pop() {
-        extend(theory, alloc, atoms, &last, row, &mut refined)?;
+    'rest: while let Some(mut row) = rows.pop() {
+        let holds = holds_of(theory, atoms, &formulas[number], &row.row.value);
+        let other = longer_row(theory, alloc, atoms, &last, &mut row, !holds);
+        add_rows(&mut refined, other, last.of(holds), row, holds)?;
     }
     Ok(refined)
 }
@@ -421,7 +374,7 @@ fn split_numbered<T: Theory>(
     ensures few { IfOk result (λ rows. length rows.items ≤ most) }
     ensures stop { IfErr result (Stops (T.meaning theory.now) (HasMoreRows (T.meaning theory.now) (signs_at (number_holds T.atom_holds atoms.now) formulas.now) most) (signs_at (number_holds T.atom_holds atoms.now) formulas.now) atoms.now) }
 {
-    let mut rows = start(theory, alloc, atoms)?;
+    let mut rows = started(alloc, decide_any(theory, alloc))?;
     for i in 0..formulas.len() {
         if rows.len() > most as usize {
             return Err(SplitStop::TooMany);

@@ -9,7 +9,7 @@ use Rattle.label_split.specs.Split.{SplitsInto, HasMoreRows}
 use Rattle.label_split.specs.Noted.{rows_of}
 use Rattle.label_split.proofs.Signs.{signs_taken}
 use Rattle.label_split.specs.declared.rows.SplitStop.TheVariants.{Memory}
-use Rattle.label_split.proofs.RowLists.{few_rows, more_rows, more_by_part, stop_by_part, stops_by, front_again, long_rows}
+use Rattle.label_split.proofs.RowLists.{few_rows, more_rows, more_by_part, stop_by_part, stops_by, front_again, long_rows, start_shown, start_stopped}
 use Rattle.label_split.proofs.rows.split_numbered.Goals as goal
 
 pub returns-then-len-most-clause-stop : goal.returns-then-len-most-clause-stop
@@ -22,7 +22,7 @@ pub returns-in_err-rows : goal.returns-in_err-rows
 returns-in_err-rows g c = record {
   rows = IfOk-from_err c.from_residual.result _ c.from_residual.ensures.0;
   few = IfOk-from_err c.from_residual.result _ c.from_residual.ensures.0;
-  stop = stops_by _ _ c.from_residual.result c.in_err-rows.field-0.0 c.from_residual.ensures.1 (stop_by_part (g.T.Theory.meaning c.args.theory.now) (λ _. []) (signs_at (number_holds g.T.Theory.atom_holds c.args.atoms.now) c.args.formulas.now) (λ _. []) (λ l. refl) c.args.atoms.now c.args.atoms.now (λ w over. over) (HasMoreRows (g.T.Theory.meaning c.args.theory.now) (signs_at (number_holds g.T.Theory.atom_holds c.args.atoms.now) c.args.formulas.now) c.args.most) c.in_err-rows.field-0.0 c.in_err-rows.ensures);
+  stop = stops_by _ _ c.from_residual.result c.in_err-rows.field-0.0 c.from_residual.ensures.1 (stop_by_part (g.T.Theory.meaning c.args.theory.now) (λ _. []) (signs_at (number_holds g.T.Theory.atom_holds c.args.atoms.now) c.args.formulas.now) (λ _. []) (λ l. refl) c.args.atoms.now c.args.atoms.now (λ w over. over) (HasMoreRows (g.T.Theory.meaning c.args.theory.now) (signs_at (number_holds g.T.Theory.atom_holds c.args.atoms.now) c.args.formulas.now) c.args.most) c.in_err-rows.field-0.0 (start_stopped (g.T.Theory.meaning c.args.theory.now) c.args.atoms.now c.decide_any.result c.decide_any.ensures c.in_err-rows.field-0.0 c.in_err-rows.ensures));
 }
 
 pub refine-requires-clause-rows : goal.refine-requires-clause-rows
@@ -55,7 +55,7 @@ pub returns-then-len-most-2-clause-rows : goal.returns-then-len-most-2-clause-ro
 returns-then-len-most-2-clause-rows g c = subst (λ rows. SplitsInto (g.T.Theory.meaning c.args.theory.now) (signs_at (number_holds g.T.Theory.atom_holds c.args.atoms.now) c.args.formulas.now) rows) (sym c.in_ok-without_notes.ensures) (subst (λ fs. SplitsInto (g.T.Theory.meaning c.args.theory.now) (signs_at (number_holds g.T.Theory.atom_holds c.args.atoms.now) fs) (rows_of c.loop-i.rows.items)) (take_all c.loop-i.i c.args.formulas.now (omega (arith, c.loop-i-test.false))) c.loop-i.invariant)
 
 pub loop-i-init : goal.loop-i-init
-loop-i-init g c = c.in_ok-rows.ensures
+loop-i-init g c = start_shown (g.T.Theory.meaning c.args.theory.now) c.decide_any.result c.decide_any.ensures _ c.in_ok-rows.ensures
 
 pub refine-requires-clause-within : goal.refine-requires-clause-within
 refine-requires-clause-within g c = All-take (IsWithin (length c.args.atoms.now)) (c.loop-i.i + 1) c.args.formulas.now c.requires.within
