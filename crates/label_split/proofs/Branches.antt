@@ -1,8 +1,7 @@
 -- Which labels a search has still to look at.
-use Rattle.std.proofs.Common.{◌≡◌, Bool, true, false, not, Option, Some, None, List, [], ◌∷◌, ◌++◌, length, ℕ, zero, suc, ◌+◌, ◌<◌, ◌≤◌, ◌⊎◌, inl, inr, refl, sym, ap, ◌∙◌, subst, All, Result, Ok, Err, IfOk, OnOk, IfSome, MatchResult, replicate, ◌==◌, rules, arith}
+use Rattle.std.proofs.Common.{◌≡◌, Bool, true, false, not, Option, Some, None, List, [], ◌∷◌, ◌++◌, length, ℕ, zero, suc, ◌+◌, ◌<◌, ◌≤◌, ◌⊎◌, inl, inr, refl, sym, ap, ◌∙◌, subst, All, Result, Ok, Err, IfOk, IfSome, MatchResult, replicate, rules, arith}
 use Rattle.std.proofs.Math.ListN.{set}
 use Rattle.std.proofs.lemmas.List.{map-append, length-set, length-replicate}
-use Rattle.std.proofs.lemmas.Bool.Decides.{Decides-at, Decides-eqb, not_from_Decides}
 use Rattle.model_tree.specs.Label.{Label}
 use Rattle.label_core.specs.Meaning.{Meaning, IsChainOver}
 use Rattle.label_core.specs.Verdict.{Decides}

@@ -1,9 +1,8 @@
 use Rattle.std.proofs.Common.{◌-◌, ◌∷◌, [], IfOk, length, drop, subst, arith}
 use Rattle.std.proofs.lemmas.Result.{IfOk-from_err}
 use Rattle.label_core.specs.declared.theory.Verdict.TheVariants.{Sat, Unsat}
-use Rattle.label_split.specs.Numbers.{truths_at, number_holds}
+use Rattle.label_split.specs.Numbers.{truths_at}
 use Rattle.label_split.specs.Search.{DecidesSigns}
-use Rattle.label_split.specs.Signs.{signs_at}
 use Rattle.label_split.proofs.Signs.{last_asked, last_part, last_signs}
 use Rattle.label_split.proofs.Verdicts.{found_is}
 use Rattle.label_split.proofs.rows.find_sample.Goals as goal
