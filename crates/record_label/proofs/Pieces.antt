@@ -1,5 +1,5 @@
 -- Which expressions have the same pieces.
-use Rattle.std.proofs.Common.{◌≡◌, Bool, List, [], ◌∷◌, ◌++◌, ◌⊎◌, inl, inr, map, Vec, Box, Global, ℤ, refl, ap, sym, ◌∙◌, append_assoc, append-nil}
+use Rattle.std.proofs.Common.{◌≡◌, Bool, true, false, List, [], ◌∷◌, ◌++◌, ◌⊎◌, inl, inr, map, Vec, Box, Global, ℤ, Result, Ok, Err, IfOk, MatchResult, refl, ap, sym, subst, ◌∙◌, append_assoc, append-nil}
 use Rattle.fast_fault.specs.declared.place.Pos.{Pos}
 use Rattle.fast_fault.specs.declared.text.Text.{Text}
 use Rattle.fast_syntax.specs.Plain.{plain_expr, plain_node}
@@ -12,7 +12,8 @@ use Rattle.record_label.specs.Parts.{unmarked}
 use Rattle.record_label.proofs.ExprParts.{plain_or, plain_and}
 use Rattle.record_label.specs.declared.written.Mark.{Mark}
 use Rattle.record_label.specs.declared.written.Mark.TheVariants as mark
-use Rattle.record_label.specs.Written.{marks_of, marks_of_parts, first_mark, later_marks, WrittenAlike}
+use Rattle.record_label.specs.declared.written.Pieces.{Pieces}
+use Rattle.record_label.specs.Written.{marks_of, marks_of_parts, first_mark, later_marks, Adds, WrittenAlike}
 
 mutual
   -- an expression is all that stands in front of what follows its pieces
@@ -62,18 +63,23 @@ whole (compare p r a b) = refl
 whole (minus p a) = refl
 whole (chain k p ps) = refl
 
-pub all_added : (e : Expr) (old pushed new rest : List Mark) (m : Mark) → m ≡ first_mark e → pushed ≡ old ++ m ∷ [] → rest ≡ later_marks e → new ≡ pushed ++ rest → new ≡ old ++ marks_of e
-all_added e old pushed new rest m first push behind added =
-    added
-    ∙ ap (λ ms. ms ++ rest) push
-    ∙ append_assoc old (m ∷ []) rest
-    ∙ ap (λ n. old ++ n ∷ rest) first
-    ∙ ap (λ ms. old ++ first_mark e ∷ ms) behind
-    ∙ sym (ap (λ ms. old ++ ms) (whole e))
+-- the piece that stands first
+pub first_added : {E : Type 0} (r : Result Mark E) (first : Mark) (old new : Pieces) → IfOk r (λ m. m ≡ first) → MatchResult r (λ m. Adds (m ∷ []) old new) (λ _. new.wants ≡ true) → Adds (first ∷ []) old new
+first_added (Ok m) first old new is h = subst (λ x. Adds (x ∷ []) old new) is h
+first_added (Err e) first old new is h = λ kept. let other : true ≡ false = sym h ∙ kept in cc
+
+pub adds_more : (xs ys : List Mark) (old pushed new : Pieces) → Adds xs old pushed → Adds ys pushed new → Adds (xs ++ ys) old new
+adds_more xs ys old pushed new f g kept =
+    let later = g kept in
+    let first = f later.0 in
+    (first.0, later.1 ∙ ap (λ ms. ms ++ ys) first.1 ∙ append_assoc old.marks.items xs ys)
+
+pub all_added : (e : Expr) (old pushed new : Pieces) (rest : List Mark) → Adds (first_mark e ∷ []) old pushed → rest ≡ later_marks e → Adds rest pushed new → Adds (marks_of e) old new
+all_added e old pushed new rest first behind added = subst (λ ms. Adds ms old new) (ap (λ ms. first_mark e ∷ ms) behind ∙ sym (whole e)) (adds_more (first_mark e ∷ []) rest old pushed new first added)
 
 -- what stands alone, and what has one part
-pub alone_added : (e : Expr) (old new : List Mark) → later_marks e ≡ [] → new ≡ old ++ first_mark e ∷ [] → new ≡ old ++ marks_of e
-alone_added e old new none first = all_added e old new new [] (first_mark e) refl first (sym none) (sym (append-nil new))
+pub alone_added : (e : Expr) (old new : Pieces) → later_marks e ≡ [] → Adds (first_mark e ∷ []) old new → Adds (marks_of e) old new
+alone_added e old new none first = subst (λ ms. Adds ms old new) (ap (λ ms. first_mark e ∷ ms) (sym none) ∙ sym (whole e)) first
 
 pub none_behind : (n : Node) (p : Pos) → ((t : Text) × (n ≡ Field t)) ⊎ ((m : ℤ) × (n ≡ Num m)) ⊎ ((t : Text) × (n ≡ Str t)) ⊎ ((b : Bool) × (n ≡ Truth b)) → later_marks (plain_node n p) ≡ []
 none_behind n p (inl (t, is)) = ap later_marks (ap (λ m. plain_node m p) is)
@@ -89,13 +95,25 @@ pub operands_behind : (n : Node) (p : Pos) (v : Vec Expr'.Expr Global) → (n �
 operands_behind n p v (inl is) = ap later_marks (ap (λ m. plain_node m p) is ∙ plain_or v p)
 operands_behind n p v (inr is) = ap later_marks (ap (λ m. plain_node m p) is ∙ plain_and v p)
 
--- one more part, and no more parts
-pub one_part : (m : Bool) (e : Expr) (rest at : Parts) (marks pushed new all : List Mark) → at ≡ part m e rest → pushed ≡ marks ++ mark.Part m ∷ [] → new ≡ pushed ++ marks_of e → marks ++ marks_of_parts at ≡ all → new ++ marks_of_parts rest ≡ all
-one_part m e rest at marks pushed new all here push added before =
-    ap (λ ms. ms ++ marks_of_parts rest) (added ∙ ap (λ ms. ms ++ marks_of e) push ∙ append_assoc marks (mark.Part m ∷ []) (marks_of e))
-    ∙ append_assoc marks (mark.Part m ∷ marks_of e) (marks_of_parts rest)
-    ∙ sym (ap (λ ps. marks ++ marks_of_parts ps) here)
-    ∙ before
+-- with those of the parts that are left the pieces are as many as come to the first ones
+abbrev pub Remain : Parts → Parts → Pieces → Pieces → Type 0
+Remain at all old now = now.wants ≡ false → (old.wants ≡ false) × (now.marks.items ++ marks_of_parts at ≡ old.marks.items ++ marks_of_parts all)
 
-pub no_part : (at : Parts) (marks new all : List Mark) → at ≡ no_parts → new ≡ marks ++ mark.End ∷ [] → marks ++ marks_of_parts at ≡ all → new ≡ all
-no_part at marks new all none push before = push ∙ sym (ap (λ ps. marks ++ marks_of_parts ps) none) ∙ before
+-- one more part, and no more parts
+pub one_part : (m : Bool) (e : Expr) (rest at all : Parts) (old now pushed new : Pieces) → at ≡ part m e rest → Adds (mark.Part m ∷ []) now pushed → Adds (marks_of e) pushed new → Remain at all old now → Remain rest all old new
+one_part m e rest at all old now pushed new here push add before kept =
+    let added = add kept in
+    let first = push added.0 in
+    let left = before first.0 in (
+      left.0,
+      ap (λ ms. ms ++ marks_of_parts rest) (added.1 ∙ ap (λ ms. ms ++ marks_of e) first.1 ∙ append_assoc now.marks.items (mark.Part m ∷ []) (marks_of e))
+          ∙ append_assoc now.marks.items (mark.Part m ∷ marks_of e) (marks_of_parts rest)
+          ∙ sym (ap (λ ps. now.marks.items ++ marks_of_parts ps) here)
+          ∙ left.1,
+    )
+
+pub no_part : (at all : Parts) (old now new : Pieces) → at ≡ no_parts → Adds (mark.End ∷ []) now new → Remain at all old now → Adds (marks_of_parts all) old new
+no_part at all old now new none push before kept =
+    let end = push kept in
+    let left = before end.0 in
+    (left.0, end.1 ∙ sym (ap (λ ps. now.marks.items ++ marks_of_parts ps) none) ∙ left.1)

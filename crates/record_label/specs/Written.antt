@@ -1,10 +1,11 @@
 -- What is written in a label expression, places aside: its pieces, of which what joins parts stands in front of them.
-use Rattle.std.specs.Prelude.{◌≡◌, List, [], ◌∷◌, ◌++◌}
+use Rattle.std.specs.Prelude.{◌≡◌, false, List, [], ◌∷◌, ◌++◌}
 use Rattle.model_tree.specs.Signature.{Sort, wholes, truths, texts}
 use Rattle.model_grammar.specs.Places.{bare}
 use Rattle.model_grammar.specs.Syntax.{Expr, field, number, text, truth, negation, compare, minus, chain, Parts, no_parts, part}
 use Rattle.record_label.specs.declared.written.Mark.{Mark}
 use Rattle.record_label.specs.declared.written.Mark.TheVariants as mark
+use Rattle.record_label.specs.declared.written.Pieces.{Pieces}
 use Rattle.record_label.specs.declared.written.Written.{Written}
 
 abbrev mutual
@@ -42,6 +43,10 @@ later_marks (negation place e) = marks_of e
 later_marks (compare place rel a b) = marks_of a ++ marks_of b
 later_marks (minus place e) = marks_of e
 later_marks (chain kind place parts) = marks_of_parts parts
+
+-- these pieces came to the others, unless memory ran out
+abbrev pub Adds : List Mark → Pieces → Pieces → Type 0
+Adds marks old new = new.wants ≡ false → (old.wants ≡ false) × (new.marks.items ≡ old.marks.items ++ marks)
 
 abbrev pub plain_written : Written → List Mark
 plain_written w = w.marks.items

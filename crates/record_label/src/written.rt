@@ -1,10 +1,10 @@
 //! Label expressions as they are written, places aside.
 
-ghost use Rattle.std.specs.Prelude.{◌≡◌, ◌∷◌, ◌++◌, [], IfOk, OnOk, map};
+ghost use Rattle.std.specs.Prelude.{◌≡◌, ◌∷◌, [], true, IfOk, MatchResult, map};
 ghost use Rattle.fast_syntax.specs.Plain.{plain_expr};
 ghost use Rattle.fast_syntax.specs.Slices.{plain_sum_parts, plain_prod_parts};
 ghost use Rattle.record_label.specs.Parts.{unmarked};
-ghost use Rattle.record_label.specs.Written.{first_mark, marks_of, marks_of_parts, WrittenAlike};
+ghost use Rattle.record_label.specs.Written.{first_mark, marks_of, marks_of_parts, Adds, WrittenAlike};
 
 use crate::both::pushed;
 use fast_fault::{Memory, Text};
@@ -52,73 +52,81 @@ fn first_mark(alloc: Global, expr: &Expr) -> Result<Mark, Memory>
     }
 }
 
-/// Adds the piece.
-fn add_mark(marks: &mut Vec<Mark>, mark: Mark) -> Result<(), Memory>
-    ensures { OnOk result (marks.new.items ≡ marks.old.items ++ mark ∷ []) }
-{
-    Ok(marks.push(mark)?)
+/// Pieces that are written, and whether memory ran out meanwhile, which is asked once they all are.
+#[derive(Drop)]
+struct Pieces {
+    marks: Vec<Mark>,
+    wants: bool,
 }
 
-/// Adds the piece that stands first.
-fn add_first(alloc: Global, expr: &Expr, marks: &mut Vec<Mark>) -> Result<(), Memory>
-    ensures { OnOk result (marks.new.items ≡ marks.old.items ++ first_mark (plain_expr expr.now) ∷ []) }
-{
-    add_mark(marks, first_mark(alloc, expr)?)
+impl Pieces {
+    /// Adds the piece, if it could be made.
+    fn add(&mut self, mark: Result<Mark, Memory>)
+        ensures { MatchResult mark (λ one. Adds (one ∷ []) self.old self.new) (λ _. self.new.wants ≡ true) }
+    {
+        match mark {
+            Ok(mark) => match self.marks.push(mark) {
+                Ok(()) => {}
+                Err(_refused) => self.wants = true,
+            }
+            Err(_want) => self.wants = true,
+        }
+    }
 }
 
 /// Adds the pieces of the expression.
 #[cycle(written)]
-fn add_marks(alloc: Global, expr: &Expr, marks: &mut Vec<Mark>) -> Result<(), Memory>
-    ensures { OnOk result (marks.new.items ≡ marks.old.items ++ marks_of (plain_expr expr.now)) }
+fn add_marks(alloc: Global, expr: &Expr, pieces: &mut Pieces)
+    ensures { Adds (marks_of (plain_expr expr.now)) pieces.old pieces.new }
 {
-    add_first(alloc, expr, marks)?;
+    pieces.add(first_mark(alloc, expr));
     match &expr.node {
-        Node::Field(_) | Node::Num(_) | Node::Str(_) | Node::Truth(_) => Ok(()),
-        Node::Not(part) | Node::Minus(part) => add_marks(alloc, part, marks),
+        Node::Field(_) | Node::Num(_) | Node::Str(_) | Node::Truth(_) => {}
+        Node::Not(part) | Node::Minus(part) => add_marks(alloc, part, pieces),
         Node::Compare(_, left, right) => {
-            add_marks(alloc, left, marks)?;
-            add_marks(alloc, right, marks)
+            add_marks(alloc, left, pieces);
+            add_marks(alloc, right, pieces);
         }
-        Node::Or(parts) | Node::And(parts) => add_operands(alloc, parts, marks),
-        Node::Sum(parts) => add_summands(alloc, parts, marks),
-        Node::Prod(parts) => add_factors(alloc, parts, marks),
+        Node::Or(parts) | Node::And(parts) => add_operands(alloc, parts, pieces),
+        Node::Sum(parts) => add_summands(alloc, parts, pieces),
+        Node::Prod(parts) => add_factors(alloc, parts, pieces),
     }
 }
 
 /// Adds the pieces of the parts of a conjunction or a disjunction.
 #[cycle(written)]
-fn add_operands(alloc: Global, parts: &[Expr], marks: &mut Vec<Mark>) -> Result<(), Memory>
-    ensures { OnOk result (marks.new.items ≡ marks.old.items ++ marks_of_parts (unmarked (map plain_expr parts.now))) }
+fn add_operands(alloc: Global, parts: &[Expr], pieces: &mut Pieces)
+    ensures { Adds (marks_of_parts (unmarked (map plain_expr parts.now))) pieces.old pieces.new }
 {
     for part in parts {
-        add_mark(marks, Mark::Part(false))?;
-        add_marks(alloc, part, marks)?;
+        pieces.add(Ok(Mark::Part(false)));
+        add_marks(alloc, part, pieces);
     }
-    add_mark(marks, Mark::End)
+    pieces.add(Ok(Mark::End));
 }
 
 /// Adds the pieces of the parts of a sum.
 #[cycle(written)]
-fn add_summands(alloc: Global, parts: &[SumPart], marks: &mut Vec<Mark>) -> Result<(), Memory>
-    ensures { OnOk result (marks.new.items ≡ marks.old.items ++ marks_of_parts (plain_sum_parts parts.now)) }
+fn add_summands(alloc: Global, parts: &[SumPart], pieces: &mut Pieces)
+    ensures { Adds (marks_of_parts (plain_sum_parts parts.now)) pieces.old pieces.new }
 {
     for part in parts {
-        add_mark(marks, Mark::Part(part.minus))?;
-        add_marks(alloc, &part.part, marks)?;
+        pieces.add(Ok(Mark::Part(part.minus)));
+        add_marks(alloc, &part.part, pieces);
     }
-    add_mark(marks, Mark::End)
+    pieces.add(Ok(Mark::End));
 }
 
 /// Adds the pieces of the parts of a product.
 #[cycle(written)]
-fn add_factors(alloc: Global, parts: &[ProdPart], marks: &mut Vec<Mark>) -> Result<(), Memory>
-    ensures { OnOk result (marks.new.items ≡ marks.old.items ++ marks_of_parts (plain_prod_parts parts.now)) }
+fn add_factors(alloc: Global, parts: &[ProdPart], pieces: &mut Pieces)
+    ensures { Adds (marks_of_parts (plain_prod_parts parts.now)) pieces.old pieces.new }
 {
     for part in parts {
-        add_mark(marks, Mark::Part(part.remainder))?;
-        add_marks(alloc, &part.part, marks)?;
+        pieces.add(Ok(Mark::Part(part.remainder)));
+        add_marks(alloc, &part.part, pieces);
     }
-    add_mark(marks, Mark::End)
+    pieces.add(Ok(Mark::End));
 }
 
 impl Written {
@@ -135,9 +143,17 @@ impl Written {
     pub fn of(alloc: Global, expr: &Expr) -> Result<Written, Memory>
         ensures { IfOk result (λ made. made.marks.items ≡ marks_of (plain_expr expr.now)) }
     {
-        let mut marks = Vec::new(alloc);
-        add_marks(alloc, expr, &mut marks)?;
-        Ok(Written { marks })
+        let mut pieces = Pieces {
+            marks: Vec::new(alloc),
+            wants: false,
+        };
+        add_marks(alloc, expr, &mut pieces);
+        if pieces.wants {
+            return Err(Memory);
+        }
+        Ok(Written {
+            marks: pieces.marks,
+        })
     }
 
     /// The same again.
