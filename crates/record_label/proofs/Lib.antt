@@ -11,6 +11,7 @@ pub mod CopyFacts
 pub mod LabelFacts
 pub mod EntryFacts
 pub mod ChainFacts
+mod Compared
 pub mod Pieces
 pub mod Merging
 pub mod Follows

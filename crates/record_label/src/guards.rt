@@ -1,6 +1,6 @@
 //! The formula of a label expression.
 
-ghost use Rattle.std.specs.Prelude.{◌≡◌, ◌≤◌, ◌∷◌, ◌++◌, [], true, IfOk, MatchResult, Some, None, cond, length, map};
+ghost use Rattle.std.specs.Prelude.{◌≡◌, ◌≤◌, ◌∷◌, [], true, IfOk, MatchResult, Some, None, cond, length, map};
 ghost use Rattle.model_tree.specs.Limits.{most_fields};
 ghost use Rattle.model_tree.specs.Formula as plain;
 ghost use Rattle.model_label.specs.Tests.{is_text};
@@ -59,12 +59,15 @@ fn comparison(
     requires { length signature.now.fields.items ≤ most_fields }
     ensures { IfOk result (λ found. found ≡ comparison_of (plain_signature signature.now).fields (plain_expr left.now) (plain_expr right.now)) }
 {
-    if let Some(left) = side(alloc, left, signature)? {
-        if let Some(right) = side(alloc, right, signature)? {
-            return Ok(Some(TextAtom { left, right }));
+    match side(alloc, left, signature) {
+        Ok(Some(left)) => match side(alloc, right, signature) {
+            Ok(Some(right)) => Ok(Some(TextAtom { left, right })),
+            Ok(None) => Ok(None),
+            Err(want) => Err(want),
         }
+        Ok(None) => Ok(None),
+        Err(want) => Err(want),
     }
-    Ok(None)
 }
 
 /// The formula's denial, unless there was a stop.
@@ -86,10 +89,8 @@ fn joined_two(
 ) -> Result<Formula<RowAtom>, FormStop>
     ensures { FollowsBoth first second (λ f g made. plain_formula made ≡ joined_of every (plain_formula f ∷ plain_formula g ∷ [])) result }
 {
-    let mut two = Vec::new(alloc);
-    added(&mut two, first)?;
-    added(&mut two, second)?;
-    Ok(joined(every, two))
+    let (first, second) = both(first, second)?;
+    Ok(joined(every, Vec::from_array(alloc, [first, second])?))
 }
 
 /// The same formula again.
@@ -176,24 +177,6 @@ fn compared_forms(
     compared(alloc, rel, Formula::Atom(PairAtom::Left(compare)))
 }
 
-/// What the comparison asks for of two whole numbers.
-fn compared_numbers(
-    alloc: Global,
-    rel: Rel,
-    left: &Expr,
-    right: &Expr,
-    signature: &Signature,
-) -> Result<Formula<RowAtom>, FormStop>
-    requires { length signature.now.fields.items ≤ most_fields }
-    ensures { MatchResult result (λ made. plain_formula made ≡ compared_by_forms rel (form_of (plain_signature signature.now).fields (plain_expr left.now)) (form_of (plain_signature signature.now).fields (plain_expr right.now))) (λ stop. StopsAt (HasOutside (forms_in (plain_signature signature.now).fields (plain_expr left.now) ++ forms_in (plain_signature signature.now).fields (plain_expr right.now))) stop) }
-{
-    let (first, second) = both(
-        form_of(alloc, left, signature),
-        form_of(alloc, right, signature),
-    )?;
-    compared_forms(alloc, rel, first, second)
-}
-
 /// The formula of a comparison of whole numbers or of texts. That of tests takes their formulas.
 fn compared_sides(
     alloc: Global,
@@ -206,7 +189,12 @@ fn compared_sides(
     ensures { SaysAlone (plain_signature signature.now).fields rel (plain_expr left.now) (plain_expr right.now) result }
 {
     if is_numeric(left, signature) {
-        return Some(compared_numbers(alloc, rel, left, right, signature));
+        let first = form_of(alloc, left, signature);
+        let second = form_of(alloc, right, signature);
+        return match both(first, second) {
+            Ok((first, second)) => Some(compared_forms(alloc, rel, first, second)),
+            Err(stop) => Some(Err(stop)),
+        };
     }
     match comparison(alloc, left, right, signature) {
         Ok(Some(atom)) => {
