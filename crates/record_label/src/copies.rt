@@ -15,9 +15,9 @@ fn copy_entry(alloc: Global, entry: &RowEntry) -> Result<RowEntry, Memory>
     ensures { IfOk result (λ copy. plain_entry copy ≡ plain_entry entry.now) }
 {
     match entry {
-        RowEntry::Number(form) => form.copy(alloc).map(RowEntry::Number),
-        RowEntry::Truth(formula) => formula.copy(alloc).map(RowEntry::Truth),
-        RowEntry::Text(side) => side.copy(alloc).map(RowEntry::Text),
+        RowEntry::Number(form) => Ok(RowEntry::Number(form.copy(alloc)?)),
+        RowEntry::Truth(formula) => Ok(RowEntry::Truth(formula.copy(alloc)?)),
+        RowEntry::Text(side) => Ok(RowEntry::Text(side.copy(alloc)?)),
     }
 }
 

@@ -1,7 +1,6 @@
 //! Whether forms speak of fields that there are.
 
 ghost use Rattle.std.specs.Prelude.{◌↔◌, IsTrue};
-ghost use Rattle.model_form.specs.Form.{height};
 ghost use Rattle.model_form.specs.Over.{AreBelow, IsOver};
 ghost use Rattle.lin_form.specs.Terms.{plain_fields};
 ghost use Rattle.lin_solve.specs.Wholes.{CompareFits};

@@ -1,9 +1,9 @@
 //! Maps of labels: an entry for each field of the labels that they make.
 
-ghost use Rattle.std.specs.Prelude.{◌≡◌, ◌≤◌, true, List, map, IfOk, length};
+ghost use Rattle.std.specs.Prelude.{◌≡◌, ◌≤◌, true, map, IfOk, length};
 ghost use Rattle.model_tree.specs.Limits.{most_fields};
 ghost use Rattle.model_tree.specs.Signature.{sorts_of};
-ghost use Rattle.model_guard.specs.Forms.{form_of, forms_in};
+ghost use Rattle.model_guard.specs.Forms.{forms_in};
 ghost use Rattle.fast_tree.specs.Signatures.{plain_signature, plain_sort};
 ghost use Rattle.fast_syntax.specs.Plain.{plain_expr};
 ghost use Rattle.record_label.specs.Maps.{is_of_sort, AreOfSorts, forms_in_each, IsEntryOf, AreEntriesOf};
@@ -40,19 +40,6 @@ pub struct RowMap {
     pub written: Vec<Written>,
 }
 
-/// The form of a whole number that is in range.
-fn form_in_range(alloc: Global, expr: &Expr, from: &Signature) -> Result<Form, Memory>
-    requires few { length from.now.fields.items ≤ most_fields }
-    requires within { AreWithin (forms_in (plain_signature from.now).fields (plain_expr expr.now)) }
-    ensures { IfOk result (λ form. form ≡ form_of (plain_signature from.now).fields (plain_expr expr.now)) }
-{
-    match form_of(alloc, expr, from) {
-        Ok(form) => Ok(form),
-        Err(FormStop::Memory) => Err(Memory),
-        Err(FormStop::Range(_)) => unreachable!(),
-    }
-}
-
 /// The entry that an expression of this sort is.
 fn entry_of(alloc: Global, expr: &Expr, sort: Sort, from: &Signature) -> Result<RowEntry, Memory>
     requires few { length from.now.fields.items ≤ most_fields }
@@ -61,11 +48,19 @@ fn entry_of(alloc: Global, expr: &Expr, sort: Sort, from: &Signature) -> Result<
     ensures { IfOk result (λ entry. IsEntryOf (plain_signature from.now).fields (plain_expr expr.now) (plain_sort sort) (plain_entry entry)) }
 {
     match sort {
-        Sort::Int => Ok(RowEntry::Number(form_in_range(alloc, expr, from)?)),
-        Sort::Bool => Ok(RowEntry::Truth(guard_of(alloc, expr, from)?)),
-        Sort::Text => match side(alloc, expr, from)? {
-            Some(side) => Ok(RowEntry::Text(side)),
-            None => unreachable!(),
+        Sort::Int => match form_of(alloc, expr, from) {
+            Ok(form) => Ok(RowEntry::Number(form)),
+            Err(FormStop::Memory) => Err(Memory),
+            Err(FormStop::Range(_)) => unreachable!(),
+        }
+        Sort::Bool => match guard_of(alloc, expr, from) {
+            Ok(guard) => Ok(RowEntry::Truth(guard)),
+            Err(want) => Err(want),
+        }
+        Sort::Text => match side(alloc, expr, from) {
+            Ok(Some(side)) => Ok(RowEntry::Text(side)),
+            Ok(None) => unreachable!(),
+            Err(want) => Err(want),
         },
     }
 }
