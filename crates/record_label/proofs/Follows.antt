@@ -1,10 +1,9 @@
 -- What is so of results that follow from other ones.
-use Rattle.std.proofs.Common.{◌≡◌, ◌++◌, ◌⊎◌, inl, inr, List, Result, Ok, Err, MatchResult, refl, ap, sym, subst}
+use Rattle.std.proofs.Common.{◌++◌, inl, inr, List, Result, Ok, Err, MatchResult, sym, subst}
 use Rattle.std.proofs.Math.IntN.{ℤ}
 use Rattle.model_form.specs.Form.{Form}
 use Rattle.model_guard.specs.Forms.{HasOutside}
 use Rattle.lin_form.specs.declared.stop.FormStop.{FormStop}
-use Rattle.lin_form.specs.declared.stop.FormStop.TheVariants.{Range, Memory}
 use Rattle.lin_form.specs.Stops.{StopsAt}
 use Rattle.lin_form.proofs.Putting.{stops_weaker}
 use Rattle.record_label.specs.Follows.{UnlessMemory, Follows, FollowsBoth}
@@ -27,10 +26,6 @@ follows_both first second (Err e) is P P' R fs gs f h k (inl want) = subst (Stop
 follows_both first second (Err e) is P P' R fs gs f h k (inr (inl one)) = stops_weaker (HasOutside fs) (HasOutside (fs ++ gs)) e (outside_left fs gs) (subst (λ s. MatchResult s P (StopsAt (HasOutside fs))) one h)
 follows_both first second (Err e) is P P' R fs gs f h k (inr (inr other)) = stops_weaker (HasOutside gs) (HasOutside (fs ++ gs)) e (outside_right fs gs) (subst (λ s. MatchResult s P' (StopsAt (HasOutside gs))) other k)
 
-only_memory : (e : FormStop) → StopsAt (λ _. ⊥) e → e ≡ Memory
-only_memory (Range n) h = absurd h
-only_memory Memory h = refl
-
 -- the stop that it is, and the value where there is none
 pub stops_after : {A B : Type 0} (made : Result A FormStop) (e : FormStop) (is : A → B → Type 0) (outside : A → ℤ → Type 0) (P : A → Type 0) (Q Q' : ℤ → Type 0) → ((n : ℤ) → Q n → Q' n) → ((a : A) → P a → (n : ℤ) → outside a n → Q' n) → MatchResult made P (StopsAt Q) → Follows made is outside (Err e) → StopsAt Q' e
 stops_after {A} {B} made e is outside P Q Q' g o h k = follows made (Err e) is outside P (λ (b : B). Unit {0}) Q Q' (λ a p b i. tt) g o h k
@@ -38,26 +33,3 @@ stops_after {A} {B} made e is outside P Q Q' g o h k = follows made (Err e) is o
 pub taken : {A B : Type 0} (made : Result A FormStop) (b : B) (is : A → B → Type 0) (outside : A → ℤ → Type 0) (P : A → Type 0) (Q : ℤ → Type 0) → MatchResult made P (StopsAt Q) → Follows made is outside (Ok b) → (a : A) × P a × is a b
 taken (Ok a) b is outside P Q h k = (a, h, k)
 taken (Err e) b is outside P Q h k = absurd cc
-
--- the same where memory alone stops what follows
-pub why_stopped : {A B : Type 0} (from : Result A FormStop) (e : FormStop) (is : A → B → Type 0) → Follows from is (λ _ _. ⊥) (Err e) → (e ≡ Memory) ⊎ (from ≡ Err e)
-why_stopped (Ok a) e is k = inl (only_memory e k)
-why_stopped (Err f) e is k = let same : f ≡ e = cc in inr (ap Err same)
-
-pub value_taken : {A B : Type 0} (from : Result A FormStop) (b : B) (is : A → B → Type 0) → Follows from is (λ _ _. ⊥) (Ok b) → (a : A) × (from ≡ Ok a) × is a b
-value_taken (Ok a) b is k = (a, refl, k)
-value_taken (Err e) b is k = absurd cc
-
-pub first_stopped : {A B D : Type 0} (first : Result A FormStop) (second : Result B FormStop) (e : FormStop) (is : A → D → Type 0) → Follows first is (λ _ _. ⊥) (Err e) → (e ≡ Memory) ⊎ (first ≡ Err e) ⊎ (second ≡ Err e)
-first_stopped first second e is k = by (why_stopped first e is k)
-  where
-    by : (e ≡ Memory) ⊎ (first ≡ Err e) → (e ≡ Memory) ⊎ (first ≡ Err e) ⊎ (second ≡ Err e)
-    by (inl want) = inl want
-    by (inr own) = inr (inl own)
-
-pub second_stopped : {A B D : Type 0} (first : Result A FormStop) (second : Result B FormStop) (e : FormStop) (is : B → D → Type 0) → Follows second is (λ _ _. ⊥) (Err e) → (e ≡ Memory) ⊎ (first ≡ Err e) ⊎ (second ≡ Err e)
-second_stopped first second e is k = by (why_stopped second e is k)
-  where
-    by : (e ≡ Memory) ⊎ (second ≡ Err e) → (e ≡ Memory) ⊎ (first ≡ Err e) ⊎ (second ≡ Err e)
-    by (inl want) = inl want
-    by (inr own) = inr (inr own)

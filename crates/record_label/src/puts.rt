@@ -227,9 +227,15 @@ fn put_entry(
     ensures { Gives plain_entry (put_entry (map plain_entry entries.now) (plain_entry entry.now)) (IsOutsideEntry (map plain_entry entries.now) (plain_entry entry.now)) result }
 {
     match entry {
-        RowEntry::Number(form) => form.subst(alloc, forms).map(RowEntry::Number),
+        RowEntry::Number(form) => match form.subst(alloc, forms) {
+            Ok(form) => Ok(RowEntry::Number(form)),
+            Err(stop) => Err(stop),
+        }
         RowEntry::Truth(formula) => {
-            put_formula(alloc, formula, entries, forms, DEEPEST).map(RowEntry::Truth)
+            match put_formula(alloc, formula, entries, forms, DEEPEST) {
+                Ok(formula) => Ok(RowEntry::Truth(formula)),
+                Err(stop) => Err(stop),
+            }
         }
         RowEntry::Text(side) => Ok(RowEntry::Text(put_side(alloc, side, entries)?)),
     }
