@@ -6,7 +6,7 @@ use Rattle.model_sta.specs.Sets.{Row}
 use Rattle.model_sta.proofs.Reached.{same_default}
 use Rattle.sta_core.specs.declared.StaRule.{StaRule}
 use Rattle.sta_classes.specs.Rows.{lists_of}
-use Rattle.sta_classes.specs.Places.{AreAsked, IsNumbered, IsNext}
+use Rattle.sta_classes.specs.Places.{AreAsked, IsNumbered}
 use Rattle.sta_classes.specs.Searched.{ArePlaces, NextPlaces}
 use Rattle.sta_classes.specs.declared.place.Place.{Place}
 use Rattle.sta_classes.proofs.Places.{old_at, new_at}
@@ -40,21 +40,22 @@ module _ {A G : Type 0} (rules : List (Vec (StaRule A) G)) where
             (subst₂ (λ k r. ArePlaces rules [] k r v.items) (sym (here ∙ many)) (wide ∙ ap (λ k. get_or ranks k 0) (sym (here ∙ many))) made)
       ])
 
--- one more of the places is told
-pub next_more : (row : Row) (old cur : List Place) (i : ℕ) (x y : Place) → i < length cur → x ≡ get_or cur i x → IsNext row x y
-    → ((j : ℕ) (p q : Place) → j < i → get_or old j p ≡ p → get_or cur j q ≡ q → IsNext row p q) → ((j : ℕ) (q : Place) → i ≤ j → get_or cur j q ≡ get_or old j q)
-    → (j : ℕ) (p q : Place) → j < i + 1 → get_or old j p ≡ p → get_or (set cur i y) j q ≡ q → IsNext row p q
-next_more row old cur i x y low at next done left j p q j_low p_at q_at = elim (cases_lt j i) [
-  | inl below ↦ done j p q below p_at (sym (get_or-set_other cur i j y q (λ e. (omega (arith, e, below)))) ∙ q_at)
-  | inr past ↦
-      let here : j ≡ i = omega (arith, past, j_low) in
-      let new_is : y ≡ q = sym (ap (λ k. get_or (set cur i y) k q) here ∙ get_or-set_same cur i y q low) ∙ q_at in
-      let old_is : x ≡ p = at ∙ same_default cur i x p low ∙ left i p (omega arith) ∙ ap (λ k. get_or old k p) (sym here) ∙ p_at in
-      subst₂ (IsNext row) old_is new_is next
-]
+-- one more element is told
+module _ {X : Type 0} (R : ℕ → X → X → Type 0) (old cur : List X) (i : ℕ) (x y : X) where
+  pub next_more : i < length cur → x ≡ get_or cur i x → R i x y
+      → ((j : ℕ) (p q : X) → j < i → get_or old j p ≡ p → get_or cur j q ≡ q → R j p q) → ((j : ℕ) (q : X) → i ≤ j → get_or cur j q ≡ get_or old j q)
+      → (j : ℕ) (p q : X) → j < i + 1 → get_or old j p ≡ p → get_or (set cur i y) j q ≡ q → R j p q
+  next_more low at next done left j p q j_low p_at q_at = elim (cases_lt j i) [
+    | inl below ↦ done j p q below p_at (sym (get_or-set_other cur i j y q (λ e. (omega (arith, e, below)))) ∙ q_at)
+    | inr past ↦
+        let here : j ≡ i = omega (arith, past, j_low) in
+        let new_is : y ≡ q = sym (ap (λ k. get_or (set cur i y) k q) here ∙ get_or-set_same cur i y q low) ∙ q_at in
+        let old_is : x ≡ p = at ∙ same_default cur i x p low ∙ left i p (omega arith) ∙ ap (λ k. get_or old k p) (sym here) ∙ p_at in
+        subst (λ k. R k p q) (sym here) (subst₂ (R i) old_is new_is next)
+  ]
 
-pub left_more : (old cur : List Place) (i : ℕ) (y : Place) → ((j : ℕ) (q : Place) → i ≤ j → get_or cur j q ≡ get_or old j q) → (j : ℕ) (q : Place) → i + 1 ≤ j → get_or (set cur i y) j q ≡ get_or old j q
-left_more old cur i y left j q past = get_or-set_other cur i j y q (λ e. (omega (arith, e, past))) ∙ left j q (omega arith)
+  pub left_more : ((j : ℕ) (q : X) → i ≤ j → get_or cur j q ≡ get_or old j q) → (j : ℕ) (q : X) → i + 1 ≤ j → get_or (set cur i y) j q ≡ get_or old j q
+  left_more left j q past = get_or-set_other cur i j y q (λ e. (omega (arith, e, past))) ∙ left j q (omega arith)
 
 lists_set : {X A : Type 0} (vs : List (Vec X A)) (i : ℕ) (v : Vec X A) → lists_of (set vs i v) ≡ set (lists_of vs) i v.items
 lists_set [] i v = refl

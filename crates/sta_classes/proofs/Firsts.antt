@@ -177,16 +177,16 @@ module _ {A V G H : Type 0} (ranks : List ℕ) (has keeps : Label → Type 0) (m
 
     -- all lists of kinds are opened once those with the last class are
     pub all_opened : (old s : Pending V) → IsSound ranks has keeps meaning label classes' old → IsBetter old s
-        → AreOpened ranks has keeps meaning label classes places old (λ n ks. (k : ℕ) → k ≡ k)
-        → AreOpened ranks has keeps meaning label classes' places' s (λ n ks. Contains ks (length classes))
-        → AreOpened ranks has keeps meaning label classes' places' s (λ n ks. (k : ℕ) → k ≡ k)
-    all_opened old s sound better before touched n n_low ks wide listed want = elim (there_or_not ks) [
+        → AreOpened ranks has keeps meaning label classes places old
+        → ((n : ℕ) → n < length ranks → (ks : List ℕ) → length ks ≡ get_or ranks n 0 → ((j : ℕ) → j < length ks → Contains (listed_at places' n j) (get_or ks j 0)) → Contains ks (length classes) → IsOpened ranks has keeps meaning label classes' s n ks)
+        → AreOpened ranks has keeps meaning label classes' places' s
+    all_opened old s sound better before touched n n_low ks wide listed = elim (there_or_not ks) [
       | inl at ↦ touched n n_low ks wide listed at
       | inr none ↦
           let old_listed : (j : ℕ) → j < length ks → Contains (listed_at places n j) (get_or ks j 0) = λ j low. was_listed n j (get_or ks j 0) n_low (omega (arith, low, wide)) (none j low) (listed j low) in
           let lows : Each (λ k. k < length classes) ks = each_below ks (λ j low. listed_low holds_none ranks rules classes places kinds n j (get_or ks j 0) n_low (omega (arith, low, wide)) (old_listed j low)) in
           opened_later ranks has keeps meaning label classes' old s sound n ks better
-          (subst (λ z. IsOpened ranks has keeps meaning label z old n ks) (sym is) (opened_more ranks has keeps meaning label classes c old n ks lows (before n n_low ks wide old_listed want)))
+          (subst (λ z. IsOpened ranks has keeps meaning label z old n ks) (sym is) (opened_more ranks has keeps meaning label classes c old n ks lows (before n n_low ks wide old_listed)))
     ]
       where
         holds_none : A → Label → Bool

@@ -11,13 +11,14 @@ use Rattle.sta_classes.specs.Applying.{meets_at}
 use Rattle.sta_classes.specs.Bits.{both}
 use Rattle.sta_classes.specs.Rows.{class_rows, lists_of}
 use Rattle.sta_classes.specs.Searched.{AreSplit, IsTold, AreToldAt}
-use Rattle.sta_classes.specs.Splits.{IsMetBy, AreMet, AreTold, AreAllTold, IsUnder}
+use Rattle.sta_classes.specs.Splits.{NextSplits, IsMetBy, AreMet, AreTold, AreAllTold, IsUnder}
 use Rattle.sta_classes.specs.declared.class.Class.{Class}
 use Rattle.sta_classes.specs.declared.rules.Owned.{Owned}
 use Rattle.sta_classes.specs.declared.rules.Rules.{Rules}
 use Rattle.sta_classes.specs.declared.splits.Splits.{Splits}
 use Rattle.sta_classes.specs.declared.splits.Told.{Told}
 use Rattle.sta_theory.proofs.Asked.{meet_more}
+use Rattle.sta_classes.proofs.Applying.{element}
 use Rattle.sta_classes.proofs.Meet.{both_maps}
 use Rattle.sta_classes.proofs.Places.{old_at, new_at}
 use Rattle.sta_classes.proofs.Rows.{lists_push, list_at}
@@ -128,44 +129,18 @@ module _ {A V W : Type 0} {label_of : V → Label} {holds : A → Label → Bool
       is : (n : ℕ) (s : Splits V) → n ≡ c → get_or (set splits c s') n s ≡ s → s' ≡ s
       is n s same at = sym (get_or-set_same splits c s' s low) ∙ ap (λ k. get_or (set splits c s') k s) (sym same) ∙ at
 
-  module _ (rows : List Row) (q : Row) where
-    -- the rules of the constructors before number n are met by one more class
-    pub record IsPartly (n : ℕ) (splits : List (Splits V)) : Type 0 where
-      pub many : length splits ≡ length ranks
-      pub done : (c : ℕ) (R : Rules A) (s : Splits V) → c < n → c < length splits → get_or own c R ≡ R → get_or splits c s ≡ s → AreMet R.list.items (get_or ranks c 0) (rows ++ q ∷ []) s.met.items
-      pub left : (c : ℕ) (R : Rules A) (s : Splits V) → n ≤ c → c < length splits → get_or own c R ≡ R → get_or splits c s ≡ s → AreMet R.list.items (get_or ranks c 0) rows s.met.items
-      pub told : (c : ℕ) (R : Rules A) (s : Splits V) → c < length splits → get_or own c R ≡ R → get_or splits c s ≡ s → AreAllTold M R.list.items s
-
-    pub partly_first : (splits : List (Splits V)) → AreSplit M ranks own rows splits → IsPartly 0 splits
-    partly_first splits h = record { many = h.many; done = λ c R s low inside of at. absurd (omega (arith, low)); left = λ c R s low inside of at. h.met c R s inside of at; told = h.told }
-
-    pub partly_last : (splits : List (Splits V)) (n : ℕ) → length splits ≤ n → IsPartly n splits → AreSplit M ranks own (rows ++ q ∷ []) splits
-    partly_last splits n high h = record { many = h.many; met = λ c R s inside of at. h.done c R s (omega (arith, inside, high)) inside of at; told = h.told }
-
-    module _ (n : ℕ) (splits : List (Splits V)) (R : Rules A) (s s' : Splits V) (low : n < length splits) (of : get_or own n R ≡ R) (at : get_or splits n s ≡ s) (many : length own ≡ length ranks) where
-      pub partly_more : (AreMet R.list.items (get_or ranks n 0) rows s.met.items → AreMet R.list.items (get_or ranks n 0) (rows ++ q ∷ []) s'.met.items) → (s'.sets ≡ s.sets) × (s'.told ≡ s.told) → IsPartly n splits → IsPartly (n + 1) (set splits n s')
-      partly_more met kept h = record {
-        many = length-set splits n s' ∙ h.many;
-        done = λ c R' z below inside of' at'. elim (cases_eq c n) [
-          | inl same ↦
-              subst (λ k. AreMet k.list.items (get_or ranks c 0) (rows ++ q ∷ []) z.met.items) (rules_same c R' same of')
-              (subst (λ k. AreMet R.list.items (get_or ranks c 0) (rows ++ q ∷ []) k.met.items) (is c z same at') (subst (λ k. AreMet R.list.items (get_or ranks k 0) (rows ++ q ∷ []) s'.met.items) (sym same) (met (h.left n R s (omega arith) low of at))))
-          | inr other ↦ h.done c R' z (omega (arith, below, other)) (omega (arith, inside, length-set splits n s')) of' (sym (get_or-set_other splits n c s' z other) ∙ at')
-        ];
-        left = λ c R' z above inside of' at'. h.left c R' z (omega (arith, above)) (omega (arith, inside, length-set splits n s')) of' (sym (get_or-set_other splits n c s' z (λ e. absurd (omega (arith, e, above)))) ∙ at');
-        told = λ c R' z inside of' at'. elim (cases_eq c n) [
-          | inl same ↦
-              subst (λ k. AreAllTold M k.list.items z) (rules_same c R' same of')
-              (subst (AreAllTold M R.list.items) (is c z same at') (all_told_same M R.list.items s s' (ap (λ k. k.keys) kept.0) kept.1 (h.told n R s low of at)))
-          | inr other ↦ h.told c R' z (omega (arith, inside, length-set splits n s')) of' (sym (get_or-set_other splits n c s' z other) ∙ at')
-        ];
-      }
-        where
-          is : (c : ℕ) (z : Splits V) → c ≡ n → get_or (set splits n s') c z ≡ z → s' ≡ z
-          is c z same e = sym (get_or-set_same splits n s' z low) ∙ ap (λ k. get_or (set splits n s') k z) (sym same) ∙ e
-
-          rules_same : (c : ℕ) (R' : Rules A) → c ≡ n → get_or own c R' ≡ R' → R ≡ R'
-          rules_same c R' same e = sym of ∙ same_default own n R R' (omega (arith, low, h.many, many)) ∙ ap (λ k. get_or own k R') (sym same) ∙ e
+  -- one more class
+  pub split_next : (rows : List Row) (q : Row) (old new : List (Splits V)) → AreSplit M ranks own rows old → NextSplits ranks own q old new → AreSplit M ranks own (rows ++ q ∷ []) new
+  split_next rows q old new h next = record {
+    many = next.many ∙ h.many;
+    met = λ c R s' low of at'.
+        let (s, at) = element old c (omega (arith, low, next.many)) in
+        (next.each c s s' (omega (arith, low, next.many)) at at' R of).met rows (h.met c R s (omega (arith, low, next.many)) of at);
+    told = λ c R s' low of at'.
+        let (s, at) = element old c (omega (arith, low, next.many)) in
+        let one = next.each c s s' (omega (arith, low, next.many)) at at' R of in
+        all_told_same M R.list.items s s' (ap (λ k. k.keys) one.sets_are) one.told_are (h.told c R s (omega (arith, low, next.many)) of at);
+  }
 
   -- what is known at one of them
   module _ (rows : List Row) (splits : List (Splits V)) (h : AreSplit M ranks own rows splits) (c : ℕ) (R : Rules A) (s : Splits V) (own_low : c < length own) (low : c < length splits) (at : s ≡ get_or splits c s) where

@@ -1,6 +1,6 @@
 -- Trees over children that are opened.
 use Rattle.std.proofs.Common.{ℕ, Vec, ◌≡◌, ◌<◌, ◌≤◌, ◌-◌, ◌↔◌, ◌&&◌, not, Bool, true, List, [], length, map, get_or, All, Contains, sym, ap, ap₂, subst, ◌∙◌, arith}
-use Rattle.std.proofs.lemmas.List.{length-map}
+use Rattle.std.proofs.lemmas.List.{length-map, get_or-map}
 use Rattle.std.proofs.lemmas.List.Elements.{All-contains}
 use Rattle.model_tree.specs.Label.{Label}
 use Rattle.model_sta.specs.Automaton.{Rule}
@@ -11,7 +11,7 @@ use Rattle.model_sta.proofs.Least.{numbered_at}
 use Rattle.label_core.specs.Meaning.{Meaning}
 use Rattle.sta_core.specs.Machine.{plain_rule}
 use Rattle.sta_core.specs.declared.StaRule.{StaRule}
-use Rattle.sta_classes.specs.Applying.{is_fixed, truth_at, IsRules, IsFired}
+use Rattle.sta_classes.specs.Applying.{is_fixed, truth_at, AreOwned, IsRules, IsTakenTo, IsFired}
 use Rattle.sta_classes.specs.Bits.{both}
 use Rattle.sta_classes.specs.Rules.{plain_rules, meaning_of}
 use Rattle.sta_classes.specs.Rows.{found_of, founds, class_rows_at, class_counts_at, lists_of}
@@ -26,10 +26,29 @@ use Rattle.sta_classes.specs.declared.rules.Owned.{Owned}
 use Rattle.sta_classes.specs.declared.rules.Rules.{Rules}
 use Rattle.sta_classes.specs.declared.splits.Told.{Told}
 use Rattle.sta_classes.proofs.Rows.{rows_are, counts_are, all_each}
-use Rattle.sta_classes.proofs.Applying.{row_is_step, same_step, told_apart, same_everywhere}
+use Rattle.sta_classes.proofs.Applying.{element, states_low, row_is_step, same_step, told_apart, same_everywhere}
 use Rattle.sta_classes.proofs.Meet.{both_maps}
 use Rattle.sta_classes.proofs.Listed.{cost_above}
 use Rattle.sta_classes.proofs.Firsts.{listed_low}
+use Rattle.sta_classes.proofs.Told.{all_to_map}
+
+-- the states of the rules with these numbers
+module _ {A : Type 0} (list : List (Owned A)) (states : List ℕ) (are : states ≡ map (λ x. x.state) list) where
+  pub states_below : {G : Type 0} (rules : List (Vec (StaRule A) G)) (c : ℕ) → AreOwned rules c list → All (λ n. n < length rules) states
+  states_below rules c own = subst (All (λ n. n < length rules)) (sym are) (all_to_map (λ n. n < length rules) (λ x. x.state) list (states_low rules c list own))
+
+  pub fired_by : (numbers row : Row) → ((s : ℕ) → has row s ≡ true ↔ IsTakenTo (λ n. n) states numbers s) → (s : ℕ) → has row s ≡ true ↔ IsFired list numbers s
+  fired_by numbers row h s =
+      let there = subst (λ ns. has row s ≡ true ↔ IsTakenTo (λ n. n) ns numbers s) are (h s) in (
+        (λ e.
+            let (i, low, is, n, at, to) = there.0 e in
+            let inside : i < length list = omega (arith, low, length-map list (λ x. x.state)) in
+            let (x, x_at) = element list i inside in
+            (i, inside, is, x, x_at, ap (λ z. z.state) (sym x_at) ∙ sym (get_or-map (λ z. z.state) list i x n inside) ∙ at ∙ to)),
+        (λ w.
+            let (i, low, is, x, at, to) = w in
+            there.1 (i, omega (arith, low, length-map list (λ x. x.state)), is, x.state, get_or-map (λ z. z.state) list i x x.state low ∙ ap (λ z. z.state) at, to)),
+      )
 
 pub all_by_place : (P : ℕ → Type 0) (ks : List ℕ) → ((j : ℕ) → j < length ks → P (get_or ks j 0)) → All P ks
 all_by_place P ks h i d low = subst P (same_default ks i 0 d low) (h i low)

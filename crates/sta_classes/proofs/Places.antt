@@ -20,19 +20,6 @@ module _ {X : Type 0} (xs : List X) (y d : X) where
   pub new_at : (k : ℕ) → k ≡ length xs → get_or (xs ++ y ∷ []) k d ≡ y
   new_at k e = get_or_at xs y [] d k (sym e)
 
-pub none_numbered : (states : List ℕ) → AreNumbered states [] [] [] []
-none_numbered states = record {
-  many = refl;
-  low = λ k l. absurd (omega arith);
-  keys_are = λ k l. absurd (omega arith);
-  distinct = λ i m l n. absurd (omega arith);
-  one_each = refl;
-  few = omega arith;
-  firsts_low = λ i l. absurd (omega arith);
-  firsts_are = λ i l. absurd (omega arith);
-  first = λ k l. absurd (omega arith);
-}
-
 module _ (states kind_of firsts : List ℕ) (keys rows : List Row) (row : Row) (h : AreNumbered states kind_of firsts keys rows) where
   -- one more class of a kind that is there
   same_kind : (kind : ℕ) → kind < length keys → get_or keys kind [] ≡ map (has row) states → AreNumbered states (kind_of ++ kind ∷ []) firsts keys (rows ++ row ∷ [])

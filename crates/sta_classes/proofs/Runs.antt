@@ -1,5 +1,5 @@
 -- The search from its first turn to its last.
-use Rattle.std.proofs.Common.{ℕ, Vec, ◌≡◌, ◌<◌, ◌≤◌, ◌+◌, ◌-◌, inl, inr, Bool, List, [], ◌∷◌, ◌++◌, length, get_or, Contains, refl, sym, ap, subst, ◌∙◌, arith}
+use Rattle.std.proofs.Common.{ℕ, Vec, ◌≡◌, ◌<◌, ◌≤◌, ◌+◌, ◌-◌, inl, inr, Bool, List, [], ◌∷◌, ◌++◌, length, get_or, Contains, sym, ap, subst, ◌∙◌, arith}
 use Rattle.std.proofs.lemmas.Bool.{cases_lt}
 use Rattle.std.proofs.lemmas.List.{length_push, length-map, map-append}
 use Rattle.model_tree.specs.Label.{Label}
@@ -37,14 +37,14 @@ module _ {A V W G H : Type 0} {label_of : V → Label} {holds : A → Label → 
 
   -- before there are classes, all lists are new
   pub run_first : (classes : List (Class V)) (places : List (Vec Place H)) (s : Pending V) → classes ≡ [] → AreKinds ranks rules classes places → HasNewOffered M ranks rules classes places s → HasAllOffered M ranks rules classes places s
-  run_first classes places s none kinds new c low ks wide listed want = new c low ks (new_list classes places kinds c low ks wide listed (λ some. absurd (omega (arith, some, ap length none))))
+  run_first classes places s none kinds new c low ks wide listed = new c low ks (new_list classes places kinds c low ks wide listed (λ some. absurd (omega (arith, some, ap length none))))
 
   module _ (classes : List (Class V)) (places : List (Vec Place H)) (old mid : Pending V) (sound : Sound M ranks rules classes old) (kinds : AreKinds ranks rules classes places) (opened : HasAllOffered M ranks rules classes places old) where
     -- where nothing is pending, all sets are found
     pub run_last : IsDone old mid → IsComplete ranks M.has (meaning_of holds (plain_rules rules)) (rows_of (founds label_of classes))
     run_last done =
         all_found ranks M.has M.keeps (meaning_of holds (plain_rules rules)) label_of classes old mid sound (listed_at places) (cheapest holds ranks rules classes places kinds label_of sound.rising)
-        (λ c low ks over. opened c low ks over.0 over.1 (λ k. refl)) done
+        (λ c low ks over. opened c low ks over.0 over.1) done
 
     module _ (c : Class V) (taken : IsTaken old mid c) (kept : AreKept mid) (classes' : List (Class V)) (places' : List (Vec Place H)) (is : classes' ≡ classes ++ c ∷ []) (many : length places' ≡ length places)
         (next : (n : ℕ) → n < length places → NextPlaces c.row (get_or (lists_of places) n []) (get_or (lists_of places') n [])) where
@@ -52,7 +52,7 @@ module _ {A V W G H : Type 0} {label_of : V → Label} {holds : A → Label → 
       run_sound =
           subst (λ z. Sound M ranks rules z mid) (sym is)
           (sound_taken ranks M.has M.keeps (meaning_of holds (plain_rules rules)) label_of classes old mid sound (listed_at places) (cheapest holds ranks rules classes places kinds label_of sound.rising)
-          (λ n low ks over. opened n low ks over.0 over.1 (λ k. refl)) c taken kept)
+          (λ n low ks over. opened n low ks over.0 over.1) c taken kept)
 
       pub run_kinds : AreKinds ranks rules classes' places'
       run_kinds = kinds_more ranks M.has M.keeps (meaning_of holds (plain_rules rules)) label_of rules classes classes' c places places' kinds is many next
@@ -61,7 +61,7 @@ module _ {A V W G H : Type 0} {label_of : V → Label} {holds : A → Label → 
       run_rest s better new =
           let last : length classes' - 1 ≡ length classes = omega (arith, ap length is, length_push classes c) in
           all_opened ranks M.has M.keeps (meaning_of holds (plain_rules rules)) label_of rules classes classes' c places places' kinds is next mid s run_sound better
-          (λ n low ks wide listed want. opened_later ranks M.has M.keeps (meaning_of holds (plain_rules rules)) label_of classes old mid sound n ks taken.better (opened n low ks wide listed want))
+          (λ n low ks wide listed. opened_later ranks M.has M.keeps (meaning_of holds (plain_rules rules)) label_of classes old mid sound n ks taken.better (opened n low ks wide listed))
           (λ n low ks wide listed at. new n low ks (new_list classes' places' run_kinds n low ks wide listed (λ some. subst (Contains ks) (sym last) at)))
 
 module _ {A V W G : Type 0} {label_of : V → Label} {holds : A → Label → Bool} (M : Meaning label_of holds W) (ranks : List ℕ) (rules : List (Vec (StaRule A) G)) (own : List (Rules A)) (most : ℕ) (known : Known V) where

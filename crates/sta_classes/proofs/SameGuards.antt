@@ -12,7 +12,7 @@ use Rattle.label_core.specs.Meaning.{Meaning}
 use Rattle.label_core.specs.SameFormula.{same_formula}
 use Rattle.label_core.specs.SameLaws.{same_formula_laws, same_holds}
 use Rattle.sta_core.specs.Machine.{plain_rule}
-use Rattle.sta_classes.specs.Applying.{truth_at, guards_in, IsLike, AreLike, AreLow, AreLikes}
+use Rattle.sta_classes.specs.Applying.{truth_at, guards_in, IsLike, AreLike, AreLow, AreAt}
 use Rattle.sta_classes.specs.Bits.{both}
 use Rattle.sta_classes.specs.Splits.{AreTold}
 use Rattle.sta_classes.specs.declared.rules.Owned.{Owned}
@@ -69,7 +69,7 @@ module _ {A V W : Type 0} {label_of : V → Label} {holds : A → Label → Bool
       let like = alike.each i low in
       truth_of l i low ∙ sym (same_holds eq (λ a. holds a l) (λ a b. equal a b l) (get_or (guards_in list) (get_or likes i 0) yes) (get_or (guards_in list) i yes) like.1) ∙ sym (truth_of l (get_or likes i 0) like.0)
 
-  module _ (numbers row : Row) (many : length numbers ≡ length list) (are : AreLikes likes numbers row) where
+  module _ (numbers row : Row) (many : length numbers ≡ length list) (are : AreAt likes (length likes) numbers row) where
     among : (i : ℕ) → i < length list → has numbers i ≡ true → has row (get_or likes i 0) ≡ true
     among i low is = (are.each (get_or likes i 0)).1 (i, omega (arith, low, alike.many), is, get_or likes i 0, same_default likes i (get_or likes i 0) 0 (omega (arith, low, alike.many)), refl)
 

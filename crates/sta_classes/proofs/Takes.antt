@@ -7,7 +7,7 @@ use Rattle.std.proofs.lemmas.Bool.{cases_eq}
 use Rattle.std.proofs.lemmas.List.{length-set, get_or-set_same, get_or-set_other}
 use Rattle.std.proofs.lemmas.List.Elements.{All-contains}
 use Rattle.std.proofs.lemmas.List.Sorted.{IsPermutation-sym, Contains-permutation, first_le_from_greatest}
-use Rattle.sta_classes.specs.Pending.{count_none, leaves, IsPending, AreKept, IsTaken, IsDone}
+use Rattle.sta_classes.specs.Pending.{count_none, leaves, IsPending, AreKept, IsTaken}
 use Rattle.sta_classes.specs.declared.class.Class.{Class}
 use Rattle.sta_classes.specs.declared.class.TheConstants.{CAP}
 use Rattle.sta_classes.specs.declared.pending.Pending.{Pending}
@@ -114,11 +114,3 @@ module _ {V : Type 0} (old new : Pending V) (h : AreKept old) (room number : ℕ
             let same : b ≡ c = some_is b c (sym e ∙ is) in
             let top : CAP - d.nodes ≤ room = All-contains (λ y. y.0 ≤ room) (heap_items old.order) (CAP - d.nodes, i) (first_le_from_greatest nat_cmp (room, number) (heap_items old.order) (greatest h.ordered).1) (h.queued i d p) in
             omega (arith, top, left, capped, (h.rows i d p).1, ap (λ z. z.nodes) same)
-
--- where nothing is left in the order, nothing is pending
-pub nothing_left : {V : Type 0} (old new : Pending V) → AreKept old → heap_items old.order ≡ [] → new.sets ≡ old.sets → new.best ≡ old.best → IsDone old new
-nothing_left old new h empty sets best = record {
-  none = λ i c p. (let at = subst (λ xs. Contains xs (CAP - c.nodes, i)) empty (h.queued i c p) in (let low : at.0 < 0 = at.1 in omega arith));
-  sets_are = sets;
-  best_are = best;
-}

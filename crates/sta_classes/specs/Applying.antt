@@ -64,9 +64,10 @@ module _ {A : Type 0} where
     pub many : length likes ≡ length list
     pub each : (i : ℕ) → i < length list → IsLike eq list i (get_or likes i 0)
 
-  -- the numbers of all of them, of those with a guard, and of others with the same guard
+  -- the states of all of them, their numbers, those of the ones with a guard, and of others with the same guard
   pub record IsRules {G : Type 0} (eq : A → A → Bool) (rules : List (Vec (StaRule A) G)) (c : ℕ) (own : Rules A) : Type 0 where
     pub owned : AreOwned rules c own.list.items
+    pub states_are : own.states.items ≡ map (λ x. x.state) own.list.items
     pub all_are : own.all ≡ map (λ x. true) own.list.items
     pub guarded_are : own.guarded ≡ map (λ x. not (is_fixed (plain_rule x.rule.now).guard)) own.list.items
     pub alike : AreLike eq own.list.items own.likes.items
@@ -89,7 +90,7 @@ IsFired list = IsTakenTo (λ x. x.state) list
 abbrev pub AreLow : List ℕ → Type 0
 AreLow likes = All (λ like. like < length likes) likes
 
--- exactly the numbers that the list has at these numbers
-pub record AreLikes (likes : List ℕ) (numbers : Row) (row : Row) : Type 0 where
-  pub many : length row ≡ length likes
-  pub each : (s : ℕ) → has row s ≡ true ↔ IsTakenTo (λ like. like) likes numbers s
+-- exactly the numbers that the list has at these places, as a set of the first so many
+pub record AreAt (list : List ℕ) (places : ℕ) (numbers : Row) (row : Row) : Type 0 where
+  pub many : length row ≡ places
+  pub each : (s : ℕ) → has row s ≡ true ↔ IsTakenTo (λ n. n) list numbers s

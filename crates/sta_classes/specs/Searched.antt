@@ -86,9 +86,9 @@ module _ {V : Type 0} (ranks : List ℕ) (has keeps : Label → Type 0) (rules :
   abbrev pub IsOpened : List (Class V) → Pending V → ℕ → List ℕ → Type 0
   IsOpened found s c ks = (l : Label) → has l → IsMet s (step rules c l (rows_at (founds label found) ks)) (cost CAP (nodes_at (founds label found) ks))
 
-  -- the same for all lists of kinds that are wanted
-  abbrev pub AreOpened : {H : Type 0} → List (Class V) → List (Vec Place H) → Pending V → (ℕ → List ℕ → Type 0) → Type 0
-  AreOpened found places s W = (c : ℕ) → c < length ranks → (ks : List ℕ) → length ks ≡ get_or ranks c 0 → ((j : ℕ) → j < length ks → Contains (listed_at places c j) (get_or ks j 0)) → W c ks → IsOpened found s c ks
+  -- the same for all lists of kinds
+  abbrev pub AreOpened : {H : Type 0} → List (Class V) → List (Vec Place H) → Pending V → Type 0
+  AreOpened found places s = (c : ℕ) → c < length ranks → (ks : List ℕ) → length ks ≡ get_or ranks c 0 → ((j : ℕ) → j < length ks → Contains (listed_at places c j) (get_or ks j 0)) → IsOpened found s c ks
 
 -- a constructor, and children for each of its places among the classes, so that no class has more nodes than the tree over them
 pub record IsOver {V : Type 0} (label : V → Label) (ranks : List ℕ) (found : List (Class V)) (c : ℕ) (ks : List ℕ) : Type 0 where
@@ -120,7 +120,7 @@ module _ {A V W G : Type 0} {label_of : V → Label} {holds : A → Label → Bo
 
   -- and so are those over all lists of kinds
   abbrev pub HasAllOffered : {H : Type 0} → List (Class V) → List (Vec Place H) → Pending V → Type 0
-  HasAllOffered found places s = AreOpened ranks M.has M.keeps (meaning_of holds (plain_rules rules)) label_of found places s (λ c ks. (k : ℕ) → k ≡ k)
+  HasAllOffered found places s = AreOpened ranks M.has M.keeps (meaning_of holds (plain_rules rules)) label_of found places s
 
   module _ (own : List (Rules A)) (most : ℕ) where
     -- a search under way: what is found and what is pending is sound, what is known of the kinds and of the rules is right, and

@@ -1,5 +1,5 @@
 -- What is known of a constructor's rules: which of them classes meet, and labels that tell guards apart.
-use Rattle.std.specs.Prelude.{ℕ, ◌≡◌, ◌<◌, ◌⊎◌, Bool, List, [], map, get_or, length, All, Contains, Vec}
+use Rattle.std.specs.Prelude.{ℕ, ◌≡◌, ◌<◌, ◌⊎◌, Bool, List, [], ◌∷◌, ◌++◌, map, get_or, length, All, Contains, Vec}
 use Rattle.model_tree.specs.Label.{Label}
 use Rattle.model_sta.specs.Sets.{Row}
 use Rattle.label_core.specs.Meaning.{Meaning}
@@ -9,6 +9,7 @@ use Rattle.sta_classes.specs.Applying.{meets_at, truth_at}
 use Rattle.sta_classes.specs.Bits.{both}
 use Rattle.sta_classes.specs.Rows.{lists_of}
 use Rattle.sta_classes.specs.declared.rules.Owned.{Owned}
+use Rattle.sta_classes.specs.declared.rules.Rules.{Rules}
 use Rattle.sta_classes.specs.declared.splits.Splits.{Splits}
 use Rattle.sta_classes.specs.declared.splits.Told.{Told}
 
@@ -22,6 +23,21 @@ module _ {A : Type 0} (list : List (Owned A)) (places : ℕ) where
   pub record AreMet {G : Type 0} (classes : List Row) (met : List (Vec Row G)) : Type 0 where
     pub many : length met ≡ length classes
     pub each : (k : ℕ) → k < length classes → IsMetBy (get_or classes k []) (get_or (lists_of met) k [])
+
+  -- the same with one more class of this set: labels are told as they were
+  pub record IsNextSplit {V : Type 0} (q : Row) (old new : Splits V) : Type 0 where
+    pub met : (rows : List Row) → AreMet rows old.met.items → AreMet (rows ++ q ∷ []) new.met.items
+    pub sets_are : new.sets ≡ old.sets
+    pub told_are : new.told ≡ old.told
+
+-- by the rules of this constructor
+abbrev pub IsNextOf : {A V : Type 0} → List ℕ → List (Rules A) → Row → ℕ → Splits V → Splits V → Type 0
+IsNextOf {A} ranks own q c s s' = (R : Rules A) → get_or own c R ≡ R → IsNextSplit R.list.items (get_or ranks c 0) q s s'
+
+-- the same for each constructor
+pub record NextSplits {A V : Type 0} (ranks : List ℕ) (own : List (Rules A)) (q : Row) (old new : List (Splits V)) : Type 0 where
+  pub many : length new ≡ length old
+  pub each : (c : ℕ) (s s' : Splits V) → c < length old → get_or old c s ≡ s → get_or new c s' ≡ s' → IsNextOf ranks own q c s s'
 
 module _ {A V W : Type 0} {label_of : V → Label} {holds : A → Label → Bool} (M : Meaning label_of holds W) (list : List (Owned A)) where
   -- some of the rows of signs are left, and there is a label of each of the others, with the rules whose guards hold there

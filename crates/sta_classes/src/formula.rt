@@ -17,49 +17,6 @@ use label_core::{Duplicate, Formula, conjunction, disjunction, negation};
 use sta_core::StaRule;
 use std::alloc::Global;
 
-/// Whether the rule fires at a node over such children, but for its guard.
-fn lets_fire<A, V>(
-    rule: &StaRule<A>,
-    constructor: u32,
-    found: &[Class<V>],
-    children: &[usize],
-) -> bool
-    requires children { All (λ k. k < length found.now) children.now }
-    ensures { result ≡ (((plain_rule rule.now).constructor == constructor) && rows_meet (class_rows_at found.now children.now) (plain_rule rule.now).demands) }
-{
-    rule.constructor == constructor && demands_met(found, children, &rule.demands)
-}
-
-/// The guards of the rules that such children let fire.
-fn firing<A: Duplicate + Drop, V>(
-    alloc: Global,
-    rules: &[StaRule<A>],
-    constructor: u32,
-    found: &[Class<V>],
-    children: &[usize],
-) -> Result<Vec<Formula<A>>, Memory>
-    requires children { All (λ k. k < length found.now) children.now }
-    ensures { IfOk result (λ guards. map plain_formula guards.items ≡ firing_guards constructor (class_rows_at found.now children.now) (map plain_rule rules.now)) }
-{
-    let mut guards = Vec::new(alloc);
-    for rule in rules {
-        if lets_fire(rule, constructor, found, children) {
-            added(&mut guards, rule.guard.copy(alloc))?;
-        }
-    }
-    Ok(guards)
-}
-
-/// The formula, or its denial.
-fn signed<A: Drop>(alloc: Global, formula: Formula<A>, sign: bool) -> Result<Formula<A>, Memory>
-    ensures { IfOk result (λ made. plain_formula made ≡ signed sign (plain_formula formula)) }
-{
-    if sign {
-        return Ok(formula);
-    }
-    negation(alloc, formula)
-}
-
 /// Holds of the labels over which such children have the state, or of those over which they don't.
 fn state_formula<A: Duplicate + Drop, V>(
     alloc: Global,
@@ -72,8 +29,17 @@ fn state_formula<A: Duplicate + Drop, V>(
     requires children { All (λ k. k < length found.now) children.now }
     ensures { IfOk result (λ formula. plain_formula formula ≡ signed sign (some_fires constructor (class_rows_at found.now children.now) (map plain_rule rules.now))) }
 {
-    let guards = firing(alloc, rules, constructor, found, children)?;
-    signed(alloc, disjunction(guards), sign)
+    let mut guards = Vec::new(alloc);
+    for rule in rules {
+        if rule.constructor == constructor && demands_met(found, children, &rule.demands) {
+            added(&mut guards, rule.guard.copy(alloc))?;
+        }
+    }
+    let fires = disjunction(guards);
+    if sign {
+        return Ok(fires);
+    }
+    negation(alloc, fires)
 }
 
 /// Holds of exactly the labels over which such children have the row.

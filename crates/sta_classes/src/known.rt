@@ -19,46 +19,16 @@ pub struct Known<V> {
     pub places: Vec<Vec<Place>>,
 }
 
-/// The places of each constructor.
-fn all_places<A>(
-    alloc: Global,
-    ranks: &[u32],
-    rules: &[Vec<StaRule<A>>],
-) -> Result<Vec<Vec<Place>>, Memory>
-    requires few { length ranks.now < 2 ^ 32 }
-    ensures many { IfOk result (λ all. length all.items ≡ length ranks.now) }
-    ensures each { IfOk result (λ all. (c : ℕ) → c < length ranks.now → ArePlaces rules.now [] c (get_or ranks.now c 0) (get_or (lists_of all.items) c [])) }
-{
-    let mut all = Vec::new(alloc);
-    'constructors: for constructor in 0..ranks.len() {
-        let rank = ranks[constructor];
-        let mut places = Vec::new(alloc);
-        'places: for place in 0..rank {
-            let made = Place::new(alloc, rules, constructor as u32, place as usize);
-            added(&mut places, made)?;
-        }
-        all.push(places)?;
-    }
-    Ok(all)
-}
-
-/// Tells the kind of one more class at each of the places.
-fn add_to(alloc: Global, places: &mut Vec<Place>, row: &Row) -> Result<(), Memory>
-    ensures { OnOk result (NextPlaces row.now places.old.items places.new.items) }
-{
-    'places: for place in 0..places.len() {
-        places[place].add(alloc, row)?;
-    }
-    Ok(())
-}
-
 /// Tells the kind of one more class at each place of each constructor.
 fn add_to_all(alloc: Global, all: &mut Vec<Vec<Place>>, row: &Row) -> Result<(), Memory>
     ensures many { OnOk result (length all.new.items ≡ length all.old.items) }
     ensures each { OnOk result ((c : ℕ) → c < length all.old.items → NextPlaces row.now (get_or (lists_of all.old.items) c []) (get_or (lists_of all.new.items) c [])) }
 {
     'constructors: for constructor in 0..all.len() {
-        add_to(alloc, &mut all[constructor], row)?;
+        let places = &mut all[constructor];
+        'places: for place in 0..places.len() {
+            places[place].add(alloc, row)?;
+        }
     }
     Ok(())
 }
@@ -74,8 +44,16 @@ impl<V: Drop> Known<V> {
         ensures none { IfOk result (λ known. known.classes.items ≡ []) }
         ensures kinds { IfOk result (λ known. AreKinds ranks.now rules.now known.classes.items known.places.items) }
     {
+        let mut places = Vec::new(alloc);
+        'constructors: for constructor in 0..ranks.len() {
+            let mut those = Vec::new(alloc);
+            'places: for place in 0..ranks[constructor] {
+                let made = Place::new(alloc, rules, constructor as u32, place as usize);
+                added(&mut those, made)?;
+            }
+            places.push(those)?;
+        }
         let classes = Vec::new(alloc);
-        let places = all_places(alloc, ranks, rules)?;
         Ok(Known { classes, places })
     }
 

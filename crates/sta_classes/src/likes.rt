@@ -1,10 +1,9 @@
 //! Rules with one guard. Labels that tell guards apart are found once for each set of guards, whichever rules have them.
 
 ghost use Rattle.std.specs.Prelude.{◌≡◌, ◌<◌, length, IfOk};
-ghost use Rattle.sta_classes.specs.Applying.{IsLike, AreLike, AreLow, AreLikes};
+ghost use Rattle.sta_classes.specs.Applying.{IsLike, AreLike};
 
 use crate::keep::added;
-use crate::row::Row;
 use crate::rules::Owned;
 use fast_fault::Memory;
 use indexmap::IndexMap;
@@ -42,30 +41,6 @@ fn feed_each<A: Hash, H: Hasher>(formulas: &[Formula<A>], state: &mut H) {
     }
 }
 
-/// A number that the same formulas have in common, and others seldom.
-fn print_of<A: Hash>(formula: &Formula<A>) -> u64 {
-    let mut state = FoldHasher::default();
-    feed(formula, &mut state);
-    state.finish()
-}
-
-/// The number of the other rule, if it has the same guard, or the rule's own.
-fn like_of<A: Eq>(list: &[Owned<A>], number: usize, other: usize) -> usize
-    requires { number < length list.now }
-    ensures { IsLike A.eq list.now number result }
-{
-    if other >= list.len() {
-        return number;
-    }
-    let rule = list[number].rule;
-    let like = list[other].rule;
-    if like.guard == rule.guard {
-        other
-    } else {
-        number
-    }
-}
-
 /// The number of a rule with the same guard: of the first one of its print, or the rule's own.
 fn like_at<A: Eq + Hash>(
     list: &[Owned<A>],
@@ -76,13 +51,22 @@ fn like_at<A: Eq + Hash>(
     ensures { IfOk result (IsLike A.eq list.now number) }
 {
     let rule = list[number].rule;
-    let print = print_of(&rule.guard);
-    match firsts.get(&print) {
-        Some(first) => Ok(like_of(list, number, *first)),
-        None => {
-            firsts.insert(print, number)?;
-            Ok(number)
-        }
+    let mut state = FoldHasher::default();
+    feed(&rule.guard, &mut state);
+    let print = state.finish();
+    let Some(first) = firsts.get(&print) else {
+        firsts.insert(print, number)?;
+        return Ok(number);
+    };
+    let like = *first;
+    if like >= list.len() {
+        return Ok(number);
+    }
+    let other = list[like].rule;
+    if other.guard == rule.guard {
+        Ok(like)
+    } else {
+        Ok(number)
     }
 }
 
@@ -97,19 +81,4 @@ pub fn likes_of<A: Eq + Hash>(alloc: Global, list: &[Owned<A>]) -> Result<Vec<us
         added(&mut likes, like_at(list, number, &mut firsts))?;
     }
     Ok(likes)
-}
-
-/// The numbers of rules with the same guards as those with these numbers.
-pub fn likes_among(alloc: Global, likes: &[usize], numbers: &Row) -> Result<Row, Memory>
-    requires many { length numbers.now ≡ length likes.now }
-    requires low { AreLow likes.now }
-    ensures { IfOk result (AreLikes likes.now numbers.now) }
-{
-    let mut row = Row::new(alloc, likes.len())?;
-    let mut i = numbers.next(0);
-    'numbers: while i < likes.len() {
-        row.insert(likes[i]);
-        i = numbers.next(i + 1);
-    }
-    Ok(row)
 }

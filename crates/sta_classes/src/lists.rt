@@ -43,15 +43,6 @@ fn longer(
     Ok(made)
 }
 
-/// The empty list alone.
-fn empty_list(alloc: Global) -> Result<Vec<Vec<usize>>, Memory>
-    ensures { IfOk result (λ lists. lists_of lists.items ≡ [] ∷ []) }
-{
-    let mut lists = Vec::new(alloc);
-    lists.push(Vec::new(alloc))?;
-    Ok(lists)
-}
-
 /// The lists of the first classes of kinds that have this class at this place, and at none before it.
 fn lists_with(
     alloc: Global,
@@ -61,7 +52,8 @@ fn lists_with(
 ) -> Result<Vec<Vec<usize>>, Memory>
     ensures { IfOk result (λ lists. (ks : List ℕ) → Contains (lists_of lists.items) ks ↔ IsListWith (map (λ p. p.firsts.items) places.now) place class (length places.now) ks) }
 {
-    let mut lists = empty_list(alloc)?;
+    let mut lists = Vec::new(alloc);
+    lists.push(Vec::new(alloc))?;
     for j in 0..places.len() {
         lists = longer(alloc, &lists, &places[j].firsts, place, class, j)?;
     }

@@ -57,24 +57,6 @@ fn add_of_rule<A>(
     Ok(())
 }
 
-/// The states that rules with the constructor demand at the place.
-fn demanded<A>(
-    alloc: Global,
-    rules: &[Vec<StaRule<A>>],
-    constructor: u32,
-    place: usize,
-) -> Result<Vec<u64>, Memory>
-    ensures { IfOk result (λ list. AreAsked rules.now constructor place list.items) }
-{
-    let mut list = Vec::new(alloc);
-    'states: for those in rules {
-        'rules: for rule in those {
-            add_of_rule(rule, constructor, place, &mut list)?;
-        }
-    }
-    Ok(list)
-}
-
 /// Which of the states the row has.
 fn chosen(alloc: Global, states: &[u64], row: &Row) -> Result<Row, Memory>
     ensures { IfOk result (λ made. made ≡ map (has row.now) states.now) }
@@ -107,7 +89,12 @@ impl Place {
         ensures states { IfOk result (λ made. AreAsked rules.now constructor place made.states.items) }
         ensures numbered { IfOk result (IsNumbered []) }
     {
-        let states = demanded(alloc, rules, constructor, place)?;
+        let mut states = Vec::new(alloc);
+        'states: for those in rules {
+            'rules: for rule in those {
+                add_of_rule(rule, constructor, place, &mut states)?;
+            }
+        }
         Ok(Place {
             states,
             kinds: IndexSet::new(alloc),

@@ -1,9 +1,11 @@
 //! Sets of numbers, as bits in words.
 
-ghost use Rattle.std.specs.Prelude.{ℕ, ◌≡◌, ◌<◌, ◌≤◌, true, false, length, replicate, set, cond, get_or, bit_and, IfOk};
+ghost use Rattle.std.specs.Prelude.{ℕ, ◌≡◌, ◌<◌, ◌≤◌, true, false, length, replicate, set, cond, get_or, bit_and, All, IfOk};
 ghost use Rattle.model_sta.specs.Sets.{has};
+ghost use Rattle.sta_classes.specs.Applying.{AreAt};
 ghost use Rattle.sta_classes.specs.Bits.{both};
 
+use crate::keep::both;
 use fast_fault::Memory;
 use std::alloc::Global;
 use std::hash::{Hash, Hasher};
@@ -117,6 +119,29 @@ impl Row {
         let places = self.places;
         Ok(Row { words, places })
     }
+}
+
+/// The numbers that the list has at the places that are in both sets.
+pub fn numbers_at(
+    alloc: Global,
+    list: &[usize],
+    places: usize,
+    first: &Row,
+    second: &Row,
+) -> Result<Row, Memory>
+    requires low { All (λ n. n < places) list.now }
+    requires first { length first.now ≡ length list.now }
+    requires second { length second.now ≡ length list.now }
+    ensures { IfOk result (AreAt list.now places (both first.now second.now)) }
+{
+    let (mut row, mut inside) = both(Row::new(alloc, places), first.copy(alloc))?;
+    inside.meet(second);
+    let mut i = inside.next(0);
+    'numbers: while i < list.len() {
+        row.insert(list[i]);
+        i = inside.next(i + 1);
+    }
+    Ok(row)
 }
 
 impl PartialEq for Row {

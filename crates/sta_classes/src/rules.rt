@@ -1,22 +1,18 @@
 //! The rules of one constructor, of all states.
 
-ghost use Rattle.std.specs.Prelude.{ℕ, ◌≡◌, ◌<◌, ◌↔◌, true, not, All, length, map, get_or, IfOk};
+ghost use Rattle.std.specs.Prelude.{ℕ, ◌≡◌, ◌<◌, true, not, length, map, get_or, IfOk};
 ghost use Rattle.std.specs.List.{list_all};
-ghost use Rattle.model_sta.specs.Sets.{has};
-ghost use Rattle.model_tree.specs.Formula.{EveryAtom};
 ghost use Rattle.label_core.specs.Formula.{plain_formula};
-ghost use Rattle.label_core.specs.Meaning.{KeepsValue};
 ghost use Rattle.sta_core.specs.Machine.{plain_rule};
-ghost use Rattle.sta_classes.specs.Applying.{is_fixed, meets_at, truth_at, chosen, guards_in, AreOwned, AreLow, AreLikes, IsRules, IsFired};
-ghost use Rattle.sta_classes.specs.Bits.{both};
+ghost use Rattle.sta_classes.specs.Applying.{is_fixed, meets_at, chosen, guards_in, IsRules};
 ghost use Rattle.sta_classes.specs.declared.rules.Rules.{Rules};
 
 use crate::class::row_has_each;
 use crate::keep::{added, both};
-use crate::likes::{likes_among, likes_of};
+use crate::likes::likes_of;
 use crate::row::Row;
 use fast_fault::Memory;
-use label_core::{Duplicate, Formula, Theory};
+use label_core::{Duplicate, Formula};
 use sta_core::StaRule;
 use std::alloc::Global;
 use std::hash::Hash;
@@ -32,31 +28,14 @@ pub struct Owned<'a, A> {
 #[derive(Drop)]
 pub struct Rules<'a, A> {
     pub list: Vec<Owned<'a, A>>,
+    /// For each of them, the state that it is of.
+    pub states: Vec<usize>,
     /// The numbers of all of them.
     pub all: Row,
     /// The numbers of those with a guard that isn't left out.
     pub guarded: Row,
     /// For each of them, the number of one with the same guard.
     pub likes: Vec<usize>,
-}
-
-/// The rules of all states that have the constructor.
-fn rules_at<'a, A>(
-    alloc: Global,
-    rules: &'a [Vec<StaRule<A>>],
-    constructor: u32,
-) -> Result<Vec<Owned<'a, A>>, Memory>
-    ensures { IfOk result (λ list. AreOwned rules.now constructor list.items) }
-{
-    let mut list = Vec::new(alloc);
-    'states: for state in 0..rules.len() {
-        'rules: for rule in &rules[state] {
-            if rule.constructor == constructor {
-                list.push(Owned { state, rule })?;
-            }
-        }
-    }
-    Ok(list)
 }
 
 /// Whether no atom stands in the formula, so that no label needs to be asked.
@@ -84,6 +63,17 @@ fn are_fixed<A>(formulas: &[Formula<A>]) -> bool
         }
     }
     true
+}
+
+/// The state of each of the rules.
+fn states_of<A>(alloc: Global, list: &[Owned<A>]) -> Result<Vec<usize>, Memory>
+    ensures { IfOk result (λ states. states.items ≡ map (λ x. x.state) list.now) }
+{
+    let mut states = Vec::new(alloc);
+    for owned in list {
+        states.push(owned.state)?;
+    }
+    Ok(states)
 }
 
 /// The numbers of all rules, and those of the rules with a guard that has atoms.
@@ -122,25 +112,6 @@ pub fn met_at<A>(alloc: Global, list: &[Owned<A>], place: usize, row: &Row) -> R
     Ok(made)
 }
 
-/// The numbers of the rules whose guards hold of the value's label.
-pub fn held_at<T: Theory>(
-    theory: &T,
-    alloc: Global,
-    list: &[Owned<T::Atom>],
-    value: &T::Value,
-) -> Result<Row, Memory>
-    requires fit { All (λ x. EveryAtom (T.atom_fits theory.now) (plain_rule x.rule.now).guard) list.now }
-    requires value { KeepsValue (T.meaning theory.now) value.now }
-    ensures { IfOk result (λ made. made ≡ map (truth_at T.atom_holds (T.label_of value.now)) list.now) }
-{
-    let mut made = Row::new(alloc, list.len())?;
-    for i in 0..list.len() {
-        let rule = list[i].rule;
-        made.put(i, rule.guard.holds(theory, value));
-    }
-    Ok(made)
-}
-
 /// The guards of the rules with these numbers.
 pub fn guards_of<A: Duplicate + Drop>(
     alloc: Global,
@@ -159,27 +130,6 @@ pub fn guards_of<A: Duplicate + Drop>(
     Ok(guards)
 }
 
-/// The states of the rules with these numbers.
-fn states_of<A>(
-    alloc: Global,
-    list: &[Owned<A>],
-    states: usize,
-    numbers: &Row,
-) -> Result<Row, Memory>
-    requires low { All (λ x. x.state < states) list.now }
-    requires many { length numbers.now ≡ length list.now }
-    ensures many { IfOk result (λ row. length row ≡ states) }
-    ensures fired { IfOk result (λ row. (s : ℕ) → has row s ≡ true ↔ IsFired list.now numbers.now s) }
-{
-    let mut row = Row::new(alloc, states)?;
-    let mut i = numbers.next(0);
-    'numbers: while i < list.len() {
-        row.insert(list[i].state);
-        i = numbers.next(i + 1);
-    }
-    Ok(row)
-}
-
 impl<'a, A: Eq + Hash> Rules<'a, A> {
     /// The rules of all states that have the constructor.
     pub fn new(
@@ -189,42 +139,23 @@ impl<'a, A: Eq + Hash> Rules<'a, A> {
     ) -> Result<Rules<'a, A>, Memory>
         ensures { IfOk result (IsRules A.eq rules.now constructor) }
     {
-        let list = rules_at(alloc, rules, constructor)?;
-        let ((all, guarded), likes) = both(numbers_of(alloc, &list), likes_of(alloc, &list))?;
+        let mut list = Vec::new(alloc);
+        'states: for state in 0..rules.len() {
+            'rules: for rule in &rules[state] {
+                if rule.constructor == constructor {
+                    list.push(Owned { state, rule })?;
+                }
+            }
+        }
+        let numbers = both(states_of(alloc, &list), numbers_of(alloc, &list));
+        let ((states, (all, guarded)), likes) = both(numbers, likes_of(alloc, &list))?;
         Ok(Rules {
             list,
+            states,
             all,
             guarded,
             likes,
         })
-    }
-}
-
-impl<A> Rules<'_, A> {
-    /// The numbers of rules with the guards that are left open where the demands of the rules with these numbers are met,
-    /// each guard by one of the rules that have it.
-    pub fn open_guards(&self, alloc: Global, met: &Row) -> Result<Row, Memory>
-        requires many { length met.now ≡ length self.now.guarded }
-        requires low { AreLow self.now.likes.items }
-        requires likes { length self.now.likes.items ≡ length self.now.guarded }
-        ensures { IfOk result (AreLikes self.now.likes.items (both self.now.guarded met.now)) }
-    {
-        let mut wanted = self.guarded.copy(alloc)?;
-        wanted.meet(met);
-        likes_among(alloc, &self.likes, &wanted)
-    }
-
-    /// The states of the rules whose demands are met and whose guards hold.
-    pub fn set(&self, alloc: Global, states: usize, met: &Row, held: &Row) -> Result<Row, Memory>
-        requires low { All (λ x. x.state < states) self.now.list.items }
-        requires met { length met.now ≡ length self.now.list.items }
-        requires held { length held.now ≡ length met.now }
-        ensures many { IfOk result (λ row. length row ≡ states) }
-        ensures fired { IfOk result (λ row. (s : ℕ) → has row s ≡ true ↔ IsFired self.now.list.items (both met.now held.now) s) }
-    {
-        let mut firing = met.copy(alloc)?;
-        firing.meet(held);
-        states_of(alloc, &self.list, states, &firing)
     }
 }
 

@@ -3,19 +3,18 @@
 //! Each turn takes a candidate with the fewest nodes. It is a least tree of its class, since each other tree with a new
 //! set is over trees of classes that come later. Then come the candidates over lists of kinds of which one is new.
 
-ghost use Rattle.std.specs.Prelude.{◌≡◌, ◌++◌, ◌∷◌, [], Bool, List, length, OnOk, MatchResult};
-ghost use Rattle.sta_classes.specs.Searched.{IsReady, IsOver, AreSplit, HasOffered, HasNewOffered, IsUnderway, GoesOn, IsBegun, IsWhole, StopsSearch};
+ghost use Rattle.std.specs.Prelude.{MatchResult};
+ghost use Rattle.sta_classes.specs.Searched.{IsReady, IsOver, HasOffered, HasNewOffered, IsUnderway, GoesOn, IsBegun, IsWhole, StopsSearch};
 
 use crate::class::cost_over;
 use crate::keep::kept;
 use crate::known::Known;
 use crate::lists::new_lists;
 use crate::pending::{Over, Pending};
-use crate::row::Row;
+use crate::row::numbers_at;
 use crate::rules::Rules;
-use crate::splits::Splits;
+use crate::splits::{Splits, add_to_splits};
 use crate::stop::ClassStop;
-use fast_fault::Memory;
 use label_core::Theory;
 use sta_core::StaRule;
 use std::alloc::Global;
@@ -73,7 +72,13 @@ impl<T: Theory> Search<'_, T> {
         };
         let pending = &mut offers.pending;
         'labels: for label in &offers.splits[constructor].told[number] {
-            let row = own.set(self.alloc, self.rules.len(), &key, &label.holds)?;
+            let row = numbers_at(
+                self.alloc,
+                &own.states,
+                self.rules.len(),
+                &key,
+                &label.holds,
+            )?;
             pending.offer(self.theory, self.alloc, row, &over, &label.value)?;
         }
         if pending.sets.len() > self.most as usize {
@@ -102,20 +107,6 @@ impl<T: Theory> Search<'_, T> {
         Ok(())
     }
 
-    /// Tells which rules of each constructor a child of one more class meets.
-    fn add_to_splits(&self, splits: &mut Vec<Splits<T::Value>>, row: &Row) -> Result<(), Memory>
-        requires ready { IsReady T.Atom.eq (T.atom_fits self.now.theory.now) self.now.ranks.now self.now.rules.now self.now.own.now }
-        requires many { length splits.old.items ≡ length self.now.ranks.now }
-        ensures { OnOk result ((rows : List (List Bool)) → AreSplit (T.meaning self.now.theory.now) self.now.ranks.now self.now.own.now rows splits.old.items → AreSplit (T.meaning self.now.theory.now) self.now.ranks.now self.now.own.now (rows ++ row.now ∷ []) splits.new.items) }
-    {
-        'constructors: for constructor in 0..splits.len() {
-            let list = &self.own[constructor].list;
-            let places = self.ranks[constructor];
-            splits[constructor].add(self.alloc, list, places, row)?;
-        }
-        Ok(())
-    }
-
     /// Takes turns until no candidate is left: each offers the trees over the last class, those of no children at first, and
     /// makes the candidate that it takes one more class.
     fn go_on(&self, course: &mut Course<T::Value>) -> Result<(), ClassStop<T::Chain>>
@@ -128,7 +119,13 @@ impl<T: Theory> Search<'_, T> {
             let Some(class) = course.offers.pending.take() else {
                 return Ok(());
             };
-            let told = self.add_to_splits(&mut course.offers.splits, &class.row);
+            let told = add_to_splits(
+                self.alloc,
+                self.ranks,
+                self.own,
+                &mut course.offers.splits,
+                &class.row,
+            );
             course.known.add(self.alloc, kept(class, (), told)?)?;
         }
     }

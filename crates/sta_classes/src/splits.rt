@@ -7,13 +7,13 @@ ghost use Rattle.model_tree.specs.Formula.{EveryAtom};
 ghost use Rattle.sta_core.specs.Machine.{plain_rule};
 ghost use Rattle.sta_classes.specs.Applying.{guards_in, AreFit};
 ghost use Rattle.sta_classes.specs.Bits.{both};
-ghost use Rattle.sta_classes.specs.Splits.{AreMet, AreTelling, AreTold, AreAllTold, IsUnder};
+ghost use Rattle.sta_classes.specs.Splits.{AreMet, AreTelling, AreTold, AreAllTold, IsUnder, IsNextSplit, NextSplits};
 ghost use Rattle.sta_classes.specs.Stop.{ClassStopsFor};
 ghost use Rattle.sta_classes.specs.declared.splits.Told.{Told};
 
 use crate::keep::added;
-use crate::row::Row;
-use crate::rules::{Owned, Rules, guards_of, held_at, met_at};
+use crate::row::{Row, numbers_at};
+use crate::rules::{Owned, Rules, guards_of, met_at};
 use crate::stop::ClassStop;
 use fast_fault::Memory;
 use indexmap::IndexSet;
@@ -54,7 +54,11 @@ fn tell_each<T: Theory>(
     // the last one is taken first
     rows.reverse();
     'rows: while let Some(row) = rows.pop() {
-        let holds = held_at(theory, alloc, list, &row.value)?;
+        let mut holds = Row::new(alloc, list.len())?;
+        for i in 0..list.len() {
+            let rule = list[i].rule;
+            holds.put(i, rule.guard.holds(theory, &row.value));
+        }
         told.push(Told {
             holds,
             value: row.value,
@@ -105,8 +109,7 @@ impl<V: Drop> Splits<V> {
         places: u32,
         row: &Row,
     ) -> Result<(), Memory>
-        ensures met { OnOk result ((rows : List (List Bool)) → AreMet list.now places rows self.old.met.items → AreMet list.now places (rows ++ row.now ∷ []) self.new.met.items) }
-        ensures kept { OnOk result ((self.new.sets ≡ self.old.sets) × (self.new.told ≡ self.old.told)) }
+        ensures { OnOk result (IsNextSplit list.now places row.now self.old self.new) }
     {
         let mut made = Vec::new(alloc);
         'places: for place in 0..places {
@@ -142,7 +145,7 @@ impl<V: Drop> Splits<V> {
         requires told { AreAllTold (T.meaning theory.now) own.now.list.items self.old }
         ensures { MatchResult result (IsUnder (T.meaning theory.now) own.now.list.items (both own.now.guarded key.now) self.old self.new) (ClassStopsFor (T.meaning theory.now) ⊥ (guards_in own.now.list.items)) }
     {
-        let open = own.open_guards(alloc, key)?;
+        let open = numbers_at(alloc, &own.likes, own.likes.len(), &own.guarded, key)?;
         let (number, new) = self.sets.insert_full(open)?;
         if new {
             let numbers = &self.sets.as_slice()[number];
@@ -150,4 +153,23 @@ impl<V: Drop> Splits<V> {
         }
         Ok(number)
     }
+}
+
+/// Tells which rules of each constructor a child of one more class meets.
+pub fn add_to_splits<A, V: Drop>(
+    alloc: Global,
+    ranks: &[u32],
+    own: &[Rules<A>],
+    splits: &mut Vec<Splits<V>>,
+    row: &Row,
+) -> Result<(), Memory>
+    requires own { length own.now ≡ length ranks.now }
+    requires many { length splits.old.items ≡ length ranks.now }
+    ensures { OnOk result (NextSplits ranks.now own.now row.now splits.old.items splits.new.items) }
+{
+    'constructors: for constructor in 0..splits.len() {
+        let list = &own[constructor].list;
+        splits[constructor].add(alloc, list, ranks[constructor], row)?;
+    }
+    Ok(())
 }

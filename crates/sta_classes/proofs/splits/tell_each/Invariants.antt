@@ -1,5 +1,7 @@
-use Rattle.std.proofs.Common.{All, length}
+use Rattle.std.proofs.Common.{All, length, ◌≡◌}
+use Rattle.sta_classes.specs.Applying.{truth_at}
 use Rattle.sta_classes.specs.Splits.{AreTelling}
+use Rattle.sta_classes.proofs.Loops.{filled}
 use Rattle.sta_classes.proofs.splits.tell_each.Given as goal
 
 abbrev pub invariant-rows : goal.invariant-rows
@@ -10,3 +12,6 @@ invariant-rows g l = record {
 
 abbrev pub decreases-rows : goal.decreases-rows
 decreases-rows g l = length l.rows.items
+
+abbrev pub invariant-loop-i : goal.invariant-loop-i
+invariant-loop-i g l = l.holds ≡ filled (truth_at g.T.Theory.atom_holds (g.T.Theory.label_of l.row.value)) l.i l.list

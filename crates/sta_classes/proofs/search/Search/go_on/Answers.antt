@@ -3,6 +3,7 @@ use Rattle.std.proofs.lemmas.List.{length_push}
 use Rattle.std.proofs.Common.{◌≤◌, length, ap, sym, subst, arith}
 use Rattle.sta_classes.specs.Rules.{plain_rules, meaning_of}
 use Rattle.sta_classes.proofs.Runs.{run_first, run_last, run_sound, run_kinds, run_rest, taken_as, split_again}
+use Rattle.sta_classes.proofs.Keys.{split_next}
 use Rattle.sta_classes.proofs.Turns.{few_found}
 use Rattle.sta_classes.proofs.Keeping.{stopped}
 use Rattle.sta_classes.proofs.search.Search.go_on.Goals as goal
@@ -33,7 +34,7 @@ turns-preserved g c = record {
     sound = run_sound (g.T.Theory.meaning c.args.self.now.theory.now) c.args.self.now.ranks.now c.args.self.now.rules.now c.turns.course.known.classes.items c.turns.course.known.places.items c.open_new.new.offers.pending c.take.new.self c.in_ok-open_new.ensures.under.sound c.turns.invariant.under.kinds (c.turns.invariant.rest c.open_new.new.offers.pending c.in_ok-open_new.ensures.better c.in_ok-open_new.ensures.offered) c.in_ok-kept.field-0 (taken_as c.open_new.new.offers.pending c.take.new.self c.in-Some.class c.in_ok-kept.field-0 c.in_ok-kept.ensures.0 c.in-Some.ensures.taken) c.take.ensures.kept c.add.new.self.classes.items c.add.new.self.places.items c.in_ok-add.ensures.classes c.in_ok-add.ensures.many c.in_ok-add.ensures.each;
     kinds = run_kinds (g.T.Theory.meaning c.args.self.now.theory.now) c.args.self.now.ranks.now c.args.self.now.rules.now c.turns.course.known.classes.items c.turns.course.known.places.items c.open_new.new.offers.pending c.take.new.self c.in_ok-open_new.ensures.under.sound c.turns.invariant.under.kinds (c.turns.invariant.rest c.open_new.new.offers.pending c.in_ok-open_new.ensures.better c.in_ok-open_new.ensures.offered) c.in_ok-kept.field-0 (taken_as c.open_new.new.offers.pending c.take.new.self c.in-Some.class c.in_ok-kept.field-0 c.in_ok-kept.ensures.0 c.in-Some.ensures.taken) c.take.ensures.kept c.add.new.self.classes.items c.add.new.self.places.items c.in_ok-add.ensures.classes c.in_ok-add.ensures.many c.in_ok-add.ensures.each;
     splits = split_again (g.T.Theory.meaning c.args.self.now.theory.now) c.args.self.now.ranks.now c.args.self.now.own.now c.turns.course.known.classes.items c.add.new.self.classes.items c.open_new.new.offers.splits.items c.add_to_splits-told.new.splits.items c.in-Some.class c.in_ok-kept.field-0 c.in_ok-kept.ensures.0 c.in_ok-add.ensures.classes
-        (IfOk-at_ok _ c.in_ok-kept.ensures.1 c.add_to_splits-told.ensures) c.in_ok-open_new.ensures.under.splits;
+        (λ rows h. split_next (g.T.Theory.meaning c.args.self.now.theory.now) c.args.self.now.ranks.now c.args.self.now.own.now rows c.in-Some.class.row c.open_new.new.offers.splits.items c.add_to_splits-told.new.splits.items h (IfOk-at_ok _ c.in_ok-kept.ensures.1 c.add_to_splits-told.ensures)) c.in_ok-open_new.ensures.under.splits;
     few = subst (λ z. length z.keys ≤ c.args.self.now.most) (sym c.in-Some.ensures.taken.sets_are) c.in_ok-open_new.ensures.under.few;
   };
   rest = run_rest (g.T.Theory.meaning c.args.self.now.theory.now) c.args.self.now.ranks.now c.args.self.now.rules.now c.turns.course.known.classes.items c.turns.course.known.places.items c.open_new.new.offers.pending c.take.new.self c.in_ok-open_new.ensures.under.sound c.turns.invariant.under.kinds (c.turns.invariant.rest c.open_new.new.offers.pending c.in_ok-open_new.ensures.better c.in_ok-open_new.ensures.offered) c.in_ok-kept.field-0 (taken_as c.open_new.new.offers.pending c.take.new.self c.in-Some.class c.in_ok-kept.field-0 c.in_ok-kept.ensures.0 c.in-Some.ensures.taken) c.take.ensures.kept c.add.new.self.classes.items c.add.new.self.places.items c.in_ok-add.ensures.classes c.in_ok-add.ensures.many c.in_ok-add.ensures.each;
@@ -50,3 +51,6 @@ returns-in_err-kept g c = stopped c.from_residual-in_err-kept.result _ _ _ c.fro
 
 pub returns-in_err-add : goal.returns-in_err-add
 returns-in_err-add g c = stopped c.from_residual-in_err-add.result _ _ _ c.from_residual-in_err-add.ensures.1 tt
+
+pub add_to_splits-told-requires : goal.add_to_splits-told-requires
+add_to_splits-told-requires g c = record { own = c.requires.ready.many; many = c.in_ok-open_new.ensures.under.splits.many }

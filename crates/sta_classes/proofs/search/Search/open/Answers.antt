@@ -1,18 +1,18 @@
-use Rattle.std.proofs.Common.{◌<◌, ◌≤◌, All, length, get_or, sym, subst, arith, ℕ, ◌≡◌, ◌∙◌, ◌↔◌, true, inl, inr, Contains, ap, map}
+use Rattle.std.proofs.Common.{◌<◌, ◌≤◌, All, length, get_or, sym, subst, arith, ◌≡◌, ◌∙◌, true, inl, inr, Contains, ap, map}
 use Rattle.model_sta.specs.Least.{counts_of, rows_at}
 use Rattle.sta_classes.specs.Rules.{plain_rules, meaning_of}
 use Rattle.sta_classes.specs.Rows.{founds, class_rows_at, class_rows}
 use Rattle.sta_classes.specs.Searched.{IsTold}
-use Rattle.sta_classes.proofs.Applying.{element, states_low}
+use Rattle.sta_classes.proofs.Applying.{element}
 use Rattle.sta_classes.proofs.Keeping.{stopped}
-use Rattle.sta_classes.proofs.Opens.{counts_as, row_made, made_over, opened_by}
+use Rattle.sta_classes.proofs.Opens.{states_below, fired_by, counts_as, row_made, made_over, opened_by}
 use Rattle.sta_classes.proofs.Rows.{list_at}
 use Rattle.sta_classes.proofs.Turns.{more_sets, sound_offered}
 use Rattle.std.proofs.lemmas.Bool.{cases_lt}
 use Rattle.std.proofs.lemmas.List.{length-map}
-use Rattle.model_sta.specs.Sets.{has, step}
+use Rattle.model_sta.specs.Sets.{step}
 use Rattle.model_sta.proofs.Reached.{same_default}
-use Rattle.sta_classes.specs.Applying.{IsRules, IsFired, guards_in, AreLike}
+use Rattle.sta_classes.specs.Applying.{IsRules, guards_in, AreLike}
 use Rattle.sta_classes.specs.Bits.{both}
 use Rattle.sta_classes.specs.Pending.{IsMet}
 use Rattle.model_tree.specs.Formula.{EveryAtom}
@@ -27,16 +27,18 @@ use Rattle.sta_classes.proofs.search.Search.open.Goals as goal
 pub cost_over-nodes-requires : goal.cost_over-nodes-requires
 cost_over-nodes-requires g c = subst (λ z. All (λ k. k < length z) c.args.children.now) (sym c.deref.ensures.value) c.requires.over.children
 
-pub set-requires : goal.set-requires
-set-requires g c = record {
-  low = let is : IsRules g.T.Atom.PartialEq.eq c.args.self.now.rules.now c.args.constructor c.index-self-constructor.result = c.requires.ready.own_are c.args.constructor c.index-self-constructor.result (omega (arith, c.requires.over.low, c.requires.ready.many)) (sym c.index-self-constructor.is) in
-      subst (λ R. All (λ x. x.state < length c.args.self.now.rules.now) R.list.items) c.index-self-constructor.is (states_low c.args.self.now.rules.now c.args.constructor c.index-self-constructor.result.list.items is.owned);
-  met = ap length ((let found = (told_at (g.T.Theory.meaning c.args.self.now.theory.now) c.args.self.now.ranks.now c.args.self.now.own.now c.args.known.now.classes.items c.args.offers.now.splits.items c.requires.under.splits c.args.constructor c.index-self-constructor.result c.index_mut-split.result.now c.number.new.self c.args.children.now c.in_ok-key.key c.in_ok-number.number (omega (arith, c.requires.over.low, c.requires.ready.many)) (omega (arith, c.requires.over.low, c.requires.under.splits.many)) c.index_mut-split.ensures.value c.requires.over.wide c.in_ok-key.ensures c.in_ok-number.ensures).told c.index-self-constructor.result c.index.result.now (sym c.index-self-constructor.is) (sym c.index.ensures) in
-      subst (IsTold (g.T.Theory.meaning c.args.self.now.theory.now) c.index-self-constructor.result (class_rows_at c.args.known.now.classes.items c.args.children.now) c.in_ok-key.key) (sym (list_at c.index.result.now.told.items c.in_ok-number.number c.index-2.result.now c.deref-label-items.result.now found.0 c.index-2.ensures c.deref-label-items.ensures.value)) found.1)).0 ∙ length-map c.index-self-constructor.result.list.items _ ∙ ap (λ R. length R.list.items) c.index-self-constructor.is;
-  held = let (key_is, are) = (let found = (told_at (g.T.Theory.meaning c.args.self.now.theory.now) c.args.self.now.ranks.now c.args.self.now.own.now c.args.known.now.classes.items c.args.offers.now.splits.items c.requires.under.splits c.args.constructor c.index-self-constructor.result c.index_mut-split.result.now c.number.new.self c.args.children.now c.in_ok-key.key c.in_ok-number.number (omega (arith, c.requires.over.low, c.requires.ready.many)) (omega (arith, c.requires.over.low, c.requires.under.splits.many)) c.index_mut-split.ensures.value c.requires.over.wide c.in_ok-key.ensures c.in_ok-number.ensures).told c.index-self-constructor.result c.index.result.now (sym c.index-self-constructor.is) (sym c.index.ensures) in
-      subst (IsTold (g.T.Theory.meaning c.args.self.now.theory.now) c.index-self-constructor.result (class_rows_at c.args.known.now.classes.items c.args.children.now) c.in_ok-key.key) (sym (list_at c.index.result.now.told.items c.in_ok-number.number c.index-2.result.now c.deref-label-items.result.now found.0 c.index-2.ensures c.deref-label-items.ensures.value)) found.1) in
-      ap (λ t. length t.holds) c.label-item.is ∙ ap length (are.held c.labels.label-index c.label-item.result c.labels-test.true) ∙ length-map c.index-self-constructor.result.list.items _ ∙ sym (ap length key_is ∙ length-map c.index-self-constructor.result.list.items _);
-}
+pub numbers_at-requires : goal.numbers_at-requires
+numbers_at-requires g c =
+    let R = c.index-self-constructor.result in
+    let is : IsRules g.T.Atom.PartialEq.eq c.args.self.now.rules.now c.args.constructor R = c.requires.ready.own_are c.args.constructor c.index-self-constructor.result (omega (arith, c.requires.over.low, c.requires.ready.many)) (sym c.index-self-constructor.is) in
+    let states : c.deref-in-labels.result.now ≡ map (λ x. x.state) R.list.items = c.deref-in-labels.ensures.value ∙ ap (λ z. z.states.items) (sym c.index-self-constructor.is) ∙ is.states_are in
+    let (key_is, are) = (let found = (told_at (g.T.Theory.meaning c.args.self.now.theory.now) c.args.self.now.ranks.now c.args.self.now.own.now c.args.known.now.classes.items c.args.offers.now.splits.items c.requires.under.splits c.args.constructor c.index-self-constructor.result c.index_mut-split.result.now c.number.new.self c.args.children.now c.in_ok-key.key c.in_ok-number.number (omega (arith, c.requires.over.low, c.requires.ready.many)) (omega (arith, c.requires.over.low, c.requires.under.splits.many)) c.index_mut-split.ensures.value c.requires.over.wide c.in_ok-key.ensures c.in_ok-number.ensures).told c.index-self-constructor.result c.index.result.now (sym c.index-self-constructor.is) (sym c.index.ensures) in
+    subst (IsTold (g.T.Theory.meaning c.args.self.now.theory.now) c.index-self-constructor.result (class_rows_at c.args.known.now.classes.items c.args.children.now) c.in_ok-key.key) (sym (list_at c.index.result.now.told.items c.in_ok-number.number c.index-2.result.now c.deref-label-items.result.now found.0 c.index-2.ensures c.deref-label-items.ensures.value)) found.1) in
+    record {
+      low = states_below R.list.items c.deref-in-labels.result.now states c.args.self.now.rules.now c.args.constructor is.owned;
+      first = ap length key_is ∙ length-map R.list.items _ ∙ sym (ap length states ∙ length-map R.list.items _);
+      second = ap (λ t. length t.holds) c.label-item.is ∙ ap length (are.held c.labels.label-index c.label-item.result c.labels-test.true) ∙ length-map R.list.items _ ∙ sym (ap length states ∙ length-map R.list.items _);
+    }
 
 pub labels-preserved : goal.labels-preserved
 labels-preserved g c =
@@ -44,8 +46,8 @@ labels-preserved g c =
     let are = (let found = (told_at (g.T.Theory.meaning c.args.self.now.theory.now) c.args.self.now.ranks.now c.args.self.now.own.now c.args.known.now.classes.items c.args.offers.now.splits.items c.requires.under.splits c.args.constructor c.index-self-constructor.result c.index_mut-split.result.now c.number.new.self c.args.children.now c.in_ok-key.key c.in_ok-number.number (omega (arith, c.requires.over.low, c.requires.ready.many)) (omega (arith, c.requires.over.low, c.requires.under.splits.many)) c.index_mut-split.ensures.value c.requires.over.wide c.in_ok-key.ensures c.in_ok-number.ensures).told c.index-self-constructor.result c.index.result.now (sym c.index-self-constructor.is) (sym c.index.ensures) in
     subst (IsTold (g.T.Theory.meaning c.args.self.now.theory.now) c.index-self-constructor.result (class_rows_at c.args.known.now.classes.items c.args.children.now) c.in_ok-key.key) (sym (list_at c.index.result.now.told.items c.in_ok-number.number c.index-2.result.now c.deref-label-items.result.now found.0 c.index-2.ensures c.deref-label-items.ensures.value)) found.1) in
     let there : Contains c.deref-label-items.result.now c.label-item.result = (c.labels.label-index, c.labels-test.true, sym c.label-item.is) in
-    let fired : (s : ℕ) → has c.in_ok-row.row s ≡ true ↔ IsFired c.index-self-constructor.result.list.items (both c.in_ok-key.key c.label-item.result.holds) s =
-    subst (λ R. (s : ℕ) → has c.in_ok-row.row s ≡ true ↔ IsFired R.list.items (both c.in_ok-key.key c.label-item.result.holds) s) (sym c.index-self-constructor.is) c.in_ok-row.ensures.fired in
+    let states : c.deref-in-labels.result.now ≡ map (λ x. x.state) c.index-self-constructor.result.list.items = c.deref-in-labels.ensures.value ∙ ap (λ z. z.states.items) (sym c.index-self-constructor.is) ∙ is.states_are in
+    let fired = fired_by c.index-self-constructor.result.list.items c.deref-in-labels.result.now states (both c.in_ok-key.key c.label-item.result.holds) c.in_ok-row.row c.in_ok-row.ensures.each in
     let row_is = row_made (g.T.Theory.meaning c.args.self.now.theory.now) c.args.self.now.ranks.now c.args.self.now.rules.now c.args.known.now.classes.items c.args.constructor c.index-self-constructor.result is c.args.children.now c.in_ok-key.key c.deref-label-items.result.now are c.label-item.result there c.in_ok-row.row c.in_ok-row.ensures.many fired in
     let made = made_over (g.T.Theory.meaning c.args.self.now.theory.now) c.args.self.now.ranks.now c.args.self.now.rules.now c.args.known.now.classes.items c.args.constructor c.index-self-constructor.result is c.args.children.now c.in_ok-key.key c.deref-label-items.result.now are c.cost_over-nodes.result c.label-item.result c.in_ok-row.row c.requires.over.low c.requires.over.wide c.requires.over.children there row_is (counts_as g.T.Theory.label_of c.args.known.now.classes.items c.deref.result.now c.args.children.now c.cost_over-nodes.result c.deref.ensures.value c.cost_over-nodes.ensures) in
     record {

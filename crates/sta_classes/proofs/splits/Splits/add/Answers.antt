@@ -14,12 +14,13 @@ places-preserved g c =
     met_more c.args.list.now c.args.row.now c.places.place c.places.made.items c.added.new.list.items met items (IfOk-at_ok _ made c.met_at.ensures) c.places.invariant
 
 pub returns : goal.returns
-returns g c = record {
-  met = on_ok_weaker c.added-2.result (λ added rows h.
+returns g c = on_ok_weaker c.added-2.result (λ added. record {
+  met = λ rows h.
       met_class c.args.list.now c.args.places rows c.args.row.now c.args.self.now.met.items c.added-2.new.list.items c.places.made (value_added c.places.made _ c.args.self.now.met.items c.added-2.new.list.items refl added)
-      (subst (λ n. IsMetBy c.args.list.now n c.args.row.now c.places.made.items) (omega (arith, c.places.auto.place-end, c.places-test.false)) c.places.invariant) h) c.added-2.ensures;
-  kept = on_ok_weaker c.added-2.result (λ added. (refl, refl)) c.added-2.ensures;
-}
+      (subst (λ n. IsMetBy c.args.list.now n c.args.row.now c.places.made.items) (omega (arith, c.places.auto.place-end, c.places-test.false)) c.places.invariant) h;
+  sets_are = refl;
+  told_are = refl;
+}) c.added-2.ensures
 
 pub returns-in_err-added : goal.returns-in_err-added
-returns-in_err-added g c = record { met = IfOk-from_err c.from_residual.result _ c.from_residual.ensures.0; kept = IfOk-from_err c.from_residual.result _ c.from_residual.ensures.0 }
+returns-in_err-added g c = IfOk-from_err c.from_residual.result _ c.from_residual.ensures.0

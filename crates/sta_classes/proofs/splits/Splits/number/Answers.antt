@@ -1,8 +1,8 @@
 use Rattle.sta_classes.specs.Stop.{ClassStopsFor}
-use Rattle.sta_classes.specs.Applying.{guards_in}
+use Rattle.sta_classes.specs.Applying.{guards_in, AreAt}
 use Rattle.sta_core.specs.Machine.{plain_rule}
 use Rattle.model_tree.specs.Formula.{EveryAtom}
-use Rattle.std.proofs.Common.{◌≡◌, ◌<◌, ◌∙◌, [], length, get_or, ap, sym, subst, refl, All}
+use Rattle.std.proofs.Common.{◌≡◌, ◌<◌, ◌∙◌, [], length, get_or, ap, sym, subst, subst₂, refl, All, arith}
 use Rattle.std.proofs.lemmas.Option.{slice_get_within}
 use Rattle.model_sta.proofs.Reached.{same_default}
 use Rattle.sta_classes.specs.Bits.{both}
@@ -27,7 +27,7 @@ returns g c =
           ∙ row_at c.args.self.now.sets.keys c.insert_full.new.self.keys c.in_ok-open.open c.in_ok-number.number c.in_ok-number.new c.in_ok-number.ensures.added c.in_ok-number.ensures.keys c.in_ok-number.ensures.stored in
           let (labels, are, items) = w.in_ok-tell.ensures in
           let told : AreTold (g.T.Theory.meaning c.args.theory.now) c.args.own.now.list.items c.in_ok-open.open labels.items =
-          subst (λ z. AreTold (g.T.Theory.meaning c.args.theory.now) z c.in_ok-open.open labels.items) w.deref.ensures.value (subst (λ z. AreTold (g.T.Theory.meaning c.args.theory.now) w.deref.result.now z labels.items) at are) in
+          subst (λ z. AreTold (g.T.Theory.meaning c.args.theory.now) z c.in_ok-open.open labels.items) w.deref-then-new.ensures.value (subst (λ z. AreTold (g.T.Theory.meaning c.args.theory.now) w.deref-then-new.result.now z labels.items) at are) in
           subst (AreAllTold (g.T.Theory.meaning c.args.theory.now) c.args.own.now.list.items) (sym w.self-is)
           (all_told_more (g.T.Theory.meaning c.args.theory.now) c.args.own.now.list.items c.args.self.now _ c.in_ok-open.open labels
           (is_new c.args.self.now.sets.keys c.insert_full.new.self.keys c.in_ok-open.open c.in_ok-number.number c.in_ok-number.new c.in_ok-number.ensures.added c.in_ok-number.ensures.keys c.in_ok-number.ensures.stored w.if-new.true) items told c.requires.told)
@@ -41,19 +41,23 @@ returns g c =
     told_numbered (g.T.Theory.meaning c.args.theory.now) c.args.own.now.list.items c.if-new.self told c.in_ok-number.number c.in_ok-open.open
     (subst (λ z. c.in_ok-number.number < length z.keys) (sym keys) (slice_get_within c.insert_full.new.self.keys c.in_ok-number.number c.in_ok-number.ensures.stored.0 c.in_ok-number.ensures.stored.1))
     (ap (λ z. get_or z.keys c.in_ok-number.number []) keys ∙ row_at c.args.self.now.sets.keys c.insert_full.new.self.keys c.in_ok-open.open c.in_ok-number.number c.in_ok-number.new c.in_ok-number.ensures.added c.in_ok-number.ensures.keys c.in_ok-number.ensures.stored) in
+    let are_open : AreAt c.args.own.now.likes.items (length c.args.own.now.likes.items) (both c.args.own.now.guarded c.args.key.now) c.in_ok-open.open = subst₂ (λ n likes. AreAt likes n (both c.args.own.now.guarded c.args.key.now) c.in_ok-open.open) (omega (arith, c.len.ensures, c.args.own.now.likes.ok.0)) c.deref.ensures.value c.in_ok-open.ensures in
     record {
       met = elim c.if-new.branch [ then-new+in_ok-tell w ↦ ap (λ s. s.met) w.self-is | else-new w ↦ ap (λ s. s.met) w.self-is ];
       all = told;
       low = numbered.0;
-      told = told_likes (g.T.Theory.meaning c.args.theory.now) g.T.Atom.PartialEq.eq g.met.T.Theory.equal_atoms c.args.own.now.list.items c.args.own.now.likes.items c.requires.fit.likes (both c.args.own.now.guarded c.args.key.now) c.in_ok-open.open (both_length c.args.own.now.guarded c.args.key.now c.requires.many ∙ c.requires.fit.guarded) c.in_ok-open.ensures (get_or (lists_of c.if-new.self.told.items) c.in_ok-number.number []) numbered.1;
+      told = told_likes (g.T.Theory.meaning c.args.theory.now) g.T.Atom.PartialEq.eq g.met.T.Theory.equal_atoms c.args.own.now.list.items c.args.own.now.likes.items c.requires.fit.likes (both c.args.own.now.guarded c.args.key.now) c.in_ok-open.open (both_length c.args.own.now.guarded c.args.key.now c.requires.many ∙ c.requires.fit.guarded) are_open (get_or (lists_of c.if-new.self.told.items) c.in_ok-number.number []) numbered.1;
     }
 
-pub open_guards-requires : goal.open_guards-requires
-open_guards-requires g c = record {
-  many = c.requires.many;
-  low = likes_low c.args.own.now.list.items g.T.Atom.PartialEq.eq c.args.own.now.likes.items c.requires.fit.likes;
-  likes = c.requires.fit.likes.many ∙ sym c.requires.fit.guarded;
-}
+pub numbers_at-requires : goal.numbers_at-requires
+numbers_at-requires g c =
+    let many : length c.args.own.now.likes.items ≡ c.len.result = omega (arith, c.len.ensures, c.args.own.now.likes.ok.0) in
+    let long : length c.args.own.now.guarded ≡ length c.deref.result.now = c.requires.fit.guarded ∙ sym c.requires.fit.likes.many ∙ ap length (sym c.deref.ensures.value) in
+    record {
+      low = subst₂ (λ n likes. All (λ like. like < n) likes) many (sym c.deref.ensures.value) (likes_low c.args.own.now.list.items g.T.Atom.PartialEq.eq c.args.own.now.likes.items c.requires.fit.likes);
+      first = long;
+      second = c.requires.many ∙ long;
+    }
 
 pub returns-in_err-open : goal.returns-in_err-open
 returns-in_err-open g c = stopped c.from_residual.result _ _ _ c.from_residual.ensures.1 tt
@@ -62,7 +66,7 @@ pub returns-in_err-number : goal.returns-in_err-number
 returns-in_err-number g c = stopped c.from_residual-in_err-number.result _ _ _ c.from_residual-in_err-number.ensures.1 tt
 
 pub returns-in_err-tell : goal.returns-in_err-tell
-returns-in_err-tell g c = stopped c.from_residual-in_err-tell.result _ _ c.in_err-tell.field-0.0 c.from_residual-in_err-tell.ensures.1 (subst (λ l. ClassStopsFor (g.T.Theory.meaning c.args.theory.now) ⊥ (guards_in l) c.in_err-tell.field-0.0) c.deref.ensures.value c.in_err-tell.ensures)
+returns-in_err-tell g c = stopped c.from_residual-in_err-tell.result _ _ c.in_err-tell.field-0.0 c.from_residual-in_err-tell.ensures.1 (subst (λ l. ClassStopsFor (g.T.Theory.meaning c.args.theory.now) ⊥ (guards_in l) c.in_err-tell.field-0.0) c.deref-then-new.ensures.value c.in_err-tell.ensures)
 
 pub tell-requires : goal.tell-requires
-tell-requires g c = record { fit = subst (λ l. All (λ x. EveryAtom (g.T.Theory.atom_fits c.args.theory.now) (plain_rule x.rule.now).guard) l) (sym c.deref.ensures.value) c.requires.fit.fit }
+tell-requires g c = record { fit = subst (λ l. All (λ x. EveryAtom (g.T.Theory.atom_fits c.args.theory.now) (plain_rule x.rule.now).guard) l) (sym c.deref-then-new.ensures.value) c.requires.fit.fit }
