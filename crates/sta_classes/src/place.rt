@@ -1,7 +1,6 @@
 //! The kinds of classes at one place of a constructor.
 
-ghost use Rattle.std.specs.Prelude.{◌≡◌, ◌<◌, ◌++◌, ◌∷◌, [], length, map, get_or, cond, IfOk, OnOk, Decides};
-ghost use Rattle.model_sta.specs.Sets.{has};
+ghost use Rattle.std.specs.Prelude.{◌≡◌, ◌<◌, ◌++◌, ◌∷◌, [], length, get_or, cond, IfOk, OnOk, Decides};
 ghost use Rattle.sta_classes.specs.Grow.{Grown};
 ghost use Rattle.sta_classes.specs.Places.{AsksFor, AreAsked, IsNumbered, IsNext};
 
@@ -25,17 +24,6 @@ pub struct Place {
     pub kind_of: Vec<usize>,
 }
 
-/// Adds the state, unless it is there.
-fn add_state(state: u64, list: &mut Vec<u64>) -> Result<(), Memory>
-    ensures { OnOk result (Grown list.old.items list.new.items (λ s. state ≡ s)) }
-{
-    if list.contains(&state) {
-        return Ok(());
-    }
-    list.push(state)?;
-    Ok(())
-}
-
 /// Adds the states that the rule demands at the place, if it has the constructor.
 fn add_of_rule<A>(
     rule: &StaRule<A>,
@@ -52,20 +40,12 @@ fn add_of_rule<A>(
         return Ok(());
     }
     'states: for state in &rule.demands[place] {
-        add_state(*state, list)?;
+        if list.contains(state) {
+            continue;
+        }
+        list.push(*state)?;
     }
     Ok(())
-}
-
-/// Which of the states the row has.
-fn chosen(alloc: Global, states: &[u64], row: &Row) -> Result<Row, Memory>
-    ensures { IfOk result (λ made. made ≡ map (has row.now) states.now) }
-{
-    let mut made = Row::new(alloc, states.len())?;
-    for i in 0..states.len() {
-        made.put(i, row.has(states[i]));
-    }
-    Ok(made)
 }
 
 /// Puts the class behind the list, if it is the first of its kind.
@@ -107,7 +87,10 @@ impl Place {
     pub fn add(&mut self, alloc: Global, row: &Row) -> Result<(), Memory>
         ensures { OnOk result (IsNext row.now self.old self.new) }
     {
-        let key = chosen(alloc, &self.states, row)?;
+        let mut key = Row::new(alloc, self.states.len())?;
+        for i in 0..self.states.len() {
+            key.put(i, row.has(self.states[i]));
+        }
         let (kind, new) = self.kinds.insert_full(key)?;
         let noted = note(&mut self.firsts, self.kind_of.len(), new);
         added(&mut self.kind_of, kept(kind, (), noted))

@@ -65,30 +65,20 @@ fn are_fixed<A>(formulas: &[Formula<A>]) -> bool
     true
 }
 
-/// The state of each of the rules.
-fn states_of<A>(alloc: Global, list: &[Owned<A>]) -> Result<Vec<usize>, Memory>
-    ensures { IfOk result (λ states. states.items ≡ map (λ x. x.state) list.now) }
-{
-    let mut states = Vec::new(alloc);
-    for owned in list {
-        states.push(owned.state)?;
-    }
-    Ok(states)
-}
-
-/// The numbers of all rules, and those of the rules with a guard that has atoms.
-fn numbers_of<A>(alloc: Global, list: &[Owned<A>]) -> Result<(Row, Row), Memory>
-    ensures all { IfOk result (λ made. made.0 ≡ map (λ x. true) list.now) }
-    ensures guarded { IfOk result (λ made. made.1 ≡ map (λ x. not (is_fixed (plain_rule x.rule.now).guard)) list.now) }
+/// The state of each rule, the numbers of all of them, and those of the rules with a guard that has atoms.
+fn numbers_of<A>(alloc: Global, list: &[Owned<A>]) -> Result<(Vec<usize>, Row, Row), Memory>
+    ensures { IfOk result (λ made. (made.0.items ≡ map (λ x. x.state) list.now) × (made.1 ≡ map (λ x. true) list.now) × (made.2 ≡ map (λ x. not (is_fixed (plain_rule x.rule.now).guard)) list.now)) }
 {
     let places = list.len();
     let (mut all, mut guarded) = both(Row::new(alloc, places), Row::new(alloc, places))?;
+    let mut states = Vec::new(alloc);
     for i in 0..list.len() {
+        states.push(list[i].state)?;
         let rule = list[i].rule;
         all.put(i, true);
         guarded.put(i, !is_fixed(&rule.guard));
     }
-    Ok((all, guarded))
+    Ok((states, all, guarded))
 }
 
 /// Whether the row has what the rule demands at the place.
@@ -147,8 +137,10 @@ impl<'a, A: Eq + Hash> Rules<'a, A> {
                 }
             }
         }
-        let numbers = both(states_of(alloc, &list), numbers_of(alloc, &list));
-        let ((states, (all, guarded)), likes) = both(numbers, likes_of(alloc, &list))?;
+        let ((states, all, guarded), likes) = both(
+            numbers_of(alloc, &list),
+            likes_of(alloc, &list),
+        )?;
         Ok(Rules {
             list,
             states,

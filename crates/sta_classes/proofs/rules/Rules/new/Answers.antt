@@ -1,6 +1,6 @@
 use Rattle.std.proofs.Common.{ℕ, ◌≡◌, ◌∙◌, ◌++◌, ◌∷◌, [], map, not, true, inl, inr, ap, sym, subst, arith, refl}
 use Rattle.std.proofs.lemmas.List.{map-append}
-use Rattle.std.proofs.lemmas.Result.{IfOk-from_err, IfOk-at_ok, MatchResult-at_ok}
+use Rattle.std.proofs.lemmas.Result.{IfOk-from_err, IfOk-at_ok}
 use Rattle.sta_core.specs.Machine.{PlainRule, plain_rule}
 use Rattle.sta_classes.specs.Applying.{plain_owned, is_fixed, IsOwned, AreLike}
 use Rattle.sta_classes.specs.Grow.{Grown, Some}
@@ -37,16 +37,16 @@ pub returns : goal.returns
 returns g c =
     let h = numbered_all (λ s those. Some (IsOwned c.args.constructor s) those.items) c.args.rules.now [] (map plain_owned c.states.list.items) c.states.state (omega (arith, c.states-test.false)) c.states.invariant in
     let (numbers, likes) = c.in_ok-states.ensures in
-    let (states, rows) = MatchResult-at_ok _ _ _ numbers c.both-numbers.ensures in
+    let (states, all, guarded) = IfOk-at_ok _ numbers c.numbers_of.ensures in
     record {
       owned = λ p. (
         (λ at. elim ((h p).0 at) [ inl none ↦ absurd (nowhere p none) | inr w ↦ (let (s, below, low, those, is, (r, r_in, owned)) = w in (s, low, those, is, r, r_in, owned)) ]),
         (λ w. let (s, low, those, is, r, r_in, owned) = w in (h p).1 (inr (s, low, low, those, is, (r, r_in, owned)))),
       );
-      states_are = IfOk-at_ok _ states c.states_of.ensures ∙ ap (map (λ x. x.state)) c.deref.ensures.value;
-      all_are = IfOk-at_ok _ rows c.numbers_of.ensures.all ∙ ap (map (λ x. true)) c.deref-2.ensures.value;
-      guarded_are = IfOk-at_ok _ rows c.numbers_of.ensures.guarded ∙ ap (map (λ x. not (is_fixed (plain_rule x.rule.now).guard))) c.deref-2.ensures.value;
-      alike = subst (λ l. AreLike g.A.PartialEq.eq l c.in_ok-states.likes.items) c.deref-3.ensures.value (IfOk-at_ok _ likes c.likes_of.ensures);
+      states_are = states ∙ ap (map (λ x. x.state)) c.deref.ensures.value;
+      all_are = all ∙ ap (map (λ x. true)) c.deref.ensures.value;
+      guarded_are = guarded ∙ ap (map (λ x. not (is_fixed (plain_rule x.rule.now).guard))) c.deref.ensures.value;
+      alike = subst (λ l. AreLike g.A.PartialEq.eq l c.in_ok-states.likes.items) c.deref-2.ensures.value (IfOk-at_ok _ likes c.likes_of.ensures);
     }
 
 pub returns-in_err-push : goal.returns-in_err-push
