@@ -11,7 +11,7 @@ use Rattle.sta_classes.specs.Applying.{meets_at}
 use Rattle.sta_classes.specs.Bits.{both}
 use Rattle.sta_classes.specs.Rows.{class_rows, lists_of}
 use Rattle.sta_classes.specs.Searched.{AreSplit, IsTold, AreToldAt}
-use Rattle.sta_classes.specs.Splits.{NextSplits, IsMetBy, AreMet, AreTold, AreAllTold, IsUnder}
+use Rattle.sta_classes.specs.Splits.{AreFresh, NextSplits, IsMetBy, AreMet, AreTold, AreAllTold, IsUnder}
 use Rattle.sta_classes.specs.declared.class.Class.{Class}
 use Rattle.sta_classes.specs.declared.rules.Owned.{Owned}
 use Rattle.sta_classes.specs.declared.rules.Rules.{Rules}
@@ -175,11 +175,11 @@ module _ {A V W : Type 0} {label_of : V → Label} {holds : A → Label → Bool
   }
 
   -- before there are classes
-  pub split_none : (splits : List (Splits V)) → length splits ≡ length ranks → ((c : ℕ) (s : Splits V) → c < length splits → get_or splits c s ≡ s → (s.met.items ≡ []) × ((s.sets.keys ≡ []) × (s.told.items ≡ []))) → AreSplit M ranks own [] splits
-  split_none splits many none = record {
-    many = many;
-    met = λ c R s low of at. record { many = ap length (none c s low at).0; each = λ k inside. absurd (omega (arith, inside)) };
-    told = λ c R s low of at. record { many = ap length (none c s low at).1.1 ∙ sym (ap length (none c s low at).1.0); each = λ i inside. absurd (omega (arith, inside, ap length (none c s low at).1.0)) };
+  pub split_none : (splits : List (Splits V)) → AreFresh (length ranks) splits → AreSplit M ranks own [] splits
+  split_none splits fresh = record {
+    many = fresh.many;
+    met = λ c R s low of at. record { many = ap length (fresh.none c s low at).0; each = λ k inside. absurd (omega (arith, inside)) };
+    told = λ c R s low of at. record { many = ap length (fresh.none c s low at).1.1 ∙ sym (ap length (fresh.none c s low at).1.0); each = λ i inside. absurd (omega (arith, inside, ap length (fresh.none c s low at).1.0)) };
   }
 
 pub element_pushed : {X : Type 0} (P : ℕ → X → Type 0) (old new : List X) (x : X) → new ≡ old ++ x ∷ [] → P (length old) x → ((i : ℕ) (y : X) → i < length old → get_or old i y ≡ y → P i y) → (i : ℕ) (y : X) → i < length new → get_or new i y ≡ y → P i y

@@ -30,6 +30,11 @@ module _ {A : Type 0} (list : List (Owned A)) (places : ℕ) where
     pub sets_are : new.sets ≡ old.sets
     pub told_are : new.told ≡ old.told
 
+-- so many, and nothing is known yet
+pub record AreFresh {V : Type 0} (n : ℕ) (splits : List (Splits V)) : Type 0 where
+  pub many : length splits ≡ n
+  pub none : (c : ℕ) (s : Splits V) → c < length splits → get_or splits c s ≡ s → (s.met.items ≡ []) × ((s.sets.keys ≡ []) × (s.told.items ≡ []))
+
 -- by the rules of this constructor
 abbrev pub IsNextOf : {A V : Type 0} → List ℕ → List (Rules A) → Row → ℕ → Splits V → Splits V → Type 0
 IsNextOf {A} ranks own q c s s' = (R : Rules A) → get_or own c R ≡ R → IsNextSplit R.list.items (get_or ranks c 0) q s s'

@@ -7,13 +7,13 @@ ghost use Rattle.std.specs.Prelude.{MatchResult};
 ghost use Rattle.sta_classes.specs.Searched.{IsReady, IsOver, HasOffered, HasNewOffered, IsUnderway, GoesOn, IsBegun, IsWhole, StopsSearch};
 
 use crate::class::cost_over;
-use crate::keep::kept;
+use crate::keep::{both, kept};
 use crate::known::Known;
 use crate::lists::new_lists;
 use crate::pending::{Over, Pending};
 use crate::row::numbers_at;
 use crate::rules::Rules;
-use crate::splits::{Splits, add_to_splits};
+use crate::splits::{Splits, add_to_splits, no_splits};
 use crate::stop::ClassStop;
 use label_core::Theory;
 use sta_core::StaRule;
@@ -135,11 +135,8 @@ impl<T: Theory> Search<'_, T> {
         requires ready { IsReady T.Atom.eq (T.atom_fits self.now.theory.now) self.now.ranks.now self.now.rules.now self.now.own.now }
         ensures { MatchResult result (IsWhole (T.meaning self.now.theory.now) self.now.ranks.now self.now.rules.now self.now.most) (StopsSearch (T.meaning self.now.theory.now) self.now.ranks.now self.now.rules.now self.now.most) }
     {
-        let mut splits = Vec::new(self.alloc);
-        'constructors: for _ in 0..self.ranks.len() {
-            splits.push(Splits::new(self.alloc))?;
-        }
-        let known = Known::new(self.alloc, self.ranks, self.rules)?;
+        let begun = Known::new(self.alloc, self.ranks, self.rules);
+        let (known, splits) = both(begun, no_splits(self.alloc, self.ranks.len()))?;
         let pending = Pending::new(self.alloc);
         let offers = Offers { pending, splits };
         let mut course = Course { known, offers };

@@ -7,7 +7,7 @@ ghost use Rattle.model_tree.specs.Formula.{EveryAtom};
 ghost use Rattle.sta_core.specs.Machine.{plain_rule};
 ghost use Rattle.sta_classes.specs.Applying.{guards_in, AreFit};
 ghost use Rattle.sta_classes.specs.Bits.{both};
-ghost use Rattle.sta_classes.specs.Splits.{AreMet, AreTelling, AreTold, AreAllTold, IsUnder, IsNextSplit, NextSplits};
+ghost use Rattle.sta_classes.specs.Splits.{AreMet, AreTelling, AreTold, AreAllTold, IsUnder, AreFresh, IsNextSplit, NextSplits};
 ghost use Rattle.sta_classes.specs.Stop.{ClassStopsFor};
 ghost use Rattle.sta_classes.specs.declared.splits.Told.{Told};
 
@@ -88,19 +88,6 @@ fn tell<T: Theory>(
 }
 
 impl<V: Drop> Splits<V> {
-    /// Nothing is known.
-    pub fn new(alloc: Global) -> Splits<V>
-        ensures met { result.met.items ≡ [] }
-        ensures sets { result.sets.keys ≡ [] }
-        ensures told { result.told.items ≡ [] }
-    {
-        Splits {
-            met: Vec::new(alloc),
-            sets: IndexSet::new(alloc),
-            told: Vec::new(alloc),
-        }
-    }
-
     /// Tells which rules the children of one more class meet at each place.
     pub fn add<A>(
         &mut self,
@@ -153,6 +140,21 @@ impl<V: Drop> Splits<V> {
         }
         Ok(number)
     }
+}
+
+/// Nothing is known of the rules of so many constructors.
+pub fn no_splits<V: Drop>(alloc: Global, constructors: usize) -> Result<Vec<Splits<V>>, Memory>
+    ensures { IfOk result (λ splits. AreFresh constructors splits.items) }
+{
+    let mut splits = Vec::new(alloc);
+    'constructors: for _ in 0..constructors {
+        splits.push(Splits {
+            met: Vec::new(alloc),
+            sets: IndexSet::new(alloc),
+            told: Vec::new(alloc),
+        })?;
+    }
+    Ok(splits)
 }
 
 /// Tells which rules of each constructor a child of one more class meets.
