@@ -1,5 +1,5 @@
 -- The rules of one constructor, numbered, and sets of their numbers.
-use Rattle.std.specs.Prelude.{ℕ, ◌≡◌, ◌<◌, ◌↔◌, Bool, true, false, not, ◌&&◌, List, [], ◌∷◌, map, get_or, length, All, Contains, Vec}
+use Rattle.std.specs.Prelude.{ℕ, ◌≡◌, ◌<◌, ◌↔◌, ◌^◌, Bool, true, false, not, ◌&&◌, List, [], ◌∷◌, map, get_or, length, All, Contains, Vec}
 use Rattle.std.specs.List.{list_all}
 use Rattle.model_tree.specs.Label.{Label}
 use Rattle.model_tree.specs.Formula.{EveryAtom, Formula, yes, no, atom, negation, all_of, some_of, Formulas, no_formulas, formula, formula_holds}
@@ -71,6 +71,12 @@ module _ {A : Type 0} where
     pub all_are : own.all ≡ map (λ x. true) own.list.items
     pub guarded_are : own.guarded ≡ map (λ x. not (is_fixed (plain_rule x.rule.now).guard)) own.list.items
     pub alike : AreLike eq own.list.items own.likes.items
+
+-- the rules of so many constructors, which are not too many to be numbered
+pub record AreRules {A G : Type 0} (eq : A → A → Bool) (rules : List (Vec (StaRule A) G)) (n : ℕ) (each : List (Rules A)) : Type 0 where
+  pub few : n < 2 ^ 32
+  pub many : length each ≡ n
+  pub are : (c : ℕ) (own : Rules A) → c < length each → get_or each c own ≡ own → IsRules eq rules c own
 
 -- the guards of the rules fit, it is told which of the rules have guards, and which guards are the same
 pub record AreFit {A : Type 0} (eq : A → A → Bool) (fits : A → Type 0) (own : Rules A) : Type 0 where

@@ -1,11 +1,10 @@
 //! The rules of one constructor, of all states.
 
-ghost use Rattle.std.specs.Prelude.{ℕ, ◌≡◌, ◌<◌, true, not, length, map, get_or, IfOk};
+ghost use Rattle.std.specs.Prelude.{◌≡◌, true, not, map, IfOk};
 ghost use Rattle.std.specs.List.{list_all};
 ghost use Rattle.label_core.specs.Formula.{plain_formula};
 ghost use Rattle.sta_core.specs.Machine.{plain_rule};
-ghost use Rattle.sta_classes.specs.Applying.{is_fixed, meets_at, chosen, guards_in, IsRules};
-ghost use Rattle.sta_classes.specs.declared.rules.Rules.{Rules};
+ghost use Rattle.sta_classes.specs.Applying.{is_fixed, meets_at, chosen, guards_in, IsRules, AreRules};
 
 use crate::class::row_has_each;
 use crate::keep::{added, both};
@@ -155,14 +154,17 @@ impl<'a, A: Eq + Hash> Rules<'a, A> {
 pub fn each_rules<'a, A: Eq + Hash>(
     alloc: Global,
     rules: &'a [Vec<StaRule<A>>],
-    constructors: u32,
+    constructors: usize,
 ) -> Result<Vec<Rules<'a, A>>, Memory>
-    ensures many { IfOk result (λ each. length each.items ≡ constructors) }
-    ensures are { IfOk result (λ each. (c : ℕ) (own : Rules A) → c < length each.items → get_or each.items c own ≡ own → IsRules A.eq rules.now c own) }
+    ensures { IfOk result (λ each. AreRules A.eq rules.now constructors each.items) }
 {
+    // an automaton of so many constructors is out of reach of any memory
+    if constructors > u32::MAX as usize {
+        return Err(Memory);
+    }
     let mut each = Vec::new(alloc);
     'constructors: for constructor in 0..constructors {
-        added(&mut each, Rules::new(alloc, rules, constructor))?;
+        added(&mut each, Rules::new(alloc, rules, constructor as u32))?;
     }
     Ok(each)
 }

@@ -184,13 +184,9 @@ pub fn classes<'a, T: Theory>(
     ensures machine { IfOk result (λ t. t.machine ≡ sta.now) }
     ensures stop { IfErr result (StopsClasses (T.meaning theory.now) sta.now most) }
 {
-    // an automaton of so many constructors is out of reach of any memory
-    if sta.ranks().len() > u32::MAX as usize {
-        return Err(ClassStop::Memory);
-    }
     let ranks = sta.ranks();
     let rules = sta.rules();
-    let own = each_rules(alloc, rules, ranks.len() as u32)?;
+    let own = each_rules(alloc, rules, ranks.len())?;
     let search = Search {
         theory,
         alloc,

@@ -1,5 +1,5 @@
 use Rattle.std.proofs.lemmas.Result.{IfOk-from_err, IfOk-at_ok}
-use Rattle.std.proofs.Common.{◌∙◌, ◌+◌, length, sym, ap, subst}
+use Rattle.std.proofs.Common.{◌∙◌, ◌+◌, length, sym, ap, subst, arith}
 use Rattle.std.proofs.lemmas.List.{length_push}
 use Rattle.sta_classes.specs.Applying.{IsRules}
 use Rattle.sta_classes.proofs.Keys.{element_pushed}
@@ -14,7 +14,11 @@ constructors-preserved g c =
     }
 
 pub returns-in_err-added : goal.returns-in_err-added
-returns-in_err-added g c = record { many = IfOk-from_err c.from_residual.result _ c.from_residual.ensures.0; are = IfOk-from_err c.from_residual.result _ c.from_residual.ensures.0 }
+returns-in_err-added g c = IfOk-from_err c.from_residual.result _ c.from_residual.ensures.0
 
-pub returns-clause-are : goal.returns-clause-are
-returns-clause-are g c = c.constructors.invariant.are
+pub returns : goal.returns
+returns g c = record {
+  few = omega (arith, c.if-constructors.false);
+  many = omega (arith, c.constructors.invariant.many, c.constructors.auto.constructor-end, c.constructors-test.false);
+  are = c.constructors.invariant.are;
+}

@@ -20,7 +20,7 @@ pub run-requires : goal.run-requires
 run-requires g c = record {
   ready = record {
     fit = subst (GuardsFit (g.T.Theory.atom_fits c.args.theory.now)) (sym c.rules-rules.ensures.rules) c.requires.fit;
-    few = omega (arith, c.if-ranks.false, ap length c.ranks.ensures, ap length c.ranks-ranks.ensures);
+    few = c.in_ok-own.ensures.few;
     many = ap length c.deref.ensures.value ∙ c.in_ok-own.ensures.many;
     own_are = subst (λ l. (n : ℕ) (own : Rules g.row.T-Atom.Denot) → n < length l → get_or l n own ≡ own → IsRules g.T.Atom.PartialEq.eq c.rules-rules.result.now n own) (sym c.deref.ensures.value) c.in_ok-own.ensures.are;
   };
