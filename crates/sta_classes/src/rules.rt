@@ -80,23 +80,15 @@ fn numbers_of<A>(alloc: Global, list: &[Owned<A>]) -> Result<(Vec<usize>, Row, R
     Ok((states, all, guarded))
 }
 
-/// Whether the row has what the rule demands at the place.
-fn meets_at<A>(rule: &StaRule<A>, place: usize, row: &Row) -> bool
-    ensures { result ≡ meets_at place row.now (plain_rule rule.now) }
-{
-    if place >= rule.demands.len() {
-        return true;
-    }
-    row_has_each(row, &rule.demands[place])
-}
-
 /// The numbers of the rules whose demands at the place the row meets.
 pub fn met_at<A>(alloc: Global, list: &[Owned<A>], place: usize, row: &Row) -> Result<Row, Memory>
     ensures { IfOk result (λ made. made ≡ map (λ x. meets_at place row.now (plain_rule x.rule.now)) list.now) }
 {
     let mut made = Row::new(alloc, list.len())?;
     for i in 0..list.len() {
-        made.put(i, meets_at(list[i].rule, place, row));
+        let rule = list[i].rule;
+        let meets = place >= rule.demands.len() || row_has_each(row, &rule.demands[place]);
+        made.put(i, meets);
     }
     Ok(made)
 }
