@@ -1,7 +1,6 @@
 pub mod Noting
 pub mod Repeating
 pub mod FieldLookup
-pub mod FieldNumber
 pub mod Places
 pub mod FormsMade
 pub mod Products

@@ -1,6 +1,6 @@
 -- What is known of a label expression once it is checked.
-use Rattle.std.specs.Prelude.{◌≡◌, Bool, true, false, List, ◌++◌, Option, Some, None, Result, Ok, Err, map}
-use Rattle.std.specs.Option.{option_map}
+use Rattle.std.specs.Prelude.{◌≡◌, ℕ, Bool, true, false, List, ◌++◌, Option, Some, None, Result, Ok, Err, map, is_some}
+use Rattle.std.specs.Option.{option_map, option_map_or}
 use Rattle.fast_fault.specs.declared.code.Code.TheVariants.{WrongSort}
 use Rattle.fast_fault.specs.declared.place.Pos.{Pos}
 use Rattle.fast_fault.specs.declared.refusal.Refusal.{Refusal}
@@ -15,13 +15,15 @@ use Rattle.lin_form.specs.declared.stop.FormStop.{FormStop}
 use Rattle.lin_form.specs.declared.stop.FormStop.TheVariants.{Range, Memory}
 use Rattle.lin_form.specs.declared.sum.Signed.{Signed}
 use Rattle.lin_form.specs.Gathered.{plain_parts}
+use Rattle.fast_tree.specs.declared.signature.Sort as code
 use Rattle.fast_tree.specs.Signatures.{plain_sort}
+use Rattle.model_label.specs.Fields.{same_sort, number_at}
 use Rattle.fast_syntax.specs.View.{plain_field}
 use Rattle.std.specs.Global.{Vec}
 use Rattle.model_checks.specs.Sorts as model
 use Rattle.model_names.specs.Sorts.{sort_named}
 use Rattle.model_checks.specs.Failures.{fails_if}
-use Rattle.model_checks.specs.Sorts.{sort_of, needs_sort, is_other_sort, differ_in_sort}
+use Rattle.model_checks.specs.Sorts.{find_field, field_sort, plain_fields, sort_of, needs_sort, is_other_sort, differ_in_sort}
 use Rattle.model_checks.specs.Forms.{has_field, have_field, form_in_range, kept, product_of, remainder_of, divisor_of}
 use Rattle.model_checks.specs.Labels.{label_failures, multiplied, divided}
 use Rattle.program_check.specs.declared.labels.Scope.{Scope}
@@ -30,6 +32,15 @@ use Rattle.program_check.specs.declared.labels.Side.{Side}
 
 abbrev pub plain_scope : Scope → model.Scope
 plain_scope scope = option_map (λ fields. map plain_field fields.now) scope.fields
+
+abbrev pub is_whole : Option Sort → Bool
+is_whole sort = option_map_or (λ s. same_sort s wholes) sort false
+
+-- there is a field of this name, with its sort and its number among the whole numbers
+pub record IsField (fields : List FieldItem) (name : List ℕ) (told : Option code.Sort) (count : ℕ) : Type 0 where
+  pub there : is_some (find_field fields name) ≡ true
+  pub sort : option_map plain_sort told ≡ field_sort (Some fields) name
+  pub number : count ≡ number_at (plain_fields fields) wholes name
 
 -- its sort, whether it has a field, and its form
 pub record IsKnown (scope : Scope) (e : Expr) (known : Known) : Type 0 where

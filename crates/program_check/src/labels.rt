@@ -11,22 +11,20 @@ ghost use Rattle.fast_syntax.specs.Slices.{plain_operands, plain_sum_parts, plai
 ghost use Rattle.model_tree.specs.Limits.{longest_text, greatest_divisor};
 ghost use Rattle.model_tree.specs.Signature.{wholes, truths};
 ghost use Rattle.model_form.specs.Sums.{sum_form, product_form};
-ghost use Rattle.model_label.specs.Fields.{same_sort, number_at};
+ghost use Rattle.model_label.specs.Fields.{same_sort};
 ghost use Rattle.fast_tree.specs.declared.signature.Sort.TheVariants as Sort;
 ghost use Rattle.model_grammar.specs.Syntax as plain;
 ghost use Rattle.model_grammar.specs.declared.Chain.TheVariants as kind;
 ghost use Rattle.model_checks.specs.Failures.{fails_if};
-ghost use Rattle.model_names.specs.Sorts.{sort_named, own_sort};
-ghost use Rattle.model_checks.specs.Sorts.{find_field, plain_fields, is_other_sort, differ_in_sort};
+ghost use Rattle.model_checks.specs.Sorts.{find_field, is_other_sort, differ_in_sort};
 ghost use Rattle.model_tree.specs.Range.{is_label_number};
 ghost use Rattle.model_checks.specs.Forms.{is_out_of_range, kept, has_field, form_numbered, product_of, remainder_of, divisor_of, with_part};
 ghost use Rattle.model_checks.specs.Labels.{unknown_field, label_failures, operands_failures, sorted_failures, divided};
 ghost use Rattle.program_check.specs.Notes.{HasMemory, Notes};
-ghost use Rattle.program_check.specs.Known.{plain_scope, IsKnown, form_made, is_range, IsTaken, IsMade, AreTruths, plain_added, joined, sort_failures, sides_failures, next_failures, next_form};
+ghost use Rattle.program_check.specs.Known.{plain_scope, is_whole, IsField, IsKnown, form_made, is_range, IsTaken, IsMade, AreTruths, plain_added, joined, sort_failures, sides_failures, next_failures, next_form};
 
 use crate::checker::Checker;
 use crate::limits::{LONGEST_TEXT, MOST_FIELDS};
-use crate::signatures::own_sort;
 use crate::types::sort_named;
 use fast_fault::{Code, Pos, Text};
 use fast_syntax::FieldItem;
@@ -64,41 +62,31 @@ struct Factor {
     form: Option<Form>,
 }
 
-/// The field of this name.
-fn find_field<'p>(fields: &'p [FieldItem], name: &Text) -> Option<&'p FieldItem>
-    ensures { MatchOption result (find_field (map plain_field fields.now) name.now ≡ None) (λ field. find_field (map plain_field fields.now) name.now ≡ Some (plain_field field.now)) }
+fn is_whole(sort: Option<Sort>) -> bool
+    ensures { result ≡ is_whole (option_map plain_sort sort) }
 {
-    'fields: for field in fields {
-        if field.name.text == *name {
-            return Some(field);
-        }
-    }
-    None
-}
-
-fn is_whole(field: &FieldItem) -> bool
-    ensures { result ≡ same_sort (own_sort (plain_field field.now)) wholes }
-{
-    match own_sort(field) {
-        Sort::Int => true,
-        Sort::Bool | Sort::Text => false,
+    match sort {
+        Some(Sort::Int) => true,
+        Some(Sort::Bool) | Some(Sort::Text) => false,
+        None => false,
     }
 }
 
-/// The number of the field of this name among the whole numbers.
-fn number_at(fields: &[FieldItem], name: &Text) -> usize
-    ensures { result ≡ number_at (plain_fields (map plain_field fields.now)) wholes name.now }
+/// The sort of the field of this name, and its number among the whole numbers.
+fn find_field(fields: &[FieldItem], name: &Text) -> Option<(Option<Sort>, usize)>
+    ensures { MatchOption result (find_field (map plain_field fields.now) name.now ≡ None) (λ found. IsField (map plain_field fields.now) name.now found.0 found.1) }
 {
     let mut number = 0;
     'fields: for field in fields {
+        let sort = sort_named(&field.sort.text);
         if field.name.text == *name {
-            return number;
+            return Some((sort, number));
         }
-        if is_whole(field) {
+        if is_whole(sort) {
             number += 1;
         }
     }
-    number
+    None
 }
 
 fn is_label_number(number: i128) -> bool
@@ -183,20 +171,14 @@ impl Checker {
         }
     }
 
-    /// The form of the field of this name, where it is one of the first eight whole numbers.
-    fn form_of_field(
-        &mut self,
-        fields: &[FieldItem],
-        name: &Text,
-        sort: Option<Sort>,
-    ) -> Option<Form>
+    /// The form of a field of this sort and with this number among the whole numbers, where it is one of the first eight.
+    fn form_of_field(&mut self, sort: Option<Sort>, number: usize) -> Option<Form>
         ensures noted { Notes self.old self.new [] }
-        ensures form { HasMemory self.new → result ≡ option_and_then (λ s. cond (same_sort s wholes) (form_numbered (number_at (plain_fields (map plain_field fields.now)) wholes name.now)) None) (option_map plain_sort sort) }
+        ensures form { HasMemory self.new → result ≡ option_and_then (λ s. cond (same_sort s wholes) (form_numbered number) None) (option_map plain_sort sort) }
     {
         let Some(Sort::Int) = sort else {
             return None;
         };
-        let number = number_at(fields, name);
         if number >= MOST_FIELDS {
             return None;
         }
@@ -256,12 +238,11 @@ impl Checker {
         let Some(fields) = scope.fields else {
             return Known::formless(None, false);
         };
-        let Some(field) = find_field(fields, name) else {
+        let Some((sort, number)) = find_field(fields, name) else {
             self.note(Code::UnknownField, place);
             return Known::formless(None, false);
         };
-        let sort = sort_named(&field.sort.text);
-        let form = self.form_of_field(fields, name, sort);
+        let form = self.form_of_field(sort, number);
         Known {
             sort,
             has_field: true,
