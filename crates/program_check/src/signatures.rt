@@ -1,18 +1,16 @@
 //! The signature of each type of a program: its fields with their sorts, and its constructors with their ranks.
 
 ghost use Rattle.std.specs.Prelude.{◌≡◌, IfOk, map};
-ghost use Rattle.fast_tree.specs.Signatures.{plain_sort, plain_signature};
+ghost use Rattle.fast_tree.specs.Signatures.{plain_sort};
 ghost use Rattle.fast_syntax.specs.View as syntax;
-ghost use Rattle.fast_syntax.specs.View.{plain_type};
 ghost use Rattle.model_names.specs.Sorts.{own_sort};
-ghost use Rattle.model_meaning.specs.Types.{signature_of};
-ghost use Rattle.program_check.specs.Signed.{HaveRanks, EachFits};
+ghost use Rattle.program_check.specs.Signed.{EachFits};
 
 use crate::declarations::own_type;
 use crate::types::sort_named;
 use fast_fault::Memory;
 use fast_syntax::items::Item;
-use fast_syntax::{CtorItem, FieldItem, TypeItem};
+use fast_syntax::{CtorItem, FieldItem};
 use fast_tree::{CtorOf, FieldOf, Signature, Sort};
 use std::alloc::Global;
 
@@ -106,7 +104,11 @@ impl Signed for Item {
 
     fn made(&self, alloc: Global) -> Result<Option<Signature>, Memory> {
         match own_type(self) {
-            Some(own) => Ok(Some(signature_of(alloc, own)?)),
+            Some(own) => Ok(Some(Signature {
+                name: own.name.text.copy(alloc)?,
+                fields: all_made(alloc, &own.fields)?,
+                constructors: all_made(alloc, &own.ctors)?,
+            })),
             None => Ok(None),
         }
     }
@@ -132,16 +134,4 @@ pub(crate) fn own_sort(field: &FieldItem) -> Sort
         Some(sort) => sort,
         None => Sort::Text,
     }
-}
-
-/// The signature of a type.
-fn signature_of(alloc: Global, item: &TypeItem) -> Result<Signature, Memory>
-    requires { HaveRanks (plain_type item.now).ctors }
-    ensures { IfOk result (λ made. plain_signature made ≡ signature_of (plain_type item.now)) }
-{
-    Ok(Signature {
-        name: item.name.text.copy(alloc)?,
-        fields: all_made(alloc, &item.fields)?,
-        constructors: all_made(alloc, &item.ctors)?,
-    })
 }
