@@ -7,7 +7,7 @@ ghost use Rattle.std.specs.Option.{option_map, option_and_then};
 ghost use Rattle.std.proofs.Props.{props};
 ghost use Rattle.model_names.specs.Declared.{find_type, find_item};
 ghost use Rattle.fast_syntax.specs.Plain.{plain_item};
-ghost use Rattle.program_check.specs.Numbered.{is_below, AreNumbered};
+ghost use Rattle.program_check.specs.Numbered.{AreNumbered};
 ghost use Rattle.program_check.specs.Typed.{plain_option, type_name};
 ghost use Rattle.program_check.specs.Heads.{plain_head, head_named};
 
@@ -83,22 +83,13 @@ impl<'p> Context<'p> {
     pub(crate) fn has_type_before(&self, name: &Text) -> bool
         ensures { result ≡ is_some (find_type (before_of self.now) name.now) }
     {
-        is_below(self.declared.types.place(name), self.before)
+        self.declared.types.is_before(name, self.before)
     }
 
     /// Whether the name of a language, transformation, definition or tree stands before.
     pub(crate) fn has_item_before(&self, name: &Text) -> bool
         ensures { result ≡ is_some (find_item (before_of self.now) name.now) }
     {
-        is_below(self.declared.names.place(name), self.before)
-    }
-}
-
-fn is_below(place: Option<usize>, before: usize) -> bool
-    ensures { result ≡ is_below place before }
-{
-    match place {
-        Some(place) => place < before,
-        None => false,
+        self.declared.names.is_before(name, self.before)
     }
 }

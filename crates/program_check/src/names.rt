@@ -2,6 +2,7 @@
 
 ghost use Rattle.std.specs.Prelude.{◌≡◌, ℕ, List, None, OnOk};
 ghost use Rattle.program_check.specs.Naming.{place_in, Adds};
+ghost use Rattle.program_check.specs.Numbered.{is_below};
 
 use fast_fault::{Memory, Text};
 use indexmap::IndexMap;
@@ -27,6 +28,16 @@ impl Names {
         ensures { result ≡ place_in self.now name.now }
     {
         self.places.get(name).copied()
+    }
+
+    /// Whether what has this name first stands before the item of this number.
+    pub(crate) fn is_before(&self, name: &Text, number: usize) -> bool
+        ensures { result ≡ is_below (place_in self.now name.now) number }
+    {
+        match self.place(name) {
+            Some(place) => place < number,
+            None => false,
+        }
     }
 
     /// Adds a name, unless it is there.
