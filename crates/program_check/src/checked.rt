@@ -3,14 +3,14 @@
 ghost use Rattle.std.specs.Prelude.{◌≡◌, Some, None};
 ghost use Rattle.std.specs.Option.{option_map, option_and_then};
 ghost use Rattle.model_names.specs.Declared.{find_type, find_item};
-ghost use Rattle.fast_syntax.specs.Plain.{plain_item, plain_def, plain_program};
+ghost use Rattle.fast_syntax.specs.Plain.{plain_item, plain_program};
 ghost use Rattle.fast_tree.specs.Signatures.{plain_signature};
 ghost use Rattle.model_meaning.specs.Types.{signature_of};
-ghost use Rattle.program_check.specs.Tells.{kind_view, defined_as, stands_for};
+ghost use Rattle.program_check.specs.Tells.{kind_view, stands_for};
 
 use crate::programs::Checked;
 use fast_fault::Text;
-use fast_syntax::items::{Body, DefItem, Item, Program};
+use fast_syntax::items::{Body, Item, Program};
 use fast_tree::Signature;
 
 /// What a name stands for, with the names of its types: of the trees of a language, of the inputs and the outputs of a
@@ -72,15 +72,9 @@ fn own_kind(item: &Item) -> Option<Kind3<'_>>
         Body::Tree(own) => Some(Kind3::Tree(&own.of.text)),
         Body::Lang(own) => Some(Kind3::Language(&own.of.text)),
         Body::Trans(own) => Some(Kind3::Transformation(&own.from.text, &own.into.text)),
-        Body::Def(own) => Some(defined(own)),
-    }
-}
-
-fn defined(own: &DefItem) -> Kind3<'_>
-    ensures { kind_view result ≡ defined_as (plain_def own.now) }
-{
-    match &own.into {
-        Some(into) => Kind3::Transformation(&own.from.text, &into.text),
-        None => Kind3::Language(&own.from.text),
+        Body::Def(own) => match &own.into {
+            Some(into) => Some(Kind3::Transformation(&own.from.text, &into.text)),
+            None => Some(Kind3::Language(&own.from.text)),
+        },
     }
 }
