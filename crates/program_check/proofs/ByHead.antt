@@ -1,5 +1,5 @@
 -- What heads say of names.
-use Rattle.std.proofs.Common.{◌≡◌, ℕ, Bool, true, false, ◌||◌, ◌&&◌, cond, List, [], ◌∷◌, ◌++◌, map, Option, Some, None, refl, sym, ap, ◌∙◌, true≢false}
+use Rattle.std.proofs.Common.{◌≡◌, ℕ, Bool, true, false, ◌||◌, ◌&&◌, cond, List, [], ◌∷◌, ◌++◌, map, Option, Some, None, refl, sym, ap, ◌∙◌, subst, true≢false}
 use Rattle.std.specs.Prelude.{is_some, not, IsSome}
 use Rattle.std.specs.Borrow.{Bor}
 use Rattle.std.specs.Option.{option_map, option_map_or, option_and_then, option_copied}
@@ -22,9 +22,10 @@ use Rattle.program_check.specs.declared.expressions.Standing.{Standing}
 use Rattle.fast_syntax.specs.declared.Name as named
 use Rattle.fast_syntax.specs.View.{plain_name}
 use Rattle.fast_syntax.specs.Plain.{plain_into}
-use Rattle.program_check.specs.Typed.{type_name}
+use Rattle.program_check.specs.Typed.{IsType}
 use Rattle.program_check.specs.Standings.{plain_kind, IsStanding}
-use Rattle.program_check.specs.Heads.{PlainHead, head_of, head_named, not_ruled, ruled_failures, head_failures, behind_head}
+use Rattle.program_check.specs.Heads.{PlainHead, StandsBy, head_of, head_named, not_ruled, ruled_failures, head_failures, behind_head}
+use Rattle.program_check.proofs.Typing.{untyped, stands_input, stands_output}
 
 -- what is lent of something that may be there
 pub lent : {A B : Type 0} (f : A → B) (r : Option (Bor A)) (o : Option A) → option_copied r ≡ o → option_map (λ x. f x.now) r ≡ option_map f o
@@ -75,15 +76,21 @@ by_head f g is None = refl
 by_head f g is (Some item) = is item.body
 
 module _ (items : List Item) (name : Name) where
-  pub head_stands : (h : Option PlainHead) (s : Standing) → head_named items name.text ≡ h → option_map plain_kind s.kind ≡ option_and_then (λ h. Some h.kind) h
-      → type_name s.input ≡ option_and_then (declared_type items) (option_and_then (λ h. Some h.input) h) → type_name s.output ≡ option_and_then (declared_type items) (option_and_then (λ h. h.output) h) → IsStanding items (named name) s
+  head_stands : (h : Option PlainHead) (s : Standing) → head_named items name.text ≡ h → option_map plain_kind s.kind ≡ option_and_then (λ h. Some h.kind) h
+      → IsType items s.input (option_and_then (declared_type items) (option_and_then (λ h. Some h.input) h)) → IsType items s.output (option_and_then (declared_type items) (option_and_then (λ h. h.output) h)) → IsStanding items (named name) s
   head_stands h s is kind input output =
       let item = find_item items name.text in
       record {
         kind = kind ∙ sym (by_head (λ h. Some h.kind) own_kind kind_of_head item ∙ ap (option_and_then (λ h. Some h.kind)) is);
-        input = input ∙ sym (ap (option_and_then (declared_type items)) (by_head (λ h. Some h.input) own_type input_of_head item ∙ ap (option_and_then (λ h. Some h.input)) is));
-        output = output ∙ sym (ap (option_and_then (declared_type items)) (by_head (λ h. h.output) own_output output_of_head item ∙ ap (option_and_then (λ h. h.output)) is));
+        input = subst (IsType items s.input) (sym (ap (option_and_then (declared_type items)) (by_head (λ h. Some h.input) own_type input_of_head item ∙ ap (option_and_then (λ h. Some h.input)) is))) input;
+        output = subst (IsType items s.output) (sym (ap (option_and_then (declared_type items)) (by_head (λ h. h.output) own_output output_of_head item ∙ ap (option_and_then (λ h. h.output)) is))) output;
       }
+
+  pub none_stands : head_named items name.text ≡ None → IsStanding items (named name) (record { kind = None; input = None; output = None })
+  none_stands is = head_stands None (record { kind = None; input = None; output = None }) is refl (untyped items) (untyped items)
+
+  pub some_stands : (h : PlainHead) (s : Standing) → head_named items name.text ≡ Some h → StandsBy items h s → IsStanding items (named name) s
+  some_stands h s is by = head_stands (Some h) s is by.kind (stands_input items h s by) (stands_output items h s by)
 
 -- what declares a name has a head
 abbrev HasHead : Option Item → Type 0
@@ -131,14 +138,20 @@ no_more : (b : Bool) → (b || false) ≡ b
 no_more true = refl
 no_more false = refl
 
+pub no_head : (h : PlainHead) → None ≡ Some h → ⊥
+no_head h e = absurd (cc)
+
+pub one_head : (items : List Item) (g h : PlainHead) (s : Standing) → Some g ≡ Some h → StandsBy items g s → StandsBy items h s
+one_head items g h s e by = let same : g ≡ h = cc in subst (λ (h : PlainHead). StandsBy items h s) same by
+
 -- the name of a language that a demand is of
-pub language_by_head : (items : List Item) (of name : Name) → ruled_failures items (Some language) (declared_type items of) None name ≡ language_failures items of name
-language_by_head items from name = failing_by_head (not_ruled items (Some language) (declared_type items from) None name) failing (failure UnknownName name.place) of (find_item items name.text) (has_head name.text items)
+pub language_by_head : (items : List Item) (of name : Name) → ruled_failures items language (declared_type items of) None name ≡ language_failures items of name
+language_by_head items from name = failing_by_head (not_ruled items language (declared_type items from) None name) failing (failure UnknownName name.place) of (find_item items name.text) (has_head name.text items)
   where
     failing : Body → List Refusal
     failing b = option_map_or (λ l. fails_if (differ (declared_type items l.of) (declared_type items from)) WrongType name.place) (own_lang b) (failure WrongKind name.place)
 
-    of : (b : Body) → IsSome (head_of b) → option_map_or (not_ruled items (Some language) (declared_type items from) None name) (head_of b) (failure UnknownName name.place) ≡ failing b
+    of : (b : Body) → IsSome (head_of b) → option_map_or (not_ruled items language (declared_type items from) None name) (head_of b) (failure UnknownName name.place) ≡ failing b
     of (sorts t) h = absurd (true≢false (sym h))
     of (tree t) h = refl
     of (lang l) h = ap (λ b. fails_if b WrongType name.place) (no_more (differ (declared_type items l.of) (declared_type items from)))
@@ -147,13 +160,13 @@ language_by_head items from name = failing_by_head (not_ruled items (Some langua
     of (assertion a) h = absurd (true≢false (sym h))
 
 -- the name of a transformation that is called
-pub transformation_by_head : (items : List Item) (from into name : Name) → ruled_failures items (Some transformation) (declared_type items from) (declared_type items into) name ≡ transformation_failures items from into name
-transformation_by_head items from into name = failing_by_head (not_ruled items (Some transformation) (declared_type items from) (declared_type items into) name) failing (failure UnknownName name.place) of (find_item items name.text) (has_head name.text items)
+pub transformation_by_head : (items : List Item) (from into name : Name) → ruled_failures items transformation (declared_type items from) (declared_type items into) name ≡ transformation_failures items from into name
+transformation_by_head items from into name = failing_by_head (not_ruled items transformation (declared_type items from) (declared_type items into) name) failing (failure UnknownName name.place) of (find_item items name.text) (has_head name.text items)
   where
     failing : Body → List Refusal
     failing b = option_map_or (λ t. fails_if (differ (declared_type items t.from) (declared_type items from) || differ (declared_type items t.into) (declared_type items into)) WrongType name.place) (own_trans b) (failure WrongKind name.place)
 
-    of : (b : Body) → IsSome (head_of b) → option_map_or (not_ruled items (Some transformation) (declared_type items from) (declared_type items into) name) (head_of b) (failure UnknownName name.place) ≡ failing b
+    of : (b : Body) → IsSome (head_of b) → option_map_or (not_ruled items transformation (declared_type items from) (declared_type items into) name) (head_of b) (failure UnknownName name.place) ≡ failing b
     of (sorts t) h = absurd (true≢false (sym h))
     of (tree t) h = refl
     of (lang l) h = refl
@@ -162,17 +175,17 @@ transformation_by_head items from into name = failing_by_head (not_ruled items (
     of (assertion a) h = absurd (true≢false (sym h))
 
 -- what fails at a name that is to stand for something with rules, by the head of what declares it
-module _ (items : List Item) (kind : Option Kind) (input output : Option (List ℕ)) (name : Name) where
+module _ (items : List Item) (kind : Kind) (input output : Option (List ℕ)) (name : Name) where
   pub none_ruled : head_named items name.text ≡ None → failure UnknownName name.place ≡ ruled_failures items kind input output name
   none_ruled is = ap (λ h. option_map_or (not_ruled items kind input output name) h (failure UnknownName name.place)) (sym is)
 
   head_ruled : (h : PlainHead) → head_named items name.text ≡ Some h → not_ruled items kind input output name h ≡ ruled_failures items kind input output name
   head_ruled h is = ap (λ h. option_map_or (not_ruled items kind input output name) h (failure UnknownName name.place)) (sym is)
 
-  pub other_ruled : (h : PlainHead) (b : Bool) → head_named items name.text ≡ Some h → b ≡ (not h.has_rules || is_other_kind h.kind kind) → b ≡ true → failure WrongKind name.place ≡ ruled_failures items kind input output name
+  pub other_ruled : (h : PlainHead) (b : Bool) → head_named items name.text ≡ Some h → b ≡ (not h.has_rules || is_other_kind kind (Some h.kind)) → b ≡ true → failure WrongKind name.place ≡ ruled_failures items kind input output name
   other_ruled h b is tells other = ap (λ b. cond b (failure WrongKind name.place) (fails_if (differ (declared_type items h.input) input || differ (option_and_then (declared_type items) h.output) output) WrongType name.place)) (sym other ∙ tells) ∙ head_ruled h is
 
-  pub same_ruled : (h : PlainHead) (b c : Bool) → head_named items name.text ≡ Some h → b ≡ (not h.has_rules || is_other_kind h.kind kind) → b ≡ false
+  pub same_ruled : (h : PlainHead) (b c : Bool) → head_named items name.text ≡ Some h → b ≡ (not h.has_rules || is_other_kind kind (Some h.kind)) → b ≡ false
       → c ≡ (differ (declared_type items h.input) input || differ (option_and_then (declared_type items) h.output) output) → fails_if c WrongType name.place ≡ ruled_failures items kind input output name
   same_ruled h b c is tells right differs =
       ap (λ c. fails_if c WrongType name.place) differs

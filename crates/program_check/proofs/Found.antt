@@ -24,7 +24,7 @@ item_by_number name (x ∷ xs) = by (declares name x) (at_next x xs (place_by (d
     by true later = refl
     by false later = later
 
-step_over : (x : Item) (xs : List Item) (o : Option ℕ) → type_there (x ∷ xs) (option_map (λ n. suc n) o) ≡ type_there xs o
+pub step_over : (x : Item) (xs : List Item) (o : Option ℕ) → type_there (x ∷ xs) (option_map (λ n. suc n) o) ≡ type_there xs o
 step_over x xs o = ap (option_and_then (λ item. own_type_item item.body)) (at_next x xs o)
 
 type_of_body : (name : List ℕ) (x : Item) (xs : List Item) (body : Body) → x.body ≡ body → type_there xs (place_by (declares_type name) xs) ≡ find_type xs name

@@ -10,6 +10,7 @@ pub mod Held
 pub mod Chains
 pub mod Labelled
 pub mod Found
+pub mod Typing
 pub mod NodeLabels
 pub mod Searching
 pub mod NodeParts

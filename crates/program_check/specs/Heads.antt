@@ -1,11 +1,11 @@
 -- The heads of items, and what a name may stand for that is to have rules.
-use Rattle.std.specs.Prelude.{ℕ, Bool, true, false, ◌||◌, not, cond, List, ◌++◌, map, Option, Some, None}
+use Rattle.std.specs.Prelude.{◌≡◌, ℕ, Bool, true, false, ◌||◌, not, cond, List, ◌++◌, map, Option, Some, None}
 use Rattle.std.specs.Option.{option_map, option_map_or, option_and_then}
 use Rattle.std.specs.List.{flat_map}
 use Rattle.fast_fault.specs.declared.code.Code.TheVariants.{UnknownName, WrongKind, WrongType}
 use Rattle.fast_fault.specs.declared.refusal.Refusal.{Refusal}
 use Rattle.model_program.specs.Syntax.{Name}
-use Rattle.model_grammar.specs.Syntax.{Body, sorts, tree, lang, trans, def, assertion, Item}
+use Rattle.model_grammar.specs.Syntax.{DefItem, Body, sorts, tree, lang, trans, def, assertion, Item}
 use Rattle.model_names.specs.Declared.{find_item}
 use Rattle.model_names.specs.Kinds.{Kind, language, transformation, a_tree, defined_kind, declared_type}
 use Rattle.model_checks.specs.Failures.{failure, fails_if}
@@ -15,6 +15,8 @@ use Rattle.model_checks.specs.Programs.{type_again, name_again, into_failures, n
 use Rattle.model_checks.specs.Expressions.{is_other_kind, whole_failures}
 use Rattle.fast_syntax.specs.View.{plain_name}
 use Rattle.program_check.specs.declared.heads.Head.{Head}
+use Rattle.program_check.specs.declared.expressions.Standing.{Standing}
+use Rattle.program_check.specs.Typed.{type_number}
 use Rattle.program_check.specs.Standings.{plain_kind}
 
 pub record PlainHead : Type 0 where
@@ -27,25 +29,41 @@ pub record PlainHead : Type 0 where
 abbrev pub plain_head : Head → PlainHead
 plain_head h = record { name = plain_name h.name.now; kind = plain_kind h.kind; input = plain_name h.input.now; output = option_map (λ n. plain_name n.now) h.output; has_rules = h.has_rules }
 
+abbrev pub head_of_def : DefItem → PlainHead
+head_of_def d = record { name = d.name; kind = defined_kind d.into; input = d.from; output = d.into; has_rules = false }
+
 abbrev pub head_of : Body → Option PlainHead
 head_of (sorts t) = None
 head_of (tree t) = Some (record { name = t.name; kind = a_tree; input = t.of; output = None; has_rules = false })
 head_of (lang l) = Some (record { name = l.name; kind = language; input = l.of; output = None; has_rules = true })
 head_of (trans t) = Some (record { name = t.name; kind = transformation; input = t.from; output = Some t.into; has_rules = true })
-head_of (def d) = Some (record { name = d.name; kind = defined_kind d.into; input = d.from; output = d.into; has_rules = false })
+head_of (def d) = Some (head_of_def d)
 head_of (assertion a) = None
 
 -- the head of the first item that declares a name
 abbrev pub head_named : List Item → List ℕ → Option PlainHead
 head_named items name = option_and_then (λ item. head_of item.body) (find_item items name)
 
+-- what an item stands for that has this head
+pub record StandsBy (items : List Item) (h : PlainHead) (s : Standing) : Type 0 where
+  pub kind : option_map plain_kind s.kind ≡ Some h.kind
+  pub input : s.input ≡ type_number items h.input.text
+  pub output : s.output ≡ option_and_then (λ n. type_number items n.text) h.output
+
+-- the name is declared by an item that stands for this, with rules or without
+pub record IsHead (items : List Item) (name : List ℕ) (s : Standing) (ruled : Bool) : Type 0 where
+  pub head : PlainHead
+  pub is : head_named items name ≡ Some head
+  pub stands : StandsBy items head s
+  pub rules : ruled ≡ head.has_rules
+
 -- what has this head isn't something with rules, of this kind and of these types
-abbrev pub not_ruled : List Item → Option Kind → Option (List ℕ) → Option (List ℕ) → Name → PlainHead → List Refusal
-not_ruled items kind input output name h = cond (not h.has_rules || is_other_kind h.kind kind) (failure WrongKind name.place)
+abbrev pub not_ruled : List Item → Kind → Option (List ℕ) → Option (List ℕ) → Name → PlainHead → List Refusal
+not_ruled items kind input output name h = cond (not h.has_rules || is_other_kind kind (Some h.kind)) (failure WrongKind name.place)
     (fails_if (differ (declared_type items h.input) input || differ (option_and_then (declared_type items) h.output) output) WrongType name.place)
 
 -- the name of something with rules, of this kind and of these types
-abbrev pub ruled_failures : List Item → Option Kind → Option (List ℕ) → Option (List ℕ) → Name → List Refusal
+abbrev pub ruled_failures : List Item → Kind → Option (List ℕ) → Option (List ℕ) → Name → List Refusal
 ruled_failures items kind input output name = option_map_or (not_ruled items kind input output name) (head_named items name.text) (failure UnknownName name.place)
 
 -- what is declared was declared before, or its types aren't declared

@@ -1,6 +1,5 @@
 -- What an expression stands for, as the code keeps it.
 use Rattle.std.specs.Prelude.{◌≡◌, ℕ, ◌++◌, List, [], Option, Some, None, cond, length}
-use Rattle.std.specs.Borrow.{Bor}
 use Rattle.std.specs.Option.{option_map}
 use Rattle.fast_fault.specs.declared.code.Code.TheVariants.{WrongKind, WrongType}
 use Rattle.fast_fault.specs.declared.place.Pos.{Pos}
@@ -17,38 +16,44 @@ use Rattle.model_names.specs.Kinds.{language, transformation, a_tree, same_kind,
 use Rattle.model_names.specs.Kinds as model_kinds
 use Rattle.model_checks.specs.Failures.{fails_if}
 use Rattle.model_checks.specs.Labels.{labels_failures}
-use Rattle.model_checks.specs.Rules.{constructor_failures, label_count_failures, fields_of, differ}
+use Rattle.model_checks.specs.Rules.{constructor_failures, label_count_failures, fields_of}
 use Rattle.model_checks.specs.Expressions.{expected_as, is_other_kind, needs_be, type_as, whole_failures, x_failures}
 use Rattle.program_check.specs.declared.expressions.Kind.{Kind}
 use Rattle.program_check.specs.declared.expressions.Kind.TheVariants.{Language, Transformation, Tree}
 use Rattle.program_check.specs.declared.expressions.Standing.{Standing}
-use Rattle.program_check.specs.Typed.{type_name}
+use Rattle.program_check.specs.Typed.{IsType, apart}
 
 abbrev pub plain_kind : Kind → model_kinds.Kind
 plain_kind Language = language
 plain_kind Transformation = transformation
 plain_kind Tree = a_tree
 
--- the kind of an expression, and the names of its types
+-- the kind of an expression, and its types
 pub record IsStanding (items : List Item) (x : X) (s : Standing) : Type 0 where
   pub kind : option_map plain_kind s.kind ≡ kind_of items x
-  pub input : type_name s.input ≡ type_of items x
-  pub output : type_name s.output ≡ output_of items x
+  pub input : IsType items s.input (type_of items x)
+  pub output : IsType items s.output (output_of items x)
 
--- the name of the type, where something is of this kind
-abbrev pub only_as : Kind → Option Kind → Option (Bor (List ℕ)) → Option (Bor (List ℕ))
-only_as kind None name = None
-only_as kind (Some found) name = cond (same_kind (plain_kind found) (plain_kind kind)) name None
+-- the type, where something is of this kind
+abbrev pub only_as : Kind → Option Kind → Option ℕ → Option ℕ
+only_as kind None number = None
+only_as kind (Some found) number = cond (same_kind (plain_kind found) (plain_kind kind)) number None
+
+-- a type is expected of a tree alone
+abbrev pub number_expected : Kind → Option ℕ → Option ℕ
+number_expected Language number = None
+number_expected Transformation number = None
+number_expected Tree number = number
 
 -- an expression, inside so many operations, that is to be of this type and this kind
 abbrev pub as_failures : List Item → List Item → ℕ → Option (List ℕ) → model_kinds.Kind → X → List Refusal
 as_failures items before around type kind x = x_failures items before around (expected_as kind type) x ++ needs_be items before type kind x
 
 -- what stands for this isn't of this type and this kind
-abbrev pub be_failures : Option (List ℕ) → Kind → Pos → Standing → List Refusal
-be_failures type kind place s =
+abbrev pub be_failures : Option ℕ → Kind → Pos → Standing → List Refusal
+be_failures number kind place s =
     fails_if (is_other_kind (plain_kind kind) (option_map plain_kind s.kind)) WrongKind place
-    ++ fails_if (differ type (type_name (only_as kind s.kind s.input))) WrongType place
+    ++ fails_if (apart number (only_as kind s.kind s.input)) WrongType place
 
 -- a language, and what is to be of this kind and of the type of its trees
 abbrev pub beside_failures : List Item → List Item → X → model_kinds.Kind → X → List Refusal
@@ -58,8 +63,8 @@ beside_failures items before y kind x = whole_failures items before None languag
 abbrev pub literal_failures : Option model.TypeItem → Name → List plain.Expr → ℕ → List Refusal
 literal_failures t name labels count = constructor_failures t name count ++ (label_count_failures t name (length labels) ++ labels_failures (Some []) (fields_of t) labels)
 
--- the names of the types of what an operation on two operands gives
-abbrev pub input_of_two : Op2 → Standing → Option (Bor (List ℕ))
+-- the types of what an operation on two operands gives
+abbrev pub input_of_two : Op2 → Standing → Option ℕ
 input_of_two Intersect s = only_as Language s.kind s.input
 input_of_two Union s = only_as Language s.kind s.input
 input_of_two Difference s = only_as Language s.kind s.input
@@ -69,7 +74,7 @@ input_of_two Restrict s = only_as Transformation s.kind s.input
 input_of_two RestrictOut s = only_as Transformation s.kind s.input
 input_of_two Apply s = only_as Transformation s.kind s.output
 
-abbrev pub output_of_two : Op2 → Standing → Standing → Option (Bor (List ℕ))
+abbrev pub output_of_two : Op2 → Standing → Standing → Option ℕ
 output_of_two Intersect s t = None
 output_of_two Union s t = None
 output_of_two Difference s t = None
@@ -79,8 +84,8 @@ output_of_two Restrict s t = only_as Transformation s.kind s.output
 output_of_two RestrictOut s t = only_as Transformation s.kind s.output
 output_of_two Apply s t = None
 
--- the name of the type that the second operand is to have
-abbrev pub second_wanted : Op2 → Standing → Option (Bor (List ℕ))
+-- the type that the second operand is to have
+abbrev pub second_wanted : Op2 → Standing → Option ℕ
 second_wanted Intersect s = only_as Language s.kind s.input
 second_wanted Union s = only_as Language s.kind s.input
 second_wanted Difference s = only_as Language s.kind s.input

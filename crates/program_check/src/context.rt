@@ -2,20 +2,20 @@
 //!
 //! What a name stands for is found in constant time, and so is whether it stands before the item.
 
-ghost use Rattle.std.specs.Prelude.{◌≡◌, Some, None, map, is_some};
-ghost use Rattle.std.specs.Option.{option_map, option_and_then};
+ghost use Rattle.std.specs.Prelude.{◌≡◌, None, MatchOption, map, is_some};
+ghost use Rattle.std.specs.Option.{option_map};
 ghost use Rattle.std.proofs.Props.{props};
 ghost use Rattle.model_names.specs.Declared.{find_type, find_item};
 ghost use Rattle.fast_syntax.specs.Plain.{plain_item};
-ghost use Rattle.program_check.specs.Numbered.{AreNumbered};
-ghost use Rattle.program_check.specs.Typed.{plain_option, type_name};
-ghost use Rattle.program_check.specs.Heads.{plain_head, head_named};
+ghost use Rattle.program_check.specs.Numbered.{AreNumbered, type_there};
+ghost use Rattle.program_check.specs.Typed.{plain_option, type_number};
+ghost use Rattle.program_check.specs.Heads.{plain_head, head_named, StandsBy, IsHead};
 
 use crate::declarations::{Declarations, own_type};
-use crate::declared_type::DeclaredType;
+use crate::expressions::Standing;
 use crate::heads::{Head, head_of};
-use crate::rules::name_of;
 use fast_fault::Text;
+use fast_syntax::TypeItem;
 use fast_syntax::items::Item;
 
 /// The items of a program with their declarations, and how many items stand before the one that is looked at.
@@ -30,53 +30,55 @@ pub(crate) struct Context<'p> {
 impl<'p> Context<'p> {
     ghost use Rattle.program_check.specs.Contexts.{items_of, before_of};
 
-    /// The first type of this name.
-    pub(crate) fn find_type(&self, name: &Text) -> Option<DeclaredType<'p>>
-        ensures { plain_option result ≡ find_type (items_of self.now) name.now }
+    /// The number of the first type of this name.
+    pub(crate) fn find_type(&self, name: &Text) -> Option<usize>
+        ensures { result ≡ type_number (items_of self.now) name.now }
     {
-        let Some(place) = self.declared.types.place(name) else {
-            return None;
+        self.declared.types.place(name)
+    }
+
+    /// The type of this number.
+    pub(crate) fn type_at(&self, number: Option<usize>) -> Option<&'p TypeItem>
+        ensures { plain_option result ≡ type_there (items_of self.now) number }
+    {
+        match number {
+            Some(number) => match self.items.get(number) {
+                Some(item) => own_type(item),
+                None => None,
+            },
+            None => None,
+        }
+    }
+
+    /// What an item stands for that has this head.
+    pub(crate) fn standing_of(&self, head: &Head) -> Standing
+        ensures { StandsBy (items_of self.now) (plain_head head.now) result }
+    {
+        let output = match head.output {
+            Some(output) => self.find_type(&output.text),
+            None => None,
         };
-        let Some(ctors) = self.declared.ctors.get(place) else {
+        Standing {
+            kind: Some(head.kind),
+            input: self.find_type(&head.input.text),
+            output,
+        }
+    }
+
+    /// What this name of a language, transformation, definition or tree stands for, and whether that has rules.
+    pub(crate) fn find(&self, name: &Text) -> Option<(Standing, bool)>
+        ensures { MatchOption result (head_named (items_of self.now) name.now ≡ None) (λ found. IsHead (items_of self.now) name.now found.0 found.1) }
+    {
+        let Some(place) = self.declared.names.place(name) else {
             return None;
         };
         let Some(item) = self.items.get(place) else {
             return None;
         };
-        let Some(own) = own_type(item) else {
+        let Some(head) = head_of(item) else {
             return None;
         };
-        Some(DeclaredType { item: own, ctors })
-    }
-
-    /// The type of this name, where there is a name.
-    pub(crate) fn type_called(&self, name: Option<&Text>) -> Option<DeclaredType<'p>>
-        ensures { plain_option result ≡ option_and_then (find_type (items_of self.now)) (type_name name.entry) }
-    {
-        match name {
-            Some(name) => self.find_type(name),
-            None => None,
-        }
-    }
-
-    /// The name of the type, where there is one of this name.
-    pub(crate) fn type_name(&self, name: &Text) -> Option<&'p Text>
-        ensures { type_name result ≡ option_map (λ t. t.name.text) (find_type (items_of self.now) name.now) }
-    {
-        name_of(&self.find_type(name))
-    }
-
-    /// The head of the first item that declares this name of a language, transformation, definition or tree.
-    pub(crate) fn find_head(&self, name: &Text) -> Option<Head<'p>>
-        ensures { option_map plain_head result ≡ head_named (items_of self.now) name.now }
-    {
-        match self.declared.names.place(name) {
-            Some(place) => match self.items.get(place) {
-                Some(item) => head_of(item),
-                None => None,
-            },
-            None => None,
-        }
+        Some((self.standing_of(&head), head.has_rules))
     }
 
     /// Whether a type of this name stands before.

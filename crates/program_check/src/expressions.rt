@@ -1,29 +1,26 @@
 //! What may fail in an expression of a language, a transformation or a tree, and what one stands for.
 
-ghost use Rattle.std.specs.Prelude.{◌≡◌, ◌<◌, ◌≤◌, ◌+◌, [], Some, None, map};
-ghost use Rattle.std.specs.Option.{option_map, option_and_then};
+ghost use Rattle.std.specs.Prelude.{◌≡◌, ℕ, ◌<◌, ◌≤◌, ◌+◌, List, Option, map};
+ghost use Rattle.std.specs.Option.{option_map};
 ghost use Rattle.model_tree.specs.Limits.{most_around};
 ghost use Rattle.model_grammar.specs.Syntax as plain;
-ghost use Rattle.model_names.specs.Declared.{find_type};
-ghost use Rattle.model_names.specs.Kinds.{taken_by_one, taken_first, taken_second, declared_type, defined_kind};
+ghost use Rattle.model_names.specs.Kinds.{taken_first, taken_second, defined_kind};
 ghost use Rattle.fast_syntax.specs.View.{plain_name};
 ghost use Rattle.fast_syntax.specs.Plain.{plain_expr, plain_x, plain_into};
 ghost use Rattle.fast_syntax.specs.Slices.{plain_children};
-ghost use Rattle.model_checks.specs.Expressions.{place_of_x, is_other_kind, expected_as, nesting_failures, name_failures, x_failures, xs_failures};
-ghost use Rattle.program_check.specs.Notes.{HasMemory, Notes};
-ghost use Rattle.program_check.specs.Typed.{type_name};
-ghost use Rattle.program_check.specs.Heads.{plain_head};
+ghost use Rattle.model_checks.specs.Expressions.{place_of_x, is_other_kind, nesting_failures, name_failures, x_failures, xs_failures};
+ghost use Rattle.program_check.specs.Notes.{Notes};
+ghost use Rattle.program_check.specs.Numbered.{type_there};
+ghost use Rattle.program_check.specs.Typed.{IsType, apart};
 ghost use Rattle.program_check.specs.Contexts.{items_of, before_of};
-ghost use Rattle.program_check.specs.Standings.{plain_kind, IsStanding, only_as, as_failures, second_wanted, be_failures, kind_taken, standing_of_one, standing_of_two, literal_failures};
+ghost use Rattle.program_check.specs.Standings.{plain_kind, IsStanding, only_as, number_expected, as_failures, second_wanted, be_failures, kind_taken, standing_of_one, standing_of_two, literal_failures};
 
 use crate::checker::Checker;
 use crate::context::Context;
-use crate::heads::Head;
 use crate::labels::Scope;
 use crate::limits::MOST_AROUND;
-use crate::rules::differ;
 use crate::waiting::Waiting;
-use fast_fault::{Code, Pos, Text};
+use fast_fault::{Code, Pos};
 use fast_syntax::Name;
 use fast_syntax::expressions::Expr;
 use fast_syntax::items::X;
@@ -37,12 +34,14 @@ pub(crate) enum Kind {
     Tree,
 }
 
-/// What an expression stands for, and the names of its types.
+/// What an expression stands for, and the numbers of its types.
 #[derive(Clone, Copy)]
-pub(crate) struct Standing<'p> {
+pub(crate) struct Standing {
     pub(crate) kind: Option<Kind>,
-    pub(crate) input: Option<&'p Text>,
-    pub(crate) output: Option<&'p Text>,
+    /// The type of the trees of a language, of the inputs of a transformation, or of a tree.
+    pub(crate) input: Option<usize>,
+    /// The type of the outputs of a transformation.
+    pub(crate) output: Option<usize>,
 }
 
 fn taken_by_one(op: Op1) -> Kind
@@ -101,9 +100,9 @@ pub(crate) fn is_other_kind(kind: Kind, known: Option<Kind>) -> bool
     }
 }
 
-/// The name of the type, where something is of this kind.
-pub(crate) fn only_as<'p>(kind: Kind, known: Option<Kind>, of: Option<&'p Text>) -> Option<&'p Text>
-    ensures { result ≡ only_as kind known of.entry }
+/// The type, where something is of this kind.
+pub(crate) fn only_as(kind: Kind, known: Option<Kind>, of: Option<usize>) -> Option<usize>
+    ensures { result ≡ only_as kind known of }
 {
     match known {
         Some(found) if found == kind => of,
@@ -112,8 +111,8 @@ pub(crate) fn only_as<'p>(kind: Kind, known: Option<Kind>, of: Option<&'p Text>)
 }
 
 /// A type is expected of a tree alone.
-fn expected_as<'p>(kind: Kind, of: Option<&'p Text>) -> Option<&'p Text>
-    ensures { type_name result ≡ expected_as (plain_kind kind) (type_name of.entry) }
+fn expected_as(kind: Kind, of: Option<usize>) -> Option<usize>
+    ensures { result ≡ number_expected kind of }
 {
     match kind {
         Kind::Language | Kind::Transformation => None,
@@ -121,9 +120,22 @@ fn expected_as<'p>(kind: Kind, of: Option<&'p Text>) -> Option<&'p Text>
     }
 }
 
-/// The name of the type that the second operand is to have.
-fn wanted_second<'p>(op: Op2, first: &Standing<'p>) -> Option<&'p Text>
-    ensures { result ≡ second_wanted op first.now }
+/// Whether types of these numbers are known and differ.
+pub(crate) fn differ(left: Option<usize>, right: Option<usize>) -> bool
+    ensures { result ≡ apart left right }
+{
+    match left {
+        Some(left) => match right {
+            Some(right) => left != right,
+            None => false,
+        },
+        None => false,
+    }
+}
+
+/// The type that the second operand is to have.
+fn wanted_second(op: Op2, first: Standing) -> Option<usize>
+    ensures { result ≡ second_wanted op first }
 {
     let kind = taken_first(op);
     match op {
@@ -136,8 +148,8 @@ fn wanted_second<'p>(op: Op2, first: &Standing<'p>) -> Option<&'p Text>
     }
 }
 
-fn of_one<'p>(op: Op1, operand: &Standing<'p>) -> Standing<'p>
-    ensures { result ≡ standing_of_one op operand.now }
+fn of_one(op: Op1, operand: Standing) -> Standing
+    ensures { result ≡ standing_of_one op operand }
 {
     let input = only_as(taken_by_one(op), operand.kind, operand.input);
     match op {
@@ -154,8 +166,8 @@ fn of_one<'p>(op: Op1, operand: &Standing<'p>) -> Standing<'p>
     }
 }
 
-fn of_two<'p>(op: Op2, first: &Standing<'p>, second: &Standing<'p>) -> Standing<'p>
-    ensures { result ≡ standing_of_two op first.now second.now }
+fn of_two(op: Op2, first: Standing, second: Standing) -> Standing
+    ensures { result ≡ standing_of_two op first second }
 {
     let input = only_as(taken_first(op), first.kind, first.input);
     let output = only_as(Kind::Transformation, first.kind, first.output);
@@ -183,16 +195,6 @@ fn of_two<'p>(op: Op2, first: &Standing<'p>, second: &Standing<'p>) -> Standing<
     }
 }
 
-/// The name of the type that has this name.
-pub(crate) fn declared<'p>(context: &Context<'p>, name: Option<&Name>) -> Option<&'p Text>
-    ensures { type_name result ≡ option_and_then (declared_type (items_of context.now)) (option_map (λ n. plain_name n.now) name.entry) }
-{
-    match name {
-        Some(name) => context.type_name(&name.text),
-        None => None,
-    }
-}
-
 pub(crate) fn defined_kind(into: &Option<Name>) -> Kind
     ensures { plain_kind result ≡ defined_kind (plain_into into.now) }
 {
@@ -202,23 +204,10 @@ pub(crate) fn defined_kind(into: &Option<Name>) -> Kind
     }
 }
 
-/// What the name of an item stands for that has this head.
-pub(crate) fn standing_of<'p>(context: &Context<'p>, head: &Head) -> Standing<'p>
-    ensures kind { option_map plain_kind result.kind ≡ Some (plain_head head.now).kind }
-    ensures input { type_name result.input ≡ declared_type (items_of context.now) (plain_head head.now).input }
-    ensures output { type_name result.output ≡ option_and_then (declared_type (items_of context.now)) (plain_head head.now).output }
-{
-    Standing {
-        kind: Some(head.kind),
-        input: context.type_name(&head.input.text),
-        output: declared(context, head.output),
-    }
-}
-
 impl Checker {
-    /// The expression at this place, which stands for this, is of this kind and the type of this name.
-    fn check_be(&mut self, of: Option<&Text>, kind: Kind, place: Pos, standing: &Standing)
-        ensures { Notes self.old self.new (be_failures (type_name of.entry) kind place standing.now) }
+    /// The expression at this place, which stands for this, is of this kind and this type.
+    fn check_be(&mut self, of: Option<usize>, kind: Kind, place: Pos, standing: Standing)
+        ensures { Notes self.old self.new (be_failures of kind place standing) }
     {
         self.note_if(is_other_kind(kind, standing.kind), Code::WrongKind, place);
         let found = only_as(kind, standing.kind, standing.input);
@@ -240,11 +229,11 @@ impl Checker {
     }
 
     /// A name. That of a definition or a tree is known from the next item on.
-    fn check_word<'p>(&mut self, context: &Context<'p>, name: &Name) -> Standing<'p>
+    fn check_word(&mut self, context: &Context, name: &Name) -> Standing
         ensures noted { Notes self.old self.new (name_failures (items_of context.now) (before_of context.now) (plain_name name.now)) }
         ensures standing { IsStanding (items_of context.now) (plain.named (plain_name name.now)) result }
     {
-        let Some(head) = context.find_head(&name.text) else {
+        let Some((standing, has_rules)) = context.find(&name.text) else {
             self.note(Code::UnknownName, name.place);
             return Standing {
                 kind: None,
@@ -252,40 +241,39 @@ impl Checker {
                 output: None,
             };
         };
-        let known = head.has_rules | context.has_item_before(&name.text);
+        let known = has_rules | context.has_item_before(&name.text);
         self.note_if(!known, Code::UsedTooEarly, name.place);
-        standing_of(context, &head)
+        standing
     }
 
     /// The constructor of a literal of this type, and its labels, which have no names of fields.
     fn check_literal(
         &mut self,
         context: &Context,
-        expected: Option<&Text>,
+        expected: Option<usize>,
         name: &Name,
         labels: &[Expr],
         count: usize,
     )
-        ensures { Notes self.old self.new (literal_failures (option_and_then (find_type (items_of context.now)) (type_name expected.entry)) (plain_name name.now) (map plain_expr labels.now) count) }
+        ensures { Notes self.old self.new (literal_failures (type_there (items_of context.now) expected) (plain_name name.now) (map plain_expr labels.now) count) }
     {
-        let of = context.type_called(expected);
-        self.check_constructor(&of, name, count);
+        self.check_constructor(context, expected, name, count);
         let scope = Scope { fields: Some(&[]) };
-        self.check_own_labels(&scope, &of, name, labels)
+        self.check_own_labels(&scope, context.type_at(expected), name, labels)
     }
 
     /// Notes what fails in an expression inside so many operations, and tells what it stands for. A literal has the type
     /// that is expected of it.
     #[cycle(check_x)]
-    pub(crate) fn check_x<'p>(
+    pub(crate) fn check_x(
         &mut self,
-        context: &Context<'p>,
+        context: &Context,
         around: usize,
-        expected: Option<&'p Text>,
+        expected: Option<usize>,
         x: &X,
-    ) -> Standing<'p>
-        ensures noted { Notes self.old self.new (x_failures (items_of context.now) (before_of context.now) around (type_name expected.entry) (plain_x x.now)) }
-        ensures standing { HasMemory self.new → IsStanding (items_of context.now) (plain_x x.now) result }
+    ) -> Standing
+        ensures noted { (type : Option (List ℕ)) → IsType (items_of context.now) expected type → Notes self.old self.new (x_failures (items_of context.now) (before_of context.now) around type (plain_x x.now)) }
+        ensures standing { IsStanding (items_of context.now) (plain_x x.now) result }
     {
         match x {
             X::Named(name) => self.check_word(context, name),
@@ -293,16 +281,16 @@ impl Checker {
                 let deep = self.check_nested(around, *place);
                 let kind = taken_by_one(*op);
                 let operand = self.check_as(context, deep, None, kind, inside);
-                of_one(*op, &operand)
+                of_one(*op, operand)
             }
             X::Two(op, place, first, second) => {
                 let deep = self.check_nested(around, *place);
                 let kind = taken_first(*op);
                 let left = self.check_as(context, deep, None, kind, first);
-                let wanted = wanted_second(*op, &left);
+                let wanted = wanted_second(*op, left);
                 let kind = taken_second(*op);
                 let right = self.check_as(context, deep, wanted, kind, second);
-                of_two(*op, &left, &right)
+                of_two(*op, left, right)
             }
             X::Literal(name, labels, children) => {
                 self.check_literal(context, expected, name, labels, children.len());
@@ -318,33 +306,33 @@ impl Checker {
 
     /// An expression, inside so many operations, that is to be of this kind and this type.
     #[cycle(check_x)]
-    pub(crate) fn check_as<'p>(
+    pub(crate) fn check_as(
         &mut self,
-        context: &Context<'p>,
+        context: &Context,
         around: usize,
-        of: Option<&'p Text>,
+        of: Option<usize>,
         kind: Kind,
         x: &X,
-    ) -> Standing<'p>
-        ensures noted { Notes self.old self.new (as_failures (items_of context.now) (before_of context.now) around (type_name of.entry) (plain_kind kind) (plain_x x.now)) }
-        ensures standing { HasMemory self.new → IsStanding (items_of context.now) (plain_x x.now) result }
+    ) -> Standing
+        ensures noted { (type : Option (List ℕ)) → IsType (items_of context.now) of type → Notes self.old self.new (as_failures (items_of context.now) (before_of context.now) around type (plain_kind kind) (plain_x x.now)) }
+        ensures standing { IsStanding (items_of context.now) (plain_x x.now) result }
     {
         let expected = expected_as(kind, of);
         let standing = self.check_x(context, around, expected, x);
-        self.check_be(of, kind, place_of(x), &standing);
+        self.check_be(of, kind, place_of(x), standing);
         standing
     }
 
     /// The children of a literal of this type. Where one is a literal, its own children wait.
     #[cycle(check_x)]
-    fn check_children<'p>(
+    fn check_children(
         &mut self,
-        context: &Context<'p>,
+        context: &Context,
         around: usize,
-        expected: Option<&'p Text>,
+        expected: Option<usize>,
         children: &[X],
     )
-        ensures { Notes self.old self.new (xs_failures (items_of context.now) (before_of context.now) around (type_name expected.entry) (plain_children children.now)) }
+        ensures { (type : Option (List ℕ)) → IsType (items_of context.now) expected type → Notes self.old self.new (xs_failures (items_of context.now) (before_of context.now) around type (plain_children children.now)) }
     {
         let mut waiting = Waiting::new(self.alloc, children);
         'children: while let Some(child) = waiting.next() {

@@ -3,30 +3,30 @@
 ghost use Rattle.std.specs.Prelude.{◌≡◌, ◌++◌, [], Some, None, map};
 ghost use Rattle.std.specs.List.{flat_map};
 ghost use Rattle.std.specs.Option.{option_map, option_map_or};
-ghost use Rattle.fast_syntax.specs.View.{plain_name};
 ghost use Rattle.fast_syntax.specs.Plain.{plain_x, plain_rule, plain_out_rule, plain_claim, plain_def, plain_item};
 ghost use Rattle.model_checks.specs.Rules.{rule_limit, rule_failures, out_rule_failures};
 ghost use Rattle.model_checks.specs.Programs.{is_tree, claim_failures, body_failures};
-ghost use Rattle.program_check.specs.Notes.{HasMemory, Notes};
+ghost use Rattle.program_check.specs.Notes.{Notes};
 ghost use Rattle.program_check.specs.Contexts.{items_of, before_of};
 ghost use Rattle.program_check.specs.Standings.{plain_kind, IsStanding, beside_failures};
-ghost use Rattle.program_check.specs.Heads.{head_of, head_failures, behind_head};
+ghost use Rattle.program_check.specs.Typed.{AreFound};
+ghost use Rattle.program_check.specs.Heads.{PlainHead, head_of, head_of_def, head_failures, behind_head, StandsBy};
+ghost use Rattle.model_program.specs.Syntax.{Name};
 ghost use Rattle.model_grammar.specs.Syntax as plain;
 
 use crate::checker::Checker;
 use crate::context::Context;
-use crate::expressions::{Kind, Standing, declared, defined_kind, only_as, place_of};
+use crate::expressions::{Kind, Standing, defined_kind, differ, only_as, place_of};
 use crate::heads::head_of;
 use crate::limits::MOST_RULES;
-use crate::rules::{Between, differ};
+use crate::rules::Between;
 use fast_fault::Code;
-use fast_syntax::Name;
 use fast_syntax::items::{Body, Claim, DefItem, Item, OutRule, Rule, X};
 
-fn is_tree(standing: &Standing) -> bool
-    ensures { result ≡ is_tree (option_map plain_kind standing.now.kind) }
+fn is_tree(known: Option<Kind>) -> bool
+    ensures { result ≡ is_tree (option_map plain_kind known) }
 {
-    match standing.kind {
+    match known {
         Some(Kind::Tree) => true,
         Some(Kind::Language) | Some(Kind::Transformation) => false,
         None => false,
@@ -34,81 +34,68 @@ fn is_tree(standing: &Standing) -> bool
 }
 
 impl Checker {
-    /// What an item declares wasn't declared before, and its types are declared.
-    fn check_head(&mut self, context: &Context, item: &Item)
-        ensures { Notes self.old self.new (option_map_or (head_failures (items_of context.now) (before_of context.now)) (head_of (plain_item item.now).body) []) }
+    /// What an item declares wasn't declared before, and its types are declared. What it stands for comes back.
+    fn check_head(&mut self, context: &Context, item: &Item) -> Standing
+        ensures noted { Notes self.old self.new (option_map_or (head_failures (items_of context.now) (before_of context.now)) (head_of (plain_item item.now).body) []) }
+        ensures standing { (head : PlainHead) → head_of (plain_item item.now).body ≡ Some head → StandsBy (items_of context.now) head result }
     {
         let Some(head) = head_of(item) else {
-            return;
+            return Standing {
+                kind: None,
+                input: None,
+                output: None,
+            };
         };
         let again = context.has_item_before(&head.name.text);
         self.note_if(again, Code::DuplicateName, head.name.place);
-        self.check_type_name(context, head.input);
-        if let Some(output) = head.output {
-            self.check_type_name(context, output);
-        }
+        let standing = context.standing_of(&head);
+        let known = standing.input.is_some();
+        self.note_if(!known, Code::UnknownName, head.input.place);
+        let Some(output) = head.output else {
+            return standing;
+        };
+        let known = standing.output.is_some();
+        self.note_if(!known, Code::UnknownName, output.place);
+        standing
     }
 
     /// The expression of a definition is of the kind and of the types that it says.
-    fn check_def(&mut self, context: &Context, item: &DefItem)
-        ensures { Notes self.old self.new (behind_head (items_of context.now) (before_of context.now) (plain.def (plain_def item.now))) }
+    fn check_def(&mut self, context: &Context, wanted: Standing, item: &DefItem)
+        ensures { StandsBy (items_of context.now) (head_of_def (plain_def item.now)) wanted → Notes self.old self.new (behind_head (items_of context.now) (before_of context.now) (plain.def (plain_def item.now))) }
     {
-        let input = context.type_name(&item.from.text);
-        let wanted = declared(context, item.into.as_ref());
-        let found = self.check_as(context, 0, input, defined_kind(&item.into), &item.value);
+        let kind = defined_kind(&item.into);
+        let found = self.check_as(context, 0, wanted.input, kind, &item.value);
         let output = only_as(Kind::Transformation, found.kind, found.output);
-        self.note_if(
-            differ(wanted, output),
-            Code::WrongType,
-            place_of(&item.value),
-        );
+        let other = differ(wanted.output, output);
+        self.note_if(other, Code::WrongType, place_of(&item.value));
     }
 
-    fn check_rules(&mut self, context: &Context, of: &Name, rules: &[Rule])
-        ensures { Notes self.old self.new (rule_limit (map plain_rule rules.now) ++ flat_map (rule_failures (items_of context.now) (plain_name of.now)) (map plain_rule rules.now)) }
+    fn check_rules(&mut self, context: &Context, types: Between, rules: &[Rule])
+        ensures { (from : Name) → AreFound (items_of context.now) types from from → Notes self.old self.new (rule_limit (map plain_rule rules.now) ++ flat_map (rule_failures (items_of context.now) from) (map plain_rule rules.now)) }
     {
         if rules.len() > MOST_RULES {
             self.note(Code::TooMany, rules[MOST_RULES].ctor.place);
         }
-        let declared = context.find_type(&of.text);
-        let types = Between {
-            from: of,
-            into: of,
-            inputs: declared,
-            outputs: declared,
-        };
         'rules: for rule in rules {
-            self.check_rule(context, &types, rule, None);
+            self.check_rule(context, types, rule, None);
         }
     }
 
-    fn check_out_rules(&mut self, context: &Context, from: &Name, into: &Name, rules: &[OutRule])
-        ensures { Notes self.old self.new (rule_limit (map (λ r. plain_rule r.rule) rules.now) ++ flat_map (out_rule_failures (items_of context.now) (plain_name from.now) (plain_name into.now)) (map plain_out_rule rules.now)) }
+    fn check_out_rules(&mut self, context: &Context, types: Between, rules: &[OutRule])
+        ensures { (from into : Name) → AreFound (items_of context.now) types from into → Notes self.old self.new (rule_limit (map (λ r. plain_rule r.rule) rules.now) ++ flat_map (out_rule_failures (items_of context.now) from into) (map plain_out_rule rules.now)) }
     {
         if rules.len() > MOST_RULES {
             self.note(Code::TooMany, rules[MOST_RULES].rule.ctor.place);
         }
-        let types = Between {
-            from,
-            into,
-            inputs: context.find_type(&from.text),
-            outputs: context.find_type(&into.text),
-        };
         'rules: for rule in rules {
-            self.check_rule(context, &types, &rule.rule, Some(&rule.out));
+            self.check_rule(context, types, &rule.rule, Some(&rule.out));
         }
     }
 
     /// A language, and what is to be of this kind and of the type of its trees. What that stands for comes back.
-    fn check_beside<'p>(
-        &mut self,
-        context: &Context<'p>,
-        language: &X,
-        kind: Kind,
-        x: &X,
-    ) -> Standing<'p>
+    fn check_beside(&mut self, context: &Context, language: &X, kind: Kind, x: &X) -> Standing
         ensures noted { Notes self.old self.new (beside_failures (items_of context.now) (before_of context.now) (plain_x language.now) (plain_kind kind) (plain_x x.now)) }
-        ensures standing { HasMemory self.new → IsStanding (items_of context.now) (plain_x x.now) result }
+        ensures standing { IsStanding (items_of context.now) (plain_x x.now) result }
     {
         let first = self.check_as(context, 0, None, Kind::Language, language);
         let wanted = only_as(Kind::Language, first.kind, first.input);
@@ -129,7 +116,7 @@ impl Checker {
             }
             Claim::Empty(x) => {
                 let standing = self.check_x(context, 0, None, x);
-                self.note_if(is_tree(&standing), Code::WrongKind, place_of(x));
+                self.note_if(is_tree(standing.kind), Code::WrongKind, place_of(x));
             }
             Claim::TypeCheck(x, y, z) => {
                 let standing = self.check_beside(context, x, Kind::Transformation, y);
@@ -143,16 +130,27 @@ impl Checker {
     pub(crate) fn check_item(&mut self, context: &Context, item: &Item)
         ensures { Notes self.old self.new (body_failures (items_of context.now) (before_of context.now) (plain_item item.now).body) }
     {
-        self.check_head(context, item);
+        let wanted = self.check_head(context, item);
         match &item.body {
             Body::Sorts(own) => self.check_type(context, own),
             Body::Tree(own) => {
-                let wanted = context.type_name(&own.of.text);
-                self.check_as(context, 0, wanted, Kind::Tree, &own.value);
+                self.check_as(context, 0, wanted.input, Kind::Tree, &own.value);
             }
-            Body::Lang(own) => self.check_rules(context, &own.of, &own.rules),
-            Body::Trans(own) => self.check_out_rules(context, &own.from, &own.into, &own.rules),
-            Body::Def(own) => self.check_def(context, own),
+            Body::Lang(own) => {
+                let types = Between {
+                    inputs: wanted.input,
+                    outputs: wanted.input,
+                };
+                self.check_rules(context, types, &own.rules);
+            }
+            Body::Trans(own) => {
+                let types = Between {
+                    inputs: wanted.input,
+                    outputs: wanted.output,
+                };
+                self.check_out_rules(context, types, &own.rules);
+            }
+            Body::Def(own) => self.check_def(context, wanted, own),
             Body::Assert(own) => self.check_claim(context, &own.claim),
         }
     }

@@ -7,8 +7,8 @@
 mod checked;
 mod checker;
 mod context;
+mod ctors;
 mod declarations;
-mod declared_type;
 mod expressions;
 mod heads;
 mod items;

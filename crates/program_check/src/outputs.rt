@@ -1,6 +1,7 @@
 //! What may fail in the labels of a node and in an output term, whose labels speak of the input.
 
 ghost use Rattle.std.specs.Prelude.{◌++◌, List, map, length};
+ghost use Rattle.model_program.specs.Syntax as program;
 ghost use Rattle.model_grammar.specs.Syntax as plain;
 ghost use Rattle.model_grammar.specs.Syntax.{Item};
 ghost use Rattle.fast_syntax.specs.View.{plain_name, plain_field};
@@ -17,16 +18,15 @@ ghost use Rattle.program_check.specs.Nodes.{node_failures};
 
 use crate::checker::Checker;
 use crate::context::Context;
-use crate::declared_type::DeclaredType;
-use crate::expressions::{Kind, Standing};
+use crate::expressions::{Kind, differ};
 use crate::labels::{Scope, differ_in_sort};
-use crate::rules::{Between, differ, name_of, scope_of};
+use crate::rules::{Between, scope_of};
 use crate::types::sort_named;
 use crate::vars::Vars;
 use fast_fault::Code;
 use fast_syntax::expressions::Expr;
 use fast_syntax::items::Out;
-use fast_syntax::{FieldItem, Name};
+use fast_syntax::{FieldItem, Name, TypeItem};
 
 impl Checker {
     /// The labels of a node.
@@ -47,27 +47,27 @@ impl Checker {
     pub(crate) fn check_own_labels(
         &mut self,
         scope: &Scope,
-        of: &Option<DeclaredType>,
+        of: Option<&TypeItem>,
         name: &Name,
         labels: &[Expr],
     )
-        ensures { Notes self.old self.new (label_count_failures (plain_option of.now) (plain_name name.now) (length labels.now) ++ labels_failures (plain_scope scope.now) (fields_of (plain_option of.now)) (map plain_expr labels.now)) }
+        ensures { Notes self.old self.new (label_count_failures (plain_option of.entry) (plain_name name.now) (length labels.now) ++ labels_failures (plain_scope scope.now) (fields_of (plain_option of.entry)) (map plain_expr labels.now)) }
     {
         let Some(of) = of else {
             self.check_labels(scope, &[], labels);
             return;
         };
-        let fields = &of.item.fields;
+        let fields = &of.fields;
         self.note_if(fields.len() != labels.len(), Code::WrongRank, name.place);
         self.check_labels(scope, fields, labels)
     }
 
     /// A child that is given as it is: the types of inputs and outputs are the same.
-    fn check_child(&mut self, types: &Between, vars: &Vars, name: &Name)
-        ensures { (items : List Item) → AreFound items types.now → Kept self.old vars.now → Notes self.old self.new (out_failures items (plain_name types.now.from.now) (plain_name types.now.into.now) (plain_vars vars.now) (plain.child (plain_name name.now))) }
+    fn check_child(&mut self, types: Between, vars: &Vars, name: &Name)
+        ensures { (items : List Item) (from into : program.Name) → AreFound items types from into → Kept self.old vars.now → Notes self.old self.new (out_failures items from into (plain_vars vars.now) (plain.child (plain_name name.now))) }
     {
-        let differ = differ(name_of(&types.inputs), name_of(&types.outputs));
         self.check_variable(vars, name);
+        let differ = differ(types.inputs, types.outputs);
         self.note_if(differ, Code::WrongType, name.place);
     }
 
@@ -75,28 +75,22 @@ impl Checker {
     fn check_call(
         &mut self,
         context: &Context,
-        types: &Between,
+        types: Between,
         vars: &Vars,
         name: &Name,
         child: &Name,
     )
-        requires { AreFound (items_of context.now) types.now }
-        ensures { Kept self.old vars.now → Notes self.old self.new (out_failures (items_of context.now) (plain_name types.now.from.now) (plain_name types.now.into.now) (plain_vars vars.now) (plain.call (plain_name name.now) (plain_name child.now))) }
+        ensures { (from into : program.Name) → AreFound (items_of context.now) types from into → Kept self.old vars.now → Notes self.old self.new (out_failures (items_of context.now) from into (plain_vars vars.now) (plain.call (plain_name name.now) (plain_name child.now))) }
     {
-        let wanted = Standing {
-            kind: Some(Kind::Transformation),
-            input: name_of(&types.inputs),
-            output: name_of(&types.outputs),
-        };
-        self.check_ruled(context, &wanted, name);
+        let (input, output) = (types.inputs, types.outputs);
+        self.check_ruled(context, Kind::Transformation, input, output, name);
         self.check_variable(vars, child);
     }
 
     /// An output term of a rule between these types.
     #[cycle(check_out)]
-    pub(crate) fn check_out(&mut self, context: &Context, types: &Between, vars: &Vars, out: &Out)
-        requires { AreFound (items_of context.now) types.now }
-        ensures { Kept self.old vars.now → Notes self.old self.new (out_failures (items_of context.now) (plain_name types.now.from.now) (plain_name types.now.into.now) (plain_vars vars.now) (plain_out out.now)) }
+    pub(crate) fn check_out(&mut self, context: &Context, types: Between, vars: &Vars, out: &Out)
+        ensures { (from into : program.Name) → AreFound (items_of context.now) types from into → Kept self.old vars.now → Notes self.old self.new (out_failures (items_of context.now) from into (plain_vars vars.now) (plain_out out.now)) }
     {
         match out {
             Out::Child(name) => {
@@ -106,16 +100,15 @@ impl Checker {
                 self.check_call(context, types, vars, name, child);
             }
             Out::Node(name, labels, outs) => {
-                self.check_node(types, name, labels, outs.len());
+                self.check_node(context, types, name, labels, outs.len());
                 self.check_outs(context, types, vars, outs)
             }
         }
     }
 
     #[cycle(check_out)]
-    fn check_outs(&mut self, context: &Context, types: &Between, vars: &Vars, outs: &[Out])
-        requires { AreFound (items_of context.now) types.now }
-        ensures { Kept self.old vars.now → Notes self.old self.new (outs_failures (items_of context.now) (plain_name types.now.from.now) (plain_name types.now.into.now) (plain_vars vars.now) (plain_outputs outs.now)) }
+    fn check_outs(&mut self, context: &Context, types: Between, vars: &Vars, outs: &[Out])
+        ensures { (from into : program.Name) → AreFound (items_of context.now) types from into → Kept self.old vars.now → Notes self.old self.new (outs_failures (items_of context.now) from into (plain_vars vars.now) (plain_outputs outs.now)) }
     {
         'outs: for out in outs {
             self.check_out(context, types, vars, out);
@@ -123,10 +116,18 @@ impl Checker {
     }
 
     /// The constructor of a node, and its labels, which speak of the input.
-    fn check_node(&mut self, types: &Between, name: &Name, labels: &[Expr], count: usize)
-        ensures { (items : List Item) → AreFound items types.now → Notes self.old self.new (node_failures items (plain_name types.now.from.now) (plain_name types.now.into.now) (plain_name name.now) (map plain_expr labels.now) count) }
+    fn check_node(
+        &mut self,
+        context: &Context,
+        types: Between,
+        name: &Name,
+        labels: &[Expr],
+        count: usize,
+    )
+        ensures { (from into : program.Name) → AreFound (items_of context.now) types from into → Notes self.old self.new (node_failures (items_of context.now) from into (plain_name name.now) (map plain_expr labels.now) count) }
     {
-        self.check_constructor(&types.outputs, name, count);
-        self.check_own_labels(&scope_of(&types.inputs), &types.outputs, name, labels)
+        self.check_constructor(context, types.outputs, name, count);
+        let scope = scope_of(context.type_at(types.inputs));
+        self.check_own_labels(&scope, context.type_at(types.outputs), name, labels)
     }
 }

@@ -15,7 +15,7 @@ ghost use Rattle.program_check.specs.Nodes.{ctors_failures};
 
 use crate::checker::Checker;
 use crate::context::Context;
-use crate::declared_type::has_leaf;
+use crate::ctors::has_leaf;
 use crate::limits::{MOST_CHILDREN, MOST_FIELDS};
 use fast_fault::{Code, Text};
 use fast_syntax::{CtorItem, FieldItem, TypeItem};

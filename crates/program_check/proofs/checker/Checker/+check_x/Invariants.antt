@@ -1,9 +1,9 @@
-use Rattle.std.proofs.Common.{◌≤◌, ◌+◌}
+use Rattle.std.proofs.Common.{ℕ, ◌≤◌, ◌+◌, List, Option}
 use Rattle.fast_syntax.specs.Plain.{plain_x}
 use Rattle.fast_syntax.specs.Slices.{plain_children}
 use Rattle.model_checks.specs.Expressions.{xs_failures}
 use Rattle.program_check.specs.Contexts.{items_of, before_of}
-use Rattle.program_check.specs.Typed.{type_name}
+use Rattle.program_check.specs.Typed.{IsType}
 use Rattle.program_check.specs.Notes.{Left}
 use Rattle.program_check.specs.Waiting.{plain_waiting, weight, weights}
 use Rattle.program_check.proofs.checker.Checker.+check_x.Given as goal
@@ -19,9 +19,9 @@ decreases-check_children l = 2 + weights (plain_children l.children.now)
 
 abbrev pub invariant-check_children-children : goal.invariant-check_children-children
 invariant-check_children-children l =
-    let each = xs_failures (items_of l.context) (before_of l.context) l.around (type_name l.expected) in
+    let each = λ (type : Option (List ℕ)). xs_failures (items_of l.context) (before_of l.context) l.around type in
     record {
-      noted : Left l.fn.self l.self (each (plain_children l.children)) (each (plain_waiting l.waiting));
+      noted : (type : Option (List ℕ)) → IsType (items_of l.context) l.expected type → Left l.fn.self l.self (each type (plain_children l.children)) (each type (plain_waiting l.waiting));
       few : weights (plain_waiting l.waiting) ≤ weights (plain_children l.children);
     }
 

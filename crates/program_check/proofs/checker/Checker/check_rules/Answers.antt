@@ -1,7 +1,6 @@
 use Rattle.std.proofs.Common.{Option, [], sym, ap, subst, map}
 use Rattle.std.specs.List.{flat_map}
 use Rattle.std.proofs.lemmas.List.{drop_all}
-use Rattle.fast_syntax.specs.View.{plain_name}
 use Rattle.fast_syntax.specs.Plain.{plain_rule}
 use Rattle.model_checks.specs.Rules.{rule_limit, rule_failures}
 use Rattle.program_check.specs.Contexts.{items_of}
@@ -18,19 +17,16 @@ use Rattle.program_check.proofs.Found.{there_by, past_by}
 use Rattle.program_check.proofs.checker.Checker.check_rules.Goals as goal
 use Rattle.program_check.proofs.checker.Checker.check_rules.Goals.{then-rules-gt-MOST_RULES, else-rules-gt-MOST_RULES}
 
-pub check_rule-requires : goal.check_rule-requires
-check_rule-requires c = record { inputs = c.find_type-declared.ensures; outputs = c.find_type-declared.ensures }
-
 pub rules-preserved : goal.rules-preserved
-rules-preserved c h =
-    let each = rule_failures (items_of c.args.context.now) (plain_name c.args.of.now) in
-    let one = same (ends (each (plain_rule c.rule-item.result))) (c.check_rule.ensures h) in
-    more _ one (one_of each plain_rule c.args.rules.now c.rules.rule-index c.rule-item.result c.rules-test.true c.rule-item.is) (c.rules.invariant one.had)
+rules-preserved c from is h =
+    let each = rule_failures (items_of c.args.context.now) from in
+    let one = same (ends (each (plain_rule c.rule-item.result))) (c.check_rule.ensures from from is h) in
+    more _ one (one_of each plain_rule c.args.rules.now c.rules.rule-index c.rule-item.result c.rules-test.true c.rule-item.is) (c.rules.invariant from is one.had)
 
 pub returns : goal.returns
-returns c h =
-    let each = rule_failures (items_of c.args.context.now) (plain_name c.args.of.now) in
-    let rest = done (ap (λ xs. flat_map each (map plain_rule xs)) (drop_all c.rules.rule-index c.args.rules.now c.rules-test.false)) (c.rules.invariant h) in
+returns c from is h =
+    let each = rule_failures (items_of c.args.context.now) from in
+    let rest = done (ap (λ xs. flat_map each (map plain_rule xs)) (drop_all c.rules.rule-index c.args.rules.now c.rules-test.false)) (c.rules.invariant from is h) in
     let plain_limit = λ (o : Option plain.Rule). option_map_or (λ (x : plain.Rule). failure TooMany x.ctor.place) o [] in
     let limit : Notes c.args.self.now c.if-rules-gt-MOST_RULES.self (rule_limit (map plain_rule c.args.rules.now)) = elim c.if-rules-gt-MOST_RULES.branch [
       | then-rules-gt-MOST_RULES w ↦ subst (λ (x : Checker). Notes c.args.self.now x (rule_limit (map plain_rule c.args.rules.now))) (sym w.self-is)

@@ -3,7 +3,7 @@ use Rattle.std.specs.List.{list_any}
 use Rattle.fast_syntax.specs.View.{plain_ctor}
 use Rattle.model_checks.specs.Types.{is_leaf, has_leaf}
 use Rattle.program_check.specs.Numbered.{HasCtors}
-use Rattle.program_check.proofs.declared_type.has_leaf.Given as goal
+use Rattle.program_check.proofs.ctors.has_leaf.Given as goal
 
 abbrev pub invariant-ctors : goal.invariant-ctors
 invariant-ctors l =

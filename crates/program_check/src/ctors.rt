@@ -1,7 +1,6 @@
-//! A type that is declared, with the numbers of its constructors: one is found by its name in constant time.
+//! The constructors of a type with their numbers: one is found by its name in constant time.
 
 ghost use Rattle.std.specs.Prelude.{◌≡◌, Some, None, MatchOption, map};
-ghost use Rattle.std.proofs.Props.{props};
 ghost use Rattle.fast_syntax.specs.View.{plain_ctor};
 ghost use Rattle.model_checks.specs.Types.{find_ctor, is_leaf, has_leaf};
 ghost use Rattle.program_check.specs.Numbered.{HasCtors};
@@ -9,15 +8,7 @@ ghost use Rattle.program_check.specs.Numbered.{HasCtors};
 use crate::names::Names;
 use crate::types::is_rank;
 use fast_fault::Text;
-use fast_syntax::{CtorItem, TypeItem};
-
-/// A type, with the numbers of its constructors.
-#[derive(Clone, Copy)]
-pub(crate) struct DeclaredType<'p> {
-    pub(crate) item: &'p TypeItem,
-    pub(crate) ctors: &'p Names,
-    ghost numbered: { HasCtors (map plain_ctor item.now.ctors.items) ctors.now } by { Prim.hlevel props },
-}
+use fast_syntax::CtorItem;
 
 /// The first constructor of this name, where the constructors have these numbers.
 pub(crate) fn ctor_named<'p>(

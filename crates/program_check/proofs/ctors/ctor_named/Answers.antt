@@ -5,7 +5,7 @@ use Rattle.fast_syntax.specs.View.{plain_ctor}
 use Rattle.program_check.specs.Numbered.{is_ctor}
 use Rattle.program_check.proofs.Found.{got}
 use Rattle.program_check.proofs.Searching.{either_way, found_by}
-use Rattle.program_check.proofs.declared_type.ctor_named.Goals as goal
+use Rattle.program_check.proofs.ctors.ctor_named.Goals as goal
 
 pub returns-in-Some : goal.returns-in-Some
 returns-in-Some c h =
