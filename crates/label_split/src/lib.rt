@@ -4,7 +4,6 @@
 //! has, each once. Both know nothing of labels but the laws of their theory.
 #![tactic(auto)]
 
-mod both;
 mod conjunction;
 mod force;
 mod known;

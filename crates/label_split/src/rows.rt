@@ -10,11 +10,10 @@ ghost use Rattle.label_split.specs.Signs.{FormulasFit, signs_at};
 ghost use Rattle.label_split.specs.Split.{SplitsInto, IsRow, Stops, StopsFor, HasMoreRows};
 ghost use Rattle.label_split.specs.Noted.{rows_of, IsSample, AreStarted, IsFoundBy, IsStopOf, IsPassedOn, AreAdded};
 
-use crate::both::both;
 use crate::numbers::number_all;
 use crate::search::{Asked, holds_of, note, search};
 use fast_fault::Memory;
-use label_core::{Formula, Theory, Verdict};
+use label_core::{Formula, Theory, Verdict, both};
 use std::alloc::Global;
 
 /// The sign of each formula, and a value of a label that gives them these signs.

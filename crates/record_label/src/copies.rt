@@ -4,10 +4,10 @@ ghost use Rattle.std.specs.Prelude.{◌≡◌, IfOk, map};
 ghost use Rattle.record_label.specs.PlainMaps.{plain_entry};
 ghost use Rattle.record_label.specs.Written.{plain_written};
 
-use crate::both::{both, pushed};
 use crate::maps::{RowEntry, RowMap};
 use crate::written::Written;
 use fast_fault::Memory;
+use label_core::{added, both};
 use std::alloc::Global;
 
 /// The same entry.
@@ -27,7 +27,7 @@ fn copy_entries(alloc: Global, entries: &[RowEntry]) -> Result<Vec<RowEntry>, Me
 {
     let mut copies = Vec::new(alloc);
     for entry in entries {
-        pushed(&mut copies, copy_entry(alloc, entry))?;
+        added(&mut copies, copy_entry(alloc, entry))?;
     }
     Ok(copies)
 }
@@ -38,7 +38,7 @@ pub(crate) fn copy_written(alloc: Global, written: &[Written]) -> Result<Vec<Wri
 {
     let mut copies = Vec::new(alloc);
     for one in written {
-        pushed(&mut copies, one.copy(alloc))?;
+        added(&mut copies, one.copy(alloc))?;
     }
     Ok(copies)
 }

@@ -14,16 +14,16 @@ ghost use Rattle.record_label.specs.Follows.{UnlessMemory, Follows, FollowsBoth}
 ghost use Rattle.record_label.specs.Guards.{IsGuardOf, SaysAlone, joined_of, formula_in, pair_of, agreement_of, compared_by, compared_by_forms, comparison_of, is_numeric, side_of};
 ghost use Rattle.record_label.specs.Parts.{AreWithin, unmarked};
 
-use crate::both::{added, both};
 use crate::forms::form_of;
 use crate::lookups::{has_field, number_of};
+use crate::made::added;
 use crate::rows::RowAtom;
 use fast_fault::Memory;
 use fast_syntax::Rel;
 use fast_syntax::expressions::{Expr, Node};
 use fast_tree::{Signature, Sort};
 use flat_label::{BoolAtom, TextAtom, TextSide};
-use label_core::{Formula, PairAtom, conjunction, disjunction, negation};
+use label_core::{Formula, PairAtom, both, conjunction, disjunction, negation};
 use lin_form::{Form, FormStop};
 use lin_solve::{Compare, Relation};
 use std::alloc::Global;

@@ -7,13 +7,13 @@
 #![tactic(auto)]
 
 mod applies;
-mod both;
 mod copies;
 mod fits;
 mod forms;
 mod guards;
 mod labels;
 mod lookups;
+mod made;
 mod maps;
 mod merges;
 mod puts;

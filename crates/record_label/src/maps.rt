@@ -11,7 +11,6 @@ ghost use Rattle.record_label.specs.Parts.{AreWithin};
 ghost use Rattle.record_label.specs.PlainMaps.{plain_entry};
 ghost use Rattle.record_label.specs.Written.{plain_written, written_for, written_for_each};
 
-use crate::both::pushed;
 use crate::forms::form_of;
 use crate::guards::{guard_of, side};
 use crate::rows::RowAtom;
@@ -20,7 +19,7 @@ use fast_fault::Memory;
 use fast_syntax::expressions::Expr;
 use fast_tree::{Signature, Sort};
 use flat_label::TextSide;
-use label_core::Formula;
+use label_core::{Formula, added};
 use lin_form::{Form, FormStop};
 use std::alloc::Global;
 
@@ -83,7 +82,7 @@ fn kept_of_each(alloc: Global, labels: &[Expr], into: &Signature) -> Result<Vec<
     let mut written = Vec::new(alloc);
     for i in 0..labels.len() {
         let kept = kept_of(alloc, &labels[i], into.fields[i].sort);
-        pushed(&mut written, kept)?;
+        added(&mut written, kept)?;
     }
     Ok(written)
 }
@@ -104,7 +103,7 @@ pub fn map_of(
     let mut entries = Vec::new(alloc);
     for i in 0..labels.len() {
         let entry = entry_of(alloc, &labels[i], into.fields[i].sort, from);
-        pushed(&mut entries, entry)?;
+        added(&mut entries, entry)?;
     }
     let written = kept_of_each(alloc, labels, into)?;
     Ok(RowMap { entries, written })

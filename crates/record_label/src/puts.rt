@@ -11,14 +11,14 @@ ghost use Rattle.record_label.specs.PlainMaps.{plain_entry, Gives};
 ghost use Rattle.record_label.specs.Written.{plain_written};
 ghost use Rattle.label_core.specs.declared.pair.PairAtom.{PairAtom};
 
-use crate::both::{added, both, pushed};
 use crate::copies::copy_written;
 use crate::guards::{copied, denied, joined};
+use crate::made::added;
 use crate::maps::{RowEntry, RowMap};
 use crate::rows::RowAtom;
 use fast_fault::{Memory, Text};
 use flat_label::{TextAtom, TextSide};
-use label_core::{DEEPEST, Formula, PairAtom};
+use label_core::{DEEPEST, Formula, PairAtom, both};
 use lin_form::{Form, FormStop};
 use lin_solve::Compare;
 use std::alloc::Global;
@@ -30,7 +30,7 @@ pub fn forms_of(alloc: Global, entries: &[RowEntry]) -> Result<Vec<Form>, Memory
     let mut forms = Vec::new(alloc);
     for entry in entries {
         if let RowEntry::Number(form) = entry {
-            pushed(&mut forms, form.copy(alloc))?;
+            label_core::added(&mut forms, form.copy(alloc))?;
         }
     }
     Ok(forms)

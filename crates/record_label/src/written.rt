@@ -6,9 +6,9 @@ ghost use Rattle.fast_syntax.specs.Slices.{plain_sum_parts, plain_prod_parts};
 ghost use Rattle.record_label.specs.Parts.{unmarked};
 ghost use Rattle.record_label.specs.Written.{first_mark, marks_of, marks_of_parts, Adds, WrittenAlike};
 
-use crate::both::pushed;
 use fast_fault::{Memory, Text};
 use fast_syntax::expressions::{Expr, Node, ProdPart, SumPart};
+use label_core::added;
 use model_grammar::{Chain, Rel};
 use std::alloc::Global;
 
@@ -162,7 +162,7 @@ impl Written {
     {
         let mut marks = Vec::new(alloc);
         for mark in &self.marks {
-            pushed(&mut marks, mark.copy(alloc))?;
+            added(&mut marks, mark.copy(alloc))?;
         }
         Ok(Written { marks })
     }

@@ -10,10 +10,9 @@ ghost use Rattle.sta_classes.specs.Rows.{class_rows_at};
 ghost use Rattle.sta_classes.specs.Rules.{plain_rules};
 
 use crate::class::{Class, demands_met};
-use crate::keep::added;
 use crate::row::Row;
 use fast_fault::Memory;
-use label_core::{Duplicate, Formula, conjunction, disjunction, negation};
+use label_core::{Duplicate, Formula, added, conjunction, disjunction, negation};
 use sta_core::StaRule;
 use std::alloc::Global;
 

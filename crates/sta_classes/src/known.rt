@@ -5,10 +5,11 @@ ghost use Rattle.sta_classes.specs.Rows.{lists_of};
 ghost use Rattle.sta_classes.specs.Searched.{AreKinds, ArePlaces, NextPlaces};
 
 use crate::class::Class;
-use crate::keep::{added, kept};
+use crate::keep::kept;
 use crate::place::Place;
 use crate::row::Row;
 use fast_fault::Memory;
+use label_core::added;
 use sta_core::StaRule;
 use std::alloc::Global;
 

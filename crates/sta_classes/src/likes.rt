@@ -3,11 +3,10 @@
 ghost use Rattle.std.specs.Prelude.{◌≡◌, ◌<◌, length, IfOk};
 ghost use Rattle.sta_classes.specs.Applying.{IsLike, AreLike};
 
-use crate::keep::added;
 use crate::rules::Owned;
 use fast_fault::Memory;
 use indexmap::IndexMap;
-use label_core::Formula;
+use label_core::{Formula, added};
 use std::alloc::Global;
 use std::hash::{FoldHasher, Hash, Hasher};
 

@@ -6,11 +6,10 @@ ghost use Rattle.sta_classes.specs.Rows.{found_of};
 ghost use Rattle.sta_classes.specs.Pending.{AreKept, IsOffered, IsTaken, IsDone, is_dearer, leaves, kept_at};
 
 use crate::class::{CAP, Class};
-use crate::keep::{added, both};
 use crate::row::Row;
 use fast_fault::Memory;
 use indexmap::IndexSet;
-use label_core::Theory;
+use label_core::{Theory, added, both};
 use std::alloc::Global;
 use std::collections::BinaryHeap;
 

@@ -4,10 +4,11 @@ ghost use Rattle.std.specs.Prelude.{◌≡◌, ◌<◌, ◌++◌, ◌∷◌, [],
 ghost use Rattle.sta_classes.specs.Grow.{Grown};
 ghost use Rattle.sta_classes.specs.Places.{AsksFor, AreAsked, IsNumbered, IsNext};
 
-use crate::keep::{added, kept};
+use crate::keep::kept;
 use crate::row::Row;
 use fast_fault::Memory;
 use indexmap::IndexSet;
+use label_core::added;
 use sta_core::StaRule;
 use std::alloc::Global;
 

@@ -5,8 +5,8 @@ ghost use Rattle.model_sta.specs.Sets.{has};
 ghost use Rattle.sta_classes.specs.Applying.{AreAt};
 ghost use Rattle.sta_classes.specs.Bits.{both};
 
-use crate::keep::both;
 use fast_fault::Memory;
+use label_core::both;
 use std::alloc::Global;
 use std::hash::{Hash, Hasher};
 use std::marker::Model;

@@ -7,11 +7,10 @@ ghost use Rattle.sta_core.specs.Machine.{plain_rule};
 ghost use Rattle.sta_classes.specs.Applying.{is_fixed, meets_at, chosen, guards_in, IsRules, AreRules};
 
 use crate::class::row_has_each;
-use crate::keep::{added, both};
 use crate::likes::likes_of;
 use crate::row::Row;
 use fast_fault::Memory;
-use label_core::{Duplicate, Formula};
+use label_core::{Duplicate, Formula, added, both};
 use sta_core::StaRule;
 use std::alloc::Global;
 use std::hash::Hash;

@@ -7,7 +7,7 @@ ghost use Rattle.std.specs.Prelude.{MatchResult};
 ghost use Rattle.sta_classes.specs.Searched.{IsReady, IsOver, HasOffered, HasNewOffered, IsUnderway, GoesOn, IsBegun, IsWhole, StopsSearch};
 
 use crate::class::cost_over;
-use crate::keep::{both, kept};
+use crate::keep::kept;
 use crate::known::Known;
 use crate::lists::new_lists;
 use crate::pending::{Over, Pending};
@@ -15,7 +15,7 @@ use crate::row::numbers_at;
 use crate::rules::Rules;
 use crate::splits::{Splits, add_to_splits, no_splits};
 use crate::stop::ClassStop;
-use label_core::Theory;
+use label_core::{Theory, both};
 use sta_core::StaRule;
 use std::alloc::Global;
 

@@ -11,13 +11,12 @@ ghost use Rattle.sta_classes.specs.Splits.{AreMet, AreTelling, AreTold, AreAllTo
 ghost use Rattle.sta_classes.specs.Stop.{ClassStopsFor};
 ghost use Rattle.sta_classes.specs.declared.splits.Told.{Told};
 
-use crate::keep::added;
 use crate::row::{Row, numbers_at};
 use crate::rules::{Owned, Rules, guards_of, met_at};
 use crate::stop::ClassStop;
 use fast_fault::Memory;
 use indexmap::IndexSet;
-use label_core::Theory;
+use label_core::{Theory, added};
 use label_split::{SignRow, SplitStop, split};
 use std::alloc::Global;
 

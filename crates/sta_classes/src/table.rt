@@ -14,14 +14,13 @@ ghost use Rattle.sta_classes.specs.Plain.{class_row, kind_count, kind_at, HasKin
 
 use crate::class::CAP;
 use crate::formula::{places, row_formula};
-use crate::keep::added;
 use crate::known::Known;
 use crate::rules::each_rules;
 use crate::search::Search;
 use crate::stop::ClassStop;
 use fast_fault::Memory;
 use fast_tree::Tree;
-use label_core::{Duplicate, Formula, Theory};
+use label_core::{Duplicate, Formula, Theory, added};
 use sta_core::Sta;
 use std::alloc::Global;
 use std::marker::Model;

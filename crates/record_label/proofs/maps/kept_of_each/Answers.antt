@@ -19,8 +19,8 @@ index-requires c =
 pub loop-i-preserved : goal.loop-i-preserved
 loop-i-preserved c =
     let low = c.loop-i-test.true in
-    let own = c.in_ok-pushed.ensures {u = tt} in
-    (omega (arith, low), kept_more c.args.labels.now c.args.into.now.fields.items c.requires c.loop-i.i c.index-labels-i.result c.index.result.now c.loop-i-test.true c.index-labels-i.is c.index.ensures c.loop-i.written.items c.pushed.new.list.items own.0 own.2 c.loop-i.invariant.1 (given_made c.kept_of-kept.result (λ kept. plain_written kept ≡ written_for (plain_sort c.index.result.now.sort) (plain_expr c.index-labels-i.result)) own.0 own.1 c.kept_of-kept.ensures))
+    let own = c.in_ok-added.ensures {u = tt} in
+    (omega (arith, low), kept_more c.args.labels.now c.args.into.now.fields.items c.requires c.loop-i.i c.index-labels-i.result c.index.result.now c.loop-i-test.true c.index-labels-i.is c.index.ensures c.loop-i.written.items c.added.new.list.items own.0 own.2 c.loop-i.invariant.1 (given_made c.kept_of-kept.result (λ kept. plain_written kept ≡ written_for (plain_sort c.index.result.now.sort) (plain_expr c.index-labels-i.result)) own.0 own.1 c.kept_of-kept.ensures))
 
 pub returns : goal.returns
 returns c =

@@ -28,8 +28,8 @@ entry_of-entry-requires-clause-within c n o =
 pub loop-i-preserved : goal.loop-i-preserved
 loop-i-preserved c =
     let low = c.loop-i-test.true in
-    let own = c.in_ok-pushed.ensures {u = tt} in
-    (omega (arith, low), entries_more (plain_signature c.args.from.now).fields c.args.labels.now c.args.into.now.fields.items c.requires.sorted c.loop-i.i c.index-labels-i.result c.index.result.now c.loop-i-test.true c.index-labels-i.is c.index.ensures c.loop-i.entries.items c.pushed.new.list.items own.0 own.2 c.loop-i.invariant.1 (given_made c.entry_of-entry.result (λ entry. IsEntryOf (plain_signature c.args.from.now).fields (plain_expr c.index-labels-i.result) (plain_sort c.index.result.now.sort) (plain_entry entry)) own.0 own.1 c.entry_of-entry.ensures))
+    let own = c.in_ok-added.ensures {u = tt} in
+    (omega (arith, low), entries_more (plain_signature c.args.from.now).fields c.args.labels.now c.args.into.now.fields.items c.requires.sorted c.loop-i.i c.index-labels-i.result c.index.result.now c.loop-i-test.true c.index-labels-i.is c.index.ensures c.loop-i.entries.items c.added.new.list.items own.0 own.2 c.loop-i.invariant.1 (given_made c.entry_of-entry.result (λ entry. IsEntryOf (plain_signature c.args.from.now).fields (plain_expr c.index-labels-i.result) (plain_sort c.index.result.now.sort) (plain_entry entry)) own.0 own.1 c.entry_of-entry.ensures))
 
 pub kept_of_each-requires : goal.kept_of_each-requires
 kept_of_each-requires c = many_labels (plain_signature c.args.from.now).fields c.args.labels.now c.args.into.now.fields.items c.requires.sorted
