@@ -5,7 +5,7 @@
 ghost use Rattle.std.specs.Prelude.{◌≡◌, None, MatchOption, map, is_some};
 ghost use Rattle.std.specs.Option.{option_map};
 ghost use Rattle.std.proofs.Props.{props};
-ghost use Rattle.model_names.specs.Declared.{find_type, find_item};
+ghost use Rattle.model_names.specs.Declared.{find_item};
 ghost use Rattle.fast_syntax.specs.Plain.{plain_item};
 ghost use Rattle.program_check.specs.Numbered.{AreNumbered, type_there};
 ghost use Rattle.program_check.specs.Typed.{plain_option, type_number};
@@ -79,13 +79,6 @@ impl<'p> Context<'p> {
             return None;
         };
         Some((self.standing_of(&head), head.has_rules))
-    }
-
-    /// Whether a type of this name stands before.
-    pub(crate) fn has_type_before(&self, name: &Text) -> bool
-        ensures { result ≡ is_some (find_type (before_of self.now) name.now) }
-    {
-        self.declared.types.is_before(name, self.before)
     }
 
     /// Whether the name of a language, transformation, definition or tree stands before.

@@ -3,16 +3,15 @@
 ghost use Rattle.std.specs.Prelude.{◌≡◌, ◌++◌, [], Some, None, map};
 ghost use Rattle.std.specs.List.{flat_map};
 ghost use Rattle.std.specs.Option.{option_map, option_map_or};
-ghost use Rattle.fast_syntax.specs.Plain.{plain_x, plain_rule, plain_out_rule, plain_claim, plain_def, plain_item};
+ghost use Rattle.fast_syntax.specs.Plain.{plain_x, plain_rule, plain_out_rule, plain_claim, plain_item};
 ghost use Rattle.model_checks.specs.Rules.{rule_limit, rule_failures, out_rule_failures};
 ghost use Rattle.model_checks.specs.Programs.{is_tree, claim_failures, body_failures};
 ghost use Rattle.program_check.specs.Notes.{Notes};
 ghost use Rattle.program_check.specs.Contexts.{items_of, before_of};
 ghost use Rattle.program_check.specs.Standings.{plain_kind, IsStanding, beside_failures};
 ghost use Rattle.program_check.specs.Typed.{AreFound};
-ghost use Rattle.program_check.specs.Heads.{PlainHead, head_of, head_of_def, head_failures, behind_head, StandsBy};
+ghost use Rattle.program_check.specs.Heads.{PlainHead, head_of, head_failures, StandsBy};
 ghost use Rattle.model_program.specs.Syntax.{Name};
-ghost use Rattle.model_grammar.specs.Syntax as plain;
 
 use crate::checker::Checker;
 use crate::context::Context;
@@ -21,7 +20,7 @@ use crate::heads::head_of;
 use crate::limits::MOST_RULES;
 use crate::rules::Between;
 use fast_fault::Code;
-use fast_syntax::items::{Body, Claim, DefItem, Item, OutRule, Rule, X};
+use fast_syntax::items::{Body, Claim, Item, OutRule, Rule, X};
 
 fn is_tree(known: Option<Kind>) -> bool
     ensures { result ≡ is_tree (option_map plain_kind known) }
@@ -57,17 +56,6 @@ impl Checker {
         let known = standing.output.is_some();
         self.note_if(!known, Code::UnknownName, output.place);
         standing
-    }
-
-    /// The expression of a definition is of the kind and of the types that it says.
-    fn check_def(&mut self, context: &Context, wanted: Standing, item: &DefItem)
-        ensures { StandsBy (items_of context.now) (head_of_def (plain_def item.now)) wanted → Notes self.old self.new (behind_head (items_of context.now) (before_of context.now) (plain.def (plain_def item.now))) }
-    {
-        let kind = defined_kind(&item.into);
-        let found = self.check_as(context, 0, wanted.input, kind, &item.value);
-        let output = only_as(Kind::Transformation, found.kind, found.output);
-        let other = differ(wanted.output, output);
-        self.note_if(other, Code::WrongType, place_of(&item.value));
     }
 
     fn check_rules(&mut self, context: &Context, types: Between, rules: &[Rule])
@@ -150,7 +138,13 @@ impl Checker {
                 };
                 self.check_out_rules(context, types, &own.rules);
             }
-            Body::Def(own) => self.check_def(context, wanted, own),
+            Body::Def(own) => {
+                let kind = defined_kind(&own.into);
+                let found = self.check_as(context, 0, wanted.input, kind, &own.value);
+                let output = only_as(Kind::Transformation, found.kind, found.output);
+                let other = differ(wanted.output, output);
+                self.note_if(other, Code::WrongType, place_of(&own.value));
+            }
             Body::Assert(own) => self.check_claim(context, &own.claim),
         }
     }

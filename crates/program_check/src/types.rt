@@ -5,7 +5,7 @@ ghost use Rattle.std.specs.Prelude.{◌≡◌, ◌++◌, is_some};
 ghost use Rattle.std.specs.List.{flat_map};
 ghost use Rattle.std.specs.Option.{option_map};
 ghost use Rattle.fast_tree.specs.Signatures.{plain_sort};
-ghost use Rattle.fast_syntax.specs.View.{plain_name, plain_ctor, plain_type};
+ghost use Rattle.fast_syntax.specs.View.{plain_name, plain_type};
 ghost use Rattle.model_names.specs.Sorts.{sort_named};
 ghost use Rattle.model_checks.specs.Types.{is_rank, is_rank_in_range, field_failures, ctor_failures, type_failures};
 ghost use Rattle.model_checks.specs.Programs.{type_again};
@@ -18,7 +18,7 @@ use crate::context::Context;
 use crate::ctors::has_leaf;
 use crate::limits::{MOST_CHILDREN, MOST_FIELDS};
 use fast_fault::{Code, Text};
-use fast_syntax::{CtorItem, FieldItem, TypeItem};
+use fast_syntax::{FieldItem, TypeItem};
 use fast_tree::Sort;
 
 /// The sort of this name.
@@ -61,18 +61,13 @@ impl Checker {
         }
     }
 
-    fn check_rank(&mut self, ctor: &CtorItem)
-        ensures { Notes self.old self.new (ctor_failures (plain_ctor ctor.now)) }
-    {
-        self.note_if(!is_rank_in_range(ctor.rank), Code::TooMany, ctor.name.place);
-    }
-
     /// The ranks of the constructors are in range.
     fn check_ranks(&mut self, item: &TypeItem)
         ensures { Notes self.old self.new (flat_map ctor_failures (plain_type item.now).ctors) }
     {
         'ctors: for ctor in &item.ctors {
-            self.check_rank(ctor);
+            let within = is_rank_in_range(ctor.rank);
+            self.note_if(!within, Code::TooMany, ctor.name.place);
         }
     }
 
@@ -89,7 +84,8 @@ impl Checker {
     pub(crate) fn check_type(&mut self, context: &Context, item: &TypeItem)
         ensures { Notes self.old self.new (type_again (items_of context.now) (before_of context.now) (plain_name item.now.name) ++ type_failures (plain_type item.now)) }
     {
-        let again = context.has_type_before(&item.name.text);
+        let types = &context.declared.types;
+        let again = types.is_before(&item.name.text, context.before);
         self.note_if(again, Code::DuplicateType, item.name.place);
         let fields: &[FieldItem] = &item.fields;
         self.check_repeated(Code::DuplicateName, fields);

@@ -1,17 +1,23 @@
-use Rattle.std.proofs.Common.{List, ◌++◌, ◌∙◌, sym, ap, map}
+use Rattle.std.proofs.Common.{ℕ, List, Option, ◌++◌, ◌∙◌, sym, ap, map, subst}
+use Rattle.fast_fault.specs.declared.code.Code.TheVariants.{WrongType}
 use Rattle.std.specs.List.{flat_map}
 use Rattle.std.proofs.lemmas.Simd.{map-map}
 use Rattle.fast_syntax.specs.View.{plain_name}
-use Rattle.fast_syntax.specs.Plain.{plain_rule, plain_out_rule, plain_body}
+use Rattle.fast_syntax.specs.Plain.{plain_rule, plain_out_rule, plain_def, plain_body}
 use Rattle.fast_syntax.specs.declared.items.Rule.{Rule}
 use Rattle.fast_syntax.specs.declared.items.OutRule.{OutRule}
 use Rattle.model_grammar.specs.Syntax as plain
 use Rattle.model_checks.specs.Rules.{rule_limit, rule_failures, out_rule_failures}
 use Rattle.program_check.specs.Contexts.{items_of, before_of}
-use Rattle.program_check.specs.Heads.{head_of}
+use Rattle.model_names.specs.Kinds.{declared_type, transformation}
+use Rattle.model_checks.specs.Failures.{fails_if}
+use Rattle.model_checks.specs.Expressions.{output_as, whole_failures}
+use Rattle.program_check.specs.declared.expressions.Kind.TheVariants.{Transformation}
+use Rattle.program_check.specs.Typed.{IsType}
+use Rattle.program_check.specs.Heads.{head_of, head_of_def}
 use Rattle.program_check.proofs.ByHead.{item_noted}
-use Rattle.program_check.proofs.Typing.{stands_input}
-use Rattle.program_check.proofs.Noting.{as_same}
+use Rattle.program_check.proofs.Typing.{stands_input, stands_output, only_is, differ_is}
+use Rattle.program_check.proofs.Noting.{as_same, and_next}
 use Rattle.program_check.proofs.checker.Checker.check_item.Goals as goal
 
 pub returns-in-Sorts : goal.returns-in-Sorts
@@ -47,8 +53,18 @@ returns-in-Trans c =
 
 pub returns-in-Def : goal.returns-in-Def
 returns-in-Def c =
+    let items = items_of c.args.context.now in
+    let before = before_of c.args.context.now in
     let stands = c.check_head-wanted.ensures.standing _ (ap (λ b. head_of (plain_body b)) c.in-Def.is) in
-    item_noted (items_of c.args.context.now) (before_of c.args.context.now) _ _ _ _ _ (ap plain_body (sym c.in-Def.is)) c.check_head-wanted.ensures.noted (c.check_def.ensures stands)
+    let d = plain_def c.in-Def.own in
+    let head = head_of_def d in
+    let w = c.check_head-wanted.result in
+    let s = c.check_as-found.result in
+    let is = c.check_as-found.ensures.standing in
+    let found = subst (λ (p : Option ℕ). IsType items p (output_as items before transformation d.value)) (sym c.only_as-output.ensures) (only_is items Transformation s.kind s.output _ _ is.kind is.output) in
+    item_noted items before _ _ _ _ _ (ap plain_body (sym c.in-Def.is)) c.check_head-wanted.ensures.noted
+    (and_next (as_same (ap (λ k. whole_failures items before (declared_type items d.from) k d.value) c.defined_kind-kind.ensures) (c.check_as-found.ensures.noted (declared_type items d.from) (stands_input items head w stands)))
+    (as_same (λ i. fails_if ((c.differ-other.ensures ∙ differ_is items _ _ _ _ (stands_output items head w stands) found) i) WrongType (c.place_of.ensures i)) c.note_if.ensures))
 
 pub returns-in-Assert : goal.returns-in-Assert
 returns-in-Assert c = item_noted (items_of c.args.context.now) (before_of c.args.context.now) _ _ _ _ _ (ap plain_body (sym c.in-Assert.is)) c.check_head-wanted.ensures.noted c.check_claim.ensures

@@ -13,7 +13,9 @@ use Rattle.model_tree.specs.Limits.{most_fields}
 use Rattle.fast_syntax.specs.declared.FieldItem.{FieldItem}
 use Rattle.program_check.specs.declared.checker.Checker.{Checker}
 use Rattle.program_check.specs.Notes.{Notes}
-use Rattle.program_check.proofs.Found.{there_by, past_by}
+use Rattle.program_check.specs.Contexts.{items_of}
+use Rattle.program_check.specs.Numbered.{is_below}
+use Rattle.program_check.proofs.Found.{there_by, past_by, type_before}
 use Rattle.program_check.proofs.checker.Checker.check_type.Goals as goal
 use Rattle.program_check.proofs.checker.Checker.check_type.Goals.{then-fields-gt-MOST_FIELDS, else-fields-gt-MOST_FIELDS}
 
@@ -36,5 +38,5 @@ returns c h =
     let two = c.check_own_sorts.ensures few.had in
     let fields = same (ap (repeated DuplicateName) (ap (map (λ f. plain_name f.name)) c.deref-fields.ensures.value ∙ sym (map-map (λ (f : plain.FieldItem). f.name) plain_field own))) (c.check_repeated.ensures.noted two.had) in
     let again = c.note_if.ensures (c.check_repeated.ensures.noted two.had).had in
-    next (same (ap (λ b. fails_if b DuplicateType item.name.place) c.has_type_before-again.ensures) again)
+    next (same (ap (λ b. fails_if b DuplicateType item.name.place) (c.is_before-again.ensures ∙ ap (λ o. is_below o c.args.context.now.before) (c.args.context.now.numbered.types item.name.text) ∙ type_before item.name.text (items_of c.args.context.now) c.args.context.now.before)) again)
     (next fields (next two (next three (same (append_assoc (repeated DuplicateName (map (λ c. c.name) item.ctors)) (fails_if (not (has_leaf item.ctors)) NoLeaf item.name.place) (flat_map ctor_failures item.ctors)) (next four five)))))
