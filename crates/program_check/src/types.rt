@@ -1,13 +1,12 @@
 //! What may fail in a type by itself: a leaf that is missing, names that stand twice, unknown sorts, and numbers of fields
 //! and children that are too great.
 
-ghost use Rattle.std.specs.Prelude.{◌≡◌, ◌++◌, is_some};
-ghost use Rattle.std.specs.List.{flat_map};
+ghost use Rattle.std.specs.Prelude.{◌≡◌, ◌++◌};
 ghost use Rattle.std.specs.Option.{option_map};
 ghost use Rattle.fast_tree.specs.Signatures.{plain_sort};
 ghost use Rattle.fast_syntax.specs.View.{plain_name, plain_type};
 ghost use Rattle.model_names.specs.Sorts.{sort_named};
-ghost use Rattle.model_checks.specs.Types.{is_rank, is_rank_in_range, field_failures, ctor_failures, type_failures};
+ghost use Rattle.model_checks.specs.Types.{is_rank, is_rank_in_range, type_failures};
 ghost use Rattle.model_checks.specs.Programs.{type_again};
 ghost use Rattle.program_check.specs.Contexts.{items_of, before_of};
 ghost use Rattle.program_check.specs.Notes.{Notes};
@@ -51,26 +50,6 @@ fn is_rank_in_range(rank: i128) -> bool
 }
 
 impl Checker {
-    /// The sorts of the fields are known.
-    fn check_own_sorts(&mut self, item: &TypeItem)
-        ensures { Notes self.old self.new (flat_map field_failures (plain_type item.now).fields) }
-    {
-        'fields: for field in &item.fields {
-            let known = sort_named(&field.sort.text).is_some();
-            self.note_if(!known, Code::UnknownName, field.sort.place);
-        }
-    }
-
-    /// The ranks of the constructors are in range.
-    fn check_ranks(&mut self, item: &TypeItem)
-        ensures { Notes self.old self.new (flat_map ctor_failures (plain_type item.now).ctors) }
-    {
-        'ctors: for ctor in &item.ctors {
-            let within = is_rank_in_range(ctor.rank);
-            self.note_if(!within, Code::TooMany, ctor.name.place);
-        }
-    }
-
     /// The names of the constructors are different, and one of them has no children.
     fn check_ctors(&mut self, item: &TypeItem)
         ensures { Notes self.old self.new (ctors_failures (plain_type item.now)) }
@@ -89,11 +68,17 @@ impl Checker {
         self.note_if(again, Code::DuplicateType, item.name.place);
         let fields: &[FieldItem] = &item.fields;
         self.check_repeated(Code::DuplicateName, fields);
-        self.check_own_sorts(item);
+        'fields: for field in fields {
+            let known = sort_named(&field.sort.text).is_some();
+            self.note_if(!known, Code::UnknownName, field.sort.place);
+        }
         if fields.len() > MOST_FIELDS {
             self.note(Code::TooMany, fields[MOST_FIELDS].name.place);
         }
         self.check_ctors(item);
-        self.check_ranks(item);
+        'ctors: for ctor in &item.ctors {
+            let within = is_rank_in_range(ctor.rank);
+            self.note_if(!within, Code::TooMany, ctor.name.place);
+        }
     }
 }
