@@ -34,9 +34,18 @@ impl Checked {
     pub fn kind<'c>(&'c self, name: &Text) -> Option<Kind3<'c>>
         ensures { option_map kind_view result ≡ option_and_then (λ item. stands_for item.body) (find_item (plain_program self.now.program) name.now) }
     {
-        match self.item(name) {
-            Some(item) => own_kind(item),
-            None => None,
+        let Some(item) = self.item(name) else {
+            return None;
+        };
+        match &item.body {
+            Body::Sorts(_) | Body::Assert(_) => None,
+            Body::Tree(own) => Some(Kind3::Tree(&own.of.text)),
+            Body::Lang(own) => Some(Kind3::Language(&own.of.text)),
+            Body::Trans(own) => Some(Kind3::Transformation(&own.from.text, &own.into.text)),
+            Body::Def(own) => match &own.into {
+                Some(into) => Some(Kind3::Transformation(&own.from.text, &into.text)),
+                None => Some(Kind3::Language(&own.from.text)),
+            },
         }
     }
 
@@ -61,20 +70,5 @@ impl Checked {
             Some(place) => self.program.items.get(place),
             None => None,
         }
-    }
-}
-
-fn own_kind(item: &Item) -> Option<Kind3<'_>>
-    ensures { option_map kind_view result ≡ stands_for (plain_item item.now).body }
-{
-    match &item.body {
-        Body::Sorts(_) | Body::Assert(_) => None,
-        Body::Tree(own) => Some(Kind3::Tree(&own.of.text)),
-        Body::Lang(own) => Some(Kind3::Language(&own.of.text)),
-        Body::Trans(own) => Some(Kind3::Transformation(&own.from.text, &own.into.text)),
-        Body::Def(own) => match &own.into {
-            Some(into) => Some(Kind3::Transformation(&own.from.text, &into.text)),
-            None => Some(Kind3::Language(&own.from.text)),
-        },
     }
 }
