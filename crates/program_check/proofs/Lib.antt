@@ -18,6 +18,7 @@ pub mod Stands
 pub mod Standing
 pub mod XParts
 pub mod Numbering
+pub mod Declaring
 pub mod Signing
 pub mod Weights
 mod Ranked

@@ -2,11 +2,9 @@
 
 ghost use Rattle.std.specs.Prelude.{◌≡◌, [], Some, None, IfOk, OnOk, map};
 ghost use Rattle.std.specs.Option.{option_map};
-ghost use Rattle.model_names.specs.Declared.{declares};
 ghost use Rattle.fast_syntax.specs.View.{plain_type};
 ghost use Rattle.fast_syntax.specs.Plain.{plain_item};
-ghost use Rattle.program_check.specs.Naming.{Grows};
-ghost use Rattle.program_check.specs.Numbered.{declares_type, own_type_item, own_ctors, HasCtors, AreNumbered, Declares};
+ghost use Rattle.program_check.specs.Numbered.{own_type_item, own_ctors, HasCtors, AreNumbered, Declares};
 
 use crate::heads::head_of;
 use crate::names::Names;
@@ -31,24 +29,6 @@ pub(crate) fn own_type(item: &Item) -> Option<&TypeItem>
     match &item.body {
         Body::Sorts(own) => Some(own),
         _ => None,
-    }
-}
-
-fn number_type(alloc: Global, types: &mut Names, item: &Item, place: usize) -> Result<(), Memory>
-    ensures { OnOk result (Grows types.old types.new (λ name. declares_type name (plain_item item.now)) place) }
-{
-    match own_type(item) {
-        Some(own) => types.add(alloc, &own.name.text, place),
-        None => Ok(()),
-    }
-}
-
-fn number_name(alloc: Global, names: &mut Names, item: &Item, place: usize) -> Result<(), Memory>
-    ensures { OnOk result (Grows names.old names.new (λ name. declares name (plain_item item.now)) place) }
-{
-    match head_of(item) {
-        Some(head) => names.add(alloc, &head.name.text, place),
-        None => Ok(()),
     }
 }
 
@@ -83,10 +63,14 @@ impl Declarations {
     fn add(&mut self, alloc: Global, item: &Item, place: usize) -> Result<(), Memory>
         ensures { OnOk result (Declares self.old self.new (plain_item item.now) place) }
     {
-        number_type(alloc, &mut self.types, item, place)?;
-        number_name(alloc, &mut self.names, item, place)?;
         self.ctors.push(number_ctors(alloc, item)?)?;
-        Ok(())
+        if let Some(own) = own_type(item) {
+            return self.types.add(alloc, &own.name.text, place);
+        }
+        match head_of(item) {
+            Some(head) => self.names.add(alloc, &head.name.text, place),
+            None => Ok(()),
+        }
     }
 
     /// Numbers what the items declare, where nothing has a number so far.
