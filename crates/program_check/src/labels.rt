@@ -55,13 +55,6 @@ pub(crate) struct Side {
     pub(crate) place: Pos,
 }
 
-/// A product as far as it was read.
-#[derive(Drop)]
-struct Factor {
-    has_field: bool,
-    form: Option<Form>,
-}
-
 fn is_whole(sort: Option<Sort>) -> bool
     ensures { result ≡ is_whole (option_map plain_sort sort) }
 {
@@ -328,7 +321,7 @@ impl Checker {
     }
 
     /// The product of two forms, of which one has no field.
-    fn multiply(&mut self, before: &Factor, factor: &Known, place: Pos) -> Option<Form>
+    fn multiply(&mut self, before: &Known, factor: &Known, place: Pos) -> Option<Form>
         ensures noted { Notes self.old self.new (fails_if (is_out_of_range (product_of before.now.has_field before.now.form factor.now.has_field factor.now.form)) code.NumberRange place) }
         ensures form { HasMemory self.new → result ≡ kept (product_of before.now.has_field before.now.form factor.now.has_field factor.now.form) }
     {
@@ -347,7 +340,7 @@ impl Checker {
     }
 
     /// A step of a product to a remainder.
-    fn check_remainder(&mut self, before: Factor, e: &Expr) -> Option<Form>
+    fn check_remainder(&mut self, before: Known, e: &Expr) -> Option<Form>
         ensures noted { Notes self.old self.new (divided (plain_expr e.now)) }
         ensures form { HasMemory self.new → result ≡ remainder_of before.form (divisor_of (plain_expr e.now)) }
     {
@@ -365,7 +358,7 @@ impl Checker {
     /// A step of a product by a factor or to a remainder.
     fn check_next(
         &mut self,
-        before: Factor,
+        before: Known,
         known: &Known,
         part: &ProdPart,
         place: Pos,
@@ -475,7 +468,8 @@ impl Checker {
         ensures known { HasMemory self.new → IsKnown scope.now (plain.chain kind.Product place (plain_prod_parts parts.now)) result }
     {
         let one = Form::number(self.alloc, 1);
-        let mut before = Factor {
+        let mut before = Known {
+            sort: Some(Sort::Int),
             has_field: false,
             form: self.take_form(one),
         };
@@ -483,12 +477,12 @@ impl Checker {
             let known = self.check_sorted(scope, Sort::Int, &part.part);
             let has_field = before.has_field | known.has_field;
             let form = self.check_next(before, &known, part, place);
-            before = Factor { has_field, form };
+            before = Known {
+                sort: Some(Sort::Int),
+                has_field,
+                form,
+            };
         }
-        Known {
-            sort: Some(Sort::Int),
-            has_field: before.has_field,
-            form: before.form,
-        }
+        before
     }
 }

@@ -107,6 +107,7 @@ check_product-parts-init t c =
     let all = plain_prod_parts c.args.parts.now in
     let is : HasMemory c.take_form.new.self → c.take_form.result ≡ Some (number_form (pos 1)) = λ h. taken c.number-one.result c.take_form.result _ (c.take_form.ensures.made h) c.number-one.ensures in
     record {
+      sort = refl;
       noted = λ h. left_by _ (ap (λ f. steps_failures s c.args.place false f all) (sym (is h))) (c.take_form.ensures.noted h);
       has = λ h. refl;
       form = λ h. ap (λ f. form_behind s false f all) (is h);
@@ -132,6 +133,7 @@ check_product-parts-preserved t c =
     let k = known.known (next.noted h).had in
     next.form h ∙ ap₂ (λ h f. next_form has form x.remainder h f (plain_expr x.part)) k.has k.form in
     record {
+      sort = refl;
       noted = λ h. steps_more s c.args.place (plain_expr x.part) x.remainder (plain_prod_parts (drop i items)) (plain_prod_parts (drop (i + 1) items)) _ _ _ _ _ _ _ _ split (has_is h) (form_is h) (step h) (c.parts.invariant.noted (step h).had);
       has = λ h. has_more s (plain_expr x.part) x.remainder (plain_prod_parts (drop i items)) (plain_prod_parts (drop (i + 1) items)) _ (has_field s (plain_expr x.part)) _ _ split refl (has_is h) (c.parts.invariant.has (step h).had);
       form = λ h. form_more s (plain_expr x.part) x.remainder (plain_prod_parts (drop i items)) (plain_prod_parts (drop (i + 1) items)) _ _ _ _ _ split (has_is h) (form_is h) (c.parts.invariant.form (step h).had);
@@ -143,7 +145,7 @@ check_product-returns-clause-known t c h =
     let rest = plain_prod_parts (drop c.parts.part-index c.args.parts.now) in
     let none = ap plain_prod_parts (drop_all c.parts.part-index c.args.parts.now c.parts-test.false) in
     record {
-      sort = refl;
+      sort = c.parts.invariant.sort;
       has = has_done s rest c.parts.before.has_field _ none (c.parts.invariant.has h);
       form = form_done s rest c.parts.before.has_field c.parts.before.form _ none (c.parts.invariant.form h);
     }

@@ -1,5 +1,7 @@
 use Rattle.std.proofs.Common.{◌≡◌, ◌||◌, false, Some, drop}
 use Rattle.std.proofs.Math.IntN.{pos}
+use Rattle.std.specs.Option.{option_map}
+use Rattle.fast_tree.specs.Signatures.{plain_sort}
 use Rattle.model_tree.specs.Signature.{wholes, truths}
 use Rattle.model_form.specs.Sums.{number_form}
 use Rattle.model_checks.specs.Forms.{have_field, added, form_behind}
@@ -31,6 +33,7 @@ invariant-check_product-parts l =
     let s = plain_scope l.scope in
     let one = Some (number_form (pos 1)) in
     record {
+      sort : option_map plain_sort l.before.sort ≡ Some wholes;
       noted : Left l.fn.self l.self (steps_failures s l.place false one (plain_prod_parts l.parts)) (steps_failures s l.place l.before.has_field l.before.form (plain_prod_parts (drop l.part-index l.parts)));
       has : HasMemory l.self → (l.before.has_field || have_field s (plain_prod_parts (drop l.part-index l.parts))) ≡ have_field s (plain_prod_parts l.parts);
       form : HasMemory l.self → form_behind s l.before.has_field l.before.form (plain_prod_parts (drop l.part-index l.parts)) ≡ form_behind s false one (plain_prod_parts l.parts);
