@@ -49,15 +49,17 @@ impl From<Memory> for CheckStop {
     }
 }
 
-/// The first of the failing conditions.
-fn find_refusal(
+/// Numbers what the items declare, and makes the signatures of their types, where the program passes.
+fn number_and_sign(
     alloc: Global,
     items: &[Item],
-    declared: &Declarations,
-) -> Result<Option<Refusal>, Memory>
-    requires { AreNumbered (map plain_item items.now) declared.now }
-    ensures { IfOk result (λ refusal. refusal ≡ refusal_of (map plain_item items.now)) }
+    declared: &mut Declarations,
+) -> Result<Vec<Option<Signature>>, CheckStop>
+    requires { AreNumbered [] declared.old }
+    ensures { MatchResult result (λ made. Passes (map plain_item items.now) declared.new made.items) (IsStop (refusal_of (map plain_item items.now))) }
 {
+    declared.number(alloc, items)?;
+    let declared: &Declarations = declared;
     let mut checker = Checker {
         known: None,
         ran_out: false,
@@ -75,22 +77,9 @@ fn find_refusal(
         checker.check_item(&context, &items[before]);
     }
     if checker.ran_out {
-        return Err(Memory);
+        return Err(CheckStop::Memory);
     }
-    Ok(checker.known)
-}
-
-/// Numbers what the items declare, and makes the signatures of their types, where the program passes.
-fn number_and_sign(
-    alloc: Global,
-    items: &[Item],
-    declared: &mut Declarations,
-) -> Result<Vec<Option<Signature>>, CheckStop>
-    requires { AreNumbered [] declared.old }
-    ensures { MatchResult result (λ made. Passes (map plain_item items.now) declared.new made.items) (IsStop (refusal_of (map plain_item items.now))) }
-{
-    declared.number(alloc, items)?;
-    match find_refusal(alloc, items, declared)? {
+    match checker.known {
         Some(refusal) => Err(CheckStop::Refused(refusal)),
         None => Ok(all_made(alloc, items)?),
     }

@@ -3,7 +3,7 @@ use Rattle.fast_syntax.specs.Plain.{plain_item}
 use Rattle.model_checks.specs.Failures.{first_among}
 use Rattle.model_checks.specs.Programs.{failures_behind, refusal_of}
 use Rattle.program_check.specs.Notes.{HasMemory}
-use Rattle.program_check.proofs.programs.find_refusal.Given as goal
+use Rattle.program_check.proofs.programs.number_and_sign.Given as goal
 
 abbrev pub invariant-items : goal.invariant-items
 invariant-items l =
