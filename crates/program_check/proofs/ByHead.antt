@@ -19,9 +19,6 @@ use Rattle.program_check.specs.Notes.{Notes}
 use Rattle.program_check.proofs.Noting.{ends, and_next, as_same}
 use Rattle.model_checks.specs.Expressions.{is_other_kind, is_known_later, name_failures, whole_failures}
 use Rattle.program_check.specs.declared.expressions.Standing.{Standing}
-use Rattle.fast_syntax.specs.declared.Name as named
-use Rattle.fast_syntax.specs.View.{plain_name}
-use Rattle.fast_syntax.specs.Plain.{plain_into}
 use Rattle.program_check.specs.Typed.{IsType}
 use Rattle.program_check.specs.Standings.{plain_kind, IsStanding}
 use Rattle.program_check.specs.Heads.{PlainHead, StandsBy, head_of, head_named, not_ruled, ruled_failures, head_failures, behind_head}
@@ -31,20 +28,6 @@ use Rattle.program_check.proofs.Typing.{untyped, stands_input, stands_output}
 pub lent : {A B : Type 0} (f : A → B) (r : Option (Bor A)) (o : Option A) → option_copied r ≡ o → option_map (λ x. f x.now) r ≡ option_map f o
 lent f None o is = ap (option_map f) is
 lent f (Some x) o is = ap (option_map f) is
-
--- the type of the outputs that a definition says
-pub into_is : (o : Option named.Name) → option_map plain_name o ≡ plain_into o
-into_is None = refl
-into_is (Some n) = refl
-
--- the name that an item declares
-pub name_of_head : (b : Body) → option_map (λ h. h.name) (head_of b) ≡ own_name b
-name_of_head (sorts t) = refl
-name_of_head (tree t) = refl
-name_of_head (lang l) = refl
-name_of_head (trans t) = refl
-name_of_head (def d) = refl
-name_of_head (assertion a) = refl
 
 kind_of_head : (b : Body) → own_kind b ≡ option_and_then (λ h. Some h.kind) (head_of b)
 kind_of_head (sorts t) = refl

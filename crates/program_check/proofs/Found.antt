@@ -63,9 +63,6 @@ item_found name items place n found is some at = at ∙ ap (option_and_then (sli
 pub item_missing : (name : List ℕ) (items : List Item) (place : Option ℕ) → place ≡ place_by (declares name) items → place ≡ None → None ≡ find_item items name
 item_missing name items place is none = ap (option_and_then (slice_get items)) (sym none ∙ is) ∙ item_by_number name items
 
-pub type_found : (name : List ℕ) (items : List Item) (place : Option ℕ) (n : ℕ) → place ≡ place_by (declares_type name) items → place ≡ Some n → type_there items (Some n) ≡ find_type items name
-type_found name items place n is some = ap (type_there items) (sym some ∙ is) ∙ type_by_number name items
-
 pub type_missing : (name : List ℕ) (items : List Item) (place : Option ℕ) → place ≡ place_by (declares_type name) items → place ≡ None → None ≡ find_type items name
 type_missing name items place is none = ap (type_there items) (sym none ∙ is) ∙ type_by_number name items
 

@@ -1,5 +1,5 @@
 -- What operations stand for.
-use Rattle.std.proofs.Common.{◌≡◌, ℕ, Bool, true, false, cond, List, ◌++◌, Option, Some, None, refl, ap, ap₂, ◌∙◌, subst}
+use Rattle.std.proofs.Common.{◌≡◌, ℕ, List, ◌++◌, Option, refl, ap₂, subst}
 use Rattle.std.specs.Option.{option_map}
 use Rattle.fast_fault.specs.declared.code.Code.TheVariants.{WrongKind, WrongType}
 use Rattle.fast_fault.specs.declared.place.Pos.{Pos}
@@ -11,12 +11,11 @@ use Rattle.model_grammar.specs.Syntax.{X, one, two, Item}
 use Rattle.model_names.specs.Kinds.{same_kind, if_kind, taken_by_one, kind_of, type_of, output_of}
 use Rattle.model_names.specs.Kinds as model
 use Rattle.model_checks.specs.Failures.{fails_if}
-use Rattle.model_checks.specs.Rules.{differ}
 use Rattle.model_checks.specs.Expressions.{place_of_x, is_other_kind, needs_be, wanted_second}
 use Rattle.program_check.specs.declared.expressions.Kind.{Kind}
 use Rattle.program_check.specs.declared.expressions.Kind.TheVariants.{Language, Transformation}
 use Rattle.program_check.specs.declared.expressions.Standing.{Standing}
-use Rattle.program_check.specs.Typed.{IsType, apart}
+use Rattle.program_check.specs.Typed.{IsType}
 use Rattle.program_check.specs.Standings.{plain_kind, IsStanding, only_as, be_failures, kind_taken, second_wanted, standing_of_one, standing_of_two}
 use Rattle.program_check.proofs.Typing.{untyped, differ_is, only_is}
 

@@ -8,7 +8,7 @@ ghost use Rattle.std.proofs.Props.{props};
 ghost use Rattle.model_names.specs.Declared.{find_item};
 ghost use Rattle.fast_syntax.specs.Plain.{plain_item};
 ghost use Rattle.program_check.specs.Numbered.{AreNumbered, type_there};
-ghost use Rattle.program_check.specs.Typed.{plain_option, type_number};
+ghost use Rattle.program_check.specs.Typed.{plain_option};
 ghost use Rattle.program_check.specs.Heads.{plain_head, head_named, StandsBy, IsHead};
 
 use crate::declarations::{Declarations, own_type};
@@ -30,13 +30,6 @@ pub(crate) struct Context<'p> {
 impl<'p> Context<'p> {
     ghost use Rattle.program_check.specs.Contexts.{items_of, before_of};
 
-    /// The number of the first type of this name.
-    pub(crate) fn find_type(&self, name: &Text) -> Option<usize>
-        ensures { result ≡ type_number (items_of self.now) name.now }
-    {
-        self.declared.types.place(name)
-    }
-
     /// The type of this number.
     pub(crate) fn type_at(&self, number: Option<usize>) -> Option<&'p TypeItem>
         ensures { plain_option result ≡ type_there (items_of self.now) number }
@@ -54,14 +47,19 @@ impl<'p> Context<'p> {
     pub(crate) fn standing_of(&self, head: &Head) -> Standing
         ensures { StandsBy (items_of self.now) (plain_head head.now) result }
     {
-        let output = match head.output {
-            Some(output) => self.find_type(&output.text),
-            None => None,
-        };
-        Standing {
-            kind: Some(head.kind),
-            input: self.find_type(&head.input.text),
-            output,
+        let types = &self.declared.types;
+        let (kind, input) = (Some(head.kind), types.place(&head.input.text));
+        match head.output {
+            Some(output) => Standing {
+                kind,
+                input,
+                output: types.place(&output.text),
+            },
+            None => Standing {
+                kind,
+                input,
+                output: None,
+            },
         }
     }
 

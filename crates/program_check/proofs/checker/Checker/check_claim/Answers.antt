@@ -1,4 +1,4 @@
-use Rattle.std.proofs.Common.{List, Option, None, ℕ, ◌∙◌, sym, ap, ap₂, append_assoc, subst}
+use Rattle.std.proofs.Common.{Option, None, ℕ, ◌∙◌, sym, ap, ap₂, append_assoc, subst}
 use Rattle.fast_fault.specs.declared.code.Code.TheVariants.{WrongKind}
 use Rattle.fast_syntax.specs.Plain.{plain_x, plain_claim}
 use Rattle.fast_syntax.specs.declared.items.Claim.{Claim}

@@ -7,7 +7,7 @@ use Rattle.model_checks.specs.Programs.{into_failures}
 use Rattle.model_checks.specs.Rules.{type_name_failures}
 use Rattle.fast_syntax.specs.View.{plain_name}
 use Rattle.program_check.specs.Contexts.{items_of, before_of}
-use Rattle.program_check.specs.Heads.{PlainHead, StandsBy, plain_head, head_failures}
+use Rattle.program_check.specs.Heads.{plain_head, head_failures}
 use Rattle.program_check.proofs.Noting.{next, same, nothing, ends}
 use Rattle.program_check.proofs.Typing.{input_known, output_known}
 use Rattle.program_check.proofs.ByHead.{no_head, one_head}

@@ -1,4 +1,4 @@
-use Rattle.std.proofs.Common.{Option, Some, [], ◌++◌, ◌∙◌, sym, ap, ap₂, map}
+use Rattle.std.proofs.Common.{Option, Some, [], ◌++◌, sym, ap₂, map}
 use Rattle.fast_syntax.specs.View.{plain_name}
 use Rattle.fast_syntax.specs.Plain.{plain_expr}
 use Rattle.model_program.specs.Syntax.{TypeItem}

@@ -1,10 +1,9 @@
-use Rattle.std.proofs.Common.{◌≡◌, List, Some, sym, ap, ◌∙◌, map, subst}
+use Rattle.std.proofs.Common.{List, Some, sym, ap, ◌∙◌, map, subst}
 use Rattle.std.specs.Option.{option_map}
 use Rattle.std.proofs.lemmas.Simd.{map-map}
 use Rattle.fast_syntax.specs.View.{plain_field, plain_ctor, plain_type}
 use Rattle.fast_syntax.specs.declared.FieldItem.{FieldItem}
 use Rattle.fast_syntax.specs.declared.CtorItem.{CtorItem}
-use Rattle.fast_tree.specs.Signatures.{plain_signature}
 use Rattle.model_meaning.specs.Types.{signature_of}
 use Rattle.program_check.specs.Signed.{field_of, constructor_of, HaveRanks}
 use Rattle.program_check.proofs.Ranked.{rank_at}
