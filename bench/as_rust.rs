@@ -67,6 +67,9 @@ impl<T> Vec<T> {
     {
         Ok(Vec(items.to_vec()))
     }
+    pub fn from_array<const N: usize>(_: Global, items: [T; N]) -> Result<Vec<T>, AllocError> {
+        Ok(Vec(Rows::from(items)))
+    }
     #[inline]
     pub fn push(&mut self, item: T) -> Result<(), AllocFailed<T>> {
         self.0.push(item);
